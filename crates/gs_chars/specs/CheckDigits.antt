@@ -1,0 +1,15 @@
+-- Check digits: GS1 General Specifications, section 7.9.
+use Rattle.std.specs.Prelude.{ℕ, ◌+◌, ◌-◌, ◌*◌, ◌%◌, ◌==◌, if◌then◌else◌, List, [], ◌∷◌, length}
+
+-- the weight of a digit that has this many digits between it and the check digit
+abbrev pub weight_of : ℕ → ℕ
+weight_of behind = if behind % 2 == 0 then 3 else 1
+
+-- the digits' values, each times its weight, added up: from the last to the first by 3, 1, 3, 1 and so on
+abbrev pub weighted_sum : List ℕ → ℕ
+weighted_sum [] = 0
+weighted_sum (digit ∷ digits) = weight_of (length digits) * (digit - 48) + weighted_sum digits
+
+-- the byte of the digit that brings the weighted sum to a multiple of 10
+abbrev pub check_digit_of : List ℕ → ℕ
+check_digit_of digits = 48 + (10 - weighted_sum digits % 10) % 10

@@ -1,0 +1,46 @@
+-- How the 82 characters are spelled in EPC URIs: TDS 2.0, sections 6.3.1 and 7.1, and table A.
+use Rattle.std.specs.Prelude.{◌≡◌, ℕ, ◌+◌, ◌-◌, ◌*◌, ◌/◌, ◌%◌, ◌<◌, ◌≤◌, ◌==◌, ◌&&◌, ◌⊎◌, nat_lt, nat_le, not, Bool, true, if◌then◌else◌, List, [], ◌∷◌, ◌++◌, Option, Some, None, codes, length, take}
+use Rattle.std.specs.List.{list_any}
+use Rattle.gs_chars.specs.Characters.{is_digit, is_in_set82}
+
+-- the seven characters of the set that an EPC URI does not spell as themselves
+unfoldable pub is_escaped : ℕ → Bool
+is_escaped c = list_any (λ x. x == c) (codes "\"%&/<>?")
+
+-- a character that is spelled as itself
+abbrev pub is_plain : ℕ → Bool
+is_plain c = is_in_set82 c && not (is_escaped c)
+
+-- the value of a hexadecimal digit of either case
+abbrev pub hex_value : ℕ → Option ℕ
+hex_value c =
+  if is_digit c then Some (c - 48)
+  else if nat_le 65 c && nat_le c 70 then Some (c - 55)
+  else if nat_le 97 c && nat_le c 102 then Some (c - 87)
+  else None
+
+-- the byte of a number below 16 as an upper-case hexadecimal digit
+abbrev pub hex_digit : ℕ → ℕ
+hex_digit n = if nat_lt n 10 then 48 + n else 55 + n
+
+-- a percent sign and the character's code in two hexadecimal digits
+pub record IsEscape (c : ℕ) (spelling : List ℕ) : Type 0 where
+  pub high : ℕ
+  pub low : ℕ
+  pub high_digit : hex_value high ≡ Some (c / 16)
+  pub low_digit : hex_value low ≡ Some (c % 16)
+  pub text : spelling ≡ 37 ∷ high ∷ low ∷ []
+
+-- A character of the 82 is spelled by its escape, whose letter is read in either case, where it is one of the seven,
+-- else as itself. Nothing else spells a character.
+abbrev pub Spells : ℕ → List ℕ → Type 0
+Spells c spelling = ((is_plain c ≡ true) × (spelling ≡ c ∷ [])) ⊎ ((is_escaped c ≡ true) × IsEscape c spelling)
+
+-- the one spelling that is written, with an upper-case letter
+abbrev pub written_spelling : ℕ → List ℕ
+written_spelling c = if is_escaped c then 37 ∷ hex_digit (c / 16) ∷ hex_digit (c % 16) ∷ [] else c ∷ []
+
+-- the text goes on after a spelling of the character of this many bytes
+pub record BeginsWithSpelling (text : List ℕ) (c len : ℕ) : Type 0 where
+  pub within : len ≤ length text
+  pub spelled : Spells c (take len text)

@@ -1,0 +1,4 @@
+pub mod Characters
+pub mod CharSets
+pub mod CheckDigits
+pub mod Escapes

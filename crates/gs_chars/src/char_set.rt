@@ -1,0 +1,26 @@
+ghost use Rattle.std.specs.Prelude.{◌≡◌};
+ghost use Rattle.gs_chars.specs.CharSets.{is_in_set};
+
+/// A set of characters that a value may be made of.
+#[derive(Clone, Copy, Debug, PartialEq, Eq)]
+pub enum CharSet {
+    /// The ten digits.
+    Digits,
+    /// The 82 characters of GS1 General Specifications, figure 7.11-1.
+    Set82,
+}
+
+impl CharSet {
+    /// Whether the character is one of the set.
+    #[tactic(auto, using(crate::proofs::Sets::ranges_of_set82))]
+    pub fn holds(self, c: u8) -> bool
+        ensures { result ≡ is_in_set self c }
+    {
+        match self {
+            CharSet::Digits => c.is_ascii_digit(),
+            CharSet::Set82 => {
+                matches!(c, b'!' | b'"' | b'%'..=b'?' | b'A'..=b'Z' | b'_' | b'a'..=b'z')
+            }
+        }
+    }
+}

@@ -1,0 +1,20 @@
+ghost use Rattle.std.specs.Prelude.{◌≡◌, ◌<◌, ◌≤◌, IsTrue, length};
+ghost use Rattle.gs_chars.specs.Characters.{are_digits};
+ghost use Rattle.gs_chars.specs.CheckDigits.{check_digit_of};
+
+/// The byte of the check digit of 1 to 18 digits: it brings their sum, weighted by 3, 1, 3, 1 and so on from the last
+/// digit towards the first, to a multiple of 10 (GS1 General Specifications, section 7.9).
+pub fn check_digit(digits: &[u8]) -> u8
+    requires at_least_one { 0 < length digits.now }
+    requires at_most_18 { length digits.now ≤ 18 }
+    requires all_digits { IsTrue (are_digits digits.now) }
+    ensures { result ≡ check_digit_of digits.now }
+{
+    let mut sum: u32 = 0;
+    for (i, digit) in digits.iter().enumerate() {
+        let behind = digits.len() - 1 - i;
+        let weight = if behind % 2 == 0 { 3 } else { 1 };
+        sum += weight * u32::from(digit - b'0');
+    }
+    b'0' + ((10 - sum % 10) % 10) as u8
+}

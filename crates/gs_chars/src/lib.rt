@@ -1,0 +1,16 @@
+//! Characters, texts, check digits and escapes: what every other crate stands on.
+#![tactic(auto)]
+
+mod char_set;
+mod check_digits;
+mod escapes;
+mod list;
+mod memory;
+mod text;
+
+pub use char_set::CharSet;
+pub use check_digits::check_digit;
+pub use escapes::{no_spelling_begins_another, read_escape};
+pub use list::List;
+pub use memory::Memory;
+pub use text::Text;
