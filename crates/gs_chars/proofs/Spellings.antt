@@ -1,7 +1,8 @@
 -- Spellings of characters in EPC URIs.
-use Rattle.std.proofs.Common.{◌≡◌, ℕ, ◌<◌, ◌+◌, ◌*◌, ◌/◌, ◌%◌, ◌&&◌, ◌⊎◌, not, Bool, true, false, List, [], ◌∷◌, ◌++◌, Option, Some, refl, sym, ◌∙◌, ap, inl, inr, ⊎_elim, arith, cond}
+use Rattle.std.proofs.Common.{◌≡◌, ℕ, ◌<◌, ◌+◌, ◌*◌, ◌/◌, ◌%◌, ◌⊎◌, true, false, List, [], ◌∷◌, ◌++◌, Some, refl, sym, ◌∙◌, ap, inl, inr, arith, length, get_or, take, drop}
+use Rattle.std.proofs.lemmas.List.{take-append-drop}
 use Rattle.gs_chars.specs.Characters.{is_in_set82}
-use Rattle.gs_chars.specs.Escapes.{is_escaped, is_plain, hex_value, IsEscape, Spells}
+use Rattle.gs_chars.specs.Escapes.{is_escaped, is_plain, hex_value, IsEscape, Spells, BeginsWithSpelling}
 
 -- a percent sign is escaped, so it is not plain
 percent_escaped : is_plain 37 ≡ false
@@ -11,29 +12,66 @@ percent_escaped = refl
 -- two digits say which character it is
 same_digits : (c d high low : ℕ) → hex_value high ≡ Some (c / 16) → hex_value low ≡ Some (c % 16) → hex_value high ≡ Some (d / 16) → hex_value low ≡ Some (d % 16) → c ≡ d
 same_digits c d high low a b e f =
-  let quotient : c / 16 ≡ d / 16 = cc in
-  let rest : c % 16 ≡ d % 16 = cc in
-  omega arith
+    let quotient : c / 16 ≡ d / 16 = cc in
+    let rest : c % 16 ≡ d % 16 = cc in
+    omega arith
 
 both_escaped : (c d : ℕ) (w v x y : List ℕ) → IsEscape c w → IsEscape d v → w ++ x ≡ v ++ y → (c ≡ d) × (w ≡ v)
 both_escaped c d w v x y a b e =
-  let joined : a.high ∷ a.low ∷ x ≡ b.high ∷ b.low ∷ y = let e' = rw (a.text, b.text) at e in cc in
-  let high : a.high ≡ b.high = cc in
-  let low : a.low ≡ b.low = cc in
-  (same_digits c d a.high a.low a.high_digit a.low_digit (rw high b.high_digit) (rw low b.low_digit), cc)
+    let joined : a.high ∷ a.low ∷ x ≡ b.high ∷ b.low ∷ y = let e' = rw (a.text, b.text) at e in cc in
+    let high : a.high ≡ b.high = cc in
+    let low : a.low ≡ b.low = cc in
+    (same_digits c d a.high a.low a.high_digit a.low_digit (rw high b.high_digit) (rw low b.low_digit), cc)
 
 plain_escaped : (c d : ℕ) (w v x y : List ℕ) → is_plain c ≡ true → w ≡ c ∷ [] → IsEscape d v → w ++ x ≡ v ++ y → (c ≡ d) × (w ≡ v)
 plain_escaped c d w v x y p u b e =
-  let head : c ≡ 37 = let e' = rw (u, b.text) at e in cc in
-  absurd (let f : true ≡ false = sym p ∙ rw head percent_escaped in cc)
+    let head : c ≡ 37 = let e' = rw (u, b.text) at e in cc in
+    absurd (let f : true ≡ false = sym p ∙ rw head percent_escaped in cc)
 
 both_plain : (c d : ℕ) (w v x y : List ℕ) → w ≡ c ∷ [] → v ≡ d ∷ [] → w ++ x ≡ v ++ y → (c ≡ d) × (w ≡ v)
 both_plain c d w v x y u t e =
-  let same : c ≡ d = let e' = rw (u, t) at e in cc in
-  (same, cc)
+    let same : c ≡ d = let e' = rw (u, t) at e in cc in
+    (same, cc)
 
 pub one_spelling : (c d : ℕ) (w v x y : List ℕ) → Spells c w → Spells d v → w ++ x ≡ v ++ y → (c ≡ d) × (w ≡ v)
 one_spelling c d w v x y (inl p) (inl q) e = both_plain c d w v x y p.1 q.1 e
 one_spelling c d w v x y (inl p) (inr q) e = plain_escaped c d w v x y p.0 p.1 q.1 e
 one_spelling c d w v x y (inr p) (inl q) e = let r = plain_escaped d c v w y x q.0 q.1 p.1 (sym e) in (sym r.0, sym r.1)
 one_spelling c d w v x y (inr p) (inr q) e = both_escaped c d w v x y p.1 q.1 e
+
+-- what a text begins with that goes on after a spelling
+abbrev pub Fronts : List ℕ → ℕ → Type 0
+Fronts text c =
+    ((0 < length text) × (is_plain (get_or text 0 0) ≡ true))
+    ⊎ ((2 < length text) × (get_or text 0 0 ≡ 37) × (hex_value (get_or text 1 0) ≡ Some (c / 16)) × (hex_value (get_or text 2 0) ≡ Some (c % 16)) × (is_escaped c ≡ true))
+
+plain_front : (text rest : List ℕ) (c : ℕ) → text ≡ c ∷ rest → is_plain c ≡ true → Fronts text c
+plain_front text rest c e p = inl (rw e (omega arith, p))
+
+escape_front : (text rest spelling : List ℕ) (c : ℕ) → text ≡ spelling ++ rest → IsEscape c spelling → is_escaped c ≡ true → Fronts text c
+escape_front text rest spelling c e s p =
+    let whole : text ≡ 37 ∷ s.high ∷ s.low ∷ rest = e ∙ ap (λ w. w ++ rest) s.text in
+    inr (rw whole (omega arith, refl, s.high_digit, s.low_digit, p))
+
+pub spelled_front : (text : List ℕ) (c len : ℕ) → BeginsWithSpelling text c len → Fronts text c
+spelled_front text c len b =
+    let whole : text ≡ take len text ++ drop len text = sym (take-append-drop len text) in
+    elim b.spelled as (λ _. Fronts text c) [
+      | inl p ↦ plain_front text (drop len text) c (whole ∙ ap (λ w. w ++ drop len text) p.1) p.0
+      | inr q ↦ escape_front text (drop len text) (take len text) c whole q.1 q.0
+    ]
+
+-- what leaves no spelling at the front
+pub unspelled : (text : List ℕ) → (is_plain (get_or text 0 0) ≡ false) → ((c : ℕ) → 2 < length text → get_or text 0 0 ≡ 37 → hex_value (get_or text 1 0) ≡ Some (c / 16) → hex_value (get_or text 2 0) ≡ Some (c % 16) → is_escaped c ≡ true → ⊥) → (c len : ℕ) → BeginsWithSpelling text c len → ⊥
+unspelled text plain escape c len b =
+    elim (spelled_front text c len b) as (λ _. ⊥) [
+      | inl p ↦ let f : true ≡ false = sym p.1 ∙ plain in cc
+      | inr q ↦ escape c q.0 q.1 q.2 q.3 q.4
+    ]
+
+-- two digits say which character it is
+pub character_of : (c high low : ℕ) → Some high ≡ Some (c / 16) → Some low ≡ Some (c % 16) → 16 * high + low ≡ c
+character_of c high low a b =
+    let quotient : high ≡ c / 16 = cc in
+    let rest : low ≡ c % 16 = cc in
+    omega arith

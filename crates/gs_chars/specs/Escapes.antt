@@ -1,5 +1,5 @@
 -- How the 82 characters are spelled in EPC URIs: TDS 2.0, sections 6.3.1 and 7.1, and table A.
-use Rattle.std.specs.Prelude.{◌≡◌, ℕ, ◌+◌, ◌-◌, ◌*◌, ◌/◌, ◌%◌, ◌<◌, ◌≤◌, ◌==◌, ◌&&◌, ◌⊎◌, nat_lt, nat_le, not, Bool, true, if◌then◌else◌, List, [], ◌∷◌, ◌++◌, Option, Some, None, codes, length, take}
+use Rattle.std.specs.Prelude.{◌≡◌, ℕ, ◌+◌, ◌-◌, ◌/◌, ◌%◌, ◌≤◌, ◌==◌, ◌&&◌, ◌⊎◌, nat_lt, nat_le, not, Bool, true, if◌then◌else◌, List, [], ◌∷◌, Option, Some, None, codes, length, take}
 use Rattle.std.specs.List.{list_any}
 use Rattle.gs_chars.specs.Characters.{is_digit, is_in_set82}
 
@@ -14,10 +14,10 @@ is_plain c = is_in_set82 c && not (is_escaped c)
 -- the value of a hexadecimal digit of either case
 abbrev pub hex_value : ℕ → Option ℕ
 hex_value c =
-  if is_digit c then Some (c - 48)
-  else if nat_le 65 c && nat_le c 70 then Some (c - 55)
-  else if nat_le 97 c && nat_le c 102 then Some (c - 87)
-  else None
+    if is_digit c then Some (c - 48)
+    else if nat_le 65 c && nat_le c 70 then Some (c - 55)
+    else if nat_le 97 c && nat_le c 102 then Some (c - 87)
+    else None
 
 -- the byte of a number below 16 as an upper-case hexadecimal digit
 abbrev pub hex_digit : ℕ → ℕ

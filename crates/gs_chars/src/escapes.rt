@@ -1,5 +1,5 @@
 ghost use Rattle.std.specs.Prelude.{◌≡◌, ℕ, ◌++◌, IfSome, IfNone, List};
-ghost use Rattle.gs_chars.specs.Escapes.{is_escaped, hex_value, BeginsWithSpelling, Spells};
+ghost use Rattle.gs_chars.specs.Escapes.{is_escaped, is_plain, hex_value, BeginsWithSpelling, Spells};
 
 use crate::char_set::CharSet;
 
@@ -9,6 +9,13 @@ fn is_escaped_in_uri(c: u8) -> bool
     ensures { result ≡ is_escaped c }
 {
     matches!(c, b'"' | b'%' | b'&' | b'/' | b'<' | b'>' | b'?')
+}
+
+/// A character that EPC URIs spell as itself.
+fn is_plain_in_uri(c: u8) -> bool
+    ensures { result ≡ is_plain c }
+{
+    CharSet::Set82.holds(c) && !is_escaped_in_uri(c)
 }
 
 /// The value of a hexadecimal digit of either case.
@@ -29,23 +36,25 @@ pub fn read_escape(text: &[u8]) -> Option<(u8, usize)>
     ensures found { IfSome result (λ r. BeginsWithSpelling text.now r.0 r.1) }
     ensures none { IfNone result ((c len : ℕ) → BeginsWithSpelling text.now c len → ⊥) }
 {
-    let first = *text.first()?;
-    if first != b'%' {
-        let plain = CharSet::Set82.holds(first) && !is_escaped_in_uri(first);
-        return if plain { Some((first, 1)) } else { None };
+    if text.is_empty() {
+        return None;
     }
-    let high = hex_digit_value(*text.get(1)?)?;
-    let low = hex_digit_value(*text.get(2)?)?;
+    if is_plain_in_uri(text[0]) {
+        return Some((text[0], 1));
+    }
+    if text.len() < 3 || text[0] != b'%' {
+        return None;
+    }
+    let high = hex_digit_value(text[1])?;
+    let low = hex_digit_value(text[2])?;
     let character = 16 * high + low;
-    if is_escaped_in_uri(character) {
-        Some((character, 3))
-    } else {
-        None
+    if !is_escaped_in_uri(character) {
+        return None;
     }
+    Some((character, 3))
 }
 
 /// No spelling begins another: two texts that begin alike begin with one spelling of one character.
 pub fn no_spelling_begins_another()
     ensures { (c d : ℕ) (w v x y : List ℕ) → Spells c w → Spells d v → w ++ x ≡ v ++ y → (c ≡ d) × (w ≡ v) }
-{
-}
+{}

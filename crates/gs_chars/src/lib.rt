@@ -14,3 +14,6 @@ pub use escapes::{no_spelling_begins_another, read_escape};
 pub use list::List;
 pub use memory::Memory;
 pub use text::Text;
+
+#[cfg(test)]
+mod tests;

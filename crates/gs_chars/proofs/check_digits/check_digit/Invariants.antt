@@ -6,5 +6,5 @@ use Rattle.gs_chars.proofs.check_digits.check_digit.Given as goal
 abbrev pub invariant-loop-i : goal.invariant-loop-i
 invariant-loop-i l = record {
   whole : l.sum + weighted_sum (drop l.i l.digits) ≡ weighted_sum l.digits;
-  small : l.sum ≤ 27 * l.i
+  small : l.sum ≤ 27 * l.i;
 }

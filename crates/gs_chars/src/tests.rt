@@ -1,0 +1,45 @@
+use crate::{CharSet, List, Text, check_digit, read_escape};
+use std::test::Fail;
+
+#[test]
+fn texts_and_lists_give_back_what_they_hold(rt: HostRuntime) -> Result<(), Fail> {
+    let small = Text::from_bytes(rt.alloc(), b"240")
+        .ok()
+        .ok_or("no memory")?;
+    let large = Text::from_vec(b"37".to_vec(rt.alloc())?);
+    assert_eq!(rt; small.as_bytes(), b"240".as_slice());
+    assert!(rt; small < large, "texts are ordered by their bytes");
+    assert!(rt; small != large);
+    let list = List::from_vec([3u8, 5].to_vec(rt.alloc())?);
+    assert_eq!(rt; list.items(), [3u8, 5].as_slice());
+    assert_eq!(rt; list.into_vec().as_slice(), [3u8, 5].as_slice());
+    Ok(())
+}
+
+// Keys of the General Specifications and of EPC rows whose check digits are printed there.
+#[test]
+fn check_digits_are_those_of_known_keys(rt: HostRuntime) {
+    assert_eq!(rt; check_digit(b"8061414112345"), b'8');
+    assert_eq!(rt; check_digit(b"0950600013435"), b'2');
+    assert_eq!(rt; check_digit(b"061414100001"), b'2');
+    assert_eq!(rt; check_digit(b"10614141234567890"), b'8');
+    assert_eq!(rt; check_digit(b"7"), b'9');
+}
+
+#[test]
+fn escapes_are_read_in_either_case(rt: HostRuntime) {
+    assert_eq!(rt; read_escape(b"%2F1"), Some((b'/', 3)));
+    assert_eq!(rt; read_escape(b"%2fb"), Some((b'/', 3)));
+    assert_eq!(rt; read_escape(b"ab"), Some((b'a', 1)));
+    assert_eq!(rt; read_escape(b"%41"), None, "a letter is no escape");
+    assert_eq!(rt; read_escape(b"%2"), None);
+    assert_eq!(rt;
+        read_escape(b"/"),
+        None,
+        "a slash is spelled by its escape alone"
+    );
+    assert_eq!(rt; read_escape(b"#"), None, "no character of the set");
+    assert_eq!(rt; read_escape(b""), None);
+    assert!(rt; CharSet::Digits.holds(b'7') && !CharSet::Digits.holds(b'a'));
+    assert!(rt; CharSet::Set82.holds(b'z') && !CharSet::Set82.holds(b'#'));
+}
