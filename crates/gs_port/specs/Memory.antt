@@ -1,0 +1,30 @@
+-- Sources and sinks in memory.
+use Rattle.std.specs.Prelude.{◌≡◌, ℕ, List, Contains}
+use Rattle.gs_port.specs.Counts.{counted}
+
+-- which calls of an object in memory fail: those whose numbers, from 0, are listed; and the number of the next call
+pub record Plan : Type 0 where
+  pub fails : List ℕ
+  pub next : ℕ
+
+-- the next call fails
+abbrev pub FailsNow : Plan → Type 0
+FailsNow plan = Contains plan.fails plan.next
+
+-- the plan after one more call
+abbrev pub after_call : Plan → Plan
+after_call plan = record plan { next = counted plan.next }
+
+-- a source in memory: the bytes that are left, the most that one read moves, the plan of its calls, its count of faults
+pub record MemInput : Type 0 where
+  pub rest : List ℕ
+  pub most : ℕ
+  pub plan : Plan
+  pub count : ℕ
+
+-- a sink in memory: the bytes that it holds, the most that one write takes, the plan of its calls, its count of faults
+pub record MemOutput : Type 0 where
+  pub kept : List ℕ
+  pub most : ℕ
+  pub plan : Plan
+  pub count : ℕ

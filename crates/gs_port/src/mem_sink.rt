@@ -1,0 +1,82 @@
+ghost use Rattle.std.specs.Prelude.{◌≡◌, ◌<◌, ◌≤◌, [], Some, length, min, take};
+ghost use Rattle.gs_port.specs.Contents.{append_known};
+ghost use Rattle.gs_port.specs.Counts.{Rises};
+ghost use Rattle.gs_port.specs.Memory.{FailsNow, after_call};
+ghost use Rattle.gs_port.specs.Answers.{IfTook, OnNothingTaken, OnWriteFailed};
+
+use crate::plan::CallPlan;
+use crate::sink::{Sink, WriteAnswer};
+use std::alloc::Global;
+use std::marker::Model;
+
+/// A sink in memory, which takes at most so many bytes at a time, and fails at the calls that it is told.
+#[derive(Debug, Drop)]
+pub struct MemSink {
+    bytes: Vec<u8>,
+    cut: usize,
+    plan: CallPlan,
+    faults: u64,
+}
+
+impl Model for MemSink {
+    ghost use Rattle.std.specs.Prelude.{◌<◌};
+    ghost use Rattle.gs_port.specs.Memory.{MemOutput};
+
+    ghost Value = { MemOutput };
+
+    ghost view = { λ a. record { kept = a.bytes.items; most = a.cut; plan = a.plan; count = a.faults } };
+
+    ghost invariant = { λ a. 0 < a.cut };
+}
+
+impl MemSink {
+    /// An empty sink. A write takes at most `cut` bytes. The calls whose numbers, from 0, are in `fails` fail.
+    pub fn new(alloc: Global, cut: usize, fails: Vec<u64>) -> MemSink
+        requires some { 0 < cut }
+        ensures { result ≡ record { kept = []; most = cut; plan = record { fails = fails.items; next = 0 }; count = 0 } }
+    {
+        MemSink {
+            bytes: Vec::new(alloc),
+            cut,
+            plan: CallPlan::new(fails),
+            faults: 0,
+        }
+    }
+
+    /// The bytes that it holds.
+    pub fn bytes(&self) -> &[u8]
+        ensures { result.now ≡ self.now.kept }
+    {
+        self.bytes.as_slice()
+    }
+}
+
+impl Sink for MemSink {
+    ghost held = { λ s. Some s.kept };
+
+    ghost faults = { λ s. s.count };
+
+    fn write(&mut self, piece: &[u8]) -> WriteAnswer
+        ensures within { IfTook result (λ n. n ≤ length piece.now) }
+        ensures some { IfTook result (λ n. 0 < length piece.now → 0 < n) }
+        ensures appended { IfTook result (λ n. Some self.new.kept ≡ append_known (Some self.old.kept) (take n piece.now)) }
+        ensures unchanged { OnNothingTaken result (Some self.new.kept ≡ Some self.old.kept) }
+        ensures failed { OnWriteFailed result (Rises self.old.count self.new.count) }
+        ensures counts { self.old.count ≤ self.new.count }
+        ensures most { IfTook result (λ n. n ≡ min self.old.most (length piece.now)) }
+        ensures planned { OnWriteFailed result (FailsNow self.old.plan) }
+        ensures unplanned { IfTook result (λ _. ¬ FailsNow self.old.plan) }
+        ensures same_most { self.new.most ≡ self.old.most }
+        ensures plan { self.new.plan ≡ after_call self.old.plan }
+    {
+        if self.plan.next_fails() {
+            self.faults = self.faults.saturating_add(1);
+            return WriteAnswer::Failed;
+        }
+        let taken = self.cut.min(piece.len());
+        match self.bytes.extend_from_slice(&piece[..taken]) {
+            Ok(()) => WriteAnswer::Took(taken),
+            Err(_) => WriteAnswer::Memory,
+        }
+    }
+}

@@ -1,0 +1,78 @@
+ghost use Rattle.std.specs.Prelude.{◌≡◌, ◌<◌, ◌≤◌, ◌↔◌, [], IfSome, Some, length, min, take};
+ghost use Rattle.gs_port.specs.Contents.{prepend_known};
+ghost use Rattle.gs_port.specs.Counts.{Rises};
+ghost use Rattle.gs_port.specs.Memory.{FailsNow, after_call};
+ghost use Rattle.gs_port.specs.Answers.{IfGot, OnReadFailed};
+
+use crate::plan::CallPlan;
+use crate::source::{ReadAnswer, Source};
+use std::alloc::Global;
+use std::marker::Model;
+
+/// A source in memory, which moves at most so many bytes at a time, and fails at the calls that it is told.
+#[derive(Debug, Drop)]
+pub struct MemSource {
+    bytes: Vec<u8>,
+    at: usize,
+    cut: usize,
+    plan: CallPlan,
+    faults: u64,
+}
+
+impl Model for MemSource {
+    ghost use Rattle.std.specs.Prelude.{◌<◌, ◌≤◌, drop, vec_len};
+    ghost use Rattle.gs_port.specs.Memory.{MemInput};
+
+    ghost Value = { MemInput };
+
+    ghost view = { λ a. record { rest = drop a.at a.bytes.items; most = a.cut; plan = a.plan; count = a.faults } };
+
+    ghost invariant = { λ a. (0 < a.cut) × (a.at ≤ vec_len a.bytes) };
+}
+
+impl MemSource {
+    /// A source of the bytes. A read moves at most `cut` of them. The calls whose numbers, from 0, are in `fails` fail.
+    pub fn new(_alloc: Global, bytes: Vec<u8>, cut: usize, fails: Vec<u64>) -> MemSource
+        requires some { 0 < cut }
+        ensures { result ≡ record { rest = bytes.items; most = cut; plan = record { fails = fails.items; next = 0 }; count = 0 } }
+    {
+        MemSource {
+            bytes,
+            at: 0,
+            cut,
+            plan: CallPlan::new(fails),
+            faults: 0,
+        }
+    }
+}
+
+impl Source for MemSource {
+    ghost left = { λ s. Some s.rest };
+
+    ghost faults = { λ s. s.count };
+
+    fn read(&mut self, buf: &mut [u8]) -> ReadAnswer
+        requires room { 0 < length buf.old }
+        ensures within { IfGot result (λ n. n ≤ length buf.new) }
+        ensures moved { IfGot result (λ n. Some self.old.rest ≡ prepend_known (take n buf.new) (Some self.new.rest)) }
+        ensures end { IfGot result (λ n. IfSome (Some self.old.rest) (λ bytes. (n ≡ 0) ↔ (bytes ≡ []))) }
+        ensures unmoved { OnReadFailed result (Some self.new.rest ≡ Some self.old.rest) }
+        ensures failed { OnReadFailed result (Rises self.old.count self.new.count) }
+        ensures counts { self.old.count ≤ self.new.count }
+        ensures most { IfGot result (λ n. n ≡ min (min self.old.most (length buf.new)) (length self.old.rest)) }
+        ensures planned { OnReadFailed result (FailsNow self.old.plan) }
+        ensures unplanned { IfGot result (λ _. ¬ FailsNow self.old.plan) }
+        ensures same_most { self.new.most ≡ self.old.most }
+        ensures plan { self.new.plan ≡ after_call self.old.plan }
+    {
+        if self.plan.next_fails() {
+            self.faults = self.faults.saturating_add(1);
+            return ReadAnswer::Failed;
+        }
+        let rest = &self.bytes[self.at..];
+        let moved = self.cut.min(buf.len()).min(rest.len());
+        buf[..moved].copy_from_slice(&rest[..moved]);
+        self.at += moved;
+        ReadAnswer::Got(moved)
+    }
+}

@@ -1,0 +1,33 @@
+ghost use Rattle.std.specs.Prelude.{◌≡◌, ℕ, ◌<◌, ◌≤◌, ◌↔◌, List, [], Option, IfSome, length, take};
+ghost use Rattle.gs_port.specs.Contents.{prepend_known};
+ghost use Rattle.gs_port.specs.Counts.{Rises};
+ghost use Rattle.gs_port.specs.Answers.{IfGot, OnReadFailed};
+
+/// What a read answers.
+#[derive(Clone, Copy, Debug, PartialEq, Eq)]
+pub enum ReadAnswer {
+    /// This many bytes were moved. It is 0 at the end.
+    Got(usize),
+    /// A fault, which was counted. Nothing was moved.
+    Failed,
+}
+
+/// What bytes are read from.
+pub trait Source {
+    /// The bytes that are left, where the source tells them.
+    ghost left: { Self → Option (List ℕ) };
+
+    /// The count of faults. It never falls, and stands still at 2^64 - 1.
+    ghost faults: { Self → ℕ };
+
+    /// Moves the next bytes of what is left into the front of `buf`, at most as many as `buf` is long, and 0 exactly
+    /// where nothing is left. `Failed` comes only where a fault was counted, and moves nothing.
+    fn read(&mut self, buf: &mut [u8]) -> ReadAnswer
+        requires room { 0 < length buf.old }
+        ensures within { IfGot result (λ n. n ≤ length buf.new) }
+        ensures moved { IfGot result (λ n. left self.old ≡ prepend_known (take n buf.new) (left self.new)) }
+        ensures end { IfGot result (λ n. IfSome (left self.old) (λ bytes. (n ≡ 0) ↔ (bytes ≡ []))) }
+        ensures unmoved { OnReadFailed result (left self.new ≡ left self.old) }
+        ensures failed { OnReadFailed result (Rises (faults self.old) (faults self.new)) }
+        ensures counts { faults self.old ≤ faults self.new };
+}

@@ -1,0 +1,66 @@
+ghost use Rattle.std.specs.Prelude.{None};
+
+use crate::sink::{Sink, WriteAnswer};
+use crate::source::{ReadAnswer, Source};
+use std::io::{Read, Stdin, Stdout, Write};
+
+/// The standard input. Each error of a read is counted. Nothing is told of its content.
+#[derive(Drop)]
+pub struct StdinSource {
+    stdin: Stdin,
+    faults: u64,
+}
+
+impl StdinSource {
+    /// The standard input of the runtime, with no fault counted.
+    pub fn new(stdin: Stdin) -> StdinSource {
+        StdinSource { stdin, faults: 0 }
+    }
+}
+
+impl Source for StdinSource {
+    ghost left = { λ s. None };
+
+    ghost faults = { λ s. s.faults };
+
+    fn read(&mut self, buf: &mut [u8]) -> ReadAnswer {
+        match self.stdin.read(buf) {
+            Ok(moved) => ReadAnswer::Got(moved),
+            Err(_) => {
+                self.faults = self.faults.saturating_add(1);
+                ReadAnswer::Failed
+            }
+        }
+    }
+}
+
+/// The standard output. Each error of a write is counted, and so is a write that takes nothing of a piece that is not
+/// empty. Nothing is told of its content.
+#[derive(Drop)]
+pub struct StdoutSink {
+    stdout: Stdout,
+    faults: u64,
+}
+
+impl StdoutSink {
+    /// The standard output of the runtime, with no fault counted.
+    pub fn new(stdout: Stdout) -> StdoutSink {
+        StdoutSink { stdout, faults: 0 }
+    }
+}
+
+impl Sink for StdoutSink {
+    ghost held = { λ s. None };
+
+    ghost faults = { λ s. s.faults };
+
+    fn write(&mut self, piece: &[u8]) -> WriteAnswer {
+        match self.stdout.write(piece) {
+            Ok(taken) if taken > 0 || piece.is_empty() => WriteAnswer::Took(taken),
+            _ => {
+                self.faults = self.faults.saturating_add(1);
+                WriteAnswer::Failed
+            }
+        }
+    }
+}

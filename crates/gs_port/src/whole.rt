@@ -1,0 +1,35 @@
+ghost use Rattle.std.specs.Prelude.{◌≡◌, ℕ, ◌≤◌, length, take};
+ghost use Rattle.gs_port.specs.Contents.{append_known};
+ghost use Rattle.gs_port.specs.Counts.{Rises};
+ghost use Rattle.gs_port.specs.Answers.{OnDone, OnShort, OnSinkFault};
+
+use crate::sink::{Sink, WriteAnswer};
+
+/// How writing bytes whole ended.
+#[derive(Clone, Copy, Debug, PartialEq, Eq)]
+pub enum Whole {
+    /// All bytes were written.
+    Done,
+    /// The sink failed, and counted it. A front of the bytes was written.
+    SinkFault,
+    /// Want of memory. A front of the bytes was written.
+    Memory,
+}
+
+/// Writes all the bytes, in as many pieces as the sink takes. `SinkFault` comes only where the sink's count rose.
+pub fn write_whole<K: Sink>(sink: &mut K, bytes: &[u8]) -> Whole
+    ensures done { OnDone result (K.held sink.new ≡ append_known (K.held sink.old) bytes.now) }
+    ensures short { OnShort result ((n : ℕ) × (n ≤ length bytes.now) × (K.held sink.new ≡ append_known (K.held sink.old) (take n bytes.now))) }
+    ensures fault { OnSinkFault result (Rises (K.faults sink.old) (K.faults sink.new)) }
+    ensures counts { K.faults sink.old ≤ K.faults sink.new }
+{
+    let mut done = 0;
+    while done < bytes.len() {
+        match sink.write(&bytes[done..]) {
+            WriteAnswer::Took(taken) => done += taken,
+            WriteAnswer::Failed => return Whole::SinkFault,
+            WriteAnswer::Memory => return Whole::Memory,
+        }
+    }
+    Whole::Done
+}
