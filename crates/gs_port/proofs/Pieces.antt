@@ -1,17 +1,16 @@
 -- Pieces of a list, moved one after the other.
-use Rattle.std.proofs.Common.{◌≡◌, ◌≤◌, ◌+◌, ◌-◌, ◌∙◌, ℕ, List, ◌++◌, Option, length, take, drop, ap, sym, arith}
+use Rattle.std.proofs.Common.{◌≡◌, ◌+◌, ◌-◌, ◌∙◌, ℕ, List, ◌++◌, Option, length, take, drop, ap, sym}
 use Rattle.std.proofs.Math.Seq.{take-add}
 use Rattle.std.proofs.lemmas.List.{take_at, take_rest, take-append-drop, drop-drop}
-use Rattle.std.proofs.lemmas.Grind.{common_steps}
 use Rattle.gs_port.specs.Contents.{append_known, append_twice}
 
 -- a piece that was copied to the front of a room, and what is behind it in the list
 pub front_copied : (items piece room : List ℕ) (at n : ℕ) → piece ≡ take n (take (length items - at) (drop at items)) → length piece ≡ n → drop at items ≡ take n (piece ++ room) ++ drop (at + n) items
 front_copied items piece room at n e h =
-  let whole : piece ≡ take n (drop at items) = e ∙ ap (take n) (take_rest items at) in
-  sym (ap (λ front. front ++ drop (at + n) items) (take_at piece room n h ∙ whole) ∙ ap (λ rest. take n (drop at items) ++ rest) (sym (drop-drop n at items)) ∙ take-append-drop n (drop at items))
+    let whole : piece ≡ take n (drop at items) = e ∙ ap (take n) (take_rest items at) in
+    sym (ap (λ front. front ++ drop (at + n) items) (take_at piece room n h ∙ whole) ∙ ap (λ rest. take n (drop at items) ++ rest) (sym (drop-drop n at items)) ∙ take-append-drop n (drop at items))
 
 -- what is appended after the first bytes of a list are the next ones
 pub appended_further : (before now after : Option (List ℕ)) (bytes : List ℕ) (done n : ℕ) → now ≡ append_known before (take done bytes) → after ≡ append_known now (take n (take (length bytes - done) (drop done bytes))) → after ≡ append_known before (take (done + n) bytes)
 appended_further before now after bytes done n h k =
-  k ∙ ap (λ rest. append_known now (take n rest)) (take_rest bytes done) ∙ ap (λ known. append_known known (take n (drop done bytes))) h ∙ append_twice before (take done bytes) (take n (drop done bytes)) ∙ ap (append_known before) (sym (take-add done n bytes))
+    k ∙ ap (λ rest. append_known now (take n rest)) (take_rest bytes done) ∙ ap (λ known. append_known known (take n (drop done bytes))) h ∙ append_twice before (take done bytes) (take n (drop done bytes)) ∙ ap (append_known before) (sym (take-add done n bytes))

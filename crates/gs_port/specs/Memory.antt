@@ -1,5 +1,5 @@
 -- Sources and sinks in memory.
-use Rattle.std.specs.Prelude.{◌≡◌, ℕ, List, Contains}
+use Rattle.std.specs.Prelude.{ℕ, List, Contains}
 use Rattle.gs_port.specs.Counts.{counted}
 
 -- which calls of an object in memory fail: those whose numbers, from 0, are listed; and the number of the next call

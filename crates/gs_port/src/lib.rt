@@ -15,3 +15,6 @@ pub use sink::{Sink, WriteAnswer};
 pub use source::{ReadAnswer, Source};
 pub use stdio::{StdinSource, StdoutSink};
 pub use whole::{Whole, write_whole};
+
+#[cfg(test)]
+mod tests;

@@ -7,5 +7,5 @@ pub loop-done-preserved : goal.loop-done-preserved
 loop-done-preserved g c = record {
   within = grind (arith, common_steps, c.in-Took.ensures.within);
   appended = appended_further _ _ _ _ _ _ c.loop-done.invariant.appended c.in-Took.ensures.appended;
-  counts = omega (arith, c.in-Took.ensures.counts, c.loop-done.invariant.counts)
+  counts = omega (arith, c.in-Took.ensures.counts, c.loop-done.invariant.counts);
 }
