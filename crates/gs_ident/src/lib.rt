@@ -4,6 +4,8 @@
 mod identity;
 mod pair;
 mod spelling;
+#[cfg(test)]
+mod tests;
 
 pub use identity::{Identity, sgtin};
 pub use pair::Pair;

@@ -1,6 +1,6 @@
 ghost use Rattle.std.specs.Prelude.{◌≡◌, ◌++◌, ◌∷◌, IfOk};
 ghost use Rattle.std.specs.List.{flat_map};
-ghost use Rattle.gs_ident.specs.Links.{percent_encoded, path_step, query_of, spelled, canonical_link};
+ghost use Rattle.gs_ident.specs.Links.{percent_encoded, query_of, spelled, canonical_link};
 
 use crate::identity::Identity;
 use crate::pair::Pair;
@@ -26,7 +26,7 @@ fn write_value(out: &mut Vec<u8>, value: &[u8]) -> Result<(), Memory>
 /// Appends the byte `before`, the pair's code, the byte `between` and the value with its escapes.
 fn write_pair(out: &mut Vec<u8>, before: u8, pair: &Pair, between: u8) -> Result<(), Memory>
     ensures { IfOk result (λ _. out.new.items
-        ≡ out.old.items ++ (before ∷ pair.now.code ++ between ∷ percent_encoded pair.now.value)) }
+        ≡ out.old.items ++ (before ∷ (pair.now.code ++ between ∷ percent_encoded pair.now.value))) }
 {
     out.push(before)?;
     out.extend_from_slice(pair.code.as_bytes())?;
@@ -34,12 +34,14 @@ fn write_pair(out: &mut Vec<u8>, before: u8, pair: &Pair, between: u8) -> Result
     write_value(out, pair.value.as_bytes())
 }
 
-/// Appends the path of the qualifiers.
-fn write_path(out: &mut Vec<u8>, pairs: &[Pair]) -> Result<(), Memory>
-    ensures { IfOk result (λ _. out.new.items ≡ out.old.items ++ flat_map path_step pairs.now) }
+/// Appends each pair as `write_pair` does.
+fn write_pairs(out: &mut Vec<u8>, before: u8, pairs: &[Pair], between: u8) -> Result<(), Memory>
+    ensures { IfOk result (λ _. out.new.items
+        ≡ out.old.items
+            ++ flat_map (λ p. before ∷ (p.code ++ between ∷ percent_encoded p.value)) pairs.now) }
 {
     for pair in pairs {
-        write_pair(out, b'/', pair, b'/')?;
+        write_pair(out, before, pair, between)?;
     }
     Ok(())
 }
@@ -48,11 +50,11 @@ fn write_path(out: &mut Vec<u8>, pairs: &[Pair]) -> Result<(), Memory>
 fn write_query(out: &mut Vec<u8>, pairs: &[Pair]) -> Result<(), Memory>
     ensures { IfOk result (λ _. out.new.items ≡ out.old.items ++ query_of pairs.now) }
 {
-    for (i, pair) in pairs.iter().enumerate() {
-        let before = if i == 0 { b'?' } else { b'&' };
-        write_pair(out, before, pair, b'=')?;
-    }
-    Ok(())
+    let Some((first, rest)) = pairs.split_first() else {
+        return Ok(());
+    };
+    write_pair(out, b'?', first, b'=')?;
+    write_pairs(out, b'&', rest, b'=')
 }
 
 /// The link of the identity under the stem: the key's pair and those of the qualifiers as the path, the attributes as the
@@ -62,7 +64,7 @@ pub fn spell(alloc: Global, stem: &[u8], identity: &Identity) -> Result<Text, Me
 {
     let mut out = Vec::from_slice(alloc, stem)?;
     write_pair(&mut out, b'/', identity.key(), b'/')?;
-    write_path(&mut out, identity.qualifiers())?;
+    write_pairs(&mut out, b'/', identity.qualifiers(), b'/')?;
     write_query(&mut out, identity.attributes())?;
     Ok(Text::from_vec(out))
 }
