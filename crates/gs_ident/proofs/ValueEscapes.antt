@@ -1,6 +1,5 @@
 -- The escapes of `percent_encoding` at the set of this crate are those of a link.
-use Rattle.std.proofs.Common.{◌≡◌, ℕ, ◌<◌, ◌/◌, ◌%◌, ◌++◌, not, Bool, true, false, List, [], ◌∷◌, All, refl, sym, ◌∙◌, ap, arith, if◌then◌else◌}
-use Rattle.std.specs.List.{flat_map}
+use Rattle.std.proofs.Common.{◌≡◌, ℕ, ◌<◌, ◌/◌, ◌%◌, not, Bool, true, false, List, [], ◌∷◌, All, refl, arith, if◌then◌else◌}
 use Rattle.std.proofs.lemmas.Bool.{agree_below, agree_below_at}
 use Rattle.std.proofs.lemmas.List.Elements.{All-head, All-tail}
 use Rattle.percent_encoding.specs.AsciiSet.{should_percent_encode}
@@ -33,6 +32,6 @@ pub same_text : (value : List ℕ) → All IsByte value → percent_encode ESCAP
 unfolding percent_encode percent_encoded
 same_text [] h = refl
 same_text (c ∷ cs) h =
-  let first = same_byte c (All-head IsByte c cs h) in
-  let rest = same_text cs (All-tail IsByte c cs h) in
-  rw (first, rest)
+    let first = same_byte c (All-head IsByte c cs h) in
+    let rest = same_text cs (All-tail IsByte c cs h) in
+    rw (first, rest)

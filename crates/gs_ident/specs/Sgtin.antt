@@ -21,5 +21,5 @@ abbrev pub sgtin_elements : List ℕ → List ℕ → Elements
 sgtin_elements gtin serial = record {
   key = record { code = codes "01"; value = gtin };
   qualifiers = record { code = codes "21"; value = serial } ∷ [];
-  attributes = []
+  attributes = [];
 }

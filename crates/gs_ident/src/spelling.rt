@@ -38,7 +38,7 @@ fn write_pair(out: &mut Vec<u8>, before: u8, pair: &Pair, between: u8) -> Result
 fn write_pairs(out: &mut Vec<u8>, before: u8, pairs: &[Pair], between: u8) -> Result<(), Memory>
     ensures { IfOk result (λ _. out.new.items
         ≡ out.old.items
-            ++ flat_map (λ p. before ∷ (p.code ++ between ∷ percent_encoded p.value)) pairs.now) }
+        ++ flat_map (λ p. before ∷ (p.code ++ between ∷ percent_encoded p.value)) pairs.now) }
 {
     for pair in pairs {
         write_pair(out, before, pair, between)?;

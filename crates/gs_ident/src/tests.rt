@@ -11,9 +11,15 @@ fn links_of_trade_items(rt: HostRuntime) -> Result<(), Fail> {
     assert_eq!(rt; plain.qualifiers().len(), 1);
     assert_eq!(rt; plain.attributes().len(), 0);
     let link = canonical(alloc, &plain)?;
-    assert_eq!(rt; link.as_bytes(), b"https://id.gs1.org/01/80614141123458/21/6789".as_slice());
+    assert_eq!(rt;
+        link.as_bytes(),
+        b"https://id.gs1.org/01/80614141123458/21/6789".as_slice()
+    );
     let escaped = sgtin(alloc, b"70614141123451", b"32a/b")?;
     let link = spell(alloc, b"https://r.example/g", &escaped)?;
-    assert_eq!(rt; link.as_bytes(), b"https://r.example/g/01/70614141123451/21/32a%2Fb".as_slice());
+    assert_eq!(rt;
+        link.as_bytes(),
+        b"https://r.example/g/01/70614141123451/21/32a%2Fb".as_slice()
+    );
     Ok(())
 }
