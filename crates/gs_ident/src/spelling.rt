@@ -1,0 +1,78 @@
+ghost use Rattle.std.specs.Prelude.{◌≡◌, ◌++◌, ◌∷◌, IfOk};
+ghost use Rattle.std.specs.List.{flat_map};
+ghost use Rattle.gs_ident.specs.Links.{percent_encoded, query_of, spelled, canonical_link};
+
+use crate::identity::Identity;
+use crate::pair::Pair;
+use gs_chars::{Memory, Text};
+use percent_encoding::{AsciiSet, NON_ALPHANUMERIC, percent_encode};
+use std::alloc::Global;
+
+/// The ASCII bytes that a value escapes: all but letters, digits, `-`, `.` and `_`.
+const ESCAPED: AsciiSet = percent_encoding::ascii_set!(
+    NON_ALPHANUMERIC.remove(b'-').remove(b'.').remove(b'_')
+);
+
+/// Appends the value with its escapes.
+fn write_value(out: &mut Vec<u8>, value: &[u8]) -> Result<(), Memory>
+    ensures { IfOk result (λ _. out.new.items ≡ out.old.items ++ percent_encoded value.now) }
+{
+    for piece in percent_encode(value, ESCAPED) {
+        out.extend_from_slice(piece.as_bytes())?;
+    }
+    Ok(())
+}
+
+/// Appends the byte `before`, the pair's code, the byte `between` and the value with its escapes.
+fn write_pair(out: &mut Vec<u8>, before: u8, pair: &Pair, between: u8) -> Result<(), Memory>
+    ensures { IfOk result (λ _. out.new.items
+        ≡ out.old.items ++ (before ∷ (pair.now.code ++ between ∷ percent_encoded pair.now.value))) }
+{
+    out.push(before)?;
+    out.extend_from_slice(pair.code.as_bytes())?;
+    out.push(between)?;
+    write_value(out, pair.value.as_bytes())
+}
+
+/// Appends each pair as `write_pair` does.
+fn write_pairs(out: &mut Vec<u8>, before: u8, pairs: &[Pair], between: u8) -> Result<(), Memory>
+    ensures { IfOk result (λ _. out.new.items
+        ≡ out.old.items
+        ++ flat_map (λ p. before ∷ (p.code ++ between ∷ percent_encoded p.value)) pairs.now) }
+{
+    for pair in pairs {
+        write_pair(out, before, pair, between)?;
+    }
+    Ok(())
+}
+
+/// Appends the query of the attributes, and nothing where there are none.
+fn write_query(out: &mut Vec<u8>, pairs: &[Pair]) -> Result<(), Memory>
+    ensures { IfOk result (λ _. out.new.items ≡ out.old.items ++ query_of pairs.now) }
+{
+    let Some((first, rest)) = pairs.split_first() else {
+        return Ok(());
+    };
+    write_pair(out, b'?', first, b'=')?;
+    write_pairs(out, b'&', rest, b'=')
+}
+
+/// The link of the identity under the stem: the key's pair and those of the qualifiers as the path, the attributes as the
+/// query (GS1 Digital Link URI Syntax, section 4). The one refusal is want of memory.
+pub fn spell(alloc: Global, stem: &[u8], identity: &Identity) -> Result<Text, Memory>
+    ensures { IfOk result (λ text. text ≡ spelled stem.now identity.now) }
+{
+    let mut out = Vec::from_slice(alloc, stem)?;
+    write_pair(&mut out, b'/', identity.key(), b'/')?;
+    write_pairs(&mut out, b'/', identity.qualifiers(), b'/')?;
+    write_query(&mut out, identity.attributes())?;
+    Ok(Text::from_vec(out))
+}
+
+/// The canonical link of the identity, which has the stem `https://id.gs1.org` (GS1 Digital Link URI Syntax, section 5).
+/// The one refusal is want of memory.
+pub fn canonical(alloc: Global, identity: &Identity) -> Result<Text, Memory>
+    ensures { IfOk result (λ text. text ≡ canonical_link identity.now) }
+{
+    spell(alloc, b"https://id.gs1.org", identity)
+}
