@@ -1,0 +1,43 @@
+-- Derivations of a list of symbols: TDT 2.0, section 3 (levels and options).
+use Rattle.std.specs.Prelude.{◌≡◌, ℕ, List, [], ◌∷◌, Option, Some}
+use Rattle.std.specs.List.{concat, slice_get}
+use Rattle.gs_grammar.specs.declared.item.Item.{Item}
+use Rattle.gs_grammar.specs.Words.{Word}
+
+-- each item has one word, with its value
+pub data EachWord : List Item → List (List ℕ) → List (List ℕ) → Type 0 where
+  no_item : EachWord [] [] []
+  one_item : (item : Item) (value w : List ℕ) (items : List Item) (values words : List (List ℕ)) → Word item value w → EachWord items values words → EachWord (item ∷ items) (value ∷ values) (w ∷ words)
+
+-- the words are one of each item, with these values, and joined they are the whole list
+pub record Derives (items : List Item) (w : List ℕ) (values words : List (List ℕ)) : Type 0 where
+  pub each : EachWord items values words
+  pub joined : concat words ≡ w
+
+-- a derivation of the list in the level: the number of an option, and one word of each of its items, which joined are the
+-- list; and the values of the words
+pub record Derivation (level : List (List Item)) (w : List ℕ) : Type 0 where
+  pub option : ℕ
+  pub items : List Item
+  pub values : List (List ℕ)
+  pub words : List (List ℕ)
+  pub of_level : slice_get level option ≡ Some items
+  pub derives : Derives items w values words
+
+-- two derivations are one where the option and the words are the same
+pub record AreSame (level : List (List Item)) (w : List ℕ) (one other : Derivation level w) : Type 0 where
+  pub option : one.option ≡ other.option
+  pub words : one.words ≡ other.words
+
+-- the list has two different derivations
+pub record TwoDerivations (level : List (List Item)) (w : List ℕ) : Type 0 where
+  pub one : Derivation level w
+  pub other : Derivation level w
+  pub differ : AreSame level w one other → ⊥
+
+-- the list has one derivation, and this is its option and these are its values
+pub record OneDerivation (level : List (List Item)) (w : List ℕ) (option : ℕ) (values : List (List ℕ)) : Type 0 where
+  pub derivation : Derivation level w
+  pub of_option : derivation.option ≡ option
+  pub of_values : derivation.values ≡ values
+  pub only : (other : Derivation level w) → AreSame level w other derivation

@@ -1,0 +1,5 @@
+pub mod Items
+pub mod Words
+pub mod Levels
+pub mod Derivations
+pub mod Readings

@@ -1,0 +1,88 @@
+ghost use Rattle.std.specs.Prelude.{◌≡◌, ◌≤◌, IfOk, IfErr, SomeIff};
+ghost use Rattle.gs_grammar.specs.Items.{size_of_all};
+ghost use Rattle.gs_grammar.specs.Levels.{KeepBounds, IsFaultOf};
+
+use crate::fault::OptFault;
+use crate::item::Item;
+use gs_chars::List;
+use std::marker::Model;
+
+/// An option of a level: items that stand one after the other, of at most 512 symbols.
+#[derive(Debug, Drop)]
+pub struct Opt {
+    bit_level: bool,
+    items: List<Item>,
+    size: usize,
+}
+
+impl Model for Opt {
+    ghost use Rattle.std.specs.Prelude.{◌≡◌};
+    ghost use Rattle.gs_grammar.specs.Items.{size_of_all};
+    ghost use Rattle.gs_grammar.specs.Levels.{OptionForm, IsOption};
+
+    ghost Value = { OptionForm };
+
+    ghost view = { λ a. record { bit_level = a.bit_level; items = a.items } };
+
+    ghost invariant = { λ a. IsOption a.bit_level a.items a.size };
+}
+
+/// The sizes of the items added up, where they are at most 512.
+fn size_within_limit(items: &[Item]) -> Option<usize>
+    ensures { SomeIff result (size_of_all items.now ≤ 512) (size_of_all items.now) }
+{
+    let mut size = 0;
+    for item in items {
+        size += item.size();
+        if size > 512 {
+            return None;
+        }
+    }
+    Some(size)
+}
+
+impl Opt {
+    /// The option of these items. `BadItem(k)` comes exactly where item k is the first that is not of the level or breaks a
+    /// bound; `Size` exactly where no item does, and the sizes add up to more than 512.
+    pub fn new(bit_level: bool, items: Vec<Item>) -> Result<Opt, OptFault>
+        ensures bit_level { IfOk result (λ option. option.bit_level ≡ bit_level) }
+        ensures items { IfOk result (λ option. option.items ≡ items.items) }
+        ensures in_bounds { IfOk result (λ option. KeepBounds bit_level items.items) }
+        ensures refused { IfErr result (λ fault. IsFaultOf bit_level items.items fault) }
+    {
+        let bad = items.iter().position(|item| !item.is_in_bounds(bit_level));
+        if let Some(k) = bad {
+            return Err(OptFault::BadItem(k));
+        }
+        let Some(size) = size_within_limit(items.as_slice()) else {
+            return Err(OptFault::Size);
+        };
+        Ok(Opt {
+            bit_level,
+            items: List::from_vec(items),
+            size,
+        })
+    }
+
+    /// The items, in their order.
+    pub fn items(&self) -> &[Item]
+        ensures items { result.now ≡ self.now.items }
+        ensures in_bounds { KeepBounds self.now.bit_level self.now.items }
+    {
+        self.items.items()
+    }
+
+    /// The most symbols that a text of the option has: the sizes of the items, added up.
+    pub fn size(&self) -> usize
+        ensures { result ≡ size_of_all self.now.items }
+    {
+        self.size
+    }
+
+    /// Whether the option's symbols are bits.
+    pub fn bit_level(&self) -> bool
+        ensures { result ≡ self.now.bit_level }
+    {
+        self.bit_level
+    }
+}
