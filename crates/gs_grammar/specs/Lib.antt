@@ -3,3 +3,4 @@ pub mod Words
 pub mod Levels
 pub mod Derivations
 pub mod Readings
+pub mod Searches

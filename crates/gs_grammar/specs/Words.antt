@@ -15,6 +15,12 @@ pub record HasLength (lo hi : ℕ) (value : List ℕ) : Type 0 where
   pub least : lo ≤ length value
   pub most : length value ≤ hi
 
+-- the list spells a value of this many characters
+pub record SpellsMany (n : ℕ) (w : List ℕ) : Type 0 where
+  pub value : List ℕ
+  pub spelled : SpellsEach value w
+  pub count : length value ≡ n
+
 -- The list of symbols is a word of the item, and this is its value.
 --   Lit: the word is the literal, and the value is empty.
 --   Pad n: the value is n digits, and the word is the value.
@@ -33,3 +39,9 @@ abbrev pub written_word : Item → List ℕ → List ℕ
 written_word (Lit literal) value = literal
 written_word (Pad n) value = value
 written_word (Esc lo hi) value = flat_map written_spelling value
+
+-- the fewest symbols that a word of the item has
+abbrev pub shortest_of : Item → ℕ
+shortest_of (Lit literal) = length literal
+shortest_of (Pad n) = n
+shortest_of (Esc lo hi) = lo

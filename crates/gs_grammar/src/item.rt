@@ -1,6 +1,7 @@
 ghost use Rattle.std.specs.Prelude.{◌≡◌, ◌<◌, ◌^◌};
 ghost use Rattle.std.specs.List.{list_all};
 ghost use Rattle.gs_grammar.specs.Items.{is_in_bounds, is_symbol, size_of};
+ghost use Rattle.gs_grammar.specs.Words.{shortest_of};
 
 use gs_chars::Text;
 
@@ -59,6 +60,17 @@ impl Item {
             Item::Lit(literal) => literal.as_bytes().len(),
             Item::Pad { n } => usize::from(*n),
             Item::Esc { lo: _, hi } => 3 * usize::from(*hi),
+        }
+    }
+
+    /// The fewest symbols that a word of the item has.
+    pub fn shortest(&self) -> usize
+        ensures { result ≡ shortest_of self.now }
+    {
+        match self {
+            Item::Lit(literal) => literal.as_bytes().len(),
+            Item::Pad { n } => usize::from(*n),
+            Item::Esc { lo, hi: _ } => usize::from(*lo),
         }
     }
 }

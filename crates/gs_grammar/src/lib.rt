@@ -2,14 +2,19 @@
 #![tactic(auto)]
 
 mod fault;
+mod found;
 mod item;
+mod laws;
 mod level;
 mod opt;
 mod read;
 mod reading;
+mod splits;
+mod words;
 
 pub use fault::OptFault;
 pub use item::Item;
+pub use laws::{no_word_is_empty, word_fixes_its_value};
 pub use level::Level;
 pub use opt::Opt;
 pub use read::read_text;

@@ -1,5 +1,5 @@
-ghost use Rattle.std.specs.Prelude.{◌≡◌, ◌≤◌, IfOk, IfErr, SomeIff};
-ghost use Rattle.gs_grammar.specs.Items.{size_of_all};
+ghost use Rattle.std.specs.Prelude.{◌≡◌, ◌≤◌, IfOk, IfErr, SomeIff, position};
+ghost use Rattle.gs_grammar.specs.Items.{is_bad, size_of_all};
 ghost use Rattle.gs_grammar.specs.Levels.{KeepBounds, IsFaultOf};
 
 use crate::fault::OptFault;
@@ -27,6 +27,13 @@ impl Model for Opt {
     ghost invariant = { λ a. IsOption a.bit_level a.items a.size };
 }
 
+/// The number of the first item that is not of the level or breaks a bound.
+fn first_bad(bit_level: bool, items: &[Item]) -> Option<usize>
+    ensures { result ≡ position (is_bad bit_level) items.now }
+{
+    items.iter().position(|item| !item.is_in_bounds(bit_level))
+}
+
 /// The sizes of the items added up, where they are at most 512.
 fn size_within_limit(items: &[Item]) -> Option<usize>
     ensures { SomeIff result (size_of_all items.now ≤ 512) (size_of_all items.now) }
@@ -50,8 +57,7 @@ impl Opt {
         ensures in_bounds { IfOk result (λ option. KeepBounds bit_level items.items) }
         ensures refused { IfErr result (λ fault. IsFaultOf bit_level items.items fault) }
     {
-        let bad = items.iter().position(|item| !item.is_in_bounds(bit_level));
-        if let Some(k) = bad {
+        if let Some(k) = first_bad(bit_level, items.as_slice()) {
             return Err(OptFault::BadItem(k));
         }
         let Some(size) = size_within_limit(items.as_slice()) else {

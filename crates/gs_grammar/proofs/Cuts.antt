@@ -1,0 +1,306 @@
+-- Derivations by the items of an option, one item after the other.
+use Rattle.std.proofs.Common.{◌≡◌, ℕ, ◌<◌, ◌≤◌, ◌≢◌, ◌+◌, ◌⊎◌, ◌↔◌, min, Bool, true, false, IsTrue, nat_eq, List, [], ◌∷◌, ◌++◌, length, take, drop, refl, sym, ◌∙◌, ap, subst, inl, inr, arith}
+use Rattle.std.specs.List.{concat}
+use Rattle.std.proofs.lemmas.List.{take-append-drop, take_at, drop_at, length-take-le, length-append, append-nil, append_assoc, nil_from_length}
+use Rattle.std.proofs.lemmas.Bool.{cases_eq}
+use Rattle.std.proofs.lemmas.Bool.Decides.{nat_tests}
+use Rattle.gs_grammar.specs.declared.item.Item.{Item}
+use Rattle.gs_grammar.specs.declared.found.Found.{Found}
+use Rattle.gs_grammar.specs.declared.found.Found.TheVariants.{Never, Once, Twice}
+use Rattle.gs_grammar.specs.Items.{size_of}
+use Rattle.gs_grammar.specs.Words.{Word, IsWord, shortest_of}
+use Rattle.gs_grammar.proofs.WordLaws.{word_length}
+use Rattle.gs_grammar.specs.Derivations.{EachWord, no_item, one_item, Derives}
+use Rattle.gs_grammar.specs.Searches.{OneWay, TwoWays, IsDerived, Finds, AtCut, OneCut, TwoCuts, FindsBefore, HasValues, joined_found, once_where}
+
+-- one word more in front
+pub derives_cons : (item : Item) (items : List Item) (value first rest : List ℕ) (values words : List (List ℕ)) → Word item value first → Derives items rest values words → Derives (item ∷ items) (first ++ rest) (value ∷ values) (first ∷ words)
+derives_cons item items value first rest values words h d =
+    record { each = one_item item value first items values words h d.each; joined = ap (λ r. first ++ r) d.joined }
+
+-- the first word and the others
+pub record FirstWord (item : Item) (items : List Item) (w : List ℕ) (values words : List (List ℕ)) : Type 0 where
+  pub value : List ℕ
+  pub first : List ℕ
+  pub rest : List ℕ
+  pub values' : List (List ℕ)
+  pub words' : List (List ℕ)
+  pub word : Word item value first
+  pub derives : Derives items rest values' words'
+  pub whole : w ≡ first ++ rest
+  pub values_are : values ≡ value ∷ values'
+  pub words_are : words ≡ first ∷ words'
+
+each_uncons : (item : Item) (items : List Item) (w : List ℕ) (values words : List (List ℕ)) → EachWord (item ∷ items) values words → concat words ≡ w → FirstWord item items w values words
+each_uncons item items w values words (one_item item' value first items' values' words' h t) e =
+    record { value = value; first = first; rest = concat words'; values' = values'; words' = words'; word = h; derives = record { each = t; joined = refl }; whole = sym e; values_are = refl; words_are = refl }
+
+-- the words of an option one by one
+pub derives_uncons : (item : Item) (items : List Item) (w : List ℕ) (values words : List (List ℕ)) → Derives (item ∷ items) w values words → FirstWord item items w values words
+derives_uncons item items w values words d = each_uncons item items w values words d.each d.joined
+
+each_nil : (values words : List (List ℕ)) → EachWord [] values words → (values ≡ []) × (words ≡ [])
+each_nil values words no_item = (refl, refl)
+
+-- no item derives the empty list alone
+pub derives_nil : (w : List ℕ) (values words : List (List ℕ)) → Derives [] w values words → (w ≡ []) × (values ≡ []) × (words ≡ [])
+derives_nil w values words d =
+    let e = each_nil values words d.each in
+    let nil : concat words ≡ [] = rw e.1 refl in
+    (sym d.joined ∙ nil, e.0, e.1)
+
+pub nil_once : (w : List ℕ) → length w ≡ 0 → Finds [] w Once
+nil_once w h =
+    let nil : w ≡ [] = nil_from_length w h in
+    record { values = []; words = []; derives = record { each = no_item; joined = sym nil }; only = λ vs ws d. (derives_nil w vs ws d).2 }
+
+pub nil_never : (w : List ℕ) → 0 < length w → Finds [] w Never
+nil_never w h d = let e = ap length (derives_nil w d.values d.words d.derives).0 in omega arith
+
+-- a split of a derivation
+record SplitOf (item : Item) (items : List Item) (w : List ℕ) (words : List (List ℕ)) : Type 0 where
+  place : ℕ
+  split : AtCut item items w place
+  words_are : words ≡ take place w ∷ split.words
+
+split_from : (item : Item) (items : List Item) (w value first rest : List ℕ) (values' words' words : List (List ℕ)) → w ≡ first ++ rest → Word item value first → Derives items rest values' words' → words ≡ first ∷ words' → SplitOf item items w words
+split_from item items w value first rest values' words' words e h d f =
+    let front : take (length first) w ≡ first = rw e (take_at first rest (length first) refl) in
+    let back : drop (length first) w ≡ rest = rw e (drop_at first rest (length first) refl) in
+    let within : length first ≤ length w = let a = ap length e in let l = length-append first rest in omega arith in
+    record {
+      place = length first;
+      split = record { within = within; value = value; word = rw front h; values = values'; words = words'; rest = rw back d };
+      words_are = rw front f;
+    }
+
+to_cut : (item : Item) (items : List Item) (w : List ℕ) (values words : List (List ℕ)) → Derives (item ∷ items) w values words → SplitOf item items w words
+to_cut item items w values words d =
+    let f = derives_uncons item items w values words d in
+    split_from item items w f.value f.first f.rest f.values' f.words' words f.whole f.word f.derives f.words_are
+
+pub from_cut : (item : Item) (items : List Item) (w : List ℕ) (k : ℕ) (split : AtCut item items w k) → Derives (item ∷ items) w (split.value ∷ split.values) (take k w ∷ split.words)
+from_cut item items w k split =
+    let d = derives_cons item items split.value (take k w) (drop k w) split.values split.words split.word split.rest in
+    rw take-append-drop at d
+
+same_place : (w : List ℕ) (j k : ℕ) → j ≤ length w → k ≤ length w → take j w ≡ take k w → j ≡ k
+same_place w j k a b e = sym (length-take-le j w a) ∙ ap length e ∙ length-take-le k w b
+
+-- two splits are two derivations
+pub two_ways : (item : Item) (items : List Item) (w : List ℕ) → TwoCuts item items w → TwoWays (item ∷ items) w
+two_ways item items w h =
+    record {
+      values = h.split.value ∷ h.split.values;
+      words = take h.place w ∷ h.split.words;
+      derives = from_cut item items w h.place h.split;
+      values' = h.split'.value ∷ h.split'.values;
+      words' = take h.place' w ∷ h.split'.words;
+      derives' = from_cut item items w h.place' h.split';
+      differ = λ e.
+        let front : take h.place w ≡ take h.place' w = cc in
+        let back : h.split.words ≡ h.split'.words = cc in
+        h.differ (same_place w h.place h.place' h.split.within h.split'.within front) back;
+    }
+
+-- all splits are shorter than the cut, so what is found before it is what is found
+pub found_before : (item : Item) (items : List Item) (w : List ℕ) (cut : ℕ) (found : Found) → FindsBefore item items w cut found → ((k : ℕ) → AtCut item items w k → k < cut) → Finds (item ∷ items) w found
+found_before item items w cut Never h bound = λ d.
+    let c = to_cut item items w d.values d.words d.derives in
+    h c.place (bound c.place c.split) c.split
+found_before item items w cut Once h bound =
+    record {
+      values = h.split.value ∷ h.split.values;
+      words = take h.place w ∷ h.split.words;
+      derives = from_cut item items w h.place h.split;
+      only = λ vs ws d.
+        let c = to_cut item items w vs ws d in
+        let o = h.only c.place (bound c.place c.split) c.split in
+        let front : take c.place w ≡ take h.place w = ap (λ k. take k w) o.0 in
+        let back = o.1 in
+        let whole = c.words_are in
+        cc;
+    }
+found_before item items w cut Twice h bound = two_ways item items w h
+
+-- where a split can be
+pub record CutBounds (item : Item) (w : List ℕ) (k : ℕ) : Type 0 where
+  pub least : shortest_of item ≤ k
+  pub most : k ≤ size_of item
+  pub within : k ≤ length w
+
+pub cut_bounds : (item : Item) (items : List Item) (w : List ℕ) (k : ℕ) → AtCut item items w k → CutBounds item w k
+cut_bounds item items w k split =
+    let l = word_length item split.value (take k w) split.word in
+    let e = length-take-le k w split.within in
+    let i = split.within in
+    record { least = omega arith; most = omega arith; within = i }
+
+-- no split is shorter than the first cut
+pub found_start : (item : Item) (items : List Item) (w : List ℕ) (cut : ℕ) → ((k : ℕ) → AtCut item items w k → cut ≤ k) → FindsBefore item items w cut Never
+found_start item items w cut bound k h split = let l = bound k split in omega arith
+
+below_or_at : (k cut : ℕ) → k < cut + 1 → (k < cut) ⊎ (k ≡ cut)
+below_or_at k cut h = elim (cases_eq k cut) as (λ _. (k < cut) ⊎ (k ≡ cut)) [ inl e ↦ inr e | inr n ↦ inl (omega arith) ]
+
+-- no split is at the cut
+pub found_skip : (item : Item) (items : List Item) (w : List ℕ) (cut : ℕ) (found : Found) → FindsBefore item items w cut found → (AtCut item items w cut → ⊥) → FindsBefore item items w (cut + 1) found
+found_skip item items w cut Never h none = λ k l split. elim (below_or_at k cut l) as (λ _. ⊥) [ inl b ↦ h k b split | inr e ↦ none (rw e at split) ]
+found_skip item items w cut Once h none =
+    record {
+      place = h.place;
+      before = let b = h.before in omega arith;
+      split = h.split;
+      only = λ k l other. elim (below_or_at k cut l) as (λ _. (k ≡ h.place) × (other.words ≡ h.split.words)) [ inl b ↦ h.only k b other | inr e ↦ absurd (none (rw e at other)) ];
+    }
+found_skip item items w cut Twice h none = h
+
+-- the splits at the cut, where its symbols are a word: as many as the items after it have ways
+at_cut : (item : Item) (items : List Item) (w : List ℕ) (cut : ℕ) → cut ≤ length w → IsWord item (take cut w) → IsDerived items (drop cut w) → AtCut item items w cut
+at_cut item items w cut l h d = record { within = l; value = h.0; word = h.1; values = d.values; words = d.words; rest = d.derives }
+
+first_ways : (items : List Item) (w : List ℕ) → TwoWays items w → IsDerived items w
+first_ways items w t = record { values = t.values; words = t.words; derives = t.derives }
+
+two_at_cut : (item : Item) (items : List Item) (w : List ℕ) (cut : ℕ) → cut ≤ length w → IsWord item (take cut w) → TwoWays items (drop cut w) → TwoCuts item items w
+two_at_cut item items w cut l h t =
+    record {
+      place = cut;
+      split = record { within = l; value = h.0; word = h.1; values = t.values; words = t.words; rest = t.derives };
+      place' = cut;
+      split' = record { within = l; value = h.0; word = h.1; values = t.values'; words = t.words'; rest = t.derives' };
+      differ = λ e f. t.differ f;
+    }
+
+one_at_cut : (item : Item) (items : List Item) (w : List ℕ) (cut : ℕ) → cut ≤ length w → IsWord item (take cut w) → OneWay items (drop cut w) → ((k : ℕ) → k < cut → AtCut item items w k → ⊥) → OneCut item items w (cut + 1)
+one_at_cut item items w cut l h o none =
+    record {
+      place = cut;
+      before = omega arith;
+      split = record { within = l; value = h.0; word = h.1; values = o.values; words = o.words; rest = o.derives };
+      only = λ k b other. elim (below_or_at k cut b) as (λ _. (k ≡ cut) × (other.words ≡ o.words)) [
+        | inl c ↦ absurd (none k c other)
+        | inr e ↦ (e, o.only other.values other.words (rw e at other.rest))
+      ];
+    }
+
+none_at_cut : (item : Item) (items : List Item) (w : List ℕ) (cut : ℕ) → (IsDerived items (drop cut w) → ⊥) → AtCut item items w cut → ⊥
+none_at_cut item items w cut none split = none (record { values = split.values; words = split.words; derives = split.rest })
+
+pub found_joined : (item : Item) (items : List Item) (w : List ℕ) (cut : ℕ) (found more : Found) → FindsBefore item items w cut found → cut ≤ length w → IsWord item (take cut w) → Finds items (drop cut w) more → FindsBefore item items w (cut + 1) (joined_found found more)
+found_joined item items w cut Never Never h l word m = found_skip item items w cut Never h (none_at_cut item items w cut m)
+found_joined item items w cut Never Once h l word m = one_at_cut item items w cut l word m h
+found_joined item items w cut Never Twice h l word m = two_at_cut item items w cut l word m
+found_joined item items w cut Once Never h l word m = found_skip item items w cut Once h (none_at_cut item items w cut m)
+found_joined item items w cut Once Once h l word m =
+    record {
+      place = h.place;
+      split = h.split;
+      place' = cut;
+      split' = at_cut item items w cut l word (record { values = m.values; words = m.words; derives = m.derives });
+      differ = λ e f. let b = h.before in omega arith;
+    }
+found_joined item items w cut Once Twice h l word m = two_at_cut item items w cut l word m
+found_joined item items w cut Twice more h l word m = h
+
+-- the last item: the whole list is its word, or there is no derivation
+pub last_once : (item : Item) (w : List ℕ) → IsWord item w → Finds (item ∷ []) w Once
+last_once item w h =
+    let nil = nil_once [] refl in
+    let d = derives_cons item [] h.0 w [] [] [] h.1 (record { each = no_item; joined = refl }) in
+    record {
+      values = h.0 ∷ [];
+      words = w ∷ [];
+      derives = rw append-nil at d;
+      only = λ vs ws e.
+        let f = derives_uncons item [] w vs ws e in
+        let n = derives_nil f.rest f.values' f.words' f.derives in
+        let first : w ≡ f.first = f.whole ∙ ap (λ r. f.first ++ r) n.0 ∙ append-nil f.first in
+        let none = n.2 in
+        let words_are = f.words_are in
+        cc;
+    }
+
+pub last_never : (item : Item) (w : List ℕ) → (IsWord item w → ⊥) → Finds (item ∷ []) w Never
+last_never item w none d =
+    let f = derives_uncons item [] w d.values d.words d.derives in
+    let n = derives_nil f.rest f.values' f.words' f.derives in
+    let first : w ≡ f.first = f.whole ∙ ap (λ r. f.first ++ r) n.0 ∙ append-nil f.first in
+    none (f.value, subst (λ (x : List ℕ). Word item f.value x) (sym first) f.word)
+
+-- the steps of the search, at the items of an option
+
+pub nil_found : (items : List Item) (w : List ℕ) (b : Bool) (found : Found) → length items ≡ 0 → b ≡ nat_eq (length w) 0 → found ≡ once_where b → Finds items w found
+nil_found items w true found h e f = rw (nil_from_length items h, f) (nil_once w (grind (arith, nat_tests)))
+nil_found items w false found h e f = rw (nil_from_length items h, f) (nil_never w (grind (arith, nat_tests)))
+
+pub last_found : (items : List Item) (item : Item) (others : List Item) (w : List ℕ) (b : Bool) (found : Found) → items ≡ item ∷ others → length others ≡ 0 → (IsTrue b ↔ IsWord item w) → found ≡ once_where b → Finds items w found
+last_found items item others w true found s h e f = rw (s, nil_from_length others h, f) (last_once item w (e.0 refl))
+last_found items item others w false found s h e f = rw (s, nil_from_length others h, f) (last_never item w (λ k. let t : false ≡ true = e.1 k in cc))
+
+pub end_found : (items : List Item) (item : Item) (others : List Item) (w : List ℕ) (longest cut : ℕ) (found : Found) → items ≡ item ∷ others → FindsBefore item others w cut found → longest ≡ min (size_of item) (length w) → longest + 1 ≤ cut → Finds items w found
+end_found items item others w longest cut found s h m b =
+    rw s (found_before item others w cut found h (λ k split. let c = cut_bounds item others w k split in let x = c.most in let y = c.within in omega arith))
+
+pub twice_found : (items : List Item) (item : Item) (others : List Item) (w : List ℕ) (cut : ℕ) (found : Found) → items ≡ item ∷ others → FindsBefore item others w cut found → found ≡ Twice → Finds items w found
+twice_found items item others w cut found s h e = rw (s, e) (two_ways item others w (rw e at h))
+
+pub no_split : (item : Item) (others : List Item) (w : List ℕ) (cut : ℕ) (b : Bool) → b ≡ false → (IsTrue b ↔ IsWord item (take cut w)) → AtCut item others w cut → ⊥
+no_split item others w cut b f e split = let t = e.1 (split.value, split.word) in let u : false ≡ true = sym f ∙ t in cc
+
+pub not_derived : (item : Item) (others : List Item) (w : List ℕ) (cut : ℕ) (found : Found) → found ≡ Never → Finds others (drop cut w) found → AtCut item others w cut → ⊥
+not_derived item others w cut found e h = none_at_cut item others w cut (rw e at h)
+
+pub cut_found : (item : Item) (others : List Item) (w : List ℕ) (cut : ℕ) (found : Found) → cut ≤ length w → IsWord item (take cut w) → Finds others (drop cut w) found → (found ≡ Never → ⊥) → AtCut item others w cut
+cut_found item others w cut Never l h m n = absurd (n refl)
+cut_found item others w cut Once l h m n = at_cut item others w cut l h (record { values = m.values; words = m.words; derives = m.derives })
+cut_found item others w cut Twice l h m n = at_cut item others w cut l h (first_ways others (drop cut w) m)
+
+pub fixed_cut : (item : Item) (others : List Item) (w : List ℕ) (cut : ℕ) → IsDerived (item ∷ others) w → cut ≡ shortest_of item → cut ≡ size_of item → AtCut item others w cut
+fixed_cut item others w cut d l m =
+    let s = to_cut item others w d.values d.words d.derives in
+    let b = cut_bounds item others w s.place s.split in
+    let same : s.place ≡ cut = let x = b.least in let y = b.most in omega arith in
+    subst (λ (k : ℕ). AtCut item others w k) same s.split
+
+pub some_cut : (item : Item) (others : List Item) (w : List ℕ) (longest cut : ℕ) → IsDerived (item ∷ others) w → ((k : ℕ) → k < cut → AtCut item others w k → ⊥) → longest ≡ min (size_of item) (length w) → longest + 1 ≤ cut → ⊥
+some_cut item others w longest cut d none m b =
+    let s = to_cut item others w d.values d.words d.derives in
+    let c = cut_bounds item others w s.place s.split in
+    let x = c.most in
+    let y = c.within in
+    none s.place (omega arith) s.split
+
+pub none_below : (item : Item) (others : List Item) (w : List ℕ) (cut : ℕ) → ((k : ℕ) → k < cut → AtCut item others w k → ⊥) → (AtCut item others w cut → ⊥) → (k : ℕ) → k < cut + 1 → AtCut item others w k → ⊥
+none_below item others w cut h none = found_skip item others w cut Never h none
+
+pub none_first : (item : Item) (others : List Item) (w : List ℕ) (cut : ℕ) → cut ≡ shortest_of item → (k : ℕ) → k < cut → AtCut item others w k → ⊥
+none_first item others w cut e = found_start item others w cut (λ k split. let c = cut_bounds item others w k split in let l = c.least in omega arith)
+
+-- the values so far, where the items to come derive the rest
+pub record Gathers (items : List Item) (w : List ℕ) (left : List Item) (rest : List ℕ) (values : List (List ℕ)) : Type 0 where
+  pub back : (vs : List (List ℕ)) → HasValues left rest vs → HasValues items w (values ++ vs)
+  pub derived : IsDerived left rest
+
+pub gathers_start : (items : List Item) (w : List ℕ) → IsDerived items w → Gathers items w items w []
+gathers_start items w d = record { back = λ vs h. h; derived = d }
+
+pub gathers_step : (items : List Item) (w : List ℕ) (left : List Item) (rest : List ℕ) (values : List (List ℕ)) (item : Item) (others : List Item) (cut : ℕ) (value : List ℕ) → Gathers items w left rest values → left ≡ item ∷ others → AtCut item others rest cut → Word item value (take cut rest) → Gathers items w others (drop cut rest) (values ++ value ∷ [])
+gathers_step items w left rest values item others cut value g s split word =
+    record {
+      back = λ vs h.
+        let d = derives_cons item others value (take cut rest) (drop cut rest) vs h.words word h.derives in
+        let whole : Derives (item ∷ others) rest (value ∷ vs) (take cut rest ∷ h.words) = rw take-append-drop at d in
+        let one : HasValues left rest (value ∷ vs) = record { words = take cut rest ∷ h.words; derives = rw s whole } in
+        rw append_assoc (g.back (value ∷ vs) one);
+      derived = record { values = split.values; words = split.words; derives = split.rest };
+    }
+
+pub gathers_end : (items : List Item) (w : List ℕ) (left : List Item) (rest : List ℕ) (values : List (List ℕ)) → Gathers items w left rest values → length left ≡ 0 → HasValues items w values
+gathers_end items w left rest values g h =
+    let nil : left ≡ [] = nil_from_length left h in
+    let d : IsDerived [] rest = rw nil at g.derived in
+    let n = derives_nil rest d.values d.words d.derives in
+    let none : HasValues [] rest [] = record { words = d.words; derives = subst (λ (vs : List (List ℕ)). Derives [] rest vs d.words) n.1 d.derives } in
+    let r = g.back [] (rw nil none) in
+    rw append-nil at r

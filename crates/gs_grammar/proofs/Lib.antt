@@ -1,0 +1,4 @@
+pub mod Spelled
+pub mod WordLaws
+pub mod Cuts
+pub mod Options

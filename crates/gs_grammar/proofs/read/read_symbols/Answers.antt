@@ -1,0 +1,7 @@
+use Rattle.std.proofs.Common.{arith, rules}
+use Rattle.gs_grammar.proofs.Options.{option_values, option_number}
+use Rattle.gs_grammar.proofs.read.read_symbols.Goals as goal
+
+pub returns-in-Ok : goal.returns-in-Ok
+returns-in-Ok c =
+    option_values _ _ _ _ _ (option_number _ _ _ c.in-OneOption.ensures) c.index-options-option.is c.in-OneOption.ensures (rw c.items.ensures.items at c.in-Ok.ensures)

@@ -1,0 +1,9 @@
+use Rattle.std.proofs.Common.{length}
+use Rattle.gs_grammar.proofs.Cuts.{Gathers}
+use Rattle.gs_grammar.proofs.splits.values_of.Given as goal
+
+abbrev pub invariant-loop-item : goal.invariant-loop-item
+invariant-loop-item l = Gathers l.items l.symbols l.left l.rest l.values.items
+
+abbrev pub decreases-loop-item : goal.decreases-loop-item
+decreases-loop-item l = length l.left
