@@ -1,5 +1,5 @@
 -- Derivations by the items of an option, one item after the other.
-use Rattle.std.proofs.Common.{◌≡◌, ℕ, ◌<◌, ◌≤◌, ◌≢◌, ◌+◌, ◌⊎◌, ◌↔◌, min, Bool, true, false, IsTrue, nat_eq, List, [], ◌∷◌, ◌++◌, length, take, drop, refl, sym, ◌∙◌, ap, subst, inl, inr, arith}
+use Rattle.std.proofs.Common.{◌≡◌, ℕ, ◌<◌, ◌≤◌, ◌+◌, ◌⊎◌, ◌↔◌, min, Bool, true, false, IsTrue, nat_eq, List, [], ◌∷◌, ◌++◌, length, take, drop, refl, sym, ◌∙◌, ap, subst, inl, inr, arith}
 use Rattle.std.specs.List.{concat}
 use Rattle.std.proofs.lemmas.List.{take-append-drop, take_at, drop_at, length-take-le, length-append, append-nil, append_assoc, nil_from_length}
 use Rattle.std.proofs.lemmas.Bool.{cases_eq}
@@ -98,9 +98,9 @@ two_ways item items w h =
       words' = take h.place' w ∷ h.split'.words;
       derives' = from_cut item items w h.place' h.split';
       differ = λ e.
-        let front : take h.place w ≡ take h.place' w = cc in
-        let back : h.split.words ≡ h.split'.words = cc in
-        h.differ (same_place w h.place h.place' h.split.within h.split'.within front) back;
+          let front : take h.place w ≡ take h.place' w = cc in
+          let back : h.split.words ≡ h.split'.words = cc in
+          h.differ (same_place w h.place h.place' h.split.within h.split'.within front) back;
     }
 
 -- all splits are shorter than the cut, so what is found before it is what is found
@@ -114,12 +114,12 @@ found_before item items w cut Once h bound =
       words = take h.place w ∷ h.split.words;
       derives = from_cut item items w h.place h.split;
       only = λ vs ws d.
-        let c = to_cut item items w vs ws d in
-        let o = h.only c.place (bound c.place c.split) c.split in
-        let front : take c.place w ≡ take h.place w = ap (λ k. take k w) o.0 in
-        let back = o.1 in
-        let whole = c.words_are in
-        cc;
+          let c = to_cut item items w vs ws d in
+          let o = h.only c.place (bound c.place c.split) c.split in
+          let front : take c.place w ≡ take h.place w = ap (λ k. take k w) o.0 in
+          let back = o.1 in
+          let whole = c.words_are in
+          cc;
     }
 found_before item items w cut Twice h bound = two_ways item items w h
 
@@ -213,12 +213,12 @@ last_once item w h =
       words = w ∷ [];
       derives = rw append-nil at d;
       only = λ vs ws e.
-        let f = derives_uncons item [] w vs ws e in
-        let n = derives_nil f.rest f.values' f.words' f.derives in
-        let first : w ≡ f.first = f.whole ∙ ap (λ r. f.first ++ r) n.0 ∙ append-nil f.first in
-        let none = n.2 in
-        let words_are = f.words_are in
-        cc;
+          let f = derives_uncons item [] w vs ws e in
+          let n = derives_nil f.rest f.values' f.words' f.derives in
+          let first : w ≡ f.first = f.whole ∙ ap (λ r. f.first ++ r) n.0 ∙ append-nil f.first in
+          let none = n.2 in
+          let words_are = f.words_are in
+          cc;
     }
 
 pub last_never : (item : Item) (w : List ℕ) → (IsWord item w → ⊥) → Finds (item ∷ []) w Never
@@ -289,10 +289,10 @@ pub gathers_step : (items : List Item) (w : List ℕ) (left : List Item) (rest :
 gathers_step items w left rest values item others cut value g s split word =
     record {
       back = λ vs h.
-        let d = derives_cons item others value (take cut rest) (drop cut rest) vs h.words word h.derives in
-        let whole : Derives (item ∷ others) rest (value ∷ vs) (take cut rest ∷ h.words) = rw take-append-drop at d in
-        let one : HasValues left rest (value ∷ vs) = record { words = take cut rest ∷ h.words; derives = rw s whole } in
-        rw append_assoc (g.back (value ∷ vs) one);
+          let d = derives_cons item others value (take cut rest) (drop cut rest) vs h.words word h.derives in
+          let whole : Derives (item ∷ others) rest (value ∷ vs) (take cut rest ∷ h.words) = rw take-append-drop at d in
+          let one : HasValues left rest (value ∷ vs) = record { words = take cut rest ∷ h.words; derives = rw s whole } in
+          rw append_assoc (g.back (value ∷ vs) one);
       derived = record { values = split.values; words = split.words; derives = split.rest };
     }
 

@@ -1,5 +1,5 @@
 -- Derivations in a level, one option after the other.
-use Rattle.std.proofs.Common.{◌≡◌, ℕ, ◌<◌, ◌≤◌, ◌+◌, ◌⊎◌, List, [], ◌∷◌, ◌++◌, length, take, drop, get_or, map, zero, suc, Some, None, refl, sym, ◌∙◌, ap, inl, inr, arith}
+use Rattle.std.proofs.Common.{◌≡◌, ℕ, ◌<◌, ◌≤◌, ◌+◌, ◌⊎◌, List, [], ◌∷◌, ◌++◌, length, take, drop, get_or, zero, suc, Some, None, refl, sym, ◌∙◌, ap, inl, inr, arith}
 use Rattle.std.specs.List.{slice_get}
 use Rattle.std.specs.Option.{option_map}
 use Rattle.std.proofs.lemmas.List.{length-map, map-append, take_more, take_all, length-take-le, take-append-drop}
@@ -31,9 +31,9 @@ get_cases [] y x zero h = inr (record { place = refl; item = let e = h in cc })
 get_cases [] y x (suc k) h = let f : None ≡ Some x = h in cc
 get_cases (z ∷ xs) y x zero h = inl h
 get_cases (z ∷ xs) y x (suc k) h = elim (get_cases xs y x k h) as (λ _. (slice_get xs k ≡ Some x) ⊎ IsLast (z ∷ xs) y x (suc k)) [
-    | inl e ↦ inl e
-    | inr l ↦ inr (record { place = ap suc l.place; item = l.item })
-  ]
+  | inl e ↦ inl e
+  | inr l ↦ inr (record { place = ap suc l.place; item = l.item })
+]
 
 -- a derivation of the options before is one of all
 abbrev lifted : (level more : List (List Item)) (w : List ℕ) → Derivation level w → Derivation (level ++ more) w
@@ -55,18 +55,18 @@ record ByFront (level : List (List Item)) (w : List ℕ) (option : ℕ) (words :
 
 by_cases : (level : List (List Item)) (items : List Item) (w : List ℕ) (d : Derivation (level ++ items ∷ []) w) → ByFront level w d.option d.words ⊎ ByLast level items w d.option d.values d.words
 by_cases level items w d = elim (get_cases level items d.items d.option d.of_level) as (λ _. ByFront level w d.option d.words ⊎ ByLast level items w d.option d.values d.words) [
-    | inl e ↦ inl (record { derivation = record { option = d.option; items = d.items; values = d.values; words = d.words; of_level = e; derives = d.derives }; option_is = refl; words_are = refl; before = slice_get_within level d.option d.items e })
-    | inr l ↦ inr (record { place = l.place; derives = rw l.item at d.derives })
-  ]
+  | inl e ↦ inl (record { derivation = record { option = d.option; items = d.items; values = d.values; words = d.words; of_level = e; derives = d.derives }; option_is = refl; words_are = refl; before = slice_get_within level d.option d.items e })
+  | inr l ↦ inr (record { place = l.place; derives = rw l.item at d.derives })
+]
 
 pub level_start : (w : List ℕ) → FindsInLevel [] w NoOption
 level_start w d = let e : None ≡ Some d.items = d.of_level in cc
 
 still_none : (level : List (List Item)) (items : List Item) (w : List ℕ) → (Derivation level w → ⊥) → (IsDerived items w → ⊥) → Derivation (level ++ items ∷ []) w → ⊥
 still_none level items w h none d = elim (by_cases level items w d) as (λ _. ⊥) [
-    | inl f ↦ h f.derivation
-    | inr l ↦ none (record { values = d.values; words = d.words; derives = l.derives })
-  ]
+  | inl f ↦ h f.derivation
+  | inr l ↦ none (record { values = d.values; words = d.words; derives = l.derives })
+]
 
 still_one : (level : List (List Item)) (items : List Item) (w : List ℕ) (option : ℕ) (values : List (List ℕ)) → OneDerivation level w option values → (IsDerived items w → ⊥) → OneDerivation (level ++ items ∷ []) w option values
 still_one level items w option values h none =

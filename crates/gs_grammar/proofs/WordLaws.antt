@@ -1,11 +1,12 @@
 -- The words of items: their lengths, and the one value of each.
-use Rattle.std.proofs.Common.{◌≡◌, ◌↔◌, ℕ, ◌<◌, ◌≤◌, ◌+◌, ◌*◌, ◌&&◌, Bool, true, false, IsTrue, List, [], ◌∷◌, ◌++◌, length, refl, sym, ◌∙◌, ap, arith, leb, cond}
+use Rattle.std.proofs.Common.{◌≡◌, ◌↔◌, ℕ, ◌<◌, ◌≤◌, ◌&&◌, Bool, true, IsTrue, nat_eq, List, length, refl, sym, ◌∙◌, ap, arith}
 use Rattle.std.proofs.lemmas.Bool.Decides.{nat_tests}
+use Rattle.std.specs.Cmp.Derive.{both_true}
 use Rattle.gs_chars.specs.Characters.{are_digits}
 use Rattle.gs_grammar.specs.declared.item.Item.{Item}
 use Rattle.gs_grammar.specs.declared.item.Item.TheVariants.{Lit, Pad, Esc}
-use Rattle.gs_grammar.specs.Items.{is_between, is_in_bounds, is_symbol, size_of}
-use Rattle.gs_grammar.specs.Words.{Word, IsWord, HasLength, SpellsEach, SpellsMany, shortest_of}
+use Rattle.gs_grammar.specs.Items.{is_between, is_in_bounds, size_of}
+use Rattle.gs_grammar.specs.Words.{Word, IsWord, SpellsEach, SpellsMany, shortest_of}
 use Rattle.gs_grammar.proofs.Spelled.{spelled_fixes, spelled_length}
 
 -- a word fixes its value
@@ -30,15 +31,22 @@ between_is low high n h = (grind (arith, nat_tests), grind (arith, nat_tests))
 is_between_of : (low high n : ℕ) → low ≤ n → n ≤ high → is_between low high n ≡ true
 is_between_of low high n h k = grind (arith, nat_tests)
 
-pub pad_word : (n : ℕ) (w : List ℕ) (answer : Bool) → length w ≡ n → answer ≡ are_digits w → IsTrue answer ↔ IsWord (Pad n) w
-pad_word n w answer l e = (λ h. (w, (l, sym e ∙ h, refl)), λ h. e ∙ ap are_digits h.1.2 ∙ h.1.1)
+pub pad_word : (item : Item) (n : ℕ) (w : List ℕ) (answer : Bool) → item ≡ Pad n → answer ≡ (nat_eq (length w) n && are_digits w) → IsTrue answer ↔ IsWord item w
+pad_word item n w answer i e =
+    let both : IsTrue answer ↔ IsWord (Pad n) w = (
+      λ h. let t : (nat_eq (length w) n && are_digits w) ≡ true = sym e ∙ h in (w, (grind (arith, nat_tests), grind (arith, nat_tests), refl)),
+      λ h. let l : nat_eq (length w) n ≡ true = let x = h.1.0 in let y = ap length h.1.2 in grind (arith, nat_tests) in
+          let d : are_digits w ≡ true = ap are_digits h.1.2 ∙ h.1.1 in e ∙ both_true l d,
+    ) in
+    rw i both
 
 pub esc_word : (lo hi count : ℕ) (w : List ℕ) (answer : Bool) → SpellsMany count w → answer ≡ is_between lo hi count → IsTrue answer ↔ IsWord (Esc lo hi) w
 esc_word lo hi count w answer s e = (
-    λ h. let b = between_is lo hi count (sym e ∙ h) in (s.value, (record { least = let c = s.count in let l = b.0 in omega arith; most = let c = s.count in let l = b.1 in omega arith }, s.spelled)),
-    λ h. let same = spelled_fixes h.0 s.value w w h.1.1 s.spelled refl in
+  λ h. let b = between_is lo hi count (sym e ∙ h) in (s.value, (record { least = let c = s.count in let l = b.0 in omega arith; most = let c = s.count in let l = b.1 in omega arith }, s.spelled)),
+  λ h. let same = spelled_fixes h.0 s.value w w h.1.1 s.spelled refl in
       let l = ap length same in let c = s.count in let least = h.1.0.least in let most = h.1.0.most in
-      e ∙ is_between_of lo hi count (omega arith) (omega arith))
+      e ∙ is_between_of lo hi count (omega arith) (omega arith),
+)
 
 pub esc_value : (item : Item) (lo hi : ℕ) (w out : List ℕ) → item ≡ Esc lo hi → IsWord item w → SpellsEach out w → Word item out w
 esc_value item lo hi w out e h s =

@@ -1,5 +1,5 @@
 -- What contracts see of an option and of a level.
-use Rattle.std.specs.Prelude.{◌≡◌, ◌<◌, ◌≤◌, Bool, ℕ, List, map, Option, Some, None, position}
+use Rattle.std.specs.Prelude.{◌≡◌, ◌<◌, ◌≤◌, Bool, ℕ, List, map, Some, None, position}
 use Rattle.gs_grammar.specs.declared.item.Item.{Item}
 use Rattle.gs_grammar.specs.declared.fault.OptFault.{OptFault}
 use Rattle.gs_grammar.specs.declared.fault.OptFault.TheVariants.{BadItem, Size}

@@ -6,11 +6,9 @@ ghost use Rattle.gs_grammar.specs.Words.{Word};
 /// A word fixes its value: no list of symbols is a word of one item with two values.
 pub fn word_fixes_its_value()
     ensures { (item : Item) (value other w : List ℕ) → Word item value w → Word item other w → value ≡ other }
-{
-}
+{}
 
 /// No word of an item that keeps its bounds is empty.
 pub fn no_word_is_empty()
     ensures { (bit_level : Bool) (item : Item) (value w : List ℕ) → IsTrue (is_in_bounds bit_level item) → Word item value w → 0 < length w }
-{
-}
+{}

@@ -10,6 +10,8 @@ mod opt;
 mod read;
 mod reading;
 mod splits;
+#[cfg(test)]
+mod tests;
 mod words;
 
 pub use fault::OptFault;

@@ -1,4 +1,4 @@
-ghost use Rattle.std.specs.Prelude.{◌≡◌, ◌↔◌, ℕ, List, IsTrue, IfSome, IfNone, IfOk};
+ghost use Rattle.std.specs.Prelude.{◌≡◌, ◌↔◌, ◌==◌, ◌&&◌, length, ℕ, List, IsTrue, IfSome, IfNone, IfOk};
 ghost use Rattle.gs_chars.specs.Characters.{are_digits};
 ghost use Rattle.gs_grammar.specs.Items.{is_between};
 ghost use Rattle.gs_grammar.specs.Words.{IsWord, Word, SpellsEach, SpellsMany};
@@ -12,6 +12,13 @@ fn all_digits(symbols: &[u8]) -> bool
     ensures { result ≡ are_digits symbols.now }
 {
     symbols.iter().all(|symbol| CharSet::Digits.holds(*symbol))
+}
+
+/// Whether the symbols are this many digits.
+fn are_n_digits(symbols: &[u8], n: usize) -> bool
+    ensures { result ≡ ((length symbols.now == n) && are_digits symbols.now) }
+{
+    symbols.len() == n && all_digits(symbols)
 }
 
 /// The number of characters that the symbols spell, each in a spelling of EPC URIs.
@@ -59,7 +66,7 @@ pub fn is_word(item: &Item, symbols: &[u8]) -> bool
 {
     match item {
         Item::Lit(literal) => literal.as_bytes() == symbols,
-        Item::Pad { n } => symbols.len() == usize::from(*n) && all_digits(symbols),
+        Item::Pad { n } => are_n_digits(symbols, usize::from(*n)),
         Item::Esc { lo, hi } => match spelled_count(symbols) {
             Some(count) => is_within(usize::from(*lo), usize::from(*hi), count),
             None => false,

@@ -1,4 +1,3 @@
-use Rattle.std.proofs.Common.{arith, rules}
 use Rattle.gs_grammar.proofs.Options.{options_step, options_two}
 use Rattle.gs_grammar.proofs.read.find_option.Goals as goal
 

@@ -1,4 +1,3 @@
-use Rattle.std.proofs.Common.{arith, rules}
 use Rattle.gs_grammar.proofs.Options.{option_values, option_number}
 use Rattle.gs_grammar.proofs.read.read_symbols.Goals as goal
 

@@ -1,4 +1,4 @@
-use Rattle.std.proofs.Common.{arith, rules}
+use Rattle.std.proofs.Common.{arith}
 use Rattle.gs_grammar.proofs.Cuts.{nil_found, last_found, end_found, twice_found, no_split, found_skip, found_joined, none_first}
 use Rattle.gs_grammar.proofs.splits.+count_ways.Goals as goal
 

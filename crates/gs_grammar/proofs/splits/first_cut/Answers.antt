@@ -1,4 +1,4 @@
-use Rattle.std.proofs.Common.{arith, rules}
+use Rattle.std.proofs.Common.{arith}
 use Rattle.gs_grammar.proofs.Cuts.{fixed_cut, none_first, none_below, no_split, not_derived, some_cut}
 use Rattle.gs_grammar.proofs.splits.first_cut.Goals as goal
 

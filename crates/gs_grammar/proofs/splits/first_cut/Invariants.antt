@@ -1,4 +1,4 @@
-use Rattle.std.proofs.Common.{length, ℕ, ◌<◌}
+use Rattle.std.proofs.Common.{ℕ, ◌<◌}
 use Rattle.gs_grammar.specs.Searches.{AtCut}
 use Rattle.gs_grammar.proofs.splits.first_cut.Given as goal
 

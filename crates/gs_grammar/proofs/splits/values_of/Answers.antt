@@ -1,4 +1,3 @@
-use Rattle.std.proofs.Common.{arith, rules}
 use Rattle.gs_grammar.proofs.Cuts.{gathers_step, gathers_end}
 use Rattle.gs_grammar.proofs.splits.values_of.Goals as goal
 

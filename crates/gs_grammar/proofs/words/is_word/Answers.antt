@@ -1,10 +1,10 @@
-use Rattle.std.proofs.Common.{arith, rules, ◌≡◌}
+use Rattle.std.proofs.Common.{◌≡◌}
 use Rattle.gs_grammar.specs.Items.{is_between}
-use Rattle.gs_grammar.proofs.WordLaws.{pad_word, esc_word}
+use Rattle.gs_grammar.proofs.WordLaws.{esc_word, pad_word}
 use Rattle.gs_grammar.proofs.words.is_word.Goals as goal
 
-pub returns-then-symbols-from : goal.returns-then-symbols-from
-returns-then-symbols-from c = rw c.in-Pad.is (pad_word _ _ _ (grind arith) c.all_digits.ensures)
+pub returns-in-Pad : goal.returns-in-Pad
+returns-in-Pad c = pad_word _ _ _ _ c.in-Pad.is (rw c.from.ensures at c.are_n_digits.ensures)
 
 pub returns-in-Some : goal.returns-in-Some
 returns-in-Some c =

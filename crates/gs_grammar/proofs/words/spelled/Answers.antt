@@ -1,4 +1,4 @@
-use Rattle.std.proofs.Common.{arith, rules}
+use Rattle.std.proofs.Common.{arith}
 use Rattle.std.proofs.lemmas.List.{take_rest}
 use Rattle.gs_grammar.proofs.Spelled.{collects_step, collects_none}
 use Rattle.gs_grammar.proofs.words.spelled.Goals as goal

@@ -1,4 +1,3 @@
-use Rattle.std.proofs.Common.{arith, rules}
 use Rattle.gs_grammar.proofs.WordLaws.{esc_value}
 use Rattle.gs_grammar.proofs.words.value_of.Goals as goal
 
