@@ -5,6 +5,7 @@ ghost use Rattle.gs_bits.specs.HexText.{FirstBadDigit, bits_of_hex, hex_of_bits,
 
 use crate::cursor::Cursor;
 use crate::faults::{Full, HexFault};
+use crate::hex_text::{decode, encode};
 use crate::packed::{number_in, write_behind};
 use gs_chars::{Memory, Text};
 use std::alloc::Global;
@@ -76,7 +77,7 @@ impl<const N: usize> BitBuf<N> {
         ensures appended { OnOk result (self.new ≡ self.old ++ bits_of n value) }
         ensures unchanged { OnErr result (self.new ≡ self.old) }
     {
-        if n as usize > 8 * N - self.len {
+        if self.len + n as usize > 8 * N {
             return Err(Full);
         }
         write_behind(&mut self.bytes, self.len, value, n);
@@ -101,7 +102,18 @@ impl<const N: usize> BitBuf<N> {
         ensures digits { IsOk result → AllPass is_hex_digit text.now }
         ensures bits { IfOk result (λ buf. buf ≡ bits_of_hex text.now) }
     {
-        Err(HexFault::OddDigits)
+        if text.len() % 2 == 1 {
+            return Err(HexFault::OddDigits);
+        }
+        if text.len() > 2 * N {
+            return Err(HexFault::Full);
+        }
+        let mut bytes = [0; N];
+        decode(text, &mut bytes[..text.len() / 2])?;
+        Ok(BitBuf {
+            bytes,
+            len: 4 * text.len(),
+        })
     }
 
     /// The upper-case hexadecimal digits of the bits, four to a digit. The one refusal is want of memory.
@@ -109,6 +121,6 @@ impl<const N: usize> BitBuf<N> {
         requires { length self.now % 8 ≡ 0 }
         ensures { IfOk result (λ text. text ≡ hex_of_bits self.now) }
     {
-        Err(Memory)
+        encode(alloc, &self.bytes[..self.len / 8])
     }
 }

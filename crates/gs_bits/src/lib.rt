@@ -4,6 +4,7 @@
 mod bit_buf;
 mod cursor;
 mod faults;
+mod hex_text;
 mod laws;
 mod packed;
 
