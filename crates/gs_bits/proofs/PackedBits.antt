@@ -1,7 +1,7 @@
 -- Bits in bytes: where a number of some of them stands, and what a write changes.
 use Rattle.std.proofs.Common.{◌≡◌, ℕ, zero, suc, ◌+◌, ◌-◌, ◌*◌, ◌/◌, ◌%◌, ◌^◌, ◌<◌, ◌≤◌, List, [], ◌∷◌, ◌++◌, length, take, drop, slice_index, slice_set, refl, sym, ap, ap₂, ◌∙◌, arith, length-append, length-take-le}
 use Rattle.std.proofs.Math.Seq.{take-append-add, drop-append-add, take-add}
-use Rattle.std.proofs.lemmas.List.{append_assoc, drop-drop, drop-take, drop_at, take_at, take-take}
+use Rattle.std.proofs.lemmas.List.{append_assoc, drop-drop, drop-take, drop_at, take_all, take_at, take-take}
 use Rattle.std.proofs.lemmas.Nat.{shr-shr, shr_high, shr_below, shr_split, shl_below, shl_whole, pow-add, pow_pos, mod_below, mul-add-lt}
 use Rattle.std.proofs.lemmas.List.Elements.{All-append, All-nil, All-take}
 use Rattle.gs_bits.specs.Bits.{AreBits, bits_of, number_of}
@@ -191,3 +191,19 @@ within_packed from n len bytes h =
     let split : len ≡ from + (n + (len - from - n)) = omega arith in
     ap (λ k. take n (drop from (take k bits))) split ∙ ap (take n) (drop-take from (n + (len - from - n)) bits)
     ∙ take-take n (n + (len - from - n)) (drop from bits) (omega arith)
+
+-- whole bytes from the front
+pub bits_of_front : (q : ℕ) (bytes : List ℕ) → bits_of_bytes (take q bytes) ≡ take (8 * q) (bits_of_bytes bytes)
+unfolding bits_of_bytes
+bits_of_front zero bytes = refl
+bits_of_front (suc q) [] = sym (take_all (8 * suc q) [] (omega arith))
+bits_of_front (suc q) (byte ∷ bytes) =
+    let more : 8 * suc q ≡ 8 + 8 * q = omega arith in
+    let past = take_past 8 (8 * q) (bits_of 8 byte) (bits_of_bytes bytes) (length-bits_of 8 byte) in
+    rw (more, past) (ap (λ w. bits_of 8 byte ++ w) (bits_of_front q bytes))
+
+pub bits_of_bytes-append : (xs ys : List ℕ) → bits_of_bytes (xs ++ ys) ≡ bits_of_bytes xs ++ bits_of_bytes ys
+unfolding bits_of_bytes
+bits_of_bytes-append [] ys = refl
+bits_of_bytes-append (x ∷ xs) ys =
+    ap (λ w. bits_of 8 x ++ w) (bits_of_bytes-append xs ys) ∙ sym (append_assoc (bits_of 8 x) (bits_of_bytes xs) (bits_of_bytes ys))

@@ -109,7 +109,9 @@ impl<const N: usize> BitBuf<N> {
             return Err(HexFault::Full);
         }
         let mut bytes = [0; N];
-        decode(text, &mut bytes[..text.len() / 2])?;
+        if let Err(place) = decode(text, &mut bytes[..text.len() / 2]) {
+            return Err(HexFault::BadDigit(place));
+        }
         Ok(BitBuf {
             bytes,
             len: 4 * text.len(),

@@ -3,22 +3,23 @@ ghost use Rattle.std.specs.List.{AllPass};
 ghost use Rattle.gs_bits.specs.HexText.{FirstBadDigit, bits_of_hex, hex_of_bits, is_hex_digit};
 ghost use Rattle.gs_bits.specs.Packed.{bits_of_bytes};
 
-use crate::faults::HexFault;
 use gs_chars::{Memory, Text};
 use hex::FromHexError;
 use std::alloc::Global;
 
-/// Writes the bytes of a text of hexadecimal digits, two for each of the bytes.
-pub(crate) fn decode(text: &[u8], out: &mut [u8]) -> Result<(), HexFault>
+/// Writes the bytes of a text of hexadecimal digits, two to a byte. The fault is the place of the first that is none.
+pub(crate) fn decode(text: &[u8], out: &mut [u8]) -> Result<(), usize>
     requires { length text.now ≡ 2 * length out.old }
-    ensures bad { (place : ℕ) → (result ≡ Err (HexFault.BadDigit place)) ↔ FirstBadDigit text.now place }
+    ensures bad { (place : ℕ) → (result ≡ Err place) ↔ FirstBadDigit text.now place }
     ensures digits { IsOk result ↔ AllPass is_hex_digit text.now }
     ensures bits { OnOk result (bits_of_bytes out.new ≡ bits_of_hex text.now) }
 {
     match hex::decode_to_slice(text, out) {
         Ok(()) => Ok(()),
-        Err(FromHexError::InvalidHexCharacter { index, .. }) => Err(HexFault::BadDigit(index)),
-        Err(_) => unreachable!(),
+        Err(fault) => match fault {
+            FromHexError::InvalidHexCharacter { index, .. } => Err(index),
+            _ => unreachable!(),
+        },
     }
 }
 
