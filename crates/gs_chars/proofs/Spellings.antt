@@ -1,8 +1,9 @@
 -- Spellings of characters in EPC URIs.
-use Rattle.std.proofs.Common.{◌≡◌, ℕ, ◌<◌, ◌+◌, ◌*◌, ◌/◌, ◌%◌, ◌⊎◌, true, false, List, [], ◌∷◌, ◌++◌, Some, refl, sym, ◌∙◌, ap, inl, inr, arith, length, get_or, take, drop}
-use Rattle.std.proofs.lemmas.List.{take-append-drop}
+use Rattle.std.proofs.Common.{◌≡◌, ℕ, ◌<◌, ◌+◌, ◌*◌, ◌/◌, ◌%◌, ◌⊎◌, Bool, cond, true, false, List, [], ◌∷◌, ◌++◌, Some, refl, sym, ◌∙◌, ap, inl, inr, arith, length, get_or, take, drop}
+use Rattle.std.proofs.Math.Seq.{take-append_seam}
+use Rattle.std.proofs.lemmas.List.{length-append, length-take-le, take-append-drop}
 use Rattle.gs_chars.specs.Characters.{is_in_set82}
-use Rattle.gs_chars.specs.Escapes.{is_escaped, is_plain, hex_value, IsEscape, Spells, BeginsWithSpelling}
+use Rattle.gs_chars.specs.Escapes.{is_escaped, is_plain, hex_digit, hex_value, written_spelling, IsEscape, Spells, BeginsWithSpelling}
 
 -- a percent sign is escaped, so it is not plain
 percent_escaped : is_plain 37 ≡ false
@@ -75,3 +76,34 @@ character_of c high low a b =
     let quotient : high ≡ c / 16 = cc in
     let rest : low ≡ c % 16 = cc in
     omega arith
+
+-- ---- the written spelling
+
+digit_reads : (n : ℕ) → n < 16 → hex_value (hex_digit n) ≡ Some n
+digit_reads n h = grind arith
+
+escaped_below : (c : ℕ) → is_escaped c ≡ true → c < 256
+unfolding is_escaped
+escaped_below c h = grind arith
+
+spelled_by : (c : ℕ) (escaped : Bool) → is_escaped c ≡ escaped → is_in_set82 c ≡ true
+    → Spells c (cond escaped (37 ∷ hex_digit (c / 16) ∷ hex_digit (c % 16) ∷ []) (c ∷ []))
+spelled_by c true e h =
+    let small = escaped_below c e in
+    inr (e, record { high = hex_digit (c / 16); low = hex_digit (c % 16); high_digit = digit_reads (c / 16) (omega arith); low_digit = digit_reads (c % 16) (omega arith); text = refl })
+spelled_by c false e h = inl (rw (h, e) refl, refl)
+
+written_spells : (c : ℕ) → is_in_set82 c ≡ true → Spells c (written_spelling c)
+written_spells c h = spelled_by c (is_escaped c) refl h
+
+pub written_is_read : (c : ℕ) (rest : List ℕ) → is_in_set82 c ≡ true → BeginsWithSpelling (written_spelling c ++ rest) c (length (written_spelling c))
+written_is_read c rest h =
+    let size = length-append (written_spelling c) rest in
+    record { within = omega arith; spelled = rw (take-append_seam (written_spelling c) rest) (written_spells c h) }
+
+pub written_is_alone : (c d len : ℕ) (rest : List ℕ) → is_in_set82 c ≡ true → BeginsWithSpelling (written_spelling c ++ rest) d len
+    → (d ≡ c) × (len ≡ length (written_spelling c))
+written_is_alone c d len rest h b =
+    let text = written_spelling c ++ rest in
+    let same = one_spelling d c (take len text) (written_spelling c) (drop len text) rest b.spelled (written_spells c h) (take-append-drop len text) in
+    (same.0, sym (length-take-le len text b.within) ∙ ap length same.1)

@@ -1,5 +1,6 @@
-ghost use Rattle.std.specs.Prelude.{◌≡◌, ℕ, ◌++◌, IfSome, IfNone, List};
-ghost use Rattle.gs_chars.specs.Escapes.{is_escaped, is_plain, hex_value, BeginsWithSpelling, Spells};
+ghost use Rattle.std.specs.Prelude.{◌≡◌, ◌<◌, ℕ, ◌++◌, drop, length, IfSome, IfNone, IsTrue, List};
+ghost use Rattle.gs_chars.specs.Escapes.{is_escaped, is_plain, hex_digit, hex_value, written_spelling, BeginsWithSpelling, Spells};
+ghost use Rattle.gs_chars.specs.Characters.{is_in_set82};
 
 use crate::char_set::CharSet;
 
@@ -52,6 +53,38 @@ pub fn read_escape(text: &[u8]) -> Option<(u8, usize)>
         return None;
     }
     Some((character, 3))
+}
+
+/// The byte of a number below 16 as an upper-case hexadecimal digit.
+fn upper_digit(n: u8) -> u8
+    requires { n < 16 }
+    ensures { result ≡ hex_digit n }
+{
+    if n < 10 { b'0' + n } else { b'A' + (n - 10) }
+}
+
+/// Writes the one spelling of a character of the 82 with upper-case letters (TDS 2.0, sections 6.3.1 and 7.1), and
+/// answers its number of bytes. The bytes behind it stay as they were.
+pub fn write_escape(c: u8, out: &mut [u8; 3]) -> usize
+    requires { IsTrue (is_in_set82 c) }
+    ensures len { result ≡ length (written_spelling c) }
+    ensures written { out.new ≡ written_spelling c ++ drop result out.old }
+{
+    if is_escaped_in_uri(c) {
+        *out = [b'%', upper_digit(c / 16), upper_digit(c % 16)];
+        3
+    } else {
+        out[0] = c;
+        1
+    }
+}
+
+/// A text that goes on after the written spelling of a character is read as that character, with that many bytes, and
+/// as no other.
+pub fn written_spelling_is_read()
+    ensures read { (c : ℕ) (rest : List ℕ) → IsTrue (is_in_set82 c) → BeginsWithSpelling (written_spelling c ++ rest) c (length (written_spelling c)) }
+    ensures alone { (c d len : ℕ) (rest : List ℕ) → IsTrue (is_in_set82 c) → BeginsWithSpelling (written_spelling c ++ rest) d len → (d ≡ c) × (len ≡ length (written_spelling c)) }
+{
 }
 
 /// No spelling begins another: two texts that begin alike begin with one spelling of one character.

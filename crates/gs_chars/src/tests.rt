@@ -1,4 +1,4 @@
-use crate::{CharSet, List, Text, check_digit, read_escape};
+use crate::{CharSet, List, Text, check_digit, read_escape, write_escape};
 use std::test::Fail;
 
 #[test]
@@ -42,4 +42,16 @@ fn escapes_are_read_in_either_case(rt: HostRuntime) {
     assert_eq!(rt; read_escape(b""), None);
     assert!(rt; CharSet::Digits.holds(b'7') && !CharSet::Digits.holds(b'a'));
     assert!(rt; CharSet::Set82.holds(b'z') && !CharSet::Set82.holds(b'#'));
+}
+
+// Spellings of the table of escapes in EPC URIs, and of characters that stand for themselves.
+#[test]
+fn escapes_are_written_in_upper_case(rt: HostRuntime) {
+    let mut out = *b"...";
+    assert_eq!(rt; write_escape(b'/', &mut out), 3);
+    assert_eq!(rt; &out, b"%2F");
+    assert_eq!(rt; write_escape(b'?', &mut out), 3);
+    assert_eq!(rt; &out, b"%3F");
+    assert_eq!(rt; write_escape(b'a', &mut out), 1);
+    assert_eq!(rt; &out, b"a3F", "what is behind stays");
 }

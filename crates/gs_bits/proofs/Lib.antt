@@ -1,0 +1,2 @@
+pub mod PackedBits
+pub mod HexBits

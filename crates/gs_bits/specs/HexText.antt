@@ -1,0 +1,29 @@
+-- Hexadecimal texts, four bits to a digit.
+use Rattle.std.specs.Prelude.{◌≡◌, ℕ, ◌<◌, Bool, List, [], ◌∷◌, ◌++◌, length, take, slice_index, Option, None, is_some, unwrap_or}
+use Rattle.std.specs.List.{AllPass}
+use Rattle.gs_chars.specs.Escapes.{hex_value, hex_digit}
+use Rattle.gs_bits.specs.Bits.{bits_of, number_of}
+
+-- a byte is a hexadecimal digit of either case
+abbrev pub is_hex_digit : ℕ → Bool
+is_hex_digit c = is_some (hex_value c)
+
+-- the four bits of a digit
+abbrev pub bits_of_digit : ℕ → List ℕ
+bits_of_digit c = bits_of 4 (unwrap_or (hex_value c) 0)
+
+-- the bits of a text of digits
+abbrev pub bits_of_hex : List ℕ → List ℕ
+bits_of_hex [] = []
+bits_of_hex (c ∷ text) = bits_of_digit c ++ bits_of_hex text
+
+-- the upper-case digits of a list of bits, whose length is a multiple of four
+abbrev pub hex_of_bits : List ℕ → List ℕ
+hex_of_bits (a ∷ b ∷ c ∷ d ∷ bits) = hex_digit (number_of (a ∷ b ∷ c ∷ d ∷ [])) ∷ hex_of_bits bits
+hex_of_bits _ = []
+
+-- the first byte that is no digit stands at this place
+pub record FirstBadDigit (text : List ℕ) (place : ℕ) : Type 0 where
+  pub within : place < length text
+  pub bad : hex_value (slice_index text place) ≡ None
+  pub digits_before : AllPass is_hex_digit (take place text)

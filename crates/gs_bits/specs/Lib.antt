@@ -1,0 +1,4 @@
+pub mod BitLaws
+pub mod Bits
+pub mod HexText
+pub mod Packed

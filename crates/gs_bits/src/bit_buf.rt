@@ -1,0 +1,128 @@
+ghost use Rattle.std.specs.Prelude.{◌≡◌, ℕ, ◌+◌, ◌*◌, ◌%◌, ◌^◌, ◌≤◌, ◌<◌, ◌↔◌, List, [], ◌++◌, length, take, drop, slice_index, IsTrue, IsOk, IsErr, IfOk, OnOk, OnErr, Ok, Err};
+ghost use Rattle.std.specs.List.{AllPass};
+ghost use Rattle.gs_bits.specs.Bits.{AreBits, bits_of, number_of};
+ghost use Rattle.gs_bits.specs.HexText.{FirstBadDigit, bits_of_hex, hex_of_bits, is_hex_digit};
+
+use crate::cursor::Cursor;
+use crate::faults::{Full, HexFault};
+use crate::hex_text::{decode, encode};
+use crate::packed::{number_in, write_behind};
+use gs_chars::{Memory, Text};
+use std::alloc::Global;
+use std::marker::Model;
+
+/// A list of at most 8N bits in an array of N bytes, where N is at most 64. Contracts see the list: each item is 0 or 1.
+#[derive(Debug, Drop)]
+pub struct BitBuf<const N: usize> {
+    bytes: [u8; N],
+    len: usize,
+}
+
+impl<const N: usize> Model for BitBuf<N> {
+    ghost use Rattle.std.specs.Prelude.{List, ℕ, ◌*◌, ◌≤◌};
+    ghost use Rattle.gs_bits.specs.Packed.{packed_bits};
+
+    ghost Value = { List ℕ };
+
+    ghost view = { λ b. packed_bits b.len b.bytes };
+
+    ghost invariant = { λ b. (b.len ≤ 8 * N) × (N ≤ 64) };
+}
+
+impl<const N: usize> BitBuf<N> {
+    /// A buffer of no bits.
+    pub fn new() -> BitBuf<N>
+        requires { N ≤ 64 }
+        ensures { result ≡ [] }
+    {
+        BitBuf {
+            bytes: [0; N],
+            len: 0,
+        }
+    }
+
+    /// The number of bits, at most 8N.
+    pub fn len(&self) -> usize
+        ensures count { result ≡ length self.now }
+        ensures within { length self.now ≤ 8 * N }
+        ensures small { N ≤ 64 }
+        ensures bits { AreBits self.now }
+    {
+        self.len
+    }
+
+    /// Whether bit i, counted from 0, is 1.
+    pub fn get(&self, i: usize) -> bool
+        requires { i < length self.now }
+        ensures { IsTrue result ↔ (slice_index self.now i ≡ 1) }
+    {
+        self.number_at(i, 1) == 1
+    }
+
+    /// The number of the n bits from a place on, the highest first.
+    pub fn number_at(&self, from: usize, n: u32) -> u64
+        requires width { n ≤ 64 }
+        requires within { from + n ≤ length self.now }
+        ensures { result ≡ number_of (take n (drop from self.now)) }
+    {
+        number_in(&self.bytes, from, n)
+    }
+
+    /// Appends the n bits of a number, the highest first. `Full` comes exactly where they have no room, and then nothing
+    /// is changed.
+    pub fn push_bits(&mut self, value: u64, n: u32) -> Result<(), Full>
+        requires width { n ≤ 64 }
+        requires fits { value < 2 ^ n }
+        ensures full { IsErr result ↔ (8 * N < length self.old + n) }
+        ensures appended { OnOk result (self.new ≡ self.old ++ bits_of n value) }
+        ensures unchanged { OnErr result (self.new ≡ self.old) }
+    {
+        if self.len + n as usize > 8 * N {
+            return Err(Full);
+        }
+        write_behind(&mut self.bytes, self.len, value, n);
+        self.len += n as usize;
+        Ok(())
+    }
+
+    /// A cursor at the first bit.
+    pub fn cursor(&self) -> Cursor<'_, N>
+        ensures { result ≡ self.now }
+    {
+        Cursor::at_start(&self.bytes, self.len)
+    }
+
+    /// The bits of a text of hexadecimal digits of either case, four to a digit. The faults are tried in this order: an odd
+    /// number of bytes, more than 2N bytes, the first byte that is no digit.
+    pub fn from_hex(text: &[u8]) -> Result<BitBuf<N>, HexFault>
+        requires { N ≤ 64 }
+        ensures odd { (result ≡ Err (HexFault.OddDigits)) ↔ (length text.now % 2 ≡ 1) }
+        ensures full { (result ≡ Err (HexFault.Full)) ↔ ((length text.now % 2 ≡ 0) × (2 * N < length text.now)) }
+        ensures bad { (place : ℕ) → (result ≡ Err (HexFault.BadDigit place)) ↔ ((length text.now % 2 ≡ 0) × (length text.now ≤ 2 * N) × FirstBadDigit text.now place) }
+        ensures digits { IsOk result → AllPass is_hex_digit text.now }
+        ensures bits { IfOk result (λ buf. buf ≡ bits_of_hex text.now) }
+    {
+        if text.len() % 2 == 1 {
+            return Err(HexFault::OddDigits);
+        }
+        if text.len() > 2 * N {
+            return Err(HexFault::Full);
+        }
+        let mut bytes = [0; N];
+        if let Err(place) = decode(text, &mut bytes[..text.len() / 2]) {
+            return Err(HexFault::BadDigit(place));
+        }
+        Ok(BitBuf {
+            bytes,
+            len: 4 * text.len(),
+        })
+    }
+
+    /// The upper-case hexadecimal digits of the bits, four to a digit. The one refusal is want of memory.
+    pub fn to_hex(&self, alloc: Global) -> Result<Text, Memory>
+        requires { length self.now % 8 ≡ 0 }
+        ensures { IfOk result (λ text. text ≡ hex_of_bits self.now) }
+    {
+        encode(alloc, &self.bytes[..self.len / 8])
+    }
+}
