@@ -1,5 +1,6 @@
 -- What is read piece after piece.
 use Rattle.std.proofs.Common.{◌≡◌, ◌∙◌, ◌↔◌, ◌≤◌, ◌+◌, ◌-◌, ℕ, List, [], ◌++◌, Option, None, Some, IfSome, Result, Ok, Err, length, take, drop, ap, sym, append-nil, arith}
+use Rattle.std.proofs.lemmas.List.{take-append-le}
 use Rattle.std.proofs.lemmas.Grind.{common_steps}
 use Rattle.gs_port.specs.Contents.{prepend_known, prepend_twice}
 use Rattle.gs_port.specs.declared.reading.FileFault.{FileFault}
@@ -36,3 +37,7 @@ read_within max asked n bytes buf block after e f h k = grind (arith, common_ste
 -- a room keeps its length where its front is written
 pub room_kept : (front block : List ℕ) (asked : ℕ) → length front ≡ length (take asked block) → length (front ++ drop asked block) ≡ length block
 room_kept front block asked e = grind (arith, common_steps)
+
+-- a piece that was taken from the front of a room
+pub piece_taken : (after bytes front behind : List ℕ) (n : ℕ) → after ≡ bytes ++ take n (front ++ behind) → n ≤ length front → after ≡ bytes ++ take n front
+piece_taken after bytes front behind n e h = e ∙ ap (λ piece. bytes ++ piece) (take-append-le n front behind h)

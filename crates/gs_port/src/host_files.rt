@@ -1,4 +1,4 @@
-ghost use Rattle.std.specs.Prelude.{None, is_some};
+ghost use Rattle.std.specs.Prelude.{◌≡◌, false, None, is_some};
 
 use crate::files::{Files, OpenAnswer};
 use crate::source::ReadAnswer;
@@ -15,7 +15,10 @@ pub struct HostFiles {
 
 impl HostFiles {
     /// The files of the runtime's system, with none open and no fault counted.
-    pub fn new(rt: HostRuntime) -> HostFiles {
+    pub fn new(rt: HostRuntime) -> HostFiles
+        ensures closed { ⟦<HostFiles as Files>⟧.is_open result ≡ false }
+        ensures faults { ⟦<HostFiles as Files>⟧.faults result ≡ 0 }
+    {
         HostFiles {
             rt,
             current: None,

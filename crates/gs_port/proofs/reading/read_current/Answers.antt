@@ -1,6 +1,5 @@
-use Rattle.std.proofs.Common.{◌≡◌, ◌≤◌, ◌+◌, ◌-◌, ◌∙◌, ◌++◌, length, take, ap, refl, arith}
-use Rattle.std.proofs.lemmas.List.{take-append-le}
-use Rattle.gs_port.proofs.Readings.{all_read, read_further, read_within, room_kept}
+use Rattle.std.proofs.Common.{◌≡◌, ◌≤◌, ◌+◌, ◌-◌, ◌∙◌, ◌++◌, length, take, refl, arith}
+use Rattle.gs_port.proofs.Readings.{all_read, piece_taken, read_further, read_within, room_kept}
 use Rattle.gs_port.proofs.reading.read_current.Goals as goal
 
 pub returns-in-Got-eq0-clause-whole : goal.returns-in-Got-eq0-clause-whole
@@ -11,7 +10,7 @@ loop-block-preserved g c =
     let bytes = c.loop-block.bytes.items in
     let buf = c.read.new.buf in
     let after = c.extend_from_slice.new.self.items in
-    let piece : after ≡ bytes ++ take c.in-Got.moved buf = c.in_ok-extend_from_slice-in-Got.ensures.items ∙ ap (λ front. bytes ++ front) (take-append-le c.in-Got.moved buf _ c.in-Got.ensures.within) in
+    let piece : after ≡ bytes ++ take c.in-Got.moved buf = piece_taken _ _ _ _ _ c.in_ok-extend_from_slice-in-Got.ensures.items c.in-Got.ensures.within in
     let asked : c.min-asked.result ≤ (c.args.max + 1) - length bytes = omega arith in
     record {
       within = read_within c.args.max c.min-asked.result c.in-Got.moved bytes buf c.loop-block.block after piece c.read.auto.buf asked (omega arith);
