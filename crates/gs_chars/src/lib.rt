@@ -6,6 +6,7 @@ mod check_digits;
 mod escapes;
 mod list;
 mod memory;
+mod rows;
 mod text;
 
 pub use char_set::CharSet;
@@ -13,6 +14,7 @@ pub use check_digits::check_digit;
 pub use escapes::{no_spelling_begins_another, read_escape};
 pub use list::List;
 pub use memory::Memory;
+pub use rows::Rows;
 pub use text::Text;
 
 #[cfg(test)]

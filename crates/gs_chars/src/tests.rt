@@ -1,4 +1,4 @@
-use crate::{CharSet, List, Text, check_digit, read_escape};
+use crate::{CharSet, List, Rows, Text, check_digit, read_escape};
 use std::test::Fail;
 
 #[test]
@@ -42,4 +42,14 @@ fn escapes_are_read_in_either_case(rt: HostRuntime) {
     assert_eq!(rt; read_escape(b""), None);
     assert!(rt; CharSet::Digits.holds(b'7') && !CharSet::Digits.holds(b'a'));
     assert!(rt; CharSet::Set82.holds(b'z') && !CharSet::Set82.holds(b'#'));
+}
+
+/// Keys that ascend, and keys that do not.
+#[test]
+fn rows_of_keys(rt: HostRuntime) -> Result<(), Fail> {
+    let rows = Rows::new([6, 7, 12]).ok_or("ascending")?;
+    assert_eq!(rt; rows.find(12), Some(2));
+    assert_eq!(rt; rows.find(8), None);
+    assert!(rt; Rows::new([6, 6]).is_none());
+    Ok(())
 }
