@@ -1,28 +1,44 @@
 ghost use Rattle.std.specs.Prelude.{◌≡◌, ◌≤◌, true, not, IsTrue, length, is_none};
+ghost use Rattle.std.specs.List.{list_all};
+ghost use Rattle.gs_ai.specs.Parts.{is_open, is_part};
 ghost use Rattle.gs_ai.specs.Tables.{is_code, are_parts, keeps_role, are_distinct, is_gtin, is_empty, is_row, keeps_predefined};
 ghost use Rattle.gs_ai.specs.Values.{parts_fault};
 
 use crate::part::{Part, Role};
 use crate::predefined::Predefined;
 use crate::row::AiRow;
-use crate::value::{greatest_length_of, least_length_of, parts_ok};
+use crate::value::{are_digits, greatest_length_of, least_length_of, parts_ok};
 use gs_chars::Text;
 
 /// Whether the code is 2 to 4 digits.
 fn is_code(code: &[u8]) -> bool
     ensures { result ≡ is_code code.now }
 {
-    code.iter().all(|c| c.is_ascii_digit()) && 2 <= code.len() && code.len() <= 4
+    are_digits(code) && 2 <= code.len() && code.len() <= 4
+}
+
+/// Whether no part is written with `..`.
+fn are_closed(parts: &[Part]) -> bool
+    ensures { result ≡ list_all (λ p. not (is_open p)) parts.now }
+{
+    parts.iter().all(|part| !part.is_open())
+}
+
+/// Whether each part is one of the list.
+fn are_listed(parts: &[Part]) -> bool
+    ensures { result ≡ list_all is_part parts.now }
+{
+    parts.iter().all(|part| part.is_listed())
 }
 
 /// Whether these are 1 to 3 parts of the list, of which none but the last is written with `..`.
 fn are_parts(parts: &[Part]) -> bool
     ensures { result ≡ are_parts parts.now }
 {
-    let Some((_, front)) = parts.split_last() else {
+    if parts.is_empty() || parts.len() > 3 || !are_listed(parts) {
         return false;
-    };
-    parts.len() <= 3 && parts.iter().all(|part| part.is_listed()) && !front.iter().any(|part| part.is_open())
+    }
+    are_closed(&parts[..parts.len() - 1])
 }
 
 /// Whether no code stands twice.
@@ -57,6 +73,7 @@ fn is_gtin(parts: &[Part]) -> bool
 }
 
 /// Whether the row by itself is in order.
+#[tactic(auto, unfolding(crate::specs::Tables::is_row))]
 pub fn is_row(row: &AiRow) -> bool
     ensures { result ≡ is_row row.now }
 {
@@ -71,6 +88,7 @@ pub fn is_row(row: &AiRow) -> bool
 }
 
 /// Whether code and value have the predefined length together, where the code's start has one.
+#[tactic(auto, unfolding(crate::specs::Tables::is_row, crate::specs::Tables::keeps_predefined))]
 pub fn keeps_predefined(predefined: &Predefined, row: &AiRow) -> bool
     requires { is_row row.now ≡ true }
     ensures { result ≡ keeps_predefined row.now }

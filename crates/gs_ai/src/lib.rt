@@ -10,6 +10,8 @@ mod predefined;
 mod row;
 mod rules;
 mod table;
+#[cfg(test)]
+mod tests;
 mod value;
 
 pub use faults::{AiFault, ValueFault};

@@ -1,7 +1,7 @@
-ghost use Rattle.std.specs.Prelude.{◌≡◌, ◌≢◌, ◌<◌, ◌≤◌, ℕ, List, [], true, None, Some, OnOk, IfOk, IfErr, IfSome, IfNone, length, take, map, position, slice_get};
-ghost use Rattle.std.specs.Option.{option_and_then};
+ghost use Rattle.std.specs.Prelude.{◌≡◌, ◌≢◌, ◌<◌, ◌≤◌, ℕ, List, [], true, None, Some, OnOk, IfOk, IfErr, IfSome, IfNone, find, length, take, map, position, slice_get};
+ghost use Rattle.std.specs.Option.{option_and_then, option_copied};
 ghost use Rattle.gs_ai.specs.Predefined.{predefined_length};
-ghost use Rattle.gs_ai.specs.Tables.{table_faults, KeepsRules, begins, row_at};
+ghost use Rattle.gs_ai.specs.Tables.{table_faults, KeepsRules, begins, is_row, row_at};
 ghost use Rattle.gs_ai.specs.Values.{has_code, value_fault};
 
 use crate::codes::Codes;
@@ -78,15 +78,28 @@ impl AiTable {
 
     /// The index of the row with this code.
     pub fn find(&self, code: &[u8]) -> Option<usize>
-        ensures { result ≡ position (has_code code.now) self.now }
+        ensures row { result ≡ position (has_code code.now) self.now }
+        ensures within { IfSome result (λ row. row < length self.now) }
+        ensures kept { KeepsRules self.now }
     {
         self.codes.find(code)
     }
 
+    /// The row with this code.
+    fn row_with(&self, code: &[u8]) -> Option<&AiRow>
+        ensures row { option_copied result ≡ find (has_code code.now) self.now }
+        ensures kept { IfSome result (λ row. is_row row.now ≡ true) }
+    {
+        let row = self.find(code)?;
+        Some(&self.rows.items()[row])
+    }
+
     /// The index of the row whose code begins the text. At most one row's code does.
     pub fn begins(&self, text: &[u8]) -> Option<usize>
-        ensures { result ≡ row_at self.now text.now }
+        ensures row { result ≡ row_at self.now text.now }
+        ensures within { IfSome result (λ row. row < length self.now) }
     {
+        let _ = &self.rows;
         for n in 2..5 {
             if n <= text.len() {
                 let found = self.find(&text[..n]);
@@ -113,10 +126,10 @@ impl AiTable {
         ensures ok { OnOk result (value_fault self.now code.now value.now ≡ None) }
         ensures fault { IfErr result (λ e. value_fault self.now code.now value.now ≡ Some e) }
     {
-        let Some(row) = self.find(code) else {
-            return Err(ValueFault::Unknown);
-        };
-        parts_ok(self.rows.items()[row].parts.items(), value)
+        match self.row_with(code) {
+            Some(row) => parts_ok(row.parts.items(), value),
+            None => Err(ValueFault::Unknown),
+        }
     }
 }
 
