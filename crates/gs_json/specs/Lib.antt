@@ -1,0 +1,5 @@
+pub mod Answers
+pub mod Parts
+pub mod Places
+pub mod Shapes
+pub mod Steps
