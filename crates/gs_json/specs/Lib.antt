@@ -1,4 +1,5 @@
 pub mod Answers
+pub mod Fits
 pub mod Parts
 pub mod Places
 pub mod Shapes

@@ -56,9 +56,13 @@ entry_faults place members entry = member_faults (member_place place entry.name)
 abbrev pub is_named : List Entry → List ℕ → Bool
 is_named plan name = list_any (λ entry. bytes_eq entry.name name) plan
 
+-- the names that a plan does not name
+abbrev pub unknown_among : List Entry → List (List ℕ) → List (List ℕ)
+unknown_among plan names = filter (λ name. not (is_named plan name)) names
+
 -- the members that the plan does not name
 abbrev pub unknown_faults : List ℕ → List Entry → Members → List JsonFault
-unknown_faults place plan members = map (λ name. Unknown (member_place place name)) (filter (λ name. not (is_named plan name)) (names_of_members members))
+unknown_faults place plan members = map (λ name. Unknown (member_place place name)) (unknown_among plan (names_of_members members))
 
 -- the faults of an object: entry by entry of the plan, then the members that it does not name
 abbrev pub members_faults : List ℕ → List Entry → Option Members → List JsonFault

@@ -3,6 +3,7 @@
 
 mod doc;
 mod fault;
+mod fit;
 mod node;
 mod place;
 mod plan;

@@ -1,12 +1,15 @@
-ghost use Rattle.std.specs.Prelude.{◌≡◌, ◌<◌, ◌⊎◌, ℕ, List, map, Some, None, Err, option_map, option_and_then, IfOk, IfErr};
+ghost use Rattle.std.specs.Prelude.{◌≡◌, ◌<◌, ◌⊎◌, ℕ, List, map, Some, None, Err, option_map, option_and_then, string_bytes, All, IsUtf8, IfOk, IfErr};
 ghost use Rattle.serde_json.specs.Find.{as_array, as_bool, as_number, as_object, as_str, as_u64, at};
 ghost use Rattle.serde_json.specs.View.{view};
+ghost use Rattle.std.specs.BTreeMap.{keys};
 ghost use Rattle.gs_json.specs.Places.{item_place, member_place};
 
 use crate::fault::JsonFault;
 use crate::place::Place;
+use crate::plan::Entry;
+use crate::shape::judge;
 use gs_chars::{List, Memory, Text};
-use serde_json::Value;
+use serde_json::{Map, Value};
 use std::alloc::Global;
 use std::marker::Model;
 
@@ -29,6 +32,7 @@ impl<'a> Model for Node<'a> {
 
 impl<'a> Node<'a> {
     ghost use Rattle.gs_json.specs.Answers.{OrMemory, asked, count_of, items_count, maybe_of, member_of, names_of, result_map, seen};
+    ghost use Rattle.gs_json.specs.Shapes.{first_fault, shape_faults};
     ghost use Rattle.std.specs.Prelude.{[]};
 
     /// The whole of a tree.
@@ -137,11 +141,19 @@ impl<'a> Node<'a> {
         let Some(map) = value.as_object() else {
             return Err(self.other_kind(alloc));
         };
-        let mut names = Vec::new(alloc);
-        for name in map.keys() {
-            names.push(name.as_str()).map_err(|_| JsonFault::Memory)?;
-        }
-        Ok(List::from_vec(names))
+        Ok(List::from_vec(keys_of(alloc, map)?))
+    }
+
+    /// Judges an object by a plan, and answers the first fault in this order. `Kind` with this place, where this is no
+    /// object. Then entry by entry of the plan: `Lacks` with the member's place where a required member is absent, `Kind`
+    /// with the member's place where it is not of the entry's sort, and for texts and arrays in an array the place of the
+    /// first item of another kind. Last `Unknown` with the place of the first member, in ascending order, that the plan
+    /// does not name.
+    pub fn shaped(&self, alloc: Global, plan: &[Entry]) -> Result<(), JsonFault>
+        requires { All (λ entry. IsUtf8 entry.name) plan.now }
+        ensures { OrMemory result (first_fault (shape_faults self.now plan.now)) }
+    {
+        judge(alloc, self.value, &self.place, plan)
     }
 
     /// The fault that this is of another kind.
@@ -163,4 +175,15 @@ impl<'a> Node<'a> {
             Err(Memory) => JsonFault::Memory,
         }
     }
+}
+
+/// The keys of a map, in ascending order and lent by it.
+fn keys_of<'v>(alloc: Global, members: &'v Map<String, Value>) -> Result<Vec<&'v str>, Memory>
+    ensures { IfOk result (λ names. map (λ name. name.now) names.items ≡ map string_bytes (keys members.now)) }
+{
+    let mut names = Vec::new(alloc);
+    for name in members.keys() {
+        names.push(name.as_str())?;
+    }
+    Ok(names)
 }
