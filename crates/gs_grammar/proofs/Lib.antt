@@ -2,3 +2,5 @@ pub mod Spelled
 pub mod WordLaws
 pub mod Cuts
 pub mod Options
+pub mod Counting
+pub mod DecidedWords

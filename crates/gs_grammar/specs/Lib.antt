@@ -3,4 +3,5 @@ pub mod Words
 pub mod Levels
 pub mod Derivations
 pub mod Readings
+pub mod Counts
 pub mod Searches

@@ -2,6 +2,7 @@ ghost use Rattle.std.specs.Prelude.{◌≡◌, ◌<◌, ℕ, Bool, List, IsTrue,
 ghost use Rattle.gs_grammar.specs.declared.item.Item.{Item};
 ghost use Rattle.gs_grammar.specs.Items.{is_in_bounds};
 ghost use Rattle.gs_grammar.specs.Words.{Word};
+ghost use Rattle.gs_grammar.specs.Counts.{Counted};
 
 /// A word fixes its value: no list of symbols is a word of one item with two values.
 pub fn word_fixes_its_value()
@@ -11,4 +12,9 @@ pub fn word_fixes_its_value()
 /// No word of an item that keeps its bounds is empty.
 pub fn no_word_is_empty()
     ensures { (bit_level : Bool) (item : Item) (value w : List ℕ) → IsTrue (is_in_bounds bit_level item) → Word item value w → 0 < length w }
+{}
+
+/// The derivations of every text can be counted: a list of symbols has no derivation in a level, one, or two different ones.
+pub fn each_text_is_counted()
+    ensures { (level : List (List Item)) (w : List ℕ) → Counted level w }
 {}

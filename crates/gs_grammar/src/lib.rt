@@ -16,7 +16,7 @@ mod words;
 
 pub use fault::OptFault;
 pub use item::Item;
-pub use laws::{no_word_is_empty, word_fixes_its_value};
+pub use laws::{each_text_is_counted, no_word_is_empty, word_fixes_its_value};
 pub use level::Level;
 pub use opt::Opt;
 pub use read::read_text;
