@@ -22,9 +22,9 @@ and_second false b h = absurd (let e : false ≡ true = h in cc)
 listed_all : (p : ℕ → Bool) (c : ℕ) (xs : List ℕ) → list_any (λ x. eqb x c) xs ≡ true → list_all p xs ≡ true → p c ≡ true
 listed_all p c [] listed all = absurd (let e : false ≡ true = listed in cc)
 listed_all p c (x ∷ xs) listed all = elim (true_or_false (eqb x c)) as (λ _. p c ≡ true) [
-    inl same ↦ let is : x ≡ c = eqb-true x c same in rw (← is) (and_first (p x) (list_all p xs) all)
+  | inl same ↦ let is : x ≡ c = eqb-true x c same in rw (← is) (and_first (p x) (list_all p xs) all)
   | inr other ↦ listed_all p c xs (rw other at listed) (and_second (p x) (list_all p xs) all)
-  ]
+]
 
 -- an escaped character is one of the 82
 escaped_in_set82 : (c : ℕ) → is_escaped c ≡ true → is_in_set82 c ≡ true
