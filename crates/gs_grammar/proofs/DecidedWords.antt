@@ -11,7 +11,8 @@ use Rattle.gs_grammar.specs.declared.item.Item.{Item}
 use Rattle.gs_grammar.specs.declared.item.Item.TheVariants.{Lit, Pad, Esc}
 use Rattle.gs_grammar.specs.Words.{IsWord, SpellsEach, SpellsMany}
 use Rattle.gs_grammar.proofs.Spelled.{spelling_bounds, spelled_fixes, Counts, counts_start, counts_step, counts_end, counts_none}
-use Rattle.gs_grammar.proofs.Counting.{IsDecided}
+use Rattle.gs_grammar.specs.Counts.{Counted}
+use Rattle.gs_grammar.proofs.Counting.{IsDecided, count_level}
 
 -- a test decides a fact
 told : (b : Bool) (fact : Type 0) → Decides b fact → fact ⊎ (fact → ⊥)
@@ -188,5 +189,9 @@ word_decided (Lit literal) w = lit_decided literal w
 word_decided (Pad n) w = pad_decided n w
 word_decided (Esc lo hi) w = esc_decided lo hi w
 
-pub each_decided : (item : Item) → IsDecided item
+each_decided : (item : Item) → IsDecided item
 each_decided item = record { decide = word_decided item }
+
+-- the derivations of a list of symbols in a level, counted
+pub each_counted : (level : List (List Item)) (w : List ℕ) → Counted level w
+each_counted level w = count_level each_decided level w

@@ -4,3 +4,4 @@ pub mod Cuts
 pub mod Options
 pub mod Counting
 pub mod DecidedWords
+pub mod OneReading

@@ -16,7 +16,9 @@ mod words;
 
 pub use fault::OptFault;
 pub use item::Item;
-pub use laws::{each_text_is_counted, no_word_is_empty, word_fixes_its_value};
+pub use laws::{
+    each_text_is_counted, no_word_is_empty, one_derivation_is_alone, word_fixes_its_value,
+};
 pub use level::Level;
 pub use opt::Opt;
 pub use read::read_text;
