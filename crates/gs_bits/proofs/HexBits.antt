@@ -1,5 +1,5 @@
 -- Hexadecimal texts by the words of the crate `hex`.
-use Rattle.std.proofs.Common.{◌≡◌, ℕ, zero, suc, ◌+◌, ◌*◌, ◌/◌, ◌%◌, ◌^◌, ◌<◌, ◌≤◌, ◌⊎◌, inl, inr, Bool, true, false, List, [], ◌∷◌, ◌++◌, length, take, drop, slice_index, get_or, Option, Some, None, is_some, unwrap_or, Result, Ok, Err, refl, sym, ap, ap₂, ◌∙◌, arith, eqb, append_assoc}
+use Rattle.std.proofs.Common.{◌≡◌, ℕ, suc, ◌+◌, ◌*◌, ◌/◌, ◌%◌, ◌<◌, inl, inr, true, false, List, [], ◌∷◌, ◌++◌, length, take, slice_index, get_or, Option, Some, None, is_some, unwrap_or, Result, Ok, Err, refl, sym, ap, ap₂, ◌∙◌, arith, eqb, append_assoc}
 use Rattle.std.specs.Prelude.{MatchResult}
 use Rattle.std.specs.List.{AllPass}
 use Rattle.std.proofs.lemmas.Bool.{agree_below, agree_below_at, cases_lt, eqb-true}
@@ -12,8 +12,8 @@ use Rattle.hex.specs.declared.error.FromHexError.{FromHexError}
 use Rattle.hex.specs.declared.error.FromHexError.TheVariants.{InvalidHexCharacter}
 use Rattle.hex.proofs.HexLemmas.{decode_pairs-ok, decode_pairs-err}
 use Rattle.hex.proofs.Pairs.{cons_byte, decode_pairs-ok_pair, decode_sized-pairs}
-use Rattle.gs_bits.specs.Bits.{number_of, bits_of}
-use Rattle.gs_bits.specs.BitLaws.{bits_of-append, bits_of-low, number_of-bits_of, length-bits_of}
+use Rattle.gs_bits.specs.Bits.{bits_of}
+use Rattle.gs_bits.specs.BitLaws.{bits_of-append, bits_of-low, number_of-bits_of}
 use Rattle.gs_bits.specs.HexText.{is_hex_digit, bits_of_digit, bits_of_hex, hex_of_bits, FirstBadDigit}
 use Rattle.gs_bits.specs.Packed.{bits_of_bytes}
 
@@ -77,7 +77,7 @@ answer_of (Ok bytes) answer out h = (λ e. ap Ok (sym h.1), λ e f. let g : Ok t
 answer_of (Err fault) answer out h = (λ e. let g : Err fault ≡ Ok tt = sym h ∙ e in cc, λ e f. let g : Err fault ≡ Err e = sym h ∙ f in let same : fault ≡ e = cc in ap Err same)
 
 module _ (text out : List ℕ) (n : ℕ) (answer : Result Unit FromHexError) (twice : length text ≡ 2 * n)
-  (given : MatchResult (decode_sized text n) (λ bytes. (answer ≡ Ok tt) × (out ≡ bytes)) (λ e. answer ≡ Err e)) where
+    (given : MatchResult (decode_sized text n) (λ bytes. (answer ≡ Ok tt) × (out ≡ bytes)) (λ e. answer ≡ Err e)) where
   pairs : decode_sized text n ≡ decode_pairs 0 text
   pairs = decode_sized-pairs text n (omega arith) (omega arith)
 
@@ -96,7 +96,7 @@ module _ (text out : List ℕ) (n : ℕ) (answer : Result Unit FromHexError) (tw
         record {
           within = bad.2;
           bad = sym (same_value (slice_index text bad.0)) ∙ no_value (hex_digit_value (slice_index text bad.0)) bad.3;
-          digits_before = all_digits (take bad.0 text) bad.4
+          digits_before = all_digits (take bad.0 text) bad.4;
         },
       )
 
@@ -151,4 +151,3 @@ encoded (byte ∷ bytes) h =
     let one = upper_digit (byte / 16) (omega arith) in
     let two = upper_digit (byte % 16) (omega arith) in
     rw (digits, first, high, second, rest, one, two) refl
-

@@ -1,5 +1,5 @@
 -- Hexadecimal texts, four bits to a digit.
-use Rattle.std.specs.Prelude.{◌≡◌, ℕ, ◌<◌, Bool, List, [], ◌∷◌, ◌++◌, length, take, slice_index, Option, None, is_some, unwrap_or}
+use Rattle.std.specs.Prelude.{◌≡◌, ℕ, ◌<◌, Bool, List, [], ◌∷◌, ◌++◌, length, take, slice_index, None, is_some, unwrap_or}
 use Rattle.std.specs.List.{AllPass}
 use Rattle.gs_chars.specs.Escapes.{hex_value, hex_digit}
 use Rattle.gs_bits.specs.Bits.{bits_of, number_of}

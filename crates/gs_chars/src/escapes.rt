@@ -84,8 +84,7 @@ pub fn write_escape(c: u8, out: &mut [u8; 3]) -> usize
 pub fn written_spelling_is_read()
     ensures read { (c : ℕ) (rest : List ℕ) → IsTrue (is_in_set82 c) → BeginsWithSpelling (written_spelling c ++ rest) c (length (written_spelling c)) }
     ensures alone { (c d len : ℕ) (rest : List ℕ) → IsTrue (is_in_set82 c) → BeginsWithSpelling (written_spelling c ++ rest) d len → (d ≡ c) × (len ≡ length (written_spelling c)) }
-{
-}
+{}
 
 /// No spelling begins another: two texts that begin alike begin with one spelling of one character.
 pub fn no_spelling_begins_another()

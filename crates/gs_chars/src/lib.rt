@@ -10,7 +10,9 @@ mod text;
 
 pub use char_set::CharSet;
 pub use check_digits::check_digit;
-pub use escapes::{no_spelling_begins_another, read_escape, write_escape, written_spelling_is_read};
+pub use escapes::{
+    no_spelling_begins_another, read_escape, write_escape, written_spelling_is_read,
+};
 pub use list::List;
 pub use memory::Memory;
 pub use text::Text;

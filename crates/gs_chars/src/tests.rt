@@ -46,6 +46,7 @@ fn escapes_are_read_in_either_case(rt: HostRuntime) {
 
 // Spellings of the table of escapes in EPC URIs, and of characters that stand for themselves.
 #[test]
+#[tactic(auto, unfolding(crate::specs::Characters::is_in_set82))]
 fn escapes_are_written_in_upper_case(rt: HostRuntime) {
     let mut out = *b"...";
     assert_eq!(rt; write_escape(b'/', &mut out), 3);

@@ -1,14 +1,14 @@
 -- Pieces of a list, moved one after the other.
 use Rattle.std.proofs.Common.{◌≡◌, ◌+◌, ◌-◌, ◌∙◌, ℕ, List, ◌++◌, Option, length, take, drop, ap, sym}
 use Rattle.std.proofs.Math.Seq.{take-add}
-use Rattle.std.proofs.lemmas.List.{take_at, take_rest, take-append-drop, drop-drop}
+use Rattle.std.proofs.lemmas.List.{take_rest, take-append-drop, drop-drop}
 use Rattle.gs_port.specs.Contents.{append_known, append_twice}
 
--- a piece that was copied to the front of a room, and what is behind it in the list
-pub front_copied : (items piece room : List ℕ) (at n : ℕ) → piece ≡ take n (take (length items - at) (drop at items)) → length piece ≡ n → drop at items ≡ take n (piece ++ room) ++ drop (at + n) items
-front_copied items piece room at n e h =
-    let whole : piece ≡ take n (drop at items) = e ∙ ap (take n) (take_rest items at) in
-    sym (ap (λ front. front ++ drop (at + n) items) (take_at piece room n h ∙ whole) ∙ ap (λ rest. take n (drop at items) ++ rest) (sym (drop-drop n at items)) ∙ take-append-drop n (drop at items))
+-- what was moved from the front of the rest of a list to the front of a room, and what is behind it in the list
+pub front_moved : (items room : List ℕ) (at n : ℕ) → take n room ≡ take n (take (length items - at) (drop at items)) → drop at items ≡ take n room ++ drop (at + n) items
+front_moved items room at n e =
+    let whole : take n room ≡ take n (drop at items) = e ∙ ap (take n) (take_rest items at) in
+    sym (ap (λ front. front ++ drop (at + n) items) whole ∙ ap (λ rest. take n (drop at items) ++ rest) (sym (drop-drop n at items)) ∙ take-append-drop n (drop at items))
 
 -- what is appended after the first bytes of a list are the next ones
 pub appended_further : (before now after : Option (List ℕ)) (bytes : List ℕ) (done n : ℕ) → now ≡ append_known before (take done bytes) → after ≡ append_known now (take n (take (length bytes - done) (drop done bytes))) → after ≡ append_known before (take (done + n) bytes)

@@ -1,9 +1,13 @@
 -- What an answer of the outside says, by its variant.
-use Rattle.std.specs.Prelude.{ℕ}
+use Rattle.std.specs.Prelude.{ℕ, List, Result, Ok, Err}
 use Rattle.gs_port.specs.declared.source.ReadAnswer.{ReadAnswer}
 use Rattle.gs_port.specs.declared.source.ReadAnswer.TheVariants as read
 use Rattle.gs_port.specs.declared.sink.WriteAnswer.{WriteAnswer}
 use Rattle.gs_port.specs.declared.sink.WriteAnswer.TheVariants as write
+use Rattle.gs_port.specs.declared.files.OpenAnswer.{OpenAnswer}
+use Rattle.gs_port.specs.declared.files.OpenAnswer.TheVariants as opening
+use Rattle.gs_port.specs.declared.reading.FileFault.{FileFault}
+use Rattle.gs_port.specs.declared.reading.FileFault.TheVariants as file
 use Rattle.gs_port.specs.declared.whole.Whole.{Whole}
 use Rattle.gs_port.specs.declared.whole.Whole.TheVariants as whole
 
@@ -52,3 +56,35 @@ abbrev pub OnSinkFault : Whole → Type 0 → Type 0
 OnSinkFault whole.Done fact = Unit {0}
 OnSinkFault whole.SinkFault fact = fact
 OnSinkFault whole.Memory fact = Unit {0}
+
+-- a fact for a file that was opened
+abbrev pub OnOpened : OpenAnswer → Type 0 → Type 0
+OnOpened opening.Opened fact = fact
+OnOpened opening.Failed fact = Unit {0}
+OnOpened opening.Memory fact = Unit {0}
+
+-- a fact for a file that was not opened, be it for a fault or for want of memory
+abbrev pub OnNotOpened : OpenAnswer → Type 0 → Type 0
+OnNotOpened opening.Opened fact = Unit {0}
+OnNotOpened opening.Failed fact = fact
+OnNotOpened opening.Memory fact = fact
+
+-- a fact for an open that failed
+abbrev pub OnOpenFailed : OpenAnswer → Type 0 → Type 0
+OnOpenFailed opening.Opened fact = Unit {0}
+OnOpenFailed opening.Failed fact = fact
+OnOpenFailed opening.Memory fact = Unit {0}
+
+-- a fact about the first bytes of a file that has too many
+abbrev pub IfOver : Result (List ℕ) FileFault → (List ℕ → Type 0) → Type 0
+IfOver (Ok text) fact = Unit {0}
+IfOver (Err (file.Over text)) fact = fact text
+IfOver (Err file.Failed) fact = Unit {0}
+IfOver (Err file.Memory) fact = Unit {0}
+
+-- a fact for a file that could not be read
+abbrev pub OnFileFailed : Result (List ℕ) FileFault → Type 0 → Type 0
+OnFileFailed (Ok text) fact = Unit {0}
+OnFileFailed (Err (file.Over text)) fact = Unit {0}
+OnFileFailed (Err file.Failed) fact = fact
+OnFileFailed (Err file.Memory) fact = Unit {0}

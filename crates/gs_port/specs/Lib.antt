@@ -1,4 +1,6 @@
 pub mod Answers
 pub mod Contents
 pub mod Counts
+pub mod Files
+pub mod Folder
 pub mod Memory

@@ -1,5 +1,5 @@
--- Sources and sinks in memory.
-use Rattle.std.specs.Prelude.{ℕ, List, Contains}
+-- Sources, sinks and files in memory.
+use Rattle.std.specs.Prelude.{ℕ, List, Option, Contains}
 use Rattle.gs_port.specs.Counts.{counted}
 
 -- which calls of an object in memory fail: those whose numbers, from 0, are listed; and the number of the next call
@@ -26,5 +26,12 @@ pub record MemInput : Type 0 where
 pub record MemOutput : Type 0 where
   pub kept : List ℕ
   pub most : ℕ
+  pub plan : Plan
+  pub count : ℕ
+
+-- files in memory: each a name and its bytes, what is left of the current one, the plan of the calls, the count of faults
+pub record MemFolder : Type 0 where
+  pub files : List (List ℕ × List ℕ)
+  pub current : Option (List ℕ)
   pub plan : Plan
   pub count : ℕ

@@ -1,16 +1,25 @@
 //! The outside: sources, sinks and files, with what they tell of their content and their counts of faults.
 #![tactic(auto)]
 
+mod files;
+mod host_files;
+mod mem_files;
 mod mem_sink;
 mod mem_source;
 mod plan;
+mod reading;
 mod sink;
 mod source;
 mod stdio;
+mod transfer;
 mod whole;
 
+pub use files::{Files, OpenAnswer};
+pub use host_files::HostFiles;
+pub use mem_files::MemFiles;
 pub use mem_sink::MemSink;
 pub use mem_source::MemSource;
+pub use reading::{FileFault, read_file};
 pub use sink::{Sink, WriteAnswer};
 pub use source::{ReadAnswer, Source};
 pub use stdio::{StdinSource, StdoutSink};

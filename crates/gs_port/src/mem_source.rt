@@ -6,6 +6,7 @@ ghost use Rattle.gs_port.specs.Answers.{IfGot, OnReadFailed};
 
 use crate::plan::CallPlan;
 use crate::source::{ReadAnswer, Source};
+use crate::transfer::copy_front;
 use std::alloc::Global;
 use std::marker::Model;
 
@@ -69,9 +70,7 @@ impl Source for MemSource {
             self.faults = self.faults.saturating_add(1);
             return ReadAnswer::Failed;
         }
-        let rest = &self.bytes[self.at..];
-        let moved = self.cut.min(buf.len()).min(rest.len());
-        buf[..moved].copy_from_slice(&rest[..moved]);
+        let moved = copy_front(&self.bytes[self.at..], self.cut, buf);
         self.at += moved;
         ReadAnswer::Got(moved)
     }

@@ -1,4 +1,4 @@
-ghost use Rattle.std.specs.Prelude.{None};
+ghost use Rattle.std.specs.Prelude.{◌≡◌, None};
 
 use crate::sink::{Sink, WriteAnswer};
 use crate::source::{ReadAnswer, Source};
@@ -13,7 +13,9 @@ pub struct StdinSource {
 
 impl StdinSource {
     /// The standard input of the runtime, with no fault counted.
-    pub fn new(stdin: Stdin) -> StdinSource {
+    pub fn new(stdin: Stdin) -> StdinSource
+        ensures { ⟦<StdinSource as Source>⟧.faults result ≡ 0 }
+    {
         StdinSource { stdin, faults: 0 }
     }
 }
@@ -44,7 +46,9 @@ pub struct StdoutSink {
 
 impl StdoutSink {
     /// The standard output of the runtime, with no fault counted.
-    pub fn new(stdout: Stdout) -> StdoutSink {
+    pub fn new(stdout: Stdout) -> StdoutSink
+        ensures { ⟦<StdoutSink as Sink>⟧.faults result ≡ 0 }
+    {
         StdoutSink { stdout, faults: 0 }
     }
 }

@@ -1,4 +1,4 @@
-use Rattle.std.proofs.Common.{◌≡◌, Ok, Err, sym, ap, ◌∙◌, refl, arith, rules}
+use Rattle.std.proofs.Common.{◌≡◌, Err, sym, ap, ◌∙◌, refl}
 use Rattle.gs_bits.specs.HexText.{FirstBadDigit}
 use Rattle.gs_bits.proofs.HexBits.{decoded, refused, first_bad_same, no_bad_digit}
 use Rattle.gs_bits.proofs.hex_text.decode.Goals as goal

@@ -1,4 +1,4 @@
-use Rattle.std.proofs.Common.{◌≡◌, ◌+◌, ◌-◌, ◌*◌, ◌/◌, ◌%◌, ◌^◌, ◌<◌, ◌≤◌, ◌∙◌, sym, ap, arith, slice_index}
+use Rattle.std.proofs.Common.{◌≡◌, ◌+◌, ◌-◌, ◌*◌, ◌/◌, ◌%◌, ◌^◌, ◌<◌, ◌≤◌, ◌∙◌, ap, arith, slice_index}
 use Rattle.std.proofs.Math.Pow.{pow_mono}
 use Rattle.std.proofs.lemmas.Nat.{shl_whole, pow_pos, mod_below}
 use Rattle.gs_bits.proofs.PackedBits.{read_step, with_piece_below}
@@ -29,5 +29,5 @@ loop-left-preserved c =
       some = omega arith;
       place = omega arith;
       taken = rw moved (read_step c.args.from _ c.loop-left.at d step c.loop-left.number c.field-piece.result c.args.bytes.now (omega arith) (omega arith) (omega arith) count c.loop-left.invariant.taken piece);
-      small = rw (moved, count) (with_piece_below d step c.loop-left.number c.field-piece.result c.loop-left.invariant.small small)
+      small = rw (moved, count) (with_piece_below d step c.loop-left.number c.field-piece.result c.loop-left.invariant.small small);
     }

@@ -1,4 +1,4 @@
-use Rattle.std.proofs.Common.{◌≡◌, ℕ, ◌+◌, ◌-◌, ◌≤◌, ◌<◌, ◌^◌, take, drop}
+use Rattle.std.proofs.Common.{◌≡◌, ◌+◌, ◌-◌, ◌≤◌, ◌<◌, ◌^◌, take, drop}
 use Rattle.gs_bits.specs.Bits.{number_of}
 use Rattle.gs_bits.specs.Packed.{bits_of_bytes}
 use Rattle.gs_bits.proofs.packed.number_in.Given as goal
@@ -8,7 +8,7 @@ invariant-loop-left l = record {
   some : l.left ≤ l.fn.n;
   place : l.at + l.left ≡ l.fn.from + l.fn.n;
   taken : l.number ≡ number_of (take (l.fn.n - l.left) (drop l.fn.from (bits_of_bytes l.bytes)));
-  small : l.number < 2 ^ (l.fn.n - l.left)
+  small : l.number < 2 ^ (l.fn.n - l.left);
 }
 
 abbrev pub decreases-loop-left : goal.decreases-loop-left

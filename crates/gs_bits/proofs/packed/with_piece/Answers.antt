@@ -1,4 +1,4 @@
-use Rattle.std.proofs.Common.{◌≡◌, ◌<◌, ◌^◌, arith, rules}
+use Rattle.std.proofs.Common.{arith, rules}
 use Rattle.std.proofs.lemmas.Nat.{shl-shr}
 use Rattle.gs_bits.proofs.PackedBits.{byte_with_piece}
 use Rattle.gs_bits.proofs.packed.with_piece.Goals as goal

@@ -1,4 +1,4 @@
-use Rattle.std.proofs.Common.{◌≡◌, ◌*◌, ◌/◌, ◌≤◌, ◌%◌, ℕ, Err, length, take, drop, sym, ap, ◌∙◌, arith, ◌++◌, replicate, length-take-le}
+use Rattle.std.proofs.Common.{◌≡◌, ◌*◌, ◌/◌, ℕ, Err, length, take, drop, sym, ap, ◌∙◌, arith, replicate, length-take-le}
 use Rattle.std.proofs.lemmas.List.{length-replicate, take_at}
 use Rattle.gs_bits.specs.HexText.{bits_of_hex}
 use Rattle.gs_bits.specs.Packed.{bits_of_bytes}
@@ -19,7 +19,7 @@ returns-clause-bits g c =
     let rest = bits_of_bytes (drop (length c.args.text.now / 2) (replicate {A = ℕ} g.row.N 0)) in
     let bits : bits_of_bytes out ≡ bits_of_hex c.args.text.now = rw c.in_default.is at c.decode.ensures.bits in
     let known = c.decode.auto.out in
-    let size : length (bits_of_bytes out) ≡ 4 * length c.args.text.now = 
+    let size : length (bits_of_bytes out) ≡ 4 * length c.args.text.now =
     let whole = length-bits_of_bytes out in
     let room = length-replicate {A = ℕ} g.row.N 0 in
     let front = length-take-le (length c.args.text.now / 2) (replicate {A = ℕ} g.row.N 0) (omega arith) in

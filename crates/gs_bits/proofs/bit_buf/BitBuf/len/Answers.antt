@@ -1,4 +1,4 @@
-use Rattle.std.proofs.Common.{◌≡◌, ◌*◌, ◌≤◌, ◌∙◌, sym, ap, length, arith}
+use Rattle.std.proofs.Common.{◌*◌, ◌≤◌, ◌∙◌, sym, ap, length}
 use Rattle.gs_bits.proofs.PackedBits.{length-packed, AreBits-packed}
 use Rattle.gs_bits.proofs.bit_buf.BitBuf.len.Goals as goal
 

@@ -1,4 +1,4 @@
-use Rattle.std.proofs.Common.{◌≡◌, ◌+◌, ◌*◌, ◌≤◌, ◌∙◌, sym, ap, length, take, drop, arith}
+use Rattle.std.proofs.Common.{◌+◌, ◌*◌, ◌≤◌, ◌∙◌, sym, ap, length, take, drop, arith}
 use Rattle.gs_bits.specs.Bits.{number_of}
 use Rattle.gs_bits.proofs.PackedBits.{length-packed, within_packed}
 use Rattle.gs_bits.proofs.bit_buf.BitBuf.number_at.Goals as goal

@@ -1,4 +1,4 @@
-use Rattle.std.proofs.Common.{◌≡◌, ◌*◌, ◌≤◌, ap, length, refl, arith}
+use Rattle.std.proofs.Common.{◌*◌, ◌≤◌, ap, length, refl, arith}
 use Rattle.gs_bits.proofs.PackedBits.{length-packed}
 use Rattle.gs_bits.proofs.bit_buf.BitBuf.push_bits.Goals as goal
 

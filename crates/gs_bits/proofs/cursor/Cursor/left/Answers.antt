@@ -1,5 +1,5 @@
 use Rattle.gs_bits.specs.Packed.{packed_bits}
-use Rattle.std.proofs.Common.{◌≡◌, ◌+◌, ◌*◌, ◌≤◌, ◌<◌, ◌∙◌, sym, ap, length, take, drop, arith, length-drop}
+use Rattle.std.proofs.Common.{◌<◌, ap, length, arith, length-drop}
 use Rattle.std.proofs.lemmas.List.Elements.{All-drop}
 use Rattle.gs_bits.proofs.PackedBits.{length-packed, AreBits-packed}
 use Rattle.gs_bits.proofs.cursor.Cursor.left.Goals as goal

@@ -1,4 +1,4 @@
-use Rattle.std.proofs.Common.{◌≡◌, ◌+◌, ◌≤◌, ◌∙◌, sym, ap, length, take, arith, length-drop}
+use Rattle.std.proofs.Common.{◌+◌, ◌≤◌, ◌∙◌, sym, ap, length, take, arith, length-drop}
 use Rattle.gs_bits.specs.Bits.{number_of}
 use Rattle.gs_bits.specs.Packed.{packed_bits}
 use Rattle.gs_bits.proofs.PackedBits.{length-packed, within_packed}

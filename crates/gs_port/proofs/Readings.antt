@@ -1,0 +1,43 @@
+-- What is read piece after piece.
+use Rattle.std.proofs.Common.{◌≡◌, ◌∙◌, ◌↔◌, ◌≤◌, ◌+◌, ◌-◌, ℕ, List, [], ◌++◌, Option, None, Some, IfSome, Result, Ok, Err, length, take, drop, ap, sym, append-nil, arith}
+use Rattle.std.proofs.lemmas.List.{take-append-le}
+use Rattle.std.proofs.lemmas.Grind.{common_steps}
+use Rattle.gs_port.specs.Contents.{prepend_known, prepend_twice}
+use Rattle.gs_port.specs.declared.reading.FileFault.{FileFault}
+use Rattle.gs_port.specs.declared.reading.FileFault.TheVariants as fault
+use Rattle.gs_port.specs.Answers.{IfOver}
+use Rattle.gs_port.specs.Files.{IsAbsent, IsFile, told_file}
+
+-- one piece more
+pub read_further : (first now after : Option (List ℕ)) (bytes piece : List ℕ) → first ≡ prepend_known bytes now → now ≡ prepend_known piece after → first ≡ prepend_known (bytes ++ piece) after
+read_further first now after bytes piece e f = e ∙ ap (prepend_known bytes) f ∙ prepend_twice bytes piece after
+
+-- at the end all was read
+pub all_read : (first now : Option (List ℕ)) (bytes : List ℕ) (n : ℕ) → first ≡ prepend_known bytes now → IfSome now (λ rest. (n ≡ 0) ↔ (rest ≡ [])) → n ≡ 0 → IfSome first (λ all. all ≡ bytes)
+all_read first None bytes n e h z = rw e tt
+all_read first (Some rest) bytes n e h z = rw e (ap (λ r. bytes ++ r) (h.0 z) ∙ append-nil bytes)
+
+-- a file whose first bytes were read
+pub front_read : (files : Option (List (List ℕ × List ℕ))) (name bytes : List ℕ) (first after : Option (List ℕ)) → first ≡ told_file files name → ¬ IsAbsent files name → first ≡ prepend_known bytes after → (rest : List ℕ) × IsFile files name (bytes ++ rest)
+front_read None name bytes first after e there h = ([], tt)
+front_read (Some files) name bytes first None e there h = absurd (there (sym e ∙ h))
+front_read (Some files) name bytes first (Some rest) e there h = (rest, sym e ∙ h)
+
+-- the same of what a call answered
+pub over_read : (files : Option (List (List ℕ × List ℕ))) (name : List ℕ) (first after : Option (List ℕ)) (result : Result (List ℕ) FileFault) → first ≡ told_file files name → ¬ IsAbsent files name → IfOver result (λ bytes. first ≡ prepend_known bytes after) → IfOver result (λ bytes. (rest : List ℕ) × IsFile files name (bytes ++ rest))
+over_read files name first after (Ok text) e there h = tt
+over_read files name first after (Err (fault.Over text)) e there h = front_read files name text first after e there h
+over_read files name first after (Err fault.Failed) e there h = tt
+over_read files name first after (Err fault.Memory) e there h = tt
+
+-- what was read stays within the bound
+pub read_within : (max asked n : ℕ) (bytes buf block after : List ℕ) → after ≡ bytes ++ take n buf → length buf ≡ length (take asked block) → asked ≤ (max + 1) - length bytes → length bytes ≤ max → length after ≤ max + 1
+read_within max asked n bytes buf block after e f h k = grind (arith, common_steps)
+
+-- a room keeps its length where its front is written
+pub room_kept : (front block : List ℕ) (asked : ℕ) → length front ≡ length (take asked block) → length (front ++ drop asked block) ≡ length block
+room_kept front block asked e = grind (arith, common_steps)
+
+-- a piece that was taken from the front of a room
+pub piece_taken : (after bytes front behind : List ℕ) (n : ℕ) → after ≡ bytes ++ take n (front ++ behind) → n ≤ length front → after ≡ bytes ++ take n front
+piece_taken after bytes front behind n e h = e ∙ ap (λ piece. bytes ++ piece) (take-append-le n front behind h)

@@ -1,0 +1,21 @@
+-- Files, each a name and its bytes.
+use Rattle.std.specs.Prelude.{◌≡◌, ℕ, List, Option, Some, None, bytes_eq, find, option_map}
+
+-- the bytes of the first file with the name
+abbrev pub file_of : List (List ℕ × List ℕ) → List ℕ → Option (List ℕ)
+file_of files name = option_map (λ file. file.1) (find (λ file. bytes_eq file.0 name) files)
+
+-- the bytes of the named file, where the files are told and it is among them
+abbrev pub told_file : Option (List (List ℕ × List ℕ)) → List ℕ → Option (List ℕ)
+told_file None name = None
+told_file (Some files) name = file_of files name
+
+-- the files are told, and the named one is not among them
+abbrev pub IsAbsent : Option (List (List ℕ × List ℕ)) → List ℕ → Type 0
+IsAbsent None name = ⊥
+IsAbsent (Some files) name = file_of files name ≡ None
+
+-- the named file has these bytes, where the files are told
+abbrev pub IsFile : Option (List (List ℕ × List ℕ)) → List ℕ → List ℕ → Type 0
+IsFile None name bytes = Unit {0}
+IsFile (Some files) name bytes = file_of files name ≡ Some bytes

@@ -1,0 +1,60 @@
+ghost use Rattle.std.specs.Prelude.{◌≡◌, ◌<◌, ◌≤◌, ◌↔◌, ◌⊎◌, ℕ, Bool, true, false, List, [], Option, IfSome, length, take};
+ghost use Rattle.gs_port.specs.Contents.{prepend_known};
+ghost use Rattle.gs_port.specs.Counts.{Rises};
+ghost use Rattle.gs_port.specs.Files.{IsAbsent, told_file};
+ghost use Rattle.gs_port.specs.Answers.{IfGot, OnNotOpened, OnOpenFailed, OnOpened, OnReadFailed};
+
+use crate::source::ReadAnswer;
+
+/// What opening a file answers.
+#[derive(Clone, Copy, Debug, PartialEq, Eq)]
+pub enum OpenAnswer {
+    /// The file is the current one, with all its bytes left.
+    Opened,
+    /// A fault, which was counted, or a file that is not among those that are told.
+    Failed,
+    /// Want of memory.
+    Memory,
+}
+
+/// Files, which are opened by their names and read one at a time.
+pub trait Files {
+    /// The files, each a name and its bytes, where they are told. The first file with a name is the one that is opened.
+    ghost files: { Self → Option (List (List ℕ × List ℕ)) };
+
+    /// Whether a file is current.
+    ghost is_open: { Self → Bool };
+
+    /// The bytes that are left of the current file, where the files are told.
+    ghost left: { Self → Option (List ℕ) };
+
+    /// The count of faults. It never falls, and stands still at 2^64 - 1.
+    ghost faults: { Self → ℕ };
+
+    /// Makes the named file the current one, with all its bytes left. `Failed` comes only where a fault was counted, or
+    /// where the files are told and the named one is not among them, which is no fault. After any answer but `Opened` no
+    /// file is current.
+    fn open(&mut self, name: &str) -> OpenAnswer
+        ensures opened { OnOpened result (is_open self.new ≡ true) }
+        ensures whole { OnOpened result (left self.new ≡ told_file (files self.old) name.now) }
+        ensures there { OnOpened result (¬ IsAbsent (files self.old) name.now) }
+        ensures not_opened { OnNotOpened result (is_open self.new ≡ false) }
+        ensures failed { OnOpenFailed result (Rises (faults self.old) (faults self.new) ⊎ IsAbsent (files self.old) name.now) }
+        ensures absent { IsAbsent (files self.old) name.now → faults self.new ≡ faults self.old }
+        ensures files { files self.new ≡ files self.old }
+        ensures counts { faults self.old ≤ faults self.new };
+
+    /// Moves the next bytes of what is left of the current file into the front of `buf`, at most as many as `buf` is
+    /// long, and 0 exactly where nothing is left. `Failed` comes only where a fault was counted, and moves nothing.
+    fn read(&mut self, buf: &mut [u8]) -> ReadAnswer
+        requires room { 0 < length buf.old }
+        requires current { is_open self.old ≡ true }
+        ensures within { IfGot result (λ n. n ≤ length buf.new) }
+        ensures moved { IfGot result (λ n. left self.old ≡ prepend_known (take n buf.new) (left self.new)) }
+        ensures end { IfGot result (λ n. IfSome (left self.old) (λ bytes. (n ≡ 0) ↔ (bytes ≡ []))) }
+        ensures unmoved { OnReadFailed result (left self.new ≡ left self.old) }
+        ensures failed { OnReadFailed result (Rises (faults self.old) (faults self.new)) }
+        ensures files { files self.new ≡ files self.old }
+        ensures stays_open { is_open self.new ≡ true }
+        ensures counts { faults self.old ≤ faults self.new };
+}

@@ -1,0 +1,66 @@
+ghost use Rattle.std.specs.Prelude.{◌≡◌, false, None, is_some};
+
+use crate::files::{Files, OpenAnswer};
+use crate::source::ReadAnswer;
+use std::fs::File;
+use std::io::{ErrorKind, Read};
+
+/// The files of the system. Each error of an open or a read is counted. Nothing is told of them.
+#[derive(Drop)]
+pub struct HostFiles {
+    rt: HostRuntime,
+    current: Option<File>,
+    faults: u64,
+}
+
+impl HostFiles {
+    /// The files of the runtime's system, with none open and no fault counted.
+    pub fn new(rt: HostRuntime) -> HostFiles
+        ensures closed { ⟦<HostFiles as Files>⟧.is_open result ≡ false }
+        ensures faults { ⟦<HostFiles as Files>⟧.faults result ≡ 0 }
+    {
+        HostFiles {
+            rt,
+            current: None,
+            faults: 0,
+        }
+    }
+}
+
+impl Files for HostFiles {
+    ghost files = { λ s. None };
+
+    ghost is_open = { λ s. is_some s.current };
+
+    ghost left = { λ s. None };
+
+    ghost faults = { λ s. s.faults };
+
+    fn open(&mut self, name: &str) -> OpenAnswer {
+        self.current = None;
+        match File::open(&self.rt, name) {
+            Ok(file) => {
+                self.current = Some(file);
+                OpenAnswer::Opened
+            }
+            Err(error) if error.kind() == ErrorKind::OutOfMemory => OpenAnswer::Memory,
+            Err(_) => {
+                self.faults = self.faults.saturating_add(1);
+                OpenAnswer::Failed
+            }
+        }
+    }
+
+    fn read(&mut self, buf: &mut [u8]) -> ReadAnswer {
+        let Some(file) = &mut self.current else {
+            unreachable!()
+        };
+        match file.read(buf) {
+            Ok(moved) => ReadAnswer::Got(moved),
+            Err(_) => {
+                self.faults = self.faults.saturating_add(1);
+                ReadAnswer::Failed
+            }
+        }
+    }
+}

@@ -1,0 +1,148 @@
+ghost use Rattle.std.specs.Prelude.{◌≡◌, ◌<◌, ◌≤◌, ◌↔◌, ◌⊎◌, false, true, [], IfSome, MatchOption, None, Some, is_some, length, min, take};
+ghost use Rattle.gs_port.specs.Contents.{prepend_known};
+ghost use Rattle.gs_port.specs.Counts.{Rises};
+ghost use Rattle.gs_port.specs.Files.{IsAbsent, file_of, told_file};
+ghost use Rattle.gs_port.specs.Memory.{FailsNow, after_call};
+ghost use Rattle.gs_port.specs.Folder.{bytes_at, told_files};
+ghost use Rattle.gs_port.specs.Answers.{IfGot, OnNotOpened, OnOpenFailed, OnOpened, OnReadFailed};
+
+use crate::files::{Files, OpenAnswer};
+use crate::plan::CallPlan;
+use crate::source::ReadAnswer;
+use crate::transfer::copy_front;
+use std::alloc::Global;
+use std::marker::Model;
+
+/// The current file's number, and how many of its bytes were read.
+#[derive(Clone, Copy, Debug)]
+struct Place {
+    file: usize,
+    at: usize,
+}
+
+/// Files in memory, which fail at the calls that they are told.
+#[derive(Debug, Drop)]
+pub struct MemFiles {
+    files: Vec<(String, Vec<u8>)>,
+    current: Option<Place>,
+    plan: CallPlan,
+    faults: u64,
+}
+
+impl Model for MemFiles {
+    ghost use Rattle.gs_port.specs.Memory.{MemFolder};
+    ghost use Rattle.gs_port.specs.Folder.{IsWithin, rest_of, told_files};
+
+    ghost Value = { MemFolder };
+
+    ghost view = { λ a. record { files = told_files a.files.items; current = rest_of (told_files a.files.items) a.current; plan = a.plan; count = a.faults } };
+
+    ghost invariant = { λ a. IsWithin (told_files a.files.items) a.current };
+}
+
+/// The number of the first file with the name.
+fn place_of(files: &[(String, Vec<u8>)], name: &str) -> Option<usize>
+    ensures { MatchOption result (file_of (told_files files.now) name.now ≡ None) (λ i. (i < length files.now) × (file_of (told_files files.now) name.now ≡ Some (bytes_at (told_files files.now) i))) }
+{
+    for (i, file) in files.iter().enumerate() {
+        if file.0.as_str() == name {
+            return Some(i);
+        }
+    }
+    None
+}
+
+/// The bytes of the file with the number.
+fn contents_at(files: &[(String, Vec<u8>)], i: usize) -> &[u8]
+    requires { i < length files.now }
+    ensures { result.now ≡ bytes_at (told_files files.now) i }
+{
+    files[i].1.as_slice()
+}
+
+impl MemFiles {
+    /// The files, each with its name, and none of them open. The calls of either method whose numbers, from 0, are in
+    /// `fails` fail, but for an open of a name that is not there.
+    pub fn new(_alloc: Global, files: Vec<(String, Vec<u8>)>, fails: Vec<u64>) -> MemFiles
+        ensures { result ≡ record { files = told_files files.items; current = None; plan = record { fails = fails.items; next = 0 }; count = 0 } }
+    {
+        MemFiles {
+            files,
+            current: None,
+            plan: CallPlan::new(fails),
+            faults: 0,
+        }
+    }
+}
+
+impl Files for MemFiles {
+    ghost files = { λ s. Some s.files };
+
+    ghost is_open = { λ s. is_some s.current };
+
+    ghost left = { λ s. s.current };
+
+    ghost faults = { λ s. s.count };
+
+    fn open(&mut self, name: &str) -> OpenAnswer
+        ensures opened { OnOpened result (is_some self.new.current ≡ true) }
+        ensures whole { OnOpened result (self.new.current ≡ told_file (Some self.old.files) name.now) }
+        ensures there { OnOpened result (¬ IsAbsent (Some self.old.files) name.now) }
+        ensures not_opened { OnNotOpened result (is_some self.new.current ≡ false) }
+        ensures failed { OnOpenFailed result (Rises self.old.count self.new.count ⊎ IsAbsent (Some self.old.files) name.now) }
+        ensures absent { IsAbsent (Some self.old.files) name.now → self.new.count ≡ self.old.count }
+        ensures files { Some self.new.files ≡ Some self.old.files }
+        ensures counts { self.old.count ≤ self.new.count }
+        ensures enough { result ≡ OpenAnswer.Memory → ⊥ }
+        ensures planned { OnOpenFailed result (FailsNow self.old.plan ⊎ IsAbsent (Some self.old.files) name.now) }
+        ensures unplanned { OnOpened result (¬ FailsNow self.old.plan) }
+        ensures plan { self.new.plan ≡ after_call self.old.plan }
+    {
+        let fails = self.plan.next_fails();
+        let found = place_of(self.files.as_slice(), name);
+        self.current = None;
+        match found {
+            Some(_) if fails => {
+                self.faults = self.faults.saturating_add(1);
+                OpenAnswer::Failed
+            }
+            Some(file) => {
+                self.current = Some(Place { file, at: 0 });
+                OpenAnswer::Opened
+            }
+            None => OpenAnswer::Failed,
+        }
+    }
+
+    fn read(&mut self, buf: &mut [u8]) -> ReadAnswer
+        requires room { 0 < length buf.old }
+        requires current { is_some self.old.current ≡ true }
+        ensures within { IfGot result (λ n. n ≤ length buf.new) }
+        ensures moved { IfGot result (λ n. self.old.current ≡ prepend_known (take n buf.new) self.new.current) }
+        ensures end { IfGot result (λ n. IfSome self.old.current (λ bytes. (n ≡ 0) ↔ (bytes ≡ []))) }
+        ensures unmoved { OnReadFailed result (self.new.current ≡ self.old.current) }
+        ensures failed { OnReadFailed result (Rises self.old.count self.new.count) }
+        ensures files { Some self.new.files ≡ Some self.old.files }
+        ensures stays_open { is_some self.new.current ≡ true }
+        ensures counts { self.old.count ≤ self.new.count }
+        ensures most { IfGot result (λ n. IfSome self.old.current (λ bytes. n ≡ min (length buf.new) (length bytes))) }
+        ensures planned { OnReadFailed result (FailsNow self.old.plan) }
+        ensures unplanned { IfGot result (λ _. ¬ FailsNow self.old.plan) }
+        ensures plan { self.new.plan ≡ after_call self.old.plan }
+    {
+        if self.plan.next_fails() {
+            self.faults = self.faults.saturating_add(1);
+            return ReadAnswer::Failed;
+        }
+        let Some(place) = self.current else {
+            unreachable!()
+        };
+        let rest = &contents_at(self.files.as_slice(), place.file)[place.at..];
+        let moved = copy_front(rest, buf.len(), buf);
+        self.current = Some(Place {
+            file: place.file,
+            at: place.at + moved,
+        });
+        ReadAnswer::Got(moved)
+    }
+}

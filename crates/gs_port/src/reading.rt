@@ -1,0 +1,95 @@
+ghost use Rattle.std.specs.Prelude.{◌≡◌, ◌≤◌, ◌+◌, ◌++◌, ◌⊎◌, ℕ, true, List, IfOk, IfSome, length, vec_len};
+ghost use Rattle.gs_port.specs.Contents.{prepend_known};
+ghost use Rattle.gs_port.specs.Counts.{Rises};
+ghost use Rattle.gs_port.specs.Files.{IsAbsent, IsFile, told_file};
+ghost use Rattle.gs_port.specs.Answers.{IfOver, OnFileFailed};
+
+use crate::files::{Files, OpenAnswer};
+use crate::source::ReadAnswer;
+use gs_chars::Text;
+use std::alloc::{AllocError, Global};
+
+/// Why a file was not read whole.
+#[derive(Debug, Drop)]
+pub enum FileFault {
+    /// It has more bytes than were asked for at most. These are the first of them, one more than that.
+    Over(Text),
+    /// A fault of the files, which they counted, or a file that is not among those that are told.
+    Failed,
+    /// Want of memory.
+    Memory,
+}
+
+impl From<AllocError> for FileFault {
+    ghost use Rattle.gs_port.specs.declared.reading.FileFault.TheVariants as fault;
+
+    ghost from_gives = { λ _ e. e ≡ fault.Memory };
+
+    fn from(_refused: AllocError) -> FileFault {
+        FileFault::Memory
+    }
+}
+
+/// The most bytes that one read asks for.
+const BLOCK: usize = 65_536;
+
+/// Reads the named file whole, if it has at most `max` bytes. `Over` comes exactly where `max + 1` bytes could be read,
+/// and carries them. `Failed` comes only where the files counted a fault, or where they are told and the named one is
+/// not among them.
+pub fn read_file<F: Files>(
+    alloc: Global,
+    files: &mut F,
+    name: &str,
+    max: usize,
+) -> Result<Text, FileFault>
+    requires small { max ≤ 16777216 }
+    ensures whole { IfOk result (λ text. IsFile (F.files files.old) name.now text) }
+    ensures within { IfOk result (λ text. length text ≤ max) }
+    ensures over { IfOver result (λ text. (rest : List ℕ) × IsFile (F.files files.old) name.now (text ++ rest)) }
+    ensures over_length { IfOver result (λ text. length text ≡ max + 1) }
+    ensures failed { OnFileFailed result (Rises (F.faults files.old) (F.faults files.new) ⊎ IsAbsent (F.files files.old) name.now) }
+    ensures absent { IsAbsent (F.files files.old) name.now → F.faults files.new ≡ F.faults files.old }
+    ensures taken { F.is_open files.new ≡ true → (bytes : List ℕ) × (length bytes ≤ max + 1) × (told_file (F.files files.old) name.now ≡ prepend_known bytes (F.left files.new)) }
+    ensures files { F.files files.new ≡ F.files files.old }
+    ensures counts { F.faults files.old ≤ F.faults files.new }
+{
+    match files.open(name) {
+        OpenAnswer::Opened => read_current(alloc, files, max),
+        OpenAnswer::Failed => Err(FileFault::Failed),
+        OpenAnswer::Memory => Err(FileFault::Memory),
+    }
+}
+
+/// So many bytes of 0.
+fn zeros(alloc: Global, len: usize) -> Result<Vec<u8>, AllocError>
+    ensures { IfOk result (λ bytes. vec_len bytes ≡ len) }
+{
+    vec![in alloc; 0; len]
+}
+
+/// Reads what is left of the current file, if it is at most `max` bytes.
+fn read_current<F: Files>(alloc: Global, files: &mut F, max: usize) -> Result<Text, FileFault>
+    requires small { max ≤ 16777216 }
+    requires current { F.is_open files.old ≡ true }
+    ensures whole { IfOk result (λ text. IfSome (F.left files.old) (λ bytes. bytes ≡ text)) }
+    ensures within { IfOk result (λ text. length text ≤ max) }
+    ensures over { IfOver result (λ text. F.left files.old ≡ prepend_known text (F.left files.new)) }
+    ensures over_length { IfOver result (λ text. length text ≡ max + 1) }
+    ensures failed { OnFileFailed result (Rises (F.faults files.old) (F.faults files.new)) }
+    ensures taken { (bytes : List ℕ) × (length bytes ≤ max + 1) × (F.left files.old ≡ prepend_known bytes (F.left files.new)) }
+    ensures files { F.files files.new ≡ F.files files.old }
+    ensures counts { F.faults files.old ≤ F.faults files.new }
+{
+    let mut room = zeros(alloc, BLOCK)?;
+    let block = room.as_mut_slice();
+    let mut bytes = Vec::new(alloc);
+    while bytes.len() <= max {
+        let asked = BLOCK.min(max + 1 - bytes.len());
+        match files.read(&mut block[..asked]) {
+            ReadAnswer::Got(0) => return Ok(Text::from_vec(bytes)),
+            ReadAnswer::Got(moved) => bytes.extend_from_slice(&block[..moved])?,
+            ReadAnswer::Failed => return Err(FileFault::Failed),
+        }
+    }
+    Err(FileFault::Over(Text::from_vec(bytes)))
+}
