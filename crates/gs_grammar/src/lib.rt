@@ -1,17 +1,22 @@
 //! Items, options and levels: the grammars of tags and EPC URIs, and the readings of a text in a level.
 #![tactic(auto)]
 
+mod bit_words;
+mod escaped;
 mod fault;
 mod found;
 mod item;
 mod laws;
 mod level;
+mod numerals;
 mod opt;
 mod read;
 mod reading;
 mod splits;
+mod tally;
 #[cfg(test)]
 mod tests;
+mod unpack;
 mod words;
 
 pub use fault::OptFault;
@@ -21,5 +26,6 @@ pub use laws::{
 };
 pub use level::Level;
 pub use opt::Opt;
-pub use read::read_text;
+pub use read::{read_bits, read_text};
 pub use reading::Reading;
+pub use tally::read_option;
