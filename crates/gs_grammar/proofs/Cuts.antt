@@ -1,17 +1,20 @@
 -- Derivations by the items of an option, one item after the other.
-use Rattle.std.proofs.Common.{◌≡◌, ℕ, ◌<◌, ◌≤◌, ◌+◌, ◌⊎◌, ◌↔◌, min, Bool, true, false, IsTrue, nat_eq, List, [], ◌∷◌, ◌++◌, length, take, drop, refl, sym, ◌∙◌, ap, subst, inl, inr, arith}
+use Rattle.std.proofs.Common.{◌≡◌, ℕ, ◌<◌, ◌≤◌, ◌+◌, ◌⊎◌, ◌↔◌, min, Bool, true, false, IsTrue, nat_eq, All, map, set, get_or, not, None, List, [], ◌∷◌, ◌++◌, length, take, drop, refl, sym, ◌∙◌, ap, subst, inl, inr, arith}
 use Rattle.std.specs.List.{concat}
-use Rattle.std.proofs.lemmas.List.{take-append-drop, take_at, drop_at, length-take-le, length-append, append-nil, append_assoc, nil_from_length}
+use Rattle.std.proofs.lemmas.List.{take-append-drop, take_at, drop_at, length-take-le, length-append, append-nil, append_assoc, nil_from_length, map-append, take_more_set}
+use Rattle.std.proofs.lemmas.List.Elements.{All-head, All-tail}
 use Rattle.std.proofs.lemmas.Bool.{cases_eq}
 use Rattle.std.proofs.lemmas.Bool.Decides.{nat_tests}
 use Rattle.gs_grammar.specs.declared.item.Item.{Item}
 use Rattle.gs_grammar.specs.declared.found.Found.{Found}
 use Rattle.gs_grammar.specs.declared.found.Found.TheVariants.{Never, Once, Twice}
-use Rattle.gs_grammar.specs.Items.{size_of}
-use Rattle.gs_grammar.specs.Words.{Word, IsWord, shortest_of}
-use Rattle.gs_grammar.proofs.WordLaws.{word_length}
+use Rattle.std.specs.List.{AllPass, position}
+use Rattle.gs_grammar.specs.declared.item.Item.TheVariants.{Lit, Pad, Int, Esc, NumPad, Num, Ascii7, Fill}
+use Rattle.gs_grammar.specs.Items.{IsItem, is_bad, is_in_bounds, is_numeric, is_packed, size_of, shortest_of}
+use Rattle.gs_grammar.specs.Words.{Word, IsWord, decimal_value}
+use Rattle.gs_grammar.proofs.WordLaws.{word_length, none_bad}
 use Rattle.gs_grammar.specs.Derivations.{EachWord, no_item, one_item, Derives}
-use Rattle.gs_grammar.specs.Searches.{OneWay, TwoWays, IsDerived, Finds, AtCut, OneCut, TwoCuts, FindsBefore, HasValues, joined_found, once_where}
+use Rattle.gs_grammar.specs.Searches.{OneWay, TwoWays, IsDerived, Finds, AtCut, OneCut, TwoCuts, FindsBefore, HasValues, HasNumbers, joined_found, once_where}
 
 -- one word more in front
 pub derives_cons : (item : Item) (items : List Item) (value first rest : List ℕ) (values words : List (List ℕ)) → Word item value first → Derives items rest values words → Derives (item ∷ items) (first ++ rest) (value ∷ values) (first ∷ words)
@@ -129,9 +132,9 @@ pub record CutBounds (item : Item) (w : List ℕ) (k : ℕ) : Type 0 where
   pub most : k ≤ size_of item
   pub within : k ≤ length w
 
-pub cut_bounds : (item : Item) (items : List Item) (w : List ℕ) (k : ℕ) → AtCut item items w k → CutBounds item w k
-cut_bounds item items w k split =
-    let l = word_length item split.value (take k w) split.word in
+pub cut_bounds : (item : Item) (items : List Item) (w : List ℕ) (k : ℕ) → IsItem item → AtCut item items w k → CutBounds item w k
+cut_bounds item items w k i split =
+    let l = word_length item split.value (take k w) i split.word in
     let e = length-take-le k w split.within in
     let i = split.within in
     record { least = omega arith; most = omega arith; within = i }
@@ -238,9 +241,9 @@ pub last_found : (items : List Item) (item : Item) (others : List Item) (w : Lis
 last_found items item others w true found s h e f = rw (s, nil_from_length others h, f) (last_once item w (e.0 refl))
 last_found items item others w false found s h e f = rw (s, nil_from_length others h, f) (last_never item w (λ k. let t : false ≡ true = e.1 k in cc))
 
-pub end_found : (items : List Item) (item : Item) (others : List Item) (w : List ℕ) (longest cut : ℕ) (found : Found) → items ≡ item ∷ others → FindsBefore item others w cut found → longest ≡ min (size_of item) (length w) → longest + 1 ≤ cut → Finds items w found
-end_found items item others w longest cut found s h m b =
-    rw s (found_before item others w cut found h (λ k split. let c = cut_bounds item others w k split in let x = c.most in let y = c.within in omega arith))
+pub end_found : (items : List Item) (item : Item) (others : List Item) (w : List ℕ) (longest cut : ℕ) (found : Found) → IsItem item → items ≡ item ∷ others → FindsBefore item others w cut found → longest ≡ min (size_of item) (length w) → longest + 1 ≤ cut → Finds items w found
+end_found items item others w longest cut found i s h m b =
+    rw s (found_before item others w cut found h (λ k split. let c = cut_bounds item others w k i split in let x = c.most in let y = c.within in omega arith))
 
 pub twice_found : (items : List Item) (item : Item) (others : List Item) (w : List ℕ) (cut : ℕ) (found : Found) → items ≡ item ∷ others → FindsBefore item others w cut found → found ≡ Twice → Finds items w found
 twice_found items item others w cut found s h e = rw (s, e) (two_ways item others w (rw e at h))
@@ -256,17 +259,17 @@ cut_found item others w cut Never l h m n = absurd (n refl)
 cut_found item others w cut Once l h m n = at_cut item others w cut l h (record { values = m.values; words = m.words; derives = m.derives })
 cut_found item others w cut Twice l h m n = at_cut item others w cut l h (first_ways others (drop cut w) m)
 
-pub fixed_cut : (item : Item) (others : List Item) (w : List ℕ) (cut : ℕ) → IsDerived (item ∷ others) w → cut ≡ shortest_of item → cut ≡ size_of item → AtCut item others w cut
-fixed_cut item others w cut d l m =
+pub fixed_cut : (item : Item) (others : List Item) (w : List ℕ) (cut : ℕ) → IsItem item → IsDerived (item ∷ others) w → cut ≡ shortest_of item → cut ≡ size_of item → AtCut item others w cut
+fixed_cut item others w cut i d l m =
     let s = to_cut item others w d.values d.words d.derives in
-    let b = cut_bounds item others w s.place s.split in
+    let b = cut_bounds item others w s.place i s.split in
     let same : s.place ≡ cut = let x = b.least in let y = b.most in omega arith in
     subst (λ (k : ℕ). AtCut item others w k) same s.split
 
-pub some_cut : (item : Item) (others : List Item) (w : List ℕ) (longest cut : ℕ) → IsDerived (item ∷ others) w → ((k : ℕ) → k < cut → AtCut item others w k → ⊥) → longest ≡ min (size_of item) (length w) → longest + 1 ≤ cut → ⊥
-some_cut item others w longest cut d none m b =
+pub some_cut : (item : Item) (others : List Item) (w : List ℕ) (longest cut : ℕ) → IsItem item → IsDerived (item ∷ others) w → ((k : ℕ) → k < cut → AtCut item others w k → ⊥) → longest ≡ min (size_of item) (length w) → longest + 1 ≤ cut → ⊥
+some_cut item others w longest cut i d none m b =
     let s = to_cut item others w d.values d.words d.derives in
-    let c = cut_bounds item others w s.place s.split in
+    let c = cut_bounds item others w s.place i s.split in
     let x = c.most in
     let y = c.within in
     none s.place (omega arith) s.split
@@ -274,8 +277,14 @@ some_cut item others w longest cut d none m b =
 pub none_below : (item : Item) (others : List Item) (w : List ℕ) (cut : ℕ) → ((k : ℕ) → k < cut → AtCut item others w k → ⊥) → (AtCut item others w cut → ⊥) → (k : ℕ) → k < cut + 1 → AtCut item others w k → ⊥
 none_below item others w cut h none = found_skip item others w cut Never h none
 
-pub none_first : (item : Item) (others : List Item) (w : List ℕ) (cut : ℕ) → cut ≡ shortest_of item → (k : ℕ) → k < cut → AtCut item others w k → ⊥
-none_first item others w cut e = found_start item others w cut (λ k split. let c = cut_bounds item others w k split in let l = c.least in omega arith)
+pub none_first : (item : Item) (others : List Item) (w : List ℕ) (cut : ℕ) → IsItem item → cut ≡ shortest_of item → (k : ℕ) → k < cut → AtCut item others w k → ⊥
+none_first item others w cut i e = found_start item others w cut (λ k split. let c = cut_bounds item others w k i split in let l = c.least in omega arith)
+
+pub first_item : (items : List Item) (item : Item) (others : List Item) → items ≡ item ∷ others → All IsItem items → IsItem item
+first_item items item others e h = All-head IsItem item others (rw e at h)
+
+pub other_items : (items : List Item) (item : Item) (others : List Item) → items ≡ item ∷ others → All IsItem items → All IsItem others
+other_items items item others e h = All-tail IsItem item others (rw e at h)
 
 -- the values so far, where the items to come derive the rest
 pub record Gathers (items : List Item) (w : List ℕ) (left : List Item) (rest : List ℕ) (values : List (List ℕ)) : Type 0 where
@@ -304,3 +313,54 @@ gathers_end items w left rest values g h =
     let none : HasValues [] rest [] = record { words = d.words; derives = subst (λ (vs : List (List ℕ)). Derives [] rest vs d.words) n.1 d.derives } in
     let r = g.back [] (rw nil none) in
     rw append-nil at r
+
+-- the numbers so far, where the items to come derive the rest
+pub record Tallies (items : List Item) (w : List ℕ) (left : List Item) (rest : List ℕ) (numbers : List ℕ) : Type 0 where
+  pub values : List (List ℕ)
+  pub gathers : Gathers items w left rest values
+  pub numbers_are : numbers ≡ map decimal_value values
+
+pub tallies_start : (items : List Item) (w : List ℕ) → IsDerived items w → Tallies items w items w []
+tallies_start items w d = record { values = []; gathers = gathers_start items w d; numbers_are = refl }
+
+pub tallies_step : (items : List Item) (w : List ℕ) (left : List Item) (rest : List ℕ) (numbers : List ℕ) (item : Item) (others : List Item) (cut number : ℕ) → Tallies items w left rest numbers → left ≡ item ∷ others → AtCut item others rest cut → ((value : List ℕ) × (Word item value (take cut rest) × (number ≡ decimal_value value))) → Tallies items w others (drop cut rest) (numbers ++ number ∷ [])
+tallies_step items w left rest numbers item others cut number t s split v =
+    let more = map-append decimal_value t.values (v.0 ∷ []) in
+    record {
+      values = t.values ++ v.0 ∷ [];
+      gathers = gathers_step items w left rest t.values item others cut v.0 t.gathers s split v.1.0;
+      numbers_are = rw (more, ← v.1.1, ← t.numbers_are) refl;
+    }
+
+pub tallies_end : (items : List Item) (w : List ℕ) (left : List Item) (rest : List ℕ) (numbers : List ℕ) → Tallies items w left rest numbers → length left ≡ 0 → HasNumbers items w numbers
+tallies_end items w left rest numbers t h = record { values = t.values; has = gathers_end items w left rest t.values t.gathers h; numbers_are = t.numbers_are }
+
+pub found_derived : (items : List Item) (w : List ℕ) (found : Found) → (found ≡ Never → ⊥) → Finds items w found → IsDerived items w
+found_derived items w Never n h = absurd (n refl)
+found_derived items w Once n h = record { values = h.values; words = h.words; derives = h.derives }
+found_derived items w Twice n h = first_ways items w h
+
+pub first_numeric : (items : List Item) (item : Item) (others : List Item) → items ≡ item ∷ others → AllPass is_numeric items → is_numeric item ≡ true
+first_numeric items item others e h = All-head (λ i. is_numeric i ≡ true) item others (rw e at h)
+
+pub other_numeric : (items : List Item) (item : Item) (others : List Item) → items ≡ item ∷ others → AllPass is_numeric items → AllPass is_numeric others
+other_numeric items item others e h = All-tail (λ i. is_numeric i ≡ true) item others (rw e at h)
+
+-- the items of a bit level that pack no characters are numeric
+numeric_item : (item : Item) → is_in_bounds true item ≡ true → not (is_packed item) ≡ true → is_numeric item ≡ true
+numeric_item (Lit literal) h p = refl
+numeric_item (Pad n) h p = let f : false ≡ true = h in cc
+numeric_item (Int most) h p = let f : false ≡ true = h in cc
+numeric_item (Esc lo hi) h p = let f : false ≡ true = h in cc
+numeric_item (NumPad bits n) h p = refl
+numeric_item (Num bits most) h p = refl
+numeric_item (Ascii7 lo hi bits) h p = p
+numeric_item (Fill a b) h p = refl
+
+pub all_numeric : (bit_level : Bool) (items : List Item) → bit_level ≡ true → position (is_bad bit_level) items ≡ None → AllPass (λ item. not (is_packed item)) items → AllPass is_numeric items
+all_numeric bit_level items e h p k d l =
+    let b : is_in_bounds true (get_or items k d) ≡ true = rw e at (none_bad bit_level items h k d l) in
+    numeric_item (get_or items k d) b (p k d l)
+
+pub tally_take : (out : List ℕ) (number n : ℕ) → number < length out → take (number + 1) (set out number n) ≡ take number out ++ n ∷ []
+tally_take out number n l = take_more_set out number n l

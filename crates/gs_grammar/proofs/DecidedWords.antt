@@ -1,192 +1,190 @@
 -- It can be told of each list of symbols whether it is a word of an item.
-use Rattle.std.proofs.Common.{◌≡◌, ℕ, ◌<◌, ◌≤◌, ◌+◌, ◌*◌, ◌/◌, ◌%◌, ◌⊎◌, Bool, true, false, List, [], ◌∷◌, length, take, drop, zero, suc, Option, Some, None, Decides, bytes_eq, refl, sym, ◌∙◌, ap, subst, inl, inr, arith}
+use Rattle.std.proofs.Common.{◌≡◌, ℕ, ◌<◌, ◌≤◌, ◌+◌, ◌^◌, ◌⊎◌, ◌&&◌, Bool, true, false, List, [], ◌∷◌, length, take, drop, replicate, zero, suc, leb, ltb, nat_eq, decimal, All, Decides, refl, sym, ◌∙◌, ap, inl, inr, arith}
 use Rattle.std.proofs.lemmas.Bool.{cases_eq}
-use Rattle.std.proofs.lemmas.Bool.Decides.{nat_tests, leb_tells}
-use Rattle.std.proofs.lemmas.Slice.Eq.{bytes_eq-Decides}
-use Rattle.std.proofs.lemmas.List.{length-drop, length-take-le}
-use Rattle.gs_chars.specs.Characters.{are_digits}
-use Rattle.gs_chars.specs.Escapes.{is_plain, is_escaped, hex_value, BeginsWithSpelling}
-use Rattle.gs_chars.proofs.Spellings.{unspelled, character_of}
+use Rattle.std.proofs.lemmas.Bool.Decides.{nat_tests, leb_tells, Decides-ltb}
+use Rattle.std.proofs.lemmas.List.{length-drop}
+use Rattle.std.proofs.lemmas.List.Elements.{All-head, All-tail, All-cons, All-nil}
+use Rattle.gs_chars.specs.Characters.{are_digits, is_in_set82}
+use Rattle.gs_bits.specs.Bits.{AreBits, number_of}
 use Rattle.gs_grammar.specs.declared.item.Item.{Item}
-use Rattle.gs_grammar.specs.declared.item.Item.TheVariants.{Lit, Pad, Esc}
-use Rattle.gs_grammar.specs.Words.{IsWord, SpellsEach, SpellsMany}
-use Rattle.gs_grammar.proofs.Spelled.{spelling_bounds, spelled_fixes, Counts, counts_start, counts_step, counts_end, counts_none}
-use Rattle.gs_grammar.proofs.Counting.{IsDecided}
+use Rattle.gs_grammar.specs.declared.item.Item.TheVariants.{Lit, Pad, Int, Esc, NumPad, Num, Ascii7, Fill}
+use Rattle.gs_grammar.specs.Items.{is_between}
+use Rattle.gs_grammar.specs.Words.{IsWord, IsNumeral, WritesNumber, IsPacked, PacksMany}
+use Rattle.gs_grammar.specs.Numerals.{HasCode, NoCode}
+use Rattle.gs_grammar.proofs.Packs.{writes_length, writes_bits, written_number, unwritten_no_code, zero_no_code, has_code, code_length, PackCounts, pack_counts_start, pack_counts_step, pack_counts_end, pack_counts_none, pack_counts_bad}
+use Rattle.gs_grammar.proofs.ItemTests.{pad_word, esc_word, numpad_word, num_word, ascii_word}
+use Rattle.gs_grammar.proofs.DecidedSpellings.{told, same_list, spelled_decided}
+use Rattle.gs_grammar.specs.Counts.{Counted}
+use Rattle.gs_grammar.proofs.Counting.{IsDecided, count_level}
 
--- a test decides a fact
-told : (b : Bool) (fact : Type 0) → Decides b fact → fact ⊎ (fact → ⊥)
-told true fact d = inl (d.0 refl)
-told false fact d = inr (λ h. let f : false ≡ true = d.1 h in cc)
+-- the list is a word of the item, or it is none
+abbrev IsToldWord : Item → List ℕ → Type 0
+IsToldWord item w = IsWord item w ⊎ (IsWord item w → ⊥)
 
-same_list : (w v : List ℕ) → (w ≡ v) ⊎ (w ≡ v → ⊥)
-same_list w v = told (bytes_eq w v) (w ≡ v) (bytes_eq-Decides w v)
+-- words of texts
 
-is_bool : (b : Bool) → (b ≡ true) ⊎ (b ≡ true → ⊥)
-is_bool true = inl refl
-is_bool false = inr (λ h. let f : false ≡ true = h in cc)
-
--- literals
-
-lit_decided : (literal w : List ℕ) → IsWord (Lit literal) w ⊎ (IsWord (Lit literal) w → ⊥)
-lit_decided literal w = elim (same_list w literal) as (λ _. IsWord (Lit literal) w ⊎ (IsWord (Lit literal) w → ⊥)) [
+lit_decided : (literal w : List ℕ) → IsToldWord (Lit literal) w
+lit_decided literal w = elim (same_list w literal) as (λ _. IsToldWord (Lit literal) w) [
   | inl e ↦ inl ([], (refl, e))
   | inr n ↦ inr (λ h. n h.1.1)
 ]
 
--- digits
+pad_decided : (n : ℕ) (w : List ℕ) → IsToldWord (Pad n) w
+pad_decided n w = told (nat_eq (length w) n && are_digits w) (IsWord (Pad n) w) (pad_word (Pad n) n w (nat_eq (length w) n && are_digits w) refl refl)
 
-pad_digits : (n : ℕ) (w : List ℕ) → length w ≡ n → (are_digits w ≡ true) ⊎ (are_digits w ≡ true → ⊥) → IsWord (Pad n) w ⊎ (IsWord (Pad n) w → ⊥)
-pad_digits n w l (inl d) = inl (w, (l, d, refl))
-pad_digits n w l (inr never) = inr (λ h. never (ap are_digits h.1.2 ∙ h.1.1))
+-- the list is the decimal text of a number up to the greatest, or of none
+abbrev IsSomeNumeral : ℕ → List ℕ → Type 0
+IsSomeNumeral greatest w = (number : ℕ) × IsNumeral greatest number w
 
-pad_decided : (n : ℕ) (w : List ℕ) → IsWord (Pad n) w ⊎ (IsWord (Pad n) w → ⊥)
-pad_decided n w = elim (cases_eq (length w) n) as (λ _. IsWord (Pad n) w ⊎ (IsWord (Pad n) w → ⊥)) [
-  | inl l ↦ pad_digits n w l (is_bool (are_digits w))
-  | inr never ↦ inr (λ h. never (ap length h.1.2 ∙ h.1.0))
+at_most : (greatest : ℕ) (w : List ℕ) → (IsSomeNumeral greatest w → ⊥) → (w ≡ decimal (suc greatest) → ⊥) → IsSomeNumeral (suc greatest) w → ⊥
+at_most greatest w below last h = elim (cases_eq h.0 (suc greatest)) as (λ _. ⊥) [
+  | inl e ↦ last (h.1.text ∙ ap decimal e)
+  | inr n ↦ below (h.0, record { small = let s = h.1.small in omega arith; text = h.1.text })
 ]
 
--- the spelling at the front of a list, where it has one
-record Front (w : List ℕ) : Type 0 where
-  c : ℕ
-  len : ℕ
-  begins : BeginsWithSpelling w c len
-
-abbrev HasNoFront : List ℕ → Type 0
-HasNoFront w = (c len : ℕ) → BeginsWithSpelling w c len → ⊥
-
-front_of_plain : (x : ℕ) (rest : List ℕ) → is_plain x ≡ true → Front (x ∷ rest)
-front_of_plain x rest p = record { c = x; len = 1; begins = record { within = omega arith; spelled = inl (p, refl) } }
-
-hex_below : (h a : ℕ) → hex_value h ≡ Some a → a < 16
-hex_below h a e = grind (arith, nat_tests)
-
-front_of_escape : (h l a b : ℕ) (more : List ℕ) → hex_value h ≡ Some a → hex_value l ≡ Some b → is_escaped (16 * a + b) ≡ true → Front (37 ∷ h ∷ l ∷ more)
-front_of_escape h l a b more e f p =
-    let small = hex_below l b f in
-    let high : a ≡ (16 * a + b) / 16 = omega arith in
-    let low : b ≡ (16 * a + b) % 16 = omega arith in
-    record {
-      c = 16 * a + b;
-      len = 3;
-      begins = record { within = omega arith; spelled = inr (p, record { high = h; low = l; high_digit = e ∙ ap Some high; low_digit = f ∙ ap Some low; text = refl }) };
-    }
-
-no_percent : (x h l : ℕ) (more : List ℕ) → is_plain x ≡ false → (x ≡ 37 → ⊥) → HasNoFront (x ∷ h ∷ l ∷ more)
-no_percent x h l more p n = unspelled (x ∷ h ∷ l ∷ more) p (λ c s q a b k. n q)
-
-no_high : (x h l : ℕ) (more : List ℕ) → is_plain x ≡ false → hex_value h ≡ None → HasNoFront (x ∷ h ∷ l ∷ more)
-no_high x h l more p e = unspelled (x ∷ h ∷ l ∷ more) p (λ c s q a b k. let f : hex_value h ≡ Some (c / 16) = a in let g : None ≡ Some (c / 16) = sym e ∙ f in cc)
-
-no_low : (x h l : ℕ) (more : List ℕ) → is_plain x ≡ false → hex_value l ≡ None → HasNoFront (x ∷ h ∷ l ∷ more)
-no_low x h l more p e = unspelled (x ∷ h ∷ l ∷ more) p (λ c s q a b k. let f : hex_value l ≡ Some (c % 16) = b in let g : None ≡ Some (c % 16) = sym e ∙ f in cc)
-
-no_escaped : (x h l a b : ℕ) (more : List ℕ) → is_plain x ≡ false → hex_value h ≡ Some a → hex_value l ≡ Some b → (is_escaped (16 * a + b) ≡ true → ⊥) → HasNoFront (x ∷ h ∷ l ∷ more)
-no_escaped x h l a b more p e f n = unspelled (x ∷ h ∷ l ∷ more) p (λ c s q high low k.
-    let u : hex_value h ≡ Some (c / 16) = high in
-    let v : hex_value l ≡ Some (c % 16) = low in
-    let same = character_of c a b (sym e ∙ u) (sym f ∙ v) in
-    n (ap is_escaped same ∙ k))
-
-escape_front : (x h l : ℕ) (more : List ℕ) (high low : Option ℕ) → is_plain x ≡ false → x ≡ 37 → hex_value h ≡ high → hex_value l ≡ low → Front (x ∷ h ∷ l ∷ more) ⊎ HasNoFront (x ∷ h ∷ l ∷ more)
-escape_front x h l more None low p q e f = inr (no_high x h l more p e)
-escape_front x h l more (Some a) None p q e f = inr (no_low x h l more p f)
-escape_front x h l more (Some a) (Some b) p q e f = elim (is_bool (is_escaped (16 * a + b))) as (λ _. Front (x ∷ h ∷ l ∷ more) ⊎ HasNoFront (x ∷ h ∷ l ∷ more)) [
-  | inl k ↦ inl (subst (λ (y : ℕ). Front (y ∷ h ∷ l ∷ more)) (sym q) (front_of_escape h l a b more e f k))
-  | inr n ↦ inr (no_escaped x h l a b more p e f n)
+numeral_decided : (greatest : ℕ) (w : List ℕ) → IsSomeNumeral greatest w ⊎ (IsSomeNumeral greatest w → ⊥)
+numeral_decided zero w = elim (same_list w (decimal 0)) as (λ _. IsSomeNumeral 0 w ⊎ (IsSomeNumeral 0 w → ⊥)) [
+  | inl e ↦ inl (0, record { small = omega arith; text = e })
+  | inr n ↦ inr (λ h. n (h.1.text ∙ ap decimal (let s = h.1.small in omega arith)))
 ]
-
-long_front : (x h l : ℕ) (more : List ℕ) → is_plain x ≡ false → Front (x ∷ h ∷ l ∷ more) ⊎ HasNoFront (x ∷ h ∷ l ∷ more)
-long_front x h l more p = elim (cases_eq x 37) as (λ _. Front (x ∷ h ∷ l ∷ more) ⊎ HasNoFront (x ∷ h ∷ l ∷ more)) [
-  | inl q ↦ escape_front x h l more (hex_value h) (hex_value l) p q refl refl
-  | inr n ↦ inr (no_percent x h l more p n)
-]
-
-not_plain : (w : List ℕ) (x : ℕ) → is_plain x ≡ false → Front (x ∷ w) ⊎ HasNoFront (x ∷ w)
-not_plain [] x p = inr (unspelled (x ∷ []) p (λ c s q a b k. absurd (omega arith)))
-not_plain (h ∷ []) x p = inr (unspelled (x ∷ h ∷ []) p (λ c s q a b k. absurd (omega arith)))
-not_plain (h ∷ l ∷ more) x p = long_front x h l more p
-
-by_first : (x : ℕ) (w : List ℕ) (plain : Bool) → is_plain x ≡ plain → Front (x ∷ w) ⊎ HasNoFront (x ∷ w)
-by_first x w true p = inl (front_of_plain x w p)
-by_first x w false p = not_plain w x p
-
-empty_front : (w : List ℕ) → length w ≡ 0 → HasNoFront w
-empty_front w e c len b =
-    let s = spelling_bounds c (take len w) b.spelled in
-    let l = length-take-le len w b.within in
-    let k = b.within in
-    omega arith
-
-front_decided : (w : List ℕ) → Front w ⊎ HasNoFront w
-front_decided [] = inr (empty_front [] refl)
-front_decided (x ∷ w) = by_first x w (is_plain x) refl
-
--- what a list spells, by its first spelling and then the rest
-record Spelled (w : List ℕ) : Type 0 where
-  n : ℕ
-  many : SpellsMany n w
-
-abbrev IsUnspelled : List ℕ → Type 0
-IsUnspelled w = (u : List ℕ) → SpellsEach u w → ⊥
-
-shorter : (fuel c len : ℕ) (rest : List ℕ) → length rest ≤ suc fuel → BeginsWithSpelling rest c len → length (drop len rest) ≤ fuel
-shorter fuel c len rest h b =
-    let s = spelling_bounds c (take len rest) b.spelled in
-    let l = length-take-le len rest b.within in
-    let d = length-drop len rest in
-    let k = b.within in
-    omega arith
-
-no_fuel : (w rest : List ℕ) (n : ℕ) → Counts w rest n → length rest ≤ 0 → Spelled w ⊎ IsUnspelled w
-no_fuel w rest n k h = inl (record { n = n; many = counts_end w rest n k (omega arith) })
-
-spelled_from : (fuel : ℕ) (w rest : List ℕ) (n : ℕ) → length rest ≤ fuel → Counts w rest n → Spelled w ⊎ IsUnspelled w
-spelled_from zero w rest n h k = no_fuel w rest n k h
-spelled_from (suc fuel) w rest n h k = elim (cases_eq (length rest) 0) as (λ _. Spelled w ⊎ IsUnspelled w) [
-  | inl e ↦ inl (record { n = n; many = counts_end w rest n k e })
-  | inr some ↦ elim (front_decided rest) as (λ _. Spelled w ⊎ IsUnspelled w) [
-    | inl f ↦ spelled_from fuel w (drop f.len rest) (n + 1) (shorter fuel f.c f.len rest h f.begins) (counts_step w rest n f.c f.len k f.begins)
-    | inr none ↦ inr (counts_none w rest n k (omega arith) none)
+numeral_decided (suc greatest) w = elim (same_list w (decimal (suc greatest))) as (λ _. IsSomeNumeral (suc greatest) w ⊎ (IsSomeNumeral (suc greatest) w → ⊥)) [
+  | inl e ↦ inl (suc greatest, record { small = omega arith; text = e })
+  | inr last ↦ elim (numeral_decided greatest w) as (λ _. IsSomeNumeral (suc greatest) w ⊎ (IsSomeNumeral (suc greatest) w → ⊥)) [
+    | inl k ↦ inl (k.0, record { small = let s = k.1.small in omega arith; text = k.1.text })
+    | inr below ↦ inr (at_most greatest w below last)
   ]
 ]
 
-spelled_decided : (w : List ℕ) → Spelled w ⊎ IsUnspelled w
-spelled_decided w = spelled_from (length w) w w 0 (omega arith) (counts_start w)
-
-esc_count : (lo hi n : ℕ) (w : List ℕ) → SpellsMany n w → (lo ≤ n → n ≤ hi → ⊥) → IsWord (Esc lo hi) w → ⊥
-esc_count lo hi n w s never h =
-    let same = spelled_fixes h.0 s.value w w h.1.1 s.spelled refl in
-    let l = ap length same in
-    let c = s.count in
-    let least = h.1.0.least in
-    let most = h.1.0.most in
-    never (omega arith) (omega arith)
-
-within : (lo hi n : ℕ) → ((lo ≤ n) × (n ≤ hi)) ⊎ (lo ≤ n → n ≤ hi → ⊥)
-within lo hi n = elim (leb_tells lo n) as (λ _. ((lo ≤ n) × (n ≤ hi)) ⊎ (lo ≤ n → n ≤ hi → ⊥)) [
-  | inr e ↦ inr (λ a b. let x = e.1 in omega arith)
-  | inl e ↦ elim (leb_tells n hi) as (λ _. ((lo ≤ n) × (n ≤ hi)) ⊎ (lo ≤ n → n ≤ hi → ⊥)) [
-    | inl f ↦ inl (e.1, f.1)
-    | inr f ↦ inr (λ a b. let x = f.1 in omega arith)
-  ]
+int_decided : (greatest : ℕ) (w : List ℕ) → IsToldWord (Int greatest) w
+int_decided greatest w = elim (numeral_decided greatest w) as (λ _. IsToldWord (Int greatest) w) [
+  | inl k ↦ inl (w, (k, refl))
+  | inr none ↦ inr (λ h. none (h.1.0.0, record { small = h.1.0.1.small; text = h.1.1 ∙ h.1.0.1.text }))
 ]
 
-esc_many : (lo hi n : ℕ) (w : List ℕ) → SpellsMany n w → IsWord (Esc lo hi) w ⊎ (IsWord (Esc lo hi) w → ⊥)
-esc_many lo hi n w s = elim (within lo hi n) as (λ _. IsWord (Esc lo hi) w ⊎ (IsWord (Esc lo hi) w → ⊥)) [
-  | inl b ↦ inl (s.value, (record { least = let c = s.count in let x = b.0 in omega arith; most = let c = s.count in let x = b.1 in omega arith }, s.spelled))
-  | inr never ↦ inr (esc_count lo hi n w s never)
-]
-
-esc_decided : (lo hi : ℕ) (w : List ℕ) → IsWord (Esc lo hi) w ⊎ (IsWord (Esc lo hi) w → ⊥)
-esc_decided lo hi w = elim (spelled_decided w) as (λ _. IsWord (Esc lo hi) w ⊎ (IsWord (Esc lo hi) w → ⊥)) [
-  | inl s ↦ esc_many lo hi s.n w s.many
+esc_decided : (lo hi : ℕ) (w : List ℕ) → IsToldWord (Esc lo hi) w
+esc_decided lo hi w = elim (spelled_decided w) as (λ _. IsToldWord (Esc lo hi) w) [
+  | inl s ↦ told (is_between lo hi s.n) (IsWord (Esc lo hi) w) (esc_word lo hi s.n w (is_between lo hi s.n) s.many refl)
   | inr none ↦ inr (λ h. none h.0 h.1.1)
 ]
 
-word_decided : (item : Item) (w : List ℕ) → IsWord item w ⊎ (IsWord item w → ⊥)
+-- numbers in bits
+
+bits_decided : (w : List ℕ) → AreBits w ⊎ (AreBits w → ⊥)
+bits_decided [] = inl (All-nil (λ b. b < 2))
+bits_decided (b ∷ w) = elim (leb_tells (suc b) 2) as (λ _. AreBits (b ∷ w) ⊎ (AreBits (b ∷ w) → ⊥)) [
+  | inr e ↦ inr (λ h. let f : b < 2 = All-head (λ b. b < 2) b w h in let l = e.1 in omega arith)
+  | inl e ↦ elim (bits_decided w) as (λ _. AreBits (b ∷ w) ⊎ (AreBits (b ∷ w) → ⊥)) [
+    | inl rest ↦ inl (All-cons (λ b. b < 2) b w e.1 rest)
+    | inr none ↦ inr (λ h. none (All-tail (λ b. b < 2) b w h))
+  ]
+]
+
+abbrev IsSomeNumber : ℕ → List ℕ → Type 0
+IsSomeNumber bits w = (number : ℕ) × WritesNumber bits number w
+
+number_decided : (bits : ℕ) (w : List ℕ) → IsSomeNumber bits w ⊎ ((number : ℕ) → WritesNumber bits number w → ⊥)
+number_decided bits w = elim (cases_eq (length w) bits) as (λ _. IsSomeNumber bits w ⊎ ((number : ℕ) → WritesNumber bits number w → ⊥)) [
+  | inr n ↦ inr (λ number h. n (writes_length bits number w h))
+  | inl l ↦ elim (bits_decided w) as (λ _. IsSomeNumber bits w ⊎ ((number : ℕ) → WritesNumber bits number w → ⊥)) [
+    | inl b ↦ inl (number_of w, written_number bits w b l)
+    | inr n ↦ inr (λ number h. n (writes_bits bits number w h))
+  ]
+]
+
+numpad_decided : (bits n : ℕ) (w : List ℕ) → IsToldWord (NumPad bits n) w
+numpad_decided bits n w = elim (number_decided bits w) as (λ _. IsToldWord (NumPad bits n) w) [
+  | inl k ↦ told (ltb k.0 (10 ^ n)) (IsWord (NumPad bits n) w) (numpad_word (NumPad bits n) bits n k.0 w (ltb k.0 (10 ^ n)) refl k.1 (Decides-ltb k.0 (10 ^ n)))
+  | inr none ↦ inr (λ h. none _ h.1.2)
+]
+
+num_decided : (bits greatest : ℕ) (w : List ℕ) → IsToldWord (Num bits greatest) w
+num_decided bits greatest w = elim (number_decided bits w) as (λ _. IsToldWord (Num bits greatest) w) [
+  | inl k ↦ told (leb k.0 greatest) (IsWord (Num bits greatest) w) (num_word (Num bits greatest) bits greatest k.0 w refl k.1)
+  | inr none ↦ inr (λ h. none h.1.0 h.1.1.1)
+]
+
+-- packed characters
+
+code_decided : (w : List ℕ) → ((c : ℕ) × HasCode w c) ⊎ NoCode w
+code_decided w = elim (number_decided 7 (take 7 w)) as (λ _. ((c : ℕ) × HasCode w c) ⊎ NoCode w) [
+  | inr none ↦ inr (unwritten_no_code w none)
+  | inl k ↦ elim (cases_eq k.0 0) as (λ _. ((c : ℕ) × HasCode w c) ⊎ NoCode w) [
+    | inl e ↦ inr (zero_no_code w k.0 k.1 e)
+    | inr n ↦ inl (k.0, has_code w k.0 k.1 n)
+  ]
+]
+
+-- how many characters a list packs
+record Packed (w : List ℕ) : Type 0 where
+  n : ℕ
+  many : PacksMany n w
+
+abbrev IsToldPacked : List ℕ → Type 0
+IsToldPacked w = Packed w ⊎ ((u : List ℕ) → IsPacked u w → ⊥)
+
+packed_end : (w rest : List ℕ) (n : ℕ) → PackCounts w rest n → NoCode rest → IsToldPacked w
+packed_end w rest n k none = elim (same_list rest (replicate (length rest) 0)) as (λ _. IsToldPacked w) [
+  | inl e ↦ inl (record { n = n; many = pack_counts_end w rest n k e })
+  | inr bad ↦ inr (pack_counts_none w rest n k none bad)
+]
+
+shorter : (fuel c : ℕ) (rest : List ℕ) → length rest ≤ suc fuel → HasCode rest c → length (drop 7 rest) ≤ fuel
+shorter fuel c rest h k = let l = code_length rest c k in let d = length-drop 7 rest in omega arith
+
+none_left : (c : ℕ) (rest : List ℕ) → length rest ≤ 0 → HasCode rest c → ⊥
+none_left c rest h k = let l = code_length rest c k in omega arith
+
+-- a code is that of a character, or it packs none
+packed_step : (w rest : List ℕ) (n c : ℕ) (b : Bool) → PackCounts w rest n → HasCode rest c → is_in_set82 c ≡ b → (PackCounts w (drop 7 rest) (n + 1) → IsToldPacked w) → IsToldPacked w
+packed_step w rest n c true k h e next = next (pack_counts_step w rest n c k h e)
+packed_step w rest n c false k h e next = inr (pack_counts_bad w rest n c k h e)
+
+packed_from : (fuel : ℕ) (w rest : List ℕ) (n : ℕ) → length rest ≤ fuel → PackCounts w rest n → IsToldPacked w
+packed_from zero w rest n h k = elim (code_decided rest) as (λ _. IsToldPacked w) [
+  | inl c ↦ absurd (none_left c.0 rest h c.1)
+  | inr none ↦ packed_end w rest n k none
+]
+packed_from (suc fuel) w rest n h k = elim (code_decided rest) as (λ _. IsToldPacked w) [
+  | inl c ↦ packed_step w rest n c.0 (is_in_set82 c.0) k c.1 refl (λ m. packed_from fuel w (drop 7 rest) (n + 1) (shorter fuel c.0 rest h c.1) m)
+  | inr none ↦ packed_end w rest n k none
+]
+
+ascii_width_decided : (lo hi : ℕ) (w : List ℕ) → IsToldWord (Ascii7 lo hi (length w)) w
+ascii_width_decided lo hi w = elim (packed_from (length w) w w 0 (omega arith) (pack_counts_start w)) as (λ _. IsToldWord (Ascii7 lo hi (length w)) w) [
+  | inl p ↦ told (is_between lo hi p.n) (IsWord (Ascii7 lo hi (length w)) w) (ascii_word (Ascii7 lo hi (length w)) lo hi (length w) p.n w (is_between lo hi p.n) refl refl p.many refl)
+  | inr none ↦ inr (λ h. none h.0 h.1.1)
+]
+
+ascii_decided : (lo hi bits : ℕ) (w : List ℕ) → IsToldWord (Ascii7 lo hi bits) w
+ascii_decided lo hi bits w = elim (cases_eq (length w) bits) as (λ _. IsToldWord (Ascii7 lo hi bits) w) [
+  | inl l ↦ rw (← l) (ascii_width_decided lo hi w)
+  | inr n ↦ inr (λ h. n h.1.2)
+]
+
+-- zeros
+
+fill_decided : (a b : ℕ) (w : List ℕ) → IsToldWord (Fill a b) w
+fill_decided a b w = elim (same_list w (replicate a 0)) as (λ _. IsToldWord (Fill a b) w) [
+  | inl e ↦ inl ([], (refl, inl e))
+  | inr m ↦ elim (same_list w (replicate b 0)) as (λ _. IsToldWord (Fill a b) w) [
+    | inl e ↦ inl ([], (refl, inr e))
+    | inr n ↦ inr (λ h. elim h.1.1 as (λ _. ⊥) [ inl e ↦ m e | inr e ↦ n e ])
+  ]
+]
+
+word_decided : (item : Item) (w : List ℕ) → IsToldWord item w
 word_decided (Lit literal) w = lit_decided literal w
 word_decided (Pad n) w = pad_decided n w
+word_decided (Int greatest) w = int_decided greatest w
 word_decided (Esc lo hi) w = esc_decided lo hi w
+word_decided (NumPad bits n) w = numpad_decided bits n w
+word_decided (Num bits greatest) w = num_decided bits greatest w
+word_decided (Ascii7 lo hi bits) w = ascii_decided lo hi bits w
+word_decided (Fill a b) w = fill_decided a b w
 
-pub each_decided : (item : Item) → IsDecided item
+each_decided : (item : Item) → IsDecided item
 each_decided item = record { decide = word_decided item }
+
+-- the derivations of a list of symbols in a level, counted
+pub each_counted : (level : List (List Item)) (w : List ℕ) → Counted level w
+each_counted level w = count_level each_decided level w

@@ -1,6 +1,11 @@
 pub mod Spelled
+pub mod Numbers
 pub mod WordLaws
+pub mod ItemTests
 pub mod Cuts
 pub mod Options
+pub mod Packs
 pub mod Counting
+pub mod DecidedSpellings
 pub mod DecidedWords
+pub mod OneReading

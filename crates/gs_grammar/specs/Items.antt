@@ -1,8 +1,8 @@
 -- The bounds and sizes of items.
-use Rattle.std.specs.Prelude.{ℕ, ◌+◌, ◌*◌, ◌&&◌, nat_le, nat_lt, not, Bool, true, false, List, [], ◌∷◌, length}
+use Rattle.std.specs.Prelude.{ℕ, ◌*◌, ◌^◌, ◌&&◌, ◌||◌, nat_le, nat_lt, not, Bool, true, false, IsTrue, List, [], ◌∷◌, ◌+◌, length, decimal}
 use Rattle.std.specs.List.{list_all}
 use Rattle.gs_grammar.specs.declared.item.Item.{Item}
-use Rattle.gs_grammar.specs.declared.item.Item.TheVariants.{Lit, Pad, Esc}
+use Rattle.gs_grammar.specs.declared.item.Item.TheVariants.{Lit, Pad, Int, Esc, NumPad, Num, Ascii7, Fill}
 
 -- a symbol of a literal: a bit, 0 or 1, or a byte from 33 to 126, the visible characters of ISO 646
 abbrev pub is_symbol : Bool → ℕ → Bool
@@ -17,19 +17,66 @@ is_between low high n = nat_le low n && nat_le n high
 abbrev pub is_in_bounds : Bool → Item → Bool
 is_in_bounds bit_level (Lit literal) = is_between 1 64 (length literal) && list_all (is_symbol bit_level) literal
 is_in_bounds bit_level (Pad n) = not bit_level && is_between 1 18 n
+is_in_bounds bit_level (Int most) = not bit_level && nat_lt most (2 ^ 64)
 is_in_bounds bit_level (Esc lo hi) = not bit_level && nat_le 1 lo && nat_le lo hi && nat_le hi 64
+is_in_bounds bit_level (NumPad bits n) = bit_level && is_between 1 64 bits && is_between 1 18 n
+is_in_bounds bit_level (Num bits most) = bit_level && is_between 1 64 bits && nat_lt most (2 ^ bits)
+is_in_bounds bit_level (Ascii7 lo hi bits) = bit_level && nat_le 1 lo && nat_le lo hi && nat_le (7 * hi) bits && nat_le bits 448
+is_in_bounds bit_level (Fill a b) = bit_level && nat_le 1 a && nat_le a b && nat_le b 64
 
 -- an item is of the other kind of level, or breaks a bound
 abbrev pub is_bad : Bool → Item → Bool
 is_bad bit_level item = not (is_in_bounds bit_level item)
 
+-- an item keeps its bounds, on a level of its kind
+abbrev pub IsItem : Item → Type 0
+IsItem item = IsTrue (is_in_bounds true item || is_in_bounds false item)
+
 -- the most symbols that a word of the item has
 abbrev pub size_of : Item → ℕ
 size_of (Lit literal) = length literal
 size_of (Pad n) = n
+size_of (Int most) = length (decimal most)
 size_of (Esc lo hi) = 3 * hi
+size_of (NumPad bits n) = bits
+size_of (Num bits most) = bits
+size_of (Ascii7 lo hi bits) = bits
+size_of (Fill a b) = b
+
+-- the fewest symbols that a word of the item has
+abbrev pub shortest_of : Item → ℕ
+shortest_of (Lit literal) = length literal
+shortest_of (Pad n) = n
+shortest_of (Int most) = 1
+shortest_of (Esc lo hi) = lo
+shortest_of (NumPad bits n) = bits
+shortest_of (Num bits most) = bits
+shortest_of (Ascii7 lo hi bits) = bits
+shortest_of (Fill a b) = a
 
 -- the sizes of the items of an option, added up
 abbrev pub size_of_all : List Item → ℕ
 size_of_all [] = 0
 size_of_all (item ∷ items) = size_of item + size_of_all items
+
+-- an item whose value is packed characters
+abbrev pub is_packed : Item → Bool
+is_packed (Lit literal) = false
+is_packed (Pad n) = false
+is_packed (Int most) = false
+is_packed (Esc lo hi) = false
+is_packed (NumPad bits n) = false
+is_packed (Num bits most) = false
+is_packed (Ascii7 lo hi bits) = true
+is_packed (Fill a b) = false
+
+-- an item of a bit level whose value is empty or writes a number
+abbrev pub is_numeric : Item → Bool
+is_numeric (Lit literal) = true
+is_numeric (Pad n) = false
+is_numeric (Int most) = false
+is_numeric (Esc lo hi) = false
+is_numeric (NumPad bits n) = true
+is_numeric (Num bits most) = true
+is_numeric (Ascii7 lo hi bits) = false
+is_numeric (Fill a b) = true

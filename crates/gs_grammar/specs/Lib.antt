@@ -1,5 +1,6 @@
 pub mod Items
 pub mod Words
+pub mod Numerals
 pub mod Levels
 pub mod Derivations
 pub mod Readings

@@ -1,11 +1,11 @@
 -- What the search for splits finds, over one option and over the options of a level.
-use Rattle.std.specs.Prelude.{◌≡◌, ℕ, Bool, true, false, ◌≤◌, ◌<◌, List, take, drop, length}
+use Rattle.std.specs.Prelude.{◌≡◌, ℕ, Bool, true, false, ◌≤◌, ◌<◌, List, take, drop, length, map}
 use Rattle.gs_grammar.specs.declared.item.Item.{Item}
 use Rattle.gs_grammar.specs.declared.found.Found.{Found}
 use Rattle.gs_grammar.specs.declared.found.Found.TheVariants.{Never, Once, Twice}
 use Rattle.gs_grammar.specs.declared.found.FoundOption.{FoundOption}
 use Rattle.gs_grammar.specs.declared.found.FoundOption.TheVariants.{NoOption, OneOption, TwoReadings}
-use Rattle.gs_grammar.specs.Words.{Word}
+use Rattle.gs_grammar.specs.Words.{Word, decimal_value}
 use Rattle.gs_grammar.specs.Derivations.{Derives, Derivation, OneDerivation, TwoDerivations}
 
 -- the items derive the list in one way alone
@@ -35,6 +35,12 @@ pub record IsDerived (items : List Item) (w : List ℕ) : Type 0 where
 pub record HasValues (items : List Item) (w : List ℕ) (values : List (List ℕ)) : Type 0 where
   pub words : List (List ℕ)
   pub derives : Derives items w values words
+
+-- the items derive the list, with values that write these numbers, an empty value the number 0
+pub record HasNumbers (items : List Item) (w numbers : List ℕ) : Type 0 where
+  pub values : List (List ℕ)
+  pub has : HasValues items w values
+  pub numbers_are : numbers ≡ map decimal_value values
 
 -- in how many ways the items derive the list
 abbrev pub Finds : List Item → List ℕ → Found → Type 0

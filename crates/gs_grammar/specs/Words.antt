@@ -1,19 +1,34 @@
 -- The words of an item, each with its value: TDS 2.0, sections 6 and 7 (URIs) and 14 (binary encoding).
-use Rattle.std.specs.Prelude.{◌≡◌, ℕ, ◌≤◌, List, [], ◌∷◌, ◌++◌, length, IsTrue, flat_map}
-use Rattle.gs_chars.specs.Characters.{are_digits}
+use Rattle.std.specs.Prelude.{◌≡◌, ℕ, ◌+◌, ◌-◌, ◌*◌, ◌^◌, ◌<◌, ◌≤◌, ◌⊎◌, List, [], ◌∷◌, ◌++◌, length, IsTrue, flat_map, decimal, replicate}
+use Rattle.gs_chars.specs.Characters.{are_digits, are_in_set82}
 use Rattle.gs_chars.specs.Escapes.{Spells, written_spelling}
+use Rattle.gs_bits.specs.Bits.{bits_of}
 use Rattle.gs_grammar.specs.declared.item.Item.{Item}
-use Rattle.gs_grammar.specs.declared.item.Item.TheVariants.{Lit, Pad, Esc}
+use Rattle.gs_grammar.specs.declared.item.Item.TheVariants.{Lit, Pad, Int, Esc, NumPad, Num, Ascii7, Fill}
 
--- the word joins one spelling of each character of the value
-pub data SpellsEach : List ℕ → List ℕ → Type 0 where
-  no_more : SpellsEach [] []
-  one_more : (c : ℕ) (value spelling w : List ℕ) → Spells c spelling → SpellsEach value w → SpellsEach (c ∷ value) (spelling ++ w)
+-- the number that decimal digits write behind another number
+abbrev pub value_after : ℕ → List ℕ → ℕ
+value_after number [] = number
+value_after number (digit ∷ digits) = value_after (10 * number + (digit - 48)) digits
+
+-- the number that decimal digits write, and 0 where there are none
+abbrev pub decimal_value : List ℕ → ℕ
+decimal_value digits = value_after 0 digits
 
 -- the value has from lo to hi characters
 pub record HasLength (lo hi : ℕ) (value : List ℕ) : Type 0 where
   pub least : lo ≤ length value
   pub most : length value ≤ hi
+
+-- the value is the decimal text, without leading zeros, of a number up to the greatest
+pub record IsNumeral (greatest number : ℕ) (value : List ℕ) : Type 0 where
+  pub small : number ≤ greatest
+  pub text : value ≡ decimal number
+
+-- the word joins one spelling of each character of the value
+pub data SpellsEach : List ℕ → List ℕ → Type 0 where
+  no_more : SpellsEach [] []
+  one_more : (c : ℕ) (value spelling w : List ℕ) → Spells c spelling → SpellsEach value w → SpellsEach (c ∷ value) (spelling ++ w)
 
 -- the list spells a value of this many characters
 pub record SpellsMany (n : ℕ) (w : List ℕ) : Type 0 where
@@ -21,27 +36,53 @@ pub record SpellsMany (n : ℕ) (w : List ℕ) : Type 0 where
   pub spelled : SpellsEach value w
   pub count : length value ≡ n
 
+-- the word is the number in exactly this many bits
+pub record WritesNumber (bits number : ℕ) (w : List ℕ) : Type 0 where
+  pub fits : number < 2 ^ bits
+  pub written : w ≡ bits_of bits number
+
+-- the word is 7 bits of each character of the value, and zeros behind them
+pub record IsPacked (value w : List ℕ) : Type 0 where
+  pub characters : IsTrue (are_in_set82 value)
+  pub padding : ℕ
+  pub packed : w ≡ flat_map (bits_of 7) value ++ replicate padding 0
+
+-- the list packs a value of this many characters
+pub record PacksMany (n : ℕ) (w : List ℕ) : Type 0 where
+  pub value : List ℕ
+  pub packed : IsPacked value w
+  pub count : length value ≡ n
+
 -- The list of symbols is a word of the item, and this is its value.
 --   Lit: the word is the literal, and the value is empty.
 --   Pad n: the value is n digits, and the word is the value.
+--   Int max: the value is the decimal text of a number up to max, and the word is the value.
 --   Esc lo hi: the value has lo to hi characters, and the word joins one spelling of each.
+--   NumPad bits n: the value is n digits, and the word is their number in that many bits.
+--   Num bits max: the value is the decimal text of a number up to max, and the word is the number in that many bits.
+--   Ascii7 lo hi bits: the value has lo to hi characters, and the word is 7 bits of each, then zeros up to the width.
+--   Fill a b: the value is empty, and the word is a zeros or b zeros.
 abbrev pub Word : Item → List ℕ → List ℕ → Type 0
 Word (Lit literal) value w = (value ≡ []) × (w ≡ literal)
 Word (Pad n) value w = (length value ≡ n) × IsTrue (are_digits value) × (w ≡ value)
+Word (Int greatest) value w = ((number : ℕ) × IsNumeral greatest number value) × (w ≡ value)
 Word (Esc lo hi) value w = HasLength lo hi value × SpellsEach value w
+Word (NumPad bits n) value w = (length value ≡ n) × IsTrue (are_digits value) × WritesNumber bits (decimal_value value) w
+Word (Num bits greatest) value w = (number : ℕ) × (IsNumeral greatest number value × WritesNumber bits number w)
+Word (Ascii7 lo hi bits) value w = HasLength lo hi value × IsPacked value w × (length w ≡ bits)
+Word (Fill a b) value w = (value ≡ []) × ((w ≡ replicate a 0) ⊎ (w ≡ replicate b 0))
 
 -- the list of symbols is a word of the item, with some value
 abbrev pub IsWord : Item → List ℕ → Type 0
 IsWord item w = (value : List ℕ) × Word item value w
 
--- the one word of the value that is written: its escapes have upper-case letters
+-- the one word of the value that is written: its escapes have upper-case letters, and of two widths it has the second
 abbrev pub written_word : Item → List ℕ → List ℕ
 written_word (Lit literal) value = literal
 written_word (Pad n) value = value
+written_word (Int greatest) value = value
 written_word (Esc lo hi) value = flat_map written_spelling value
-
--- the fewest symbols that a word of the item has
-abbrev pub shortest_of : Item → ℕ
-shortest_of (Lit literal) = length literal
-shortest_of (Pad n) = n
-shortest_of (Esc lo hi) = lo
+written_word (NumPad bits n) value = bits_of bits (decimal_value value)
+written_word (Num bits greatest) value = bits_of bits (decimal_value value)
+written_word (Ascii7 lo hi bits) value = flat_map (bits_of 7) value ++ replicate (bits - 7 * length value) 0
+written_word (Fill a b) value = replicate b 0

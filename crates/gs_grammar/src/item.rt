@@ -1,8 +1,8 @@
-ghost use Rattle.std.specs.Prelude.{◌≡◌, ◌<◌, ◌^◌};
+ghost use Rattle.std.specs.Prelude.{◌≡◌, ◌<◌, ◌≤◌, ◌^◌, nat_lt, true, false};
 ghost use Rattle.std.specs.List.{list_all};
-ghost use Rattle.gs_grammar.specs.Items.{is_in_bounds, is_symbol, size_of};
-ghost use Rattle.gs_grammar.specs.Words.{shortest_of};
+ghost use Rattle.gs_grammar.specs.Items.{is_in_bounds, is_symbol, is_between, size_of, shortest_of};
 
+use crate::numerals::digit_count;
 use gs_chars::Text;
 
 /// A part of an option.
@@ -10,10 +10,21 @@ use gs_chars::Text;
 pub enum Item {
     /// A literal of 1 to 64 symbols: bytes from 33 to 126, or on a bit level the bits 0 and 1. Its value is empty.
     Lit(Text),
-    /// Exactly `n` digits, 1 to 18.
+    /// On a text level, exactly `n` digits, 1 to 18.
     Pad { n: u8 },
-    /// `lo` to `hi` characters of the set of 82, 1 to 64, each in its spelling of EPC URIs.
+    /// On a text level, the decimal text, without leading zeros, of a number of at most `max`.
+    Int { max: u64 },
+    /// On a text level, `lo` to `hi` characters of the set of 82, 1 to 64, each in its spelling of EPC URIs.
     Esc { lo: u8, hi: u8 },
+    /// On a bit level, the number of exactly `n` digits, 1 to 18, in `bits` bits, 1 to 64.
+    NumPad { bits: u8, n: u8 },
+    /// On a bit level, a number of at most `max`, which is below 2 to the `bits`, in `bits` bits, 1 to 64. Its value is the
+    /// decimal text without leading zeros.
+    Num { bits: u8, max: u64 },
+    /// On a bit level, `lo` to `hi` characters of the set of 82, 7 bits of each, then zeros up to `bits` bits, at most 448.
+    Ascii7 { lo: u8, hi: u8, bits: u16 },
+    /// On a bit level, `a` zeros or `b` zeros, 1 to 64. Its value is empty.
+    Fill { a: u8, b: u8 },
 }
 
 /// Whether a symbol may stand in a literal of the level.
@@ -36,6 +47,42 @@ fn are_literal_symbols(bit_level: bool, symbols: &[u8]) -> bool
         .all(|symbol| is_literal_symbol(bit_level, *symbol))
 }
 
+/// Whether the number is within the two bounds.
+pub fn is_within(least: usize, most: usize, number: usize) -> bool
+    ensures { result ≡ is_between least most number }
+{
+    least <= number && number <= most
+}
+
+/// Whether the number has room in this many bits.
+fn fits_bits(number: u64, bits: u8) -> bool
+    requires { bits ≤ 64 }
+    ensures { result ≡ nat_lt number (2 ^ bits) }
+{
+    bits == 64 || number < 1 << bits
+}
+
+/// Whether an item `Num` keeps its bounds.
+fn is_num(bits: u8, max: u64) -> bool
+    ensures { result ≡ is_in_bounds true (Item.Num bits max) }
+{
+    1 <= bits && bits <= 64 && fits_bits(max, bits)
+}
+
+/// Whether an item `Int` keeps its bounds, as each does.
+fn is_int(max: u64) -> bool
+    ensures { result ≡ is_in_bounds false (Item.Int max) }
+{
+    max <= u64::MAX
+}
+
+/// Whether an item `Ascii7` keeps its bounds.
+fn is_ascii7(lo: u8, hi: u8, bits: u16) -> bool
+    ensures { result ≡ is_in_bounds true (Item.Ascii7 lo hi bits) }
+{
+    1 <= lo && lo <= hi && 7 * u16::from(hi) <= bits && bits <= 448
+}
+
 impl Item {
     /// Whether the item is one of the level and keeps its bounds.
     pub fn is_in_bounds(&self, bit_level: bool) -> bool
@@ -44,10 +91,19 @@ impl Item {
         match self {
             Item::Lit(literal) => {
                 let symbols = literal.as_bytes();
-                1 <= symbols.len() && symbols.len() <= 64 && are_literal_symbols(bit_level, symbols)
+                is_within(1, 64, symbols.len()) && are_literal_symbols(bit_level, symbols)
             }
             Item::Pad { n } => !bit_level && 1 <= *n && *n <= 18,
+            Item::Int { max } => !bit_level && is_int(*max),
             Item::Esc { lo, hi } => !bit_level && 1 <= *lo && *lo <= *hi && *hi <= 64,
+            Item::NumPad { bits, n } => {
+                bit_level
+                    && is_within(1, 64, usize::from(*bits))
+                    && is_within(1, 18, usize::from(*n))
+            }
+            Item::Num { bits, max } => bit_level && is_num(*bits, *max),
+            Item::Ascii7 { lo, hi, bits } => bit_level && is_ascii7(*lo, *hi, *bits),
+            Item::Fill { a, b } => bit_level && 1 <= *a && *a <= *b && *b <= 64,
         }
     }
 
@@ -59,7 +115,12 @@ impl Item {
         match self {
             Item::Lit(literal) => literal.as_bytes().len(),
             Item::Pad { n } => usize::from(*n),
+            Item::Int { max } => digit_count(*max),
             Item::Esc { lo: _, hi } => 3 * usize::from(*hi),
+            Item::NumPad { bits, n: _ } => usize::from(*bits),
+            Item::Num { bits, max: _ } => usize::from(*bits),
+            Item::Ascii7 { lo: _, hi: _, bits } => usize::from(*bits),
+            Item::Fill { a: _, b } => usize::from(*b),
         }
     }
 
@@ -70,7 +131,12 @@ impl Item {
         match self {
             Item::Lit(literal) => literal.as_bytes().len(),
             Item::Pad { n } => usize::from(*n),
+            Item::Int { max: _ } => 1,
             Item::Esc { lo, hi: _ } => usize::from(*lo),
+            Item::NumPad { bits, n: _ } => usize::from(*bits),
+            Item::Num { bits, max: _ } => usize::from(*bits),
+            Item::Ascii7 { lo: _, hi: _, bits } => usize::from(*bits),
+            Item::Fill { a, b: _ } => usize::from(*a),
         }
     }
 }

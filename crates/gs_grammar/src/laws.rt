@@ -2,6 +2,7 @@ ghost use Rattle.std.specs.Prelude.{◌≡◌, ◌<◌, ℕ, Bool, List, IsTrue,
 ghost use Rattle.gs_grammar.specs.declared.item.Item.{Item};
 ghost use Rattle.gs_grammar.specs.Items.{is_in_bounds};
 ghost use Rattle.gs_grammar.specs.Words.{Word};
+ghost use Rattle.gs_grammar.specs.Derivations.{OneDerivation, TwoDerivations};
 ghost use Rattle.gs_grammar.specs.Counts.{Counted};
 
 /// A word fixes its value: no list of symbols is a word of one item with two values.
@@ -17,4 +18,12 @@ pub fn no_word_is_empty()
 /// The derivations of every text can be counted: a list of symbols has no derivation in a level, one, or two different ones.
 pub fn each_text_is_counted()
     ensures { (level : List (List Item)) (w : List ℕ) → Counted level w }
+{}
+
+/// The only derivation of a list of symbols has one option and one list of values, and beside it there are not two.
+pub fn one_derivation_is_alone()
+    ensures reading { (level : List (List Item)) (w : List ℕ) (option other : ℕ) (values others : List (List ℕ)) →
+        OneDerivation level w option values → OneDerivation level w other others → (option ≡ other) × (values ≡ others) }
+    ensures not_two { (level : List (List Item)) (w : List ℕ) (option : ℕ) (values : List (List ℕ)) →
+        OneDerivation level w option values → TwoDerivations level w → ⊥ }
 {}

@@ -1,23 +1,31 @@
 //! Items, options and levels: the grammars of tags and EPC URIs, and the readings of a text in a level.
 #![tactic(auto)]
 
+mod bit_words;
+mod escaped;
 mod fault;
 mod found;
 mod item;
 mod laws;
 mod level;
+mod numerals;
 mod opt;
 mod read;
 mod reading;
 mod splits;
+mod tally;
 #[cfg(test)]
 mod tests;
+mod unpack;
 mod words;
 
 pub use fault::OptFault;
 pub use item::Item;
-pub use laws::{each_text_is_counted, no_word_is_empty, word_fixes_its_value};
+pub use laws::{
+    each_text_is_counted, no_word_is_empty, one_derivation_is_alone, word_fixes_its_value,
+};
 pub use level::Level;
 pub use opt::Opt;
-pub use read::read_text;
+pub use read::{read_bits, read_text};
 pub use reading::Reading;
+pub use tally::read_option;

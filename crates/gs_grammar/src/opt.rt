@@ -1,5 +1,5 @@
-ghost use Rattle.std.specs.Prelude.{◌≡◌, ◌≤◌, IfOk, IfErr, SomeIff, position};
-ghost use Rattle.gs_grammar.specs.Items.{is_bad, size_of_all};
+ghost use Rattle.std.specs.Prelude.{◌≡◌, ◌≤◌, All, IfOk, IfErr, SomeIff, position};
+ghost use Rattle.gs_grammar.specs.Items.{IsItem, is_bad, size_of_all};
 ghost use Rattle.gs_grammar.specs.Levels.{KeepBounds, IsFaultOf};
 
 use crate::fault::OptFault;
@@ -74,6 +74,7 @@ impl Opt {
     pub fn items(&self) -> &[Item]
         ensures items { result.now ≡ self.now.items }
         ensures in_bounds { KeepBounds self.now.bit_level self.now.items }
+        ensures each { All IsItem result.now }
     {
         self.items.items()
     }

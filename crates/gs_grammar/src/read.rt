@@ -7,6 +7,8 @@ use crate::level::Level;
 use crate::opt::Opt;
 use crate::reading::Reading;
 use crate::splits::{count_ways, values_of};
+use crate::unpack::unpack;
+use gs_bits::BitBuf;
 use std::alloc::Global;
 
 /// What the options derive: nothing, one derivation, or two. It stops at the second.
@@ -46,4 +48,13 @@ pub fn read_text(alloc: Global, level: &Level, text: &[u8]) -> Reading
     ensures { Reads (item_lists level.now.options) text.now result }
 {
     read_symbols(alloc, level.options(), text)
+}
+
+/// The reading of the bits in a level of bits, by the number of their derivations, as `read_text` reads a text.
+pub fn read_bits<const N: usize>(alloc: Global, level: &Level, bits: &BitBuf<N>) -> Reading
+    ensures { Reads (item_lists level.now.options) bits.now result }
+{
+    let mut symbols = [0; 512];
+    let count = unpack(bits, &mut symbols);
+    read_symbols(alloc, level.options(), &symbols[..count])
 }

@@ -1,4 +1,5 @@
-ghost use Rattle.std.specs.Prelude.{◌∷◌, IfOk};
+ghost use Rattle.std.specs.Prelude.{◌∷◌, All, IfOk};
+ghost use Rattle.gs_grammar.specs.Items.{IsItem};
 ghost use Rattle.gs_grammar.specs.Searches.{Finds, IsDerived, HasValues, AtCut};
 
 use crate::found::Found;
@@ -10,6 +11,7 @@ use std::alloc::Global;
 /// In how many ways the items derive the symbols. It tries each split into a word of the first item and the rest, and stops
 /// at the second derivation.
 pub fn count_ways(items: &[Item], symbols: &[u8]) -> Found
+    requires { All IsItem items.now }
     ensures { Finds items.now symbols.now result }
 {
     let Some((item, others)) = items.split_first() else {
@@ -34,8 +36,10 @@ pub fn count_ways(items: &[Item], symbols: &[u8]) -> Found
 }
 
 /// The length of a word of the item with which the items derive the symbols.
-fn first_cut(item: &Item, others: &[Item], symbols: &[u8]) -> usize
-    requires { IsDerived (item.now ∷ others.now) symbols.now }
+pub fn first_cut(item: &Item, others: &[Item], symbols: &[u8]) -> usize
+    requires item { IsItem item.now }
+    requires others { All IsItem others.now }
+    requires derived { IsDerived (item.now ∷ others.now) symbols.now }
     ensures { AtCut item.now others.now symbols.now result }
 {
     let shortest = item.shortest();
@@ -59,7 +63,8 @@ fn first_cut(item: &Item, others: &[Item], symbols: &[u8]) -> usize
 
 /// The values of a derivation of the symbols by the items.
 pub fn values_of(alloc: Global, items: &[Item], symbols: &[u8]) -> Result<List<Text>, Memory>
-    requires { IsDerived items.now symbols.now }
+    requires items { All IsItem items.now }
+    requires derived { IsDerived items.now symbols.now }
     ensures { IfOk result (λ values. HasValues items.now symbols.now values) }
 {
     let mut left = items;

@@ -1,4 +1,5 @@
-use crate::{Item, Level, Opt, OptFault, Reading, read_text};
+use crate::{Item, Level, Opt, OptFault, Reading, read_bits, read_option, read_text};
+use gs_bits::BitBuf;
 use gs_chars::{Memory, Text};
 use std::alloc::Global;
 use std::test::Fail;
@@ -110,5 +111,64 @@ fn options_keep_their_bounds(rt: HostRuntime) -> Result<(), Fail> {
         Item::Esc { lo: 1, hi: 43 },
     ]?;
     assert!(rt; matches!(Opt::new(false, long), Err(OptFault::Size)));
+    Ok(())
+}
+
+#[test]
+fn a_number_of_twelve_digits_is_below_ten_to_the_twelve(rt: HostRuntime) -> Result<(), Fail> {
+    let alloc = rt.alloc();
+    let option = Opt::new(true, vec![in alloc; Item::NumPad { bits: 40, n: 12 }]?)?;
+    let mut numbers = [0u64];
+    let greatest = BitBuf::<5>::from_hex(b"E8D4A50FFF").ok().ok_or("digits")?;
+    assert!(rt; read_one(&option, &greatest, &mut numbers));
+    assert_eq!(rt; numbers[0], 999_999_999_999);
+    let above = BitBuf::<5>::from_hex(b"E8D4A51000").ok().ok_or("digits")?;
+    assert!(rt; !read_one(&option, &above, &mut numbers));
+    assert_eq!(rt; numbers[0], 999_999_999_999);
+    Ok(())
+}
+
+/// Reads the bits by an option of one item that packs no characters; by another option it reads nothing.
+fn read_one(option: &Opt, bits: &BitBuf<5>, numbers: &mut [u64; 1]) -> bool {
+    let [Item::NumPad { bits: _, n: _ }] = option.items() else {
+        return false;
+    };
+    option.bit_level() && read_option(option, bits, numbers)
+}
+
+#[test]
+fn packed_characters_end_in_zeros(rt: HostRuntime) -> Result<(), Fail> {
+    let alloc = rt.alloc();
+    let packed = Item::Ascii7 {
+        lo: 1,
+        hi: 2,
+        bits: 16,
+    };
+    let option = Opt::new(true, vec![in alloc; packed]?)?;
+    let level = Level::new(alloc, true, vec![in alloc; option]?)?;
+    let one = BitBuf::<2>::from_hex(b"8200").ok().ok_or("digits")?;
+    let fields: [&[u8]; 1] = [b"A"];
+    assert!(rt; is_one(&read_bits(alloc, &level, &one), 0, &fields));
+    let two = BitBuf::<2>::from_hex(b"8308").ok().ok_or("digits")?;
+    let fields: [&[u8]; 1] = [b"AB"];
+    assert!(rt; is_one(&read_bits(alloc, &level, &two), 0, &fields));
+    let tail = BitBuf::<2>::from_hex(b"8201").ok().ok_or("digits")?;
+    assert!(rt; is_nothing(&read_bits(alloc, &level, &tail)));
+    let none = BitBuf::<2>::from_hex(b"0000").ok().ok_or("digits")?;
+    assert!(rt; is_nothing(&read_bits(alloc, &level, &none)));
+    Ok(())
+}
+
+#[test]
+fn a_decimal_text_has_no_leading_zeros(rt: HostRuntime) -> Result<(), Fail> {
+    let alloc = rt.alloc();
+    let first = vec![in alloc; Item::Int { max: 274877906943 }]?;
+    let level = level_of_two(alloc, first, vec![in alloc; literal(alloc, b"x")?]?)?;
+    let fields: [&[u8]; 1] = [b"274877906943"];
+    assert!(rt; is_one(&read_text(alloc, &level, b"274877906943"), 0, &fields));
+    assert!(rt; is_nothing(&read_text(alloc, &level, b"274877906944")));
+    assert!(rt; is_nothing(&read_text(alloc, &level, b"007")));
+    let fields: [&[u8]; 1] = [b"0"];
+    assert!(rt; is_one(&read_text(alloc, &level, b"0"), 0, &fields));
     Ok(())
 }

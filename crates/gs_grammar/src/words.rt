@@ -1,10 +1,13 @@
-ghost use Rattle.std.specs.Prelude.{◌≡◌, ◌↔◌, ◌==◌, ◌&&◌, length, ℕ, List, IsTrue, IfSome, IfNone, IfOk};
+ghost use Rattle.std.specs.Prelude.{◌≡◌, ◌↔◌, ◌==◌, ◌&&◌, ◌≤◌, length, ℕ, List, IsTrue, IfOk};
 ghost use Rattle.gs_chars.specs.Characters.{are_digits};
-ghost use Rattle.gs_grammar.specs.Items.{is_between};
-ghost use Rattle.gs_grammar.specs.Words.{IsWord, Word, SpellsEach, SpellsMany};
+ghost use Rattle.gs_grammar.specs.Items.{IsItem, is_numeric};
+ghost use Rattle.gs_grammar.specs.Words.{IsWord, Word, WritesNumber, decimal_value};
 
-use crate::item::Item;
-use gs_chars::{CharSet, Memory, Text, read_escape};
+use crate::bit_words::{are_zeros, number_in_bits, packed_count, unpacked};
+use crate::escaped::{spelled, spelled_count};
+use crate::item::{Item, is_within};
+use crate::numerals::{decimal_text, has_at_most_digits, numeral, padded};
+use gs_chars::{CharSet, Memory, Text};
 use std::alloc::Global;
 
 /// Whether each symbol is a digit.
@@ -21,67 +24,104 @@ fn are_n_digits(symbols: &[u8], n: usize) -> bool
     symbols.len() == n && all_digits(symbols)
 }
 
-/// The number of characters that the symbols spell, each in a spelling of EPC URIs.
-fn spelled_count(symbols: &[u8]) -> Option<usize>
-    ensures some { IfSome result (λ n. SpellsMany n symbols.now) }
-    ensures none { IfNone result ((value : List ℕ) → SpellsEach value symbols.now → ⊥) }
-{
-    let mut rest = symbols;
-    let mut count = 0;
-    while !rest.is_empty() {
-        let (_, used) = read_escape(rest)?;
-        rest = &rest[used..];
-        count += 1;
-    }
-    Some(count)
-}
-
-/// The characters that the symbols spell.
-fn spelled(alloc: Global, symbols: &[u8]) -> Result<Vec<u8>, Memory>
-    requires { (value : List ℕ) × SpellsEach value symbols.now }
-    ensures { IfOk result (λ value. SpellsEach value.items symbols.now) }
-{
-    let mut rest = symbols;
-    let mut value = Vec::new(alloc);
-    while !rest.is_empty() {
-        let Some((character, used)) = read_escape(rest) else {
-            unreachable!()
-        };
-        value.push(character)?;
-        rest = &rest[used..];
-    }
-    Ok(value)
-}
-
-/// Whether the number is within the two bounds.
-fn is_within(least: usize, most: usize, number: usize) -> bool
-    ensures { result ≡ is_between least most number }
-{
-    least <= number && number <= most
-}
-
 /// Whether the symbols are a word of the item.
 pub fn is_word(item: &Item, symbols: &[u8]) -> bool
+    requires { IsItem item.now }
     ensures { IsTrue result ↔ IsWord item.now symbols.now }
 {
     match item {
         Item::Lit(literal) => literal.as_bytes() == symbols,
         Item::Pad { n } => are_n_digits(symbols, usize::from(*n)),
+        Item::Int { max } => match numeral(symbols) {
+            Some(whole) => whole <= *max,
+            None => false,
+        },
         Item::Esc { lo, hi } => match spelled_count(symbols) {
             Some(count) => is_within(usize::from(*lo), usize::from(*hi), count),
             None => false,
         },
+        Item::NumPad { bits, n } => match number_in_bits(symbols, usize::from(*bits)) {
+            Some(number) => has_at_most_digits(number, *n),
+            None => false,
+        },
+        Item::Num { bits, max } => match number_in_bits(symbols, usize::from(*bits)) {
+            Some(number) => number <= *max,
+            None => false,
+        },
+        Item::Ascii7 { lo, hi, bits } => {
+            if symbols.len() != usize::from(*bits) {
+                return false;
+            }
+            match packed_count(symbols) {
+                Some(count) => is_within(usize::from(*lo), usize::from(*hi), count),
+                None => false,
+            }
+        }
+        Item::Fill { a, b } => {
+            are_zeros(symbols, usize::from(*a)) || are_zeros(symbols, usize::from(*b))
+        }
+    }
+}
+
+/// The number that a word of an item `NumPad` or `Num` is.
+fn number_of_word(word: &[u8], bits: u8) -> u64
+    requires narrow { bits ≤ 64 }
+    requires number { (number : ℕ) × WritesNumber bits number word.now }
+    ensures { WritesNumber bits result word.now }
+{
+    match number_in_bits(word, usize::from(bits)) {
+        Some(number) => number,
+        None => unreachable!(),
     }
 }
 
 /// The value of a word of the item.
 pub fn value_of(alloc: Global, item: &Item, word: &[u8]) -> Result<Text, Memory>
-    requires { IsWord item.now word.now }
+    requires item { IsItem item.now }
+    requires word { IsWord item.now word.now }
     ensures { IfOk result (λ value. Word item.now value word.now) }
 {
     match item {
         Item::Lit(_) => Ok(Text::from_vec(Vec::new(alloc))),
         Item::Pad { n: _ } => Text::from_bytes(alloc, word),
+        Item::Int { max: _ } => Text::from_bytes(alloc, word),
         Item::Esc { lo: _, hi: _ } => Ok(Text::from_vec(spelled(alloc, word)?)),
+        Item::NumPad { bits, n } => {
+            let number = number_of_word(word, *bits);
+            Ok(Text::from_vec(padded(alloc, number, *n)?))
+        }
+        Item::Num { bits, max: _ } => {
+            let number = number_of_word(word, *bits);
+            Ok(decimal_text(alloc, number)?)
+        }
+        Item::Ascii7 {
+            lo: _,
+            hi: _,
+            bits: _,
+        } => Ok(Text::from_vec(unpacked(alloc, word)?)),
+        Item::Fill { a: _, b: _ } => Ok(Text::from_vec(Vec::new(alloc))),
+    }
+}
+
+/// The number that the value of a word writes, and 0 for an empty value.
+pub fn number_of(item: &Item, word: &[u8]) -> u64
+    requires item { IsItem item.now }
+    requires numeric { IsTrue (is_numeric item.now) }
+    requires word { IsWord item.now word.now }
+    ensures { (value : List ℕ) × (Word item.now value word.now × (result ≡ decimal_value value)) }
+{
+    match item {
+        Item::NumPad { bits, n: _ } => number_of_word(word, *bits),
+        Item::Num { bits, max: _ } => number_of_word(word, *bits),
+        Item::Lit(_) => 0,
+        Item::Fill { a: _, b: _ } => 0,
+        Item::Pad { n: _ } => unreachable!(),
+        Item::Int { max: _ } => unreachable!(),
+        Item::Esc { lo: _, hi: _ } => unreachable!(),
+        Item::Ascii7 {
+            lo: _,
+            hi: _,
+            bits: _,
+        } => unreachable!(),
     }
 }

@@ -1,5 +1,5 @@
 use Rattle.std.proofs.Common.{arith}
-use Rattle.gs_grammar.proofs.Cuts.{nil_found, last_found, end_found, twice_found, no_split, found_skip, found_joined, none_first}
+use Rattle.gs_grammar.proofs.Cuts.{nil_found, last_found, end_found, twice_found, no_split, found_skip, found_joined, none_first, first_item}
 use Rattle.gs_grammar.proofs.splits.+count_ways.Goals as goal
 
 pub returns-in_default : goal.returns-in_default
@@ -10,7 +10,7 @@ returns-then-is_empty t c =
     last_found _ _ _ _ _ _ c.in-Some.ensures.cases.0 (grind arith) c.is_word.ensures c.once_where-then-is_empty.ensures
 
 pub loop-cut-init : goal.loop-cut-init
-loop-cut-init t c = none_first _ _ _ _ c.shortest-cut.ensures
+loop-cut-init t c = none_first _ _ _ _ (first_item _ _ _ c.in-Some.ensures.cases.0 c.requires) c.shortest-cut.ensures
 
 pub loop-cut-preserved-then-not-is_word : goal.loop-cut-preserved-then-not-is_word
 loop-cut-preserved-then-not-is_word t c =
@@ -30,4 +30,4 @@ loop-cut-preserved t c =
     rw c.joined-found.ensures (found_joined _ _ _ _ _ _ c.loop-cut.invariant (grind arith) (both.0 c.if-not-is_word.false) finds)
 
 pub returns : goal.returns
-returns t c = end_found _ _ _ _ _ _ _ c.in-Some.ensures.cases.0 c.loop-cut.invariant (grind arith) c.loop-cut-test.false
+returns t c = end_found _ _ _ _ _ _ _ (first_item _ _ _ c.in-Some.ensures.cases.0 c.requires) c.in-Some.ensures.cases.0 c.loop-cut.invariant (grind arith) c.loop-cut-test.false

@@ -3,10 +3,10 @@ use Rattle.gs_grammar.proofs.Cuts.{fixed_cut, none_first, none_below, no_split, 
 use Rattle.gs_grammar.proofs.splits.first_cut.Goals as goal
 
 pub returns-then-shortest-longest : goal.returns-then-shortest-longest
-returns-then-shortest-longest c = fixed_cut _ _ _ _ c.requires c.shortest-shortest.ensures (grind arith)
+returns-then-shortest-longest c = fixed_cut _ _ _ _ c.requires.item c.requires.derived c.shortest-shortest.ensures (grind arith)
 
 pub loop-cut-init : goal.loop-cut-init
-loop-cut-init c = none_first _ _ _ _ c.shortest-shortest.ensures
+loop-cut-init c = none_first _ _ _ _ c.requires.item c.shortest-shortest.ensures
 
 pub loop-cut-preserved-then-not-is_word : goal.loop-cut-preserved-then-not-is_word
 loop-cut-preserved-then-not-is_word c =
@@ -17,4 +17,5 @@ loop-cut-preserved c =
     none_below _ _ _ _ c.loop-cut.invariant (not_derived _ _ _ _ _ c.in-Never.is (rw c.split_at.ensures.back at c.count_ways.ensures))
 
 pub unreachable-requires : goal.unreachable-requires
-unreachable-requires c = some_cut _ _ _ _ _ c.requires c.loop-cut.invariant (grind arith) c.loop-cut-test.false
+unreachable-requires c =
+    some_cut _ _ _ _ _ c.requires.item c.requires.derived c.loop-cut.invariant (grind arith) c.loop-cut-test.false

@@ -1,9 +1,13 @@
-use Rattle.std.proofs.Common.{length}
+use Rattle.std.proofs.Common.{length, All}
+use Rattle.gs_grammar.specs.Items.{IsItem}
 use Rattle.gs_grammar.proofs.Cuts.{Gathers}
 use Rattle.gs_grammar.proofs.splits.values_of.Given as goal
 
 abbrev pub invariant-loop-item : goal.invariant-loop-item
-invariant-loop-item l = Gathers l.items l.symbols l.left l.rest l.values.items
+invariant-loop-item l = record {
+  items : All IsItem l.left;
+  values : Gathers l.items l.symbols l.left l.rest l.values.items;
+}
 
 abbrev pub decreases-loop-item : goal.decreases-loop-item
 decreases-loop-item l = length l.left

@@ -1,7 +1,7 @@
 use Rattle.std.proofs.Common.{arith}
 use Rattle.std.proofs.lemmas.List.{take_rest}
 use Rattle.gs_grammar.proofs.Spelled.{counts_step, counts_end, counts_none}
-use Rattle.gs_grammar.proofs.words.spelled_count.Goals as goal
+use Rattle.gs_grammar.proofs.escaped.spelled_count.Goals as goal
 
 pub returns-in_err-used-clause-none : goal.returns-in_err-used-clause-none
 returns-in_err-used-clause-none c =

@@ -1,7 +1,7 @@
 use Rattle.std.proofs.Common.{arith}
 use Rattle.std.proofs.lemmas.List.{take_rest}
 use Rattle.gs_grammar.proofs.Spelled.{collects_step, collects_none}
-use Rattle.gs_grammar.proofs.words.spelled.Goals as goal
+use Rattle.gs_grammar.proofs.escaped.spelled.Goals as goal
 
 pub unreachable-requires : goal.unreachable-requires
 unreachable-requires c = collects_none _ _ _ c.loop-rest.invariant (grind arith) c.in_default.ensures.none

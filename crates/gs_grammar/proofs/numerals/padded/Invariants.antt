@@ -1,0 +1,8 @@
+use Rattle.gs_grammar.proofs.Numbers.{Pads}
+use Rattle.gs_grammar.proofs.numerals.padded.Given as goal
+
+abbrev pub invariant-loop-place : goal.invariant-loop-place
+invariant-loop-place l = Pads l.n l.number l.place l.digits.items
+
+abbrev pub decreases-loop-place : goal.decreases-loop-place
+decreases-loop-place l = l.place

@@ -1,0 +1,85 @@
+ghost use Rattle.std.specs.Prelude.{◌≡◌, ◌↔◌, ◌≤◌, ◌++◌, ◌<◌, ℕ, List, IsTrue, IfSome, IfNone, IfOk, length, replicate};
+ghost use Rattle.gs_grammar.specs.Words.{WritesNumber, IsPacked, PacksMany};
+ghost use Rattle.gs_grammar.specs.Numerals.{HasCode, NoCode};
+
+use gs_chars::{CharSet, Memory};
+use std::alloc::Global;
+
+/// Whether the symbols are n zeros.
+pub fn are_zeros(symbols: &[u8], n: usize) -> bool
+    ensures { IsTrue result ↔ (symbols.now ≡ replicate n 0) }
+{
+    symbols.len() == n && symbols.iter().all(|symbol| *symbol == 0)
+}
+
+/// The number that the symbols are in this many bits, the highest first. `None` comes exactly where they are no number in so
+/// many bits.
+pub fn number_in_bits(symbols: &[u8], bits: usize) -> Option<u64>
+    requires { bits ≤ 64 }
+    ensures some { IfSome result (λ number. WritesNumber bits number symbols.now) }
+    ensures none { IfNone result ((number : ℕ) → WritesNumber bits number symbols.now → ⊥) }
+{
+    if symbols.len() != bits {
+        return None;
+    }
+    let mut number: u64 = 0;
+    for symbol in symbols {
+        if *symbol > 1 {
+            return None;
+        }
+        number = 2 * number + u64::from(*symbol);
+    }
+    Some(number)
+}
+
+/// The code, from 1 to 127, that the first 7 symbols are. `None` comes exactly where they are none.
+fn front_code(symbols: &[u8]) -> Option<u8>
+    ensures some { IfSome result (λ code. HasCode symbols.now code) }
+    ensures none { IfNone result (NoCode symbols.now) }
+{
+    if symbols.len() < 7 {
+        return None;
+    }
+    let number = number_in_bits(&symbols[..7], 7)?;
+    if number == 0 {
+        None
+    } else {
+        Some(number as u8)
+    }
+}
+
+/// The number of characters that the symbols pack, 7 bits each, with zeros behind them. `None` comes exactly where they
+/// pack no value.
+pub fn packed_count(symbols: &[u8]) -> Option<usize>
+    ensures some { IfSome result (λ n. PacksMany n symbols.now) }
+    ensures none { IfNone result ((value : List ℕ) → IsPacked value symbols.now → ⊥) }
+{
+    let mut rest = symbols;
+    let mut count = 0;
+    while let Some(code) = front_code(rest) {
+        if !CharSet::Set82.holds(code) {
+            return None;
+        }
+        rest = &rest[7..];
+        count += 1;
+    }
+    if are_zeros(rest, rest.len()) {
+        Some(count)
+    } else {
+        None
+    }
+}
+
+/// The characters that the symbols pack.
+pub fn unpacked(alloc: Global, symbols: &[u8]) -> Result<Vec<u8>, Memory>
+    requires { (value : List ℕ) × IsPacked value symbols.now }
+    ensures { IfOk result (λ value. IsPacked value.items symbols.now) }
+{
+    let mut rest = symbols;
+    let mut value = Vec::new(alloc);
+    while let Some(code) = front_code(rest) {
+        value.push(code)?;
+        rest = &rest[7..];
+    }
+    Ok(value)
+}

@@ -1,0 +1,78 @@
+ghost use Rattle.std.specs.Prelude.{◌≡◌, ◌↔◌, ◌==◌, ◌&&◌, ◌^◌, nat_lt, slice_index, ◌<◌, ◌≤◌, ℕ, List, IsTrue, IfSome, IfNone, IfOk, length, decimal};
+ghost use Rattle.gs_grammar.specs.Numerals.{IsPadded};
+
+use gs_chars::{CharSet, Memory, Text};
+use std::alloc::Global;
+
+/// The number of decimal digits of a number.
+pub fn digit_count(number: u64) -> usize
+    ensures count { result ≡ length (decimal number) }
+    ensures few { result ≤ 20 }
+{
+    match number.checked_ilog10() {
+        Some(power) => power as usize + 1,
+        None => 1,
+    }
+}
+
+/// Whether a number has at most n digits.
+pub fn has_at_most_digits(number: u64, n: u8) -> bool
+    requires { n ≤ 18 }
+    ensures { IsTrue result ↔ (number < 10 ^ n) }
+{
+    number < 10u64.pow(u32::from(n))
+}
+
+/// Whether digits begin with a zero that is not the only one.
+fn has_leading_zero(symbols: &[u8]) -> bool
+    ensures { result ≡ (nat_lt 1 (length symbols.now) && (slice_index symbols.now 0 == 48)) }
+{
+    symbols.len() > 1 && symbols[0] == b'0'
+}
+
+/// The number whose decimal text, without leading zeros, the symbols are. `None` comes exactly where they are the text of no
+/// number below 2 to the 64.
+pub fn numeral(symbols: &[u8]) -> Option<u64>
+    ensures some { IfSome result (λ number. symbols.now ≡ decimal number) }
+    ensures none { IfNone result ((number : ℕ) → number < 2 ^ 64 → symbols.now ≡ decimal number → ⊥) }
+{
+    if symbols.is_empty() {
+        return None;
+    }
+    if has_leading_zero(symbols) {
+        return None;
+    }
+    let mut number: u64 = 0;
+    for symbol in symbols {
+        if !CharSet::Digits.holds(*symbol) {
+            return None;
+        }
+        let shifted = number.checked_mul(10)?;
+        number = shifted.checked_add(u64::from(*symbol - b'0'))?;
+    }
+    Some(number)
+}
+
+/// The n digits of a number, zeros in front.
+pub fn padded(alloc: Global, number: u64, n: u8) -> Result<Vec<u8>, Memory>
+    requires few { n ≤ 18 }
+    requires fits { number < 10 ^ n }
+    ensures { IfOk result (λ digits. IsPadded n number digits.items) }
+{
+    let mut digits = Vec::new(alloc);
+    let mut place = u32::from(n);
+    while place > 0 {
+        place -= 1;
+        let digit = number / 10u64.pow(place) % 10;
+        digits.push(b'0' + digit as u8)?;
+    }
+    Ok(digits)
+}
+
+/// The decimal text of a number.
+pub fn decimal_text(alloc: Global, number: u64) -> Result<Text, Memory>
+    ensures { IfOk result (λ text. text ≡ decimal number) }
+{
+    let text = format!(in alloc; "{number}")?;
+    Ok(Text::from_vec(text.into_bytes()))
+}
