@@ -1,6 +1,6 @@
 -- The rules of a table of application identifiers. Its formats are those of GS1 General Specifications, section 3.2,
 -- its keys and qualifiers those of GS1 Digital Link URI Syntax, section 3. The rules and their order are this project's own.
-use Rattle.std.specs.Prelude.{◌≡◌, ℕ, ◌+◌, ◌-◌, Bool, true, false, not, ◌==◌, ◌&&◌, ◌||◌, nat_le, nat_eq, if◌then◌else◌, List, [], ◌∷◌, ◌++◌, length, take, map, filter, position, Option, Some, None, is_none, bytes_eq, slice_get, Result, MatchResult}
+use Rattle.std.specs.Prelude.{◌≡◌, ℕ, ◌+◌, ◌-◌, Bool, true, false, not, ◌==◌, ◌&&◌, ◌||◌, nat_le, nat_eq, if◌then◌else◌, List, [], ◌∷◌, ◌++◌, length, take, map, filter, position, Option, Some, is_none, bytes_eq, slice_get, Result, MatchResult}
 use Rattle.std.specs.List.{flat_map, list_all, list_any, enumerate_from, starts_with}
 use Rattle.std.specs.Option.{option_map_or}
 use Rattle.gs_chars.specs.Characters.{are_digits}

@@ -51,11 +51,18 @@ fn lists_key(rows: &[AiRow], codes: &[Text]) -> bool
 fn lists_qualifiers(rows: &[AiRow], codes: &[Text]) -> bool
     ensures { result ≡ list_all (is_qualifier_of rows.now) codes.now }
 {
-    codes.iter().all(|code| is_qualifier_of(rows, code.as_bytes()))
+    codes
+        .iter()
+        .all(|code| is_qualifier_of(rows, code.as_bytes()))
 }
 
 /// The first fault of row `i` by itself and beside the earlier rows.
-fn check_row(predefined: &Predefined, i: usize, earlier: &[AiRow], row: &AiRow) -> Result<(), AiFault>
+fn check_row(
+    predefined: &Predefined,
+    i: usize,
+    earlier: &[AiRow],
+    row: &AiRow,
+) -> Result<(), AiFault>
     ensures { IsFirstFault (row_faults i earlier.now row.now) result }
 {
     if !is_row(row) {

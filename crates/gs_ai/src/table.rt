@@ -117,7 +117,8 @@ impl AiTable {
         requires { row < length self.now }
         ensures { result ≡ option_and_then (λ r. predefined_length r.code) (slice_get self.now row) }
     {
-        self.predefined.length_of(self.rows.items()[row].code.as_bytes())
+        self.predefined
+            .length_of(self.rows.items()[row].code.as_bytes())
     }
 
     /// Whether the value is one of the application identifier with this code, and the first fault if it is not: `Unknown`,
