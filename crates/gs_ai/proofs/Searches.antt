@@ -148,3 +148,6 @@ get_of_take (y ∷ ys) (suc i) (suc j) x e = let h = get_of_take ys i j x e in (
 pub false_from : (b : Bool) → (b ≡ true → ⊥) → b ≡ false
 false_from true h = absurd (h refl)
 false_from false h = refl
+
+pub find_absent : {X : Type 0} (p : X → Bool) (xs : List X) → ((j : ℕ) (y : X) → slice_get xs j ≡ Some y → p y ≡ false) → find p xs ≡ None
+find_absent p xs none = find_none p xs (position_none p xs none)

@@ -4,7 +4,6 @@ ghost use Rattle.gs_ai.specs.Tables.{clash, is_key_of, is_qualifier_of, row_faul
 
 use crate::faults::AiFault;
 use crate::form::{is_row, keeps_predefined};
-use crate::part::Role;
 use crate::predefined::Predefined;
 use crate::row::AiRow;
 use gs_chars::Text;
@@ -21,14 +20,14 @@ fn clash(a: &[u8], b: &[u8]) -> bool
 fn is_key_of(rows: &[AiRow], code: &[u8]) -> bool
     ensures { result ≡ is_key_of rows.now code.now }
 {
-    rows.iter().any(|row| code == row.code.as_bytes() && matches!(row.role, Role::Key))
+    rows.iter().any(|row| code == row.code.as_bytes() && row.role.is_key())
 }
 
 /// Whether a row of the role qualifier has the code.
 fn is_qualifier_of(rows: &[AiRow], code: &[u8]) -> bool
     ensures { result ≡ is_qualifier_of rows.now code.now }
 {
-    rows.iter().any(|row| code == row.code.as_bytes() && matches!(row.role, Role::Qualifier))
+    rows.iter().any(|row| code == row.code.as_bytes() && row.role.is_qualifier())
 }
 
 /// The index of the first row whose code clashes with this one.
