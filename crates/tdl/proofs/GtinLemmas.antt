@@ -6,7 +6,6 @@ use Rattle.std.proofs.lemmas.List.Folds.{list_all-append}
 use Rattle.std.proofs.lemmas.Bool.Decides.{nat_tests}
 use Rattle.gs_chars.specs.Characters.{is_digit}
 use Rattle.gs_chars.specs.CheckDigits.{check_digit_of, weighted_sum}
-use Rattle.gs_ident.specs.Sgtin.{IsGtin}
 use Rattle.tdl.specs.Meanings.{AreKeyParts, gtin_of}
 
 pub and_true : (a b : Bool) → a ≡ true → b ≡ true → (a && b) ≡ true
@@ -48,6 +47,12 @@ digit_from n h = grind (arith, nat_tests)
 -- a check digit is a digit
 check_is_digit : (digits : List ℕ) → is_digit (check_digit_of digits) ≡ true
 check_is_digit digits = digit_from ((10 - weighted_sum digits % 10) % 10) (omega arith)
+
+-- 14 digits, of which the last is the check digit of the others
+pub record IsGtin (gtin : List ℕ) : Type 0 where
+  pub size : length gtin ≡ 14
+  pub digits : list_all is_digit gtin ≡ true
+  pub checked : gtin ≡ take 13 gtin ++ check_digit_of (take 13 gtin) ∷ []
 
 pub is_gtin : (prefix reference : List ℕ) → AreKeyParts prefix reference → IsGtin (gtin_of prefix reference)
 is_gtin prefix reference parts =

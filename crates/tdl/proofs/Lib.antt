@@ -1,5 +1,6 @@
 pub mod LineLemmas
 pub mod GtinLemmas
+pub mod IdentifierLemmas
 pub mod WordLemmas
 pub mod OptionLemmas
 pub mod OutputLemmas

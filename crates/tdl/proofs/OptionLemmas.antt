@@ -6,10 +6,10 @@ use Rattle.gs_chars.proofs.SpelledSets.{spelled_in_set82}
 use Rattle.gs_grammar.specs.declared.item.Item.{Item}
 use Rattle.gs_grammar.specs.Words.{Word, SpellsEach, one_more}
 use Rattle.gs_grammar.specs.Derivations.{EachWord, one_item, OneDerivation}
-use Rattle.gs_ident.specs.Sgtin.{IsSerial}
+
 use Rattle.tdl.proofs.GtinLemmas.{and_true}
 use Rattle.tdl.specs.Options.{sgtin_items, pure_level}
-use Rattle.tdl.specs.Meanings.{AreKeyParts, AreSgtinValues}
+use Rattle.tdl.specs.Meanings.{AreKeyParts, AreSgtinValues, IsSerial}
 
 -- the first item's word, and those of the others
 record Uncons (item : Item) (items : List Item) (values words : List (List ℕ)) : Type 0 where

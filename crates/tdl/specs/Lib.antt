@@ -1,4 +1,6 @@
 pub mod Options
+pub mod Identifiers
+pub mod Tables
 pub mod Meanings
 pub mod Answers
 pub mod Lines

@@ -1,12 +1,15 @@
 ghost use Rattle.std.specs.Prelude.{◌≡◌, ◌++◌, IfOk, OnOk};
 ghost use Rattle.gs_ident.specs.Links.{canonical_link};
-ghost use Rattle.tdl.specs.Options.{pure_form};
+ghost use Rattle.tdl.specs.Identifiers.{ai_rows};
+ghost use Rattle.tdl.specs.Tables.{AreTables};
 ghost use Rattle.tdl.specs.Meanings.{AreSgtinValues, elements_of_values};
 ghost use Rattle.tdl.specs.Answers.{IsAnswer, printed, reason_text};
 
 use crate::sgtin::identity_of_parts;
+use crate::tables::Tables;
 use gs_chars::{Memory, Text};
-use gs_grammar::{Level, Reading, read_text};
+use gs_ai::AiTable;
+use gs_grammar::{Reading, read_text};
 use gs_ident::canonical;
 use std::alloc::Global;
 
@@ -46,31 +49,33 @@ impl Answer {
 }
 
 /// The answer to a text.
-pub fn answer_text(alloc: Global, level: &Level, text: &[u8]) -> Result<Answer, Memory>
-    requires { level.now ≡ pure_form }
+pub fn answer_text(alloc: Global, tables: &Tables, text: &[u8]) -> Result<Answer, Memory>
+    requires { AreTables tables.now }
     ensures { IfOk result (IsAnswer text.now) }
 {
     if text.len() > LONGEST_LINE {
         return Ok(Answer::Refused(Reason::Long));
     }
-    match read_text(alloc, level, text) {
+    match read_text(alloc, &tables.level, text) {
         Reading::Memory => Err(Memory),
         Reading::Nothing => Ok(Answer::Refused(Reason::NoReading)),
         Reading::Two => Ok(Answer::Refused(Reason::Two)),
         Reading::One { option: _, values } => {
-            let link = link_of_values(alloc, values.items())?;
+            let link = link_of_values(alloc, &tables.identifiers, values.items())?;
             Ok(Answer::Canonical(link))
         }
     }
 }
 
 /// The canonical link of what the values of an option say.
-fn link_of_values(alloc: Global, values: &[Text]) -> Result<Text, Memory>
-    requires { AreSgtinValues values.now }
+fn link_of_values(alloc: Global, table: &AiTable, values: &[Text]) -> Result<Text, Memory>
+    requires table { table.now ≡ ai_rows }
+    requires values { AreSgtinValues values.now }
     ensures { IfOk result (λ link. link ≡ canonical_link (elements_of_values values.now)) }
 {
     let identity = identity_of_parts(
         alloc,
+        table,
         values[1].as_bytes(),
         values[3].as_bytes(),
         values[5].as_bytes(),

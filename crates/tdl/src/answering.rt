@@ -1,17 +1,16 @@
 ghost use Rattle.std.specs.Prelude.{◌≡◌, ◌≢◌, ℕ, ◌<◌, ◌≤◌, ◌^◌, ◌||◌, ◌++◌, List, [], Some, IfOk, length};
 ghost use Rattle.gs_port.specs.Counts.{Rises};
-ghost use Rattle.tdl.specs.Options.{pure_form};
+ghost use Rattle.tdl.specs.Tables.{AreTables};
 ghost use Rattle.tdl.specs.Outputs.{AnswersEnded, AnswersFront, AnswersInput, Appends, BeginsAnswers, answered_part};
 ghost use Rattle.tdl.specs.Answering.{OnSinkFault, OfLines, OfStatus, status_of_end};
 ghost use Rattle.tdl.specs.Statuses.{OnAnswered, OnCutShort, OnInputLong, OnLinesWritten, OnReadFault, OnWriteFault};
 
 use crate::answer::{answer_text, print_answer};
 use crate::gathering::{End, gather, part};
-use crate::level::pure_level;
+use crate::tables::{Tables, own_tables};
 use crate::lines::{first_line, without_return};
 use crate::status::Status;
 use gs_chars::Memory;
-use gs_grammar::Level;
 use gs_port::{Sink, Source, Whole, write_whole};
 use std::alloc::Global;
 
@@ -35,12 +34,12 @@ fn either(a: bool, b: bool) -> bool
 /// Adds the answers to the first lines, until they are a block or nothing is left.
 fn answer_block<'a>(
     alloc: Global,
-    level: &Level,
+    tables: &Tables,
     bytes: &'a [u8],
     out: &mut Vec<u8>,
 ) -> Result<Answered<'a>, Memory>
     requires some { 0 < length bytes.now }
-    requires level { level.now ≡ pure_form }
+    requires tables { AreTables tables.now }
     ensures front { IfOk result (λ a. AnswersFront bytes.now a.rest.now out.old.items out.new.items a.refused) }
     ensures shorter { IfOk result (λ a. length a.rest.now < length bytes.now) }
 {
@@ -48,7 +47,7 @@ fn answer_block<'a>(
     let mut refused = false;
     loop {
         let (line, behind) = first_line(rest);
-        let answer = answer_text(alloc, level, without_return(line))?;
+        let answer = answer_text(alloc, tables, without_return(line))?;
         print_answer(out, &answer)?;
         refused = either(refused, answer.is_refused());
         rest = behind;
@@ -70,8 +69,8 @@ enum Answering {
 }
 
 /// Writes the answers to the lines of the bytes.
-fn write_answers<K: Sink>(alloc: Global, level: &Level, bytes: &[u8], output: &mut K) -> Answering
-    requires { level.now ≡ pure_form }
+fn write_answers<K: Sink>(alloc: Global, tables: &Tables, bytes: &[u8], output: &mut K) -> Answering
+    requires { AreTables tables.now }
     ensures written { Appends (K.held output.old) (K.held output.new) (λ out. OfLines bytes.now out result) }
     ensures fault { OnSinkFault result (Rises (K.faults output.old) (K.faults output.new)) }
     ensures counts { K.faults output.old ≤ K.faults output.new }
@@ -80,7 +79,7 @@ fn write_answers<K: Sink>(alloc: Global, level: &Level, bytes: &[u8], output: &m
     let mut rest = bytes;
     let mut refused = false;
     while !rest.is_empty() {
-        let Ok(block) = answer_block(alloc, level, rest, &mut out) else {
+        let Ok(block) = answer_block(alloc, tables, rest, &mut out) else {
             return Answering::Memory;
         };
         match write_whole(output, out.as_slice()) {
@@ -122,12 +121,12 @@ fn answer_gathered<K: Sink>(
     ensures fault { OnWriteFault result (Rises (K.faults output.old) (K.faults output.new)) }
     ensures counts { K.faults output.old ≤ K.faults output.new }
 {
-    let Ok(level) = pure_level(alloc) else {
+    let Ok(tables) = own_tables(alloc) else {
         return Status::Memory;
     };
     status_after(
         end,
-        write_answers(alloc, &level, part(end, limit, bytes), output),
+        write_answers(alloc, &tables, part(end, limit, bytes), output),
     )
 }
 

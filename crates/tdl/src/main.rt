@@ -5,11 +5,13 @@ mod answer;
 mod answering;
 mod command;
 mod gathering;
+mod identifiers;
 mod level;
 mod lines;
 mod run;
 mod sgtin;
 mod status;
+mod tables;
 #[cfg(test)]
 mod tests;
 
