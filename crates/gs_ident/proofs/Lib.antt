@@ -1,1 +1,3 @@
+pub mod IdentityLemmas
+pub mod PairLemmas
 pub mod ValueEscapes

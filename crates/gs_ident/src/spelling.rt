@@ -3,7 +3,7 @@ ghost use Rattle.std.specs.List.{flat_map};
 ghost use Rattle.gs_ident.specs.Links.{percent_encoded, query_of, spelled, canonical_link};
 
 use crate::identity::Identity;
-use crate::pair::Pair;
+use gs_ai::Pair;
 use gs_chars::{Memory, Text};
 use percent_encoding::{AsciiSet, NON_ALPHANUMERIC, percent_encode};
 use std::alloc::Global;
