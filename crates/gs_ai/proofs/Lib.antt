@@ -1,3 +1,4 @@
+pub mod CodeOrder
 pub mod PartLemmas
 pub mod PartTexts
 pub mod RowLemmas

@@ -1,5 +1,5 @@
 -- What the parts say of the front of a value.
-use Rattle.std.proofs.Common.{◌≡◌, ℕ, ◌+◌, not, List, [], ◌∷◌, ◌++◌, length, take, drop, map, position, Option, Some, None, refl, option_map}
+use Rattle.std.proofs.Common.{◌≡◌, ℕ, ◌+◌, not, List, [], ◌∷◌, length, take, drop, map, position, Option, Some, None, refl, option_map}
 use Rattle.std.specs.Option.{option_or}
 use Rattle.gs_ai.specs.declared.part.Part.{Part}
 use Rattle.gs_ai.specs.Parts.{greatest_length, is_of_part}
@@ -18,9 +18,9 @@ length_fit p piece = by piece
 
 pub wrong-cons : (p : Part) (ps : List Part) (value : List ℕ) → wrong_character (p ∷ ps) value ≡ option_or (wrong_in p (take (greatest_length p) value)) (option_map (λ i. length (take (greatest_length p) value) + i) (wrong_character ps (drop (greatest_length p) value)))
 wrong-cons p ps value =
-  let piece = take (greatest_length p) value in
-  let parts = position-append not (map (is_of_part p) piece) (fitting ps (drop (greatest_length p) value)) in
-  rw (parts, position-map not (is_of_part p) piece, length_fit p piece)
+    let piece = take (greatest_length p) value in
+    let parts = position-append not (map (is_of_part p) piece) (fitting ps (drop (greatest_length p) value)) in
+    rw (parts, position-map not (is_of_part p) piece, length_fit p piece)
 
 pub wrong_here : (p : Part) (ps : List Part) (value piece : List ℕ) (i : ℕ) → piece ≡ take (greatest_length p) value → wrong_in p piece ≡ Some i → wrong_character (p ∷ ps) value ≡ Some i
 wrong_here p ps value piece i e h = let h' = rw e at h in rw (wrong-cons p ps value, h')

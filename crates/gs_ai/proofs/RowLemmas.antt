@@ -55,16 +55,16 @@ small_part Other h = omega arith
 pub small_parts : (parts : List Part) → list_all is_part parts ≡ true → greatest_of parts ≤ 90 * length parts
 small_parts [] h = omega arith
 small_parts (p ∷ ps) h =
-  let one = small_part p (and_left _ _ h) in
-  let others = small_parts ps (and_right _ _ h) in
-  let sum : greatest_of (p ∷ ps) ≡ greatest_length p + greatest_of ps = sum_by-cons greatest_length p ps in
-  omega arith
+    let one = small_part p (and_left _ _ h) in
+    let others = small_parts ps (and_right _ _ h) in
+    let sum : greatest_of (p ∷ ps) ≡ greatest_length p + greatest_of ps = sum_by-cons greatest_length p ps in
+    omega arith
 
 pub judged : (parts : List Part) (r : Bool) → 0 < length parts → length parts ≤ 3 → list_all is_part parts ≡ true → r ≡ list_all (λ p. not (is_open p)) (take (length parts - 1) parts) → r ≡ are_parts parts
 judged parts r some few listed e =
-  let least : nat_le 1 (length parts) ≡ true = grind (arith, nat_tests) in
-  let most : nat_le (length parts) 3 ≡ true = grind (arith, nat_tests) in
-  rw (least, most, listed) e
+    let least : nat_le 1 (length parts) ≡ true = grind (arith, nat_tests) in
+    let most : nat_le (length parts) 3 ≡ true = grind (arith, nat_tests) in
+    rw (least, most, listed) e
 
 pub not_empty : {X : Type 0} (xs : List X) → false ≡ (length xs == 0) → 0 < length xs
 not_empty xs h = grind (arith, nat_tests)

@@ -1,5 +1,5 @@
 -- Searches of lists: the first place at which a test passes, and equality of bytes.
-use Rattle.std.proofs.Common.{◌≡◌, ℕ, zero, suc, ◌+◌, ◌<◌, ◌≤◌, Bool, true, false, not, cond, nat_lt, List, [], ◌∷◌, ◌++◌, length, get_or, map, position, find, Option, Some, None, bytes_eq, slice_get, take, refl, sym, ap, ◌∙◌, arith, if◌then◌else◌, option_map, true≢false, ◌⊎◌, inl, inr}
+use Rattle.std.proofs.Common.{◌≡◌, ℕ, zero, suc, ◌+◌, ◌<◌, Bool, true, false, not, cond, nat_lt, List, [], ◌∷◌, ◌++◌, length, get_or, map, position, find, Option, Some, None, bytes_eq, slice_get, take, refl, sym, ap, ◌∙◌, arith, if◌then◌else◌, option_map, ◌⊎◌, inl, inr}
 use Rattle.std.specs.List.{position_or_len, list_any}
 use Rattle.std.specs.Option.{option_or, IfSome}
 use Rattle.std.proofs.lemmas.Bool.Decides.{nat_tests}
@@ -28,7 +28,7 @@ shift_more n (Some j) s = refl
 pub position-append : {X : Type 0} (p : X → Bool) (xs ys : List X) → position p (xs ++ ys) ≡ option_or (position p xs) (option_map (λ i. length xs + i) (position p ys))
 position-append p [] ys = shift_zero (position p ys)
 position-append p (x ∷ xs) ys =
-  rw (position-cons p x (xs ++ ys), position-cons p x xs, position-append p xs ys) (by (p x))
+    rw (position-cons p x (xs ++ ys), position-cons p x xs, position-append p xs ys) (by (p x))
   where
     by : (b : Bool) → (if b then Some 0 else option_map (λ i. 1 + i) (option_or (position p xs) (option_map (λ i. length xs + i) (position p ys)))) ≡ option_or (if b then Some 0 else option_map (λ i. 1 + i) (position p xs)) (option_map (λ i. suc (length xs) + i) (position p ys))
     by true = refl
@@ -59,16 +59,16 @@ pub position_is : {X : Type 0} (p : X → Bool) (xs : List X) (i : ℕ) (x : X) 
 position_is p [] i x e h low = absurd (let f : None ≡ Some x = e in cc)
 position_is p (y ∷ ys) zero x e h low = let same : y ≡ x = cc in let test : p y ≡ true = rw same h in rw (position-cons p y ys, test)
 position_is p (y ∷ ys) (suc i) x e h low =
-  let first : p y ≡ false = low 0 y (omega arith) refl in
-  let rest : position p ys ≡ Some i = position_is p ys i x e h (λ j z b f. low (suc j) z (omega arith) f) in
-  rw (position-cons p y ys, first, rest) (ap Some (omega arith))
+    let first : p y ≡ false = low 0 y (omega arith) refl in
+    let rest : position p ys ≡ Some i = position_is p ys i x e h (λ j z b f. low (suc j) z (omega arith) f) in
+    rw (position-cons p y ys, first, rest) (ap Some (omega arith))
 
 pub position_none : {X : Type 0} (p : X → Bool) (xs : List X) → ((j : ℕ) (y : X) → slice_get xs j ≡ Some y → p y ≡ false) → position p xs ≡ None
 position_none p [] none = refl
 position_none p (y ∷ ys) none =
-  let first : p y ≡ false = none 0 y refl in
-  let rest : position p ys ≡ None = position_none p ys (λ j z f. none (suc j) z f) in
-  rw (position-cons p y ys, first, rest)
+    let first : p y ≡ false = none 0 y refl in
+    let rest : position p ys ≡ None = position_none p ys (λ j z f. none (suc j) z f) in
+    rw (position-cons p y ys, first, rest)
 
 -- the first element passes, or the place is that of the others and one more
 pub cons_some : {X : Type 0} (p : X → Bool) (y : X) (ys : List X) (i : ℕ) → position p (y ∷ ys) ≡ Some i → ((p y ≡ true) × (i ≡ 0)) ⊎ ((p y ≡ false) × ((k : ℕ) × (i ≡ suc k) × (position p ys ≡ Some k)))
@@ -81,9 +81,9 @@ cons_none p y ys e = none_cases (p y) (position p ys) (sym (position-cons p y ys
 pub position_some : {X : Type 0} (p : X → Bool) (xs : List X) (i : ℕ) → position p xs ≡ Some i → (x : X) × (slice_get xs i ≡ Some x) × (p x ≡ true)
 position_some p [] i e = absurd (let f : None ≡ Some i = e in cc)
 position_some p (y ∷ ys) i e = elim (cons_some p y ys i e) [
-    inl t ↦ rw t.1 (y, refl, t.0)
+  | inl t ↦ rw t.1 (y, refl, t.0)
   | inr u ↦ let rest = position_some p ys u.1.0 u.1.2 in rw u.1.1 (rest.0, rest.1, rest.2)
-  ]
+]
 
 pub passes_none : {X : Type 0} (p : X → Bool) (xs : List X) (j : ℕ) (y : X) → position p xs ≡ None → slice_get xs j ≡ Some y → p y ≡ false
 passes_none p [] j y e f = absurd (let g : None ≡ Some y = f in cc)
@@ -93,9 +93,9 @@ passes_none p (x ∷ xs) (suc j) y e f = passes_none p xs j y (cons_none p x xs 
 pub find_at_place : {X : Type 0} (p : X → Bool) (xs : List X) (i : ℕ) (x : X) → position p xs ≡ Some i → slice_get xs i ≡ Some x → find p xs ≡ Some x
 find_at_place p [] i x e f = absurd (let g : None ≡ Some x = f in cc)
 find_at_place p (y ∷ ys) i x e f = elim (cons_some p y ys i e) [
-    inl t ↦ let h = rw t.1 at f in rw t.0 h
+  | inl t ↦ let h = rw t.1 at f in rw t.0 h
   | inr u ↦ let h = rw u.1.1 at f in rw u.0 (find_at_place p ys u.1.0 x u.1.2 h)
-  ]
+]
 
 pub find_none : {X : Type 0} (p : X → Bool) (xs : List X) → position p xs ≡ None → find p xs ≡ None
 find_none p [] e = refl
@@ -135,8 +135,8 @@ some_within p xs (Some i) e = position_within p xs i (sym e)
 pub none_any : {X : Type 0} (p : X → Bool) (xs : List X) → ((j : ℕ) (y : X) → slice_get xs j ≡ Some y → p y ≡ false) → list_any p xs ≡ false
 none_any p [] none = refl
 none_any p (x ∷ xs) none =
-  let first : p x ≡ false = none 0 x refl in
-  rw first (none_any p xs (λ j y at. none (suc j) y at))
+    let first : p x ≡ false = none 0 x refl in
+    rw first (none_any p xs (λ j y at. none (suc j) y at))
 
 pub get_of_take : {X : Type 0} (xs : List X) (i j : ℕ) (x : X) → slice_get (take i xs) j ≡ Some x → (j < i) × (slice_get xs j ≡ Some x)
 get_of_take [] zero j x e = absurd (let g : None ≡ Some x = e in cc)
@@ -148,3 +148,6 @@ get_of_take (y ∷ ys) (suc i) (suc j) x e = let h = get_of_take ys i j x e in (
 pub false_from : (b : Bool) → (b ≡ true → ⊥) → b ≡ false
 false_from true h = absurd (h refl)
 false_from false h = refl
+
+pub find_absent : {X : Type 0} (p : X → Bool) (xs : List X) → ((j : ℕ) (y : X) → slice_get xs j ≡ Some y → p y ≡ false) → find p xs ≡ None
+find_absent p xs none = find_none p xs (position_none p xs none)

@@ -1,5 +1,5 @@
 -- The list of predefined lengths, as two columns.
-use Rattle.std.proofs.Common.{◌≡◌, ℕ, zero, suc, ◌+◌, ◌-◌, ◌*◌, ◌<◌, ◌≤◌, ◌==◌, ◌&&◌, Bool, true, false, cond, nat_lt, List, [], ◌∷◌, length, drop, get_or, find, position, Option, Some, None, refl, sym, ap, ◌∙◌, arith, if◌then◌else◌, option_map, slice_index, ◌⊎◌, inl, inr}
+use Rattle.std.proofs.Common.{◌≡◌, ℕ, zero, suc, ◌+◌, ◌-◌, ◌*◌, ◌<◌, ◌≤◌, ◌==◌, ◌&&◌, Bool, true, nat_lt, List, [], ◌∷◌, length, drop, get_or, find, position, Option, Some, None, refl, sym, ap, ◌∙◌, arith, option_map, slice_index, inl, inr}
 use Rattle.std.specs.List.{zip}
 use Rattle.std.specs.List.Sorted.{IsStrictlyIncreasing}
 use Rattle.std.specs.Option.{option_and_then}
@@ -19,9 +19,9 @@ rising : (x : ℕ) (xs : List ℕ) → rises_from x xs ≡ true → (k : ℕ) �
 rising x [] h k l = absurd (omega arith)
 rising x (y ∷ ys) h zero l = (first_rise x y ys h).0
 rising x (y ∷ ys) h (suc k) l =
-  let e : suc k + 1 ≡ suc (k + 1) = omega arith in
-  let m : k + 1 < length (y ∷ ys) = omega arith in
-  rw e (rising y ys (first_rise x y ys h).1 k m)
+    let e : suc k + 1 ≡ suc (k + 1) = omega arith in
+    let m : k + 1 < length (y ∷ ys) = omega arith in
+    rw e (rising y ys (first_rise x y ys h).1 k m)
 
 pub starts_rise : IsStrictlyIncreasing STARTS
 starts_rise = rising 0 (drop 1 STARTS) refl
@@ -33,9 +33,9 @@ found : (s : ℕ) (ks ls : List ℕ) (i : ℕ) → length ks ≡ length ls → p
 found s [] ls i l e = absurd (let f : None ≡ Some i = e in cc)
 found s (k ∷ ks) [] i l e = absurd (omega arith)
 found s (k ∷ ks) (n ∷ ls) i l e = elim (cons_some (λ q. q == s) k ks i e) [
-    inl t ↦ rw (t.0, t.1) refl
+  | inl t ↦ rw (t.0, t.1) refl
   | inr u ↦ rw (u.0, u.1.1) (found s ks ls u.1.0 (omega arith) u.1.2)
-  ]
+]
 
 not_found : (s : ℕ) (ks ls : List ℕ) → position (λ k. k == s) ks ≡ None → option_map (λ row. row.1) (find (λ row. row.0 == s) (zip ks ls)) ≡ None
 not_found s [] ls e = refl

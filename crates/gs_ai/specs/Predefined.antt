@@ -1,5 +1,5 @@
 -- Element strings of predefined length: GS1 General Specifications, figure 7.8.5-2.
-use Rattle.std.specs.Prelude.{ℕ, ◌+◌, ◌-◌, ◌*◌, Bool, ◌==◌, List, [], ◌∷◌, Option, Some, None, find, map}
+use Rattle.std.specs.Prelude.{ℕ, ◌+◌, ◌-◌, ◌*◌, ◌==◌, List, [], ◌∷◌, Option, Some, None, find}
 use Rattle.std.specs.Option.{option_map, option_and_then}
 
 -- the first two digits of a code, as a number, and the length of code and value together

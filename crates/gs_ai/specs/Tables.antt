@@ -1,8 +1,10 @@
 -- The rules of a table of application identifiers. Its formats are those of GS1 General Specifications, section 3.2,
 -- its keys and qualifiers those of GS1 Digital Link URI Syntax, section 3. The rules and their order are this project's own.
-use Rattle.std.specs.Prelude.{◌≡◌, ℕ, ◌+◌, ◌-◌, Bool, true, false, not, ◌==◌, ◌&&◌, ◌||◌, nat_le, nat_eq, if◌then◌else◌, List, [], ◌∷◌, ◌++◌, length, take, map, filter, position, Option, Some, None, is_none, bytes_eq, slice_get, Result, MatchResult}
-use Rattle.std.specs.List.{flat_map, list_all, list_any, enumerate_from, starts_with}
+use Rattle.std.specs.Prelude.{◌≡◌, ℕ, ◌+◌, ◌-◌, Bool, true, false, not, ◌==◌, ◌&&◌, ◌||◌, nat_le, nat_eq, if◌then◌else◌, List, [], ◌∷◌, ◌++◌, length, take, map, filter, position, Option, Some, is_none, bytes_eq, slice_get, Result, MatchResult}
+use Rattle.std.specs.Cmp.Lexicographic.{slice_cmp}
+use Rattle.std.specs.List.{flat_map, fold, insert, list_all, list_any, enumerate_from, position_or_len, starts_with}
 use Rattle.std.specs.Option.{option_map_or}
+use Rattle.std.specs.Ordering.{is_lt, nat_cmp}
 use Rattle.gs_chars.specs.Characters.{are_digits}
 use Rattle.gs_ai.specs.declared.part.Part.{Part}
 use Rattle.gs_ai.specs.declared.part.Part.TheVariants.{NumCheck}
@@ -131,3 +133,11 @@ pub record KeepsRules (rows : List AiRow) : Type 0 where
 -- the index of the row whose code begins the text
 abbrev pub row_at : List AiRow → List ℕ → Option ℕ
 row_at rows text = position (λ row. begins row.code text) rows
+
+-- a code put before the first of the codes that is greater by its bytes
+abbrev pub insert_code : List ℕ → List (List ℕ) → List (List ℕ)
+insert_code code codes = insert codes (position_or_len (λ other. is_lt (slice_cmp nat_cmp code other)) codes) code
+
+-- the codes of the rows in ascending order of their bytes
+unfoldable pub ascending_codes : List AiRow → List (List ℕ)
+ascending_codes rows = fold (λ codes row. insert_code row.code codes) [] rows

@@ -1,6 +1,6 @@
 -- Faults of the value of an application identifier: GS1 General Specifications, sections 3.2 (formats), 7.9 (check
 -- digits) and 7.12 (dates).
-use Rattle.std.specs.Prelude.{ℕ, ◌+◌, ◌-◌, ◌*◌, Bool, true, not, ◌==◌, ◌&&◌, ◌||◌, nat_le, nat_lt, if◌then◌else◌, List, [], ◌∷◌, length, take, drop, map, sum_by, position, Option, Some, None, bytes_eq, slice_index}
+use Rattle.std.specs.Prelude.{ℕ, ◌+◌, ◌-◌, ◌*◌, Bool, true, not, ◌==◌, ◌&&◌, nat_le, if◌then◌else◌, List, [], ◌∷◌, length, take, drop, map, sum_by, position, Option, Some, None, bytes_eq, slice_index}
 use Rattle.std.specs.List.{flat_map, list_all, find}
 use Rattle.std.specs.Option.{option_map, option_or, option_map_or}
 use Rattle.gs_chars.specs.Characters.{are_digits}
@@ -64,9 +64,9 @@ abbrev pub parts_fault : List Part → List ℕ → Option ValueFault
 parts_fault parts value =
     if not (has_length_of parts value) then Some Length
     else option_or (option_map Char (wrong_character parts value))
-        (if not (list_all keeps_check (pieces parts value)) then Some Check
-        else if not (list_all keeps_date (pieces parts value)) then Some Date
-        else None)
+    (if not (list_all keeps_check (pieces parts value)) then Some Check
+    else if not (list_all keeps_date (pieces parts value)) then Some Date
+    else None)
 
 -- the row's code is this one
 abbrev pub has_code : List ℕ → AiRow → Bool

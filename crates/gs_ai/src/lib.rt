@@ -1,6 +1,7 @@
 //! Application identifiers: the table of their rows, and the values that a row allows.
 #![tactic(auto)]
 
+mod ascending;
 mod codes;
 mod faults;
 mod form;

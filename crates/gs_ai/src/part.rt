@@ -1,5 +1,6 @@
 ghost use Rattle.std.specs.Prelude.{◌≡◌, ◌≢◌, ◌<◌, ◌≤◌, ◌^◌, ◌++◌, ℕ, true, IfSome, IfNone};
 ghost use Rattle.gs_ai.specs.Parts.{number_text, is_part, part_text, role_text, least_length, greatest_length, is_of_part, is_open};
+ghost use Rattle.gs_ai.specs.Tables.{is_key, is_qualifier};
 
 use gs_chars::CharSet;
 
@@ -176,5 +177,19 @@ impl Role {
         } else {
             Role::Other
         }
+    }
+
+    /// Whether the role is that of a key.
+    pub(crate) fn is_key(self) -> bool
+        ensures { result ≡ is_key self }
+    {
+        matches!(self, Role::Key)
+    }
+
+    /// Whether the role is that of a qualifier.
+    pub(crate) fn is_qualifier(self) -> bool
+        ensures { result ≡ is_qualifier self }
+    {
+        matches!(self, Role::Qualifier)
     }
 }

@@ -4,7 +4,6 @@ ghost use Rattle.gs_ai.specs.Tables.{clash, is_key_of, is_qualifier_of, row_faul
 
 use crate::faults::AiFault;
 use crate::form::{is_row, keeps_predefined};
-use crate::part::Role;
 use crate::predefined::Predefined;
 use crate::row::AiRow;
 use gs_chars::Text;
@@ -21,14 +20,14 @@ fn clash(a: &[u8], b: &[u8]) -> bool
 fn is_key_of(rows: &[AiRow], code: &[u8]) -> bool
     ensures { result ≡ is_key_of rows.now code.now }
 {
-    rows.iter().any(|row| code == row.code.as_bytes() && matches!(row.role, Role::Key))
+    rows.iter().any(|row| code == row.code.as_bytes() && row.role.is_key())
 }
 
 /// Whether a row of the role qualifier has the code.
 fn is_qualifier_of(rows: &[AiRow], code: &[u8]) -> bool
     ensures { result ≡ is_qualifier_of rows.now code.now }
 {
-    rows.iter().any(|row| code == row.code.as_bytes() && matches!(row.role, Role::Qualifier))
+    rows.iter().any(|row| code == row.code.as_bytes() && row.role.is_qualifier())
 }
 
 /// The index of the first row whose code clashes with this one.
@@ -51,11 +50,18 @@ fn lists_key(rows: &[AiRow], codes: &[Text]) -> bool
 fn lists_qualifiers(rows: &[AiRow], codes: &[Text]) -> bool
     ensures { result ≡ list_all (is_qualifier_of rows.now) codes.now }
 {
-    codes.iter().all(|code| is_qualifier_of(rows, code.as_bytes()))
+    codes
+        .iter()
+        .all(|code| is_qualifier_of(rows, code.as_bytes()))
 }
 
 /// The first fault of row `i` by itself and beside the earlier rows.
-fn check_row(predefined: &Predefined, i: usize, earlier: &[AiRow], row: &AiRow) -> Result<(), AiFault>
+fn check_row(
+    predefined: &Predefined,
+    i: usize,
+    earlier: &[AiRow],
+    row: &AiRow,
+) -> Result<(), AiFault>
     ensures { IsFirstFault (row_faults i earlier.now row.now) result }
 {
     if !is_row(row) {

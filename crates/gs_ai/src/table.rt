@@ -1,16 +1,17 @@
 ghost use Rattle.std.specs.Prelude.{◌≡◌, ◌≢◌, ◌<◌, ◌≤◌, ℕ, List, [], true, None, Some, OnOk, IfOk, IfErr, IfSome, IfNone, find, length, take, map, position, slice_get};
 ghost use Rattle.std.specs.Option.{option_and_then, option_copied};
 ghost use Rattle.gs_ai.specs.Predefined.{predefined_length};
-ghost use Rattle.gs_ai.specs.Tables.{table_faults, KeepsRules, begins, is_row, row_at};
+ghost use Rattle.gs_ai.specs.Tables.{table_faults, KeepsRules, ascending_codes, begins, is_key_of, is_row, row_at};
 ghost use Rattle.gs_ai.specs.Values.{has_code, value_fault};
 
+use crate::ascending::ascending_codes;
 use crate::codes::Codes;
 use crate::faults::{AiFault, ValueFault};
 use crate::predefined::Predefined;
 use crate::row::AiRow;
 use crate::rules::check_rows;
 use crate::value::parts_ok;
-use gs_chars::{List, Memory};
+use gs_chars::{List, Memory, Text};
 use std::alloc::Global;
 use std::marker::Model;
 
@@ -20,19 +21,21 @@ use std::marker::Model;
 pub struct AiTable {
     rows: List<AiRow>,
     codes: Codes,
+    ascending: List<Text>,
     predefined: Predefined,
 }
 
 impl Model for AiTable {
     ghost use Rattle.std.specs.Prelude.{◌≡◌, List, [], map};
     ghost use Rattle.gs_ai.specs.declared.row.AiRow.{AiRow};
-    ghost use Rattle.gs_ai.specs.Tables.{KeepsRules};
+    ghost use Rattle.gs_ai.specs.Tables.{KeepsRules, ascending_codes};
 
     ghost Value = { List AiRow };
 
     ghost view = { λ a. a.rows };
 
-    ghost invariant = { λ a. KeepsRules a.rows × (a.codes ≡ map (λ row. row.code) a.rows) };
+    ghost invariant = { λ a. KeepsRules a.rows × (a.codes ≡ map (λ row. row.code) a.rows)
+        × (a.ascending ≡ ascending_codes a.rows) };
 }
 
 /// The codes of the rows, in their order.
@@ -61,9 +64,13 @@ impl AiTable {
         let Ok(codes) = codes_of(alloc, rows.as_slice()) else {
             return Err(AiFault::Memory);
         };
+        let Ok(ascending) = ascending_codes(alloc, rows.as_slice()) else {
+            return Err(AiFault::Memory);
+        };
         Ok(AiTable {
             rows: List::from_vec(rows),
             codes,
+            ascending: List::from_vec(ascending),
             predefined,
         })
     }
@@ -76,6 +83,13 @@ impl AiTable {
         self.rows.items()
     }
 
+    /// The codes of the rows, in ascending order of their bytes.
+    pub fn codes(&self) -> &[Text]
+        ensures { result.now ≡ ascending_codes self.now }
+    {
+        self.ascending.items()
+    }
+
     /// The index of the row with this code.
     pub fn find(&self, code: &[u8]) -> Option<usize>
         ensures row { result ≡ position (has_code code.now) self.now }
@@ -86,12 +100,23 @@ impl AiTable {
     }
 
     /// The row with this code.
-    fn row_with(&self, code: &[u8]) -> Option<&AiRow>
+    pub fn row_with(&self, code: &[u8]) -> Option<&AiRow>
         ensures row { option_copied result ≡ find (has_code code.now) self.now }
         ensures kept { IfSome result (λ row. is_row row.now ≡ true) }
     {
         let row = self.find(code)?;
         Some(&self.rows.items()[row])
+    }
+
+    /// Whether the code is that of a key.
+    pub fn is_key(&self, code: &[u8]) -> bool
+        ensures { result ≡ is_key_of self.now code.now }
+    {
+        let _ = &self.rows;
+        match self.row_with(code) {
+            Some(row) => row.role.is_key(),
+            None => false,
+        }
     }
 
     /// The index of the row whose code begins the text. At most one row's code does.
@@ -117,7 +142,8 @@ impl AiTable {
         requires { row < length self.now }
         ensures { result ≡ option_and_then (λ r. predefined_length r.code) (slice_get self.now row) }
     {
-        self.predefined.length_of(self.rows.items()[row].code.as_bytes())
+        self.predefined
+            .length_of(self.rows.items()[row].code.as_bytes())
     }
 
     /// Whether the value is one of the application identifier with this code, and the first fault if it is not: `Unknown`,

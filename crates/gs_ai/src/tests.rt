@@ -42,7 +42,12 @@ fn push_attributes(
 }
 
 /// Appends a key without qualifiers.
-fn push_key(alloc: Global, rows: &mut Vec<AiRow>, code: &[u8], parts: &[&[u8]]) -> Result<(), Fail> {
+fn push_key(
+    alloc: Global,
+    rows: &mut Vec<AiRow>,
+    code: &[u8],
+    parts: &[&[u8]],
+) -> Result<(), Fail> {
     rows.push(row(alloc, code, parts, b"key")?)?;
     Ok(())
 }
@@ -97,7 +102,9 @@ fn push_long_codes(alloc: Global, rows: &mut Vec<AiRow>) -> Result<(), Fail> {
     rows.push(row(alloc, b"8019", &[b"n..10"], b"qualifier")?)?;
     push_attributes(alloc, rows, &[b"8020"], b"x..25")?;
     push_attributes(alloc, rows, &[b"90"], b"x..30")?;
-    let own: [&[u8]; 9] = [b"91", b"92", b"93", b"94", b"95", b"96", b"97", b"98", b"99"];
+    let own: [&[u8]; 9] = [
+        b"91", b"92", b"93", b"94", b"95", b"96", b"97", b"98", b"99",
+    ];
     push_attributes(alloc, rows, &own, b"x..90")
 }
 

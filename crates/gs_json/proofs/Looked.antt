@@ -1,7 +1,9 @@
 -- What a look-up in a tree finds.
-use Rattle.std.proofs.Common.{◌≡◌, ℕ, zero, suc, ◌+◌, ◌<◌, List, [], ◌∷◌, ◌++◌, length, get_or, map, Option, Some, None, option_map, Result, Ok, Err, String, Global, Equal, string_bytes, nat_cmp, is_eq, bytes_eq, BTreeMap, Bor, Vec, refl, sym, ap, ◌∙◌, arith}
+use Rattle.std.proofs.Common.{◌≡◌, ℕ, zero, suc, ◌+◌, ◌<◌, List, [], ◌∷◌, ◌++◌, length, get_or, map, Option, Some, None, option_map, Result, Ok, Err, String, Global, Equal, string_bytes, nat_cmp, is_eq, bytes_eq, BTreeMap, Bor, Vec, refl, subst, sym, ap, ◌∙◌, arith}
 use Rattle.std.proofs.lemmas.Map.Text.{is_eq-slice_cmp}
 use Rattle.std.proofs.lemmas.Slice.Eq.{bytes_eq-Decides}
+use Rattle.std.proofs.lemmas.Str.{IsUtf8-had}
+use Rattle.std.specs.Prelude.{IsUtf8}
 use Rattle.std.specs.BTreeMap.{get_by, is_at}
 use Rattle.std.specs.Cmp.Lexicographic.{slice_cmp}
 use Rattle.std.specs.Map.{keys_of, lookup}
@@ -10,7 +12,7 @@ use Rattle.serde_json.specs.Events.{items_len}
 use Rattle.serde_json.specs.Find.{as_array, as_object, at, get_item, get_member}
 use Rattle.serde_json.specs.View.{view, items_view, members_view}
 use Rattle.serde_json.specs.declared.value.Value.{Value as Tree}
-use Rattle.serde_json.proofs.Views.{get_item_within, items_len-items_view, view-lookup}
+use Rattle.serde_json.proofs.Views.{get_item_within, items_len-items_view, member_later, view-lookup}
 use Rattle.gs_json.specs.Answers.{asked, count_of, items_count, member_at, names_of, names_of_members}
 use Rattle.gs_json.specs.Places.{member_place}
 use Rattle.gs_json.specs.declared.fault.JsonFault.{JsonFault}
@@ -68,3 +70,11 @@ pub names_found : (d : Data) (place : List ℕ) (entries : List (String Global �
     → Some (members_view entries) ≡ as_object d → names ≡ map string_bytes (keys_of entries)
     → Ok names ≡ asked place (names_of d)
 names_found d place entries names h e = rw (← h, names_are_keys entries, e) refl
+
+-- each key is UTF-8, so there is no member of a name that is not
+pub no_such_member : (entries : List (String Global × Tree)) (name : List ℕ) → (IsUtf8 name → ⊥) → None ≡ get_member name (members_view entries)
+no_such_member [] name h = refl
+no_such_member (e ∷ entries) name h =
+    let P : List ℕ → Type 0 = λ text. IsUtf8 text in
+    let other : name ≡ string_bytes e.0 → ⊥ = λ same. h (subst P (sym same) (IsUtf8-had (string_bytes e.0) e.0.ok)) in
+    no_such_member entries name h ∙ sym (member_later name e entries other)

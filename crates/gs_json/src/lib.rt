@@ -13,3 +13,6 @@ pub use doc::Doc;
 pub use fault::JsonFault;
 pub use node::Node;
 pub use plan::{Entry, Sort};
+
+#[cfg(test)]
+mod tests;

@@ -1,4 +1,4 @@
-ghost use Rattle.std.specs.Prelude.{◌≡◌, ◌<◌, ◌⊎◌, ℕ, List, map, Some, None, Err, option_map, option_and_then, string_bytes, All, IsUtf8, IfOk, IfErr};
+ghost use Rattle.std.specs.Prelude.{◌≡◌, ◌<◌, ◌⊎◌, ℕ, List, map, Some, None, Err, option_map, option_and_then, string_bytes, IfOk, IfErr};
 ghost use Rattle.serde_json.specs.Find.{as_array, as_bool, as_number, as_object, as_str, as_u64, at};
 ghost use Rattle.serde_json.specs.View.{view};
 ghost use Rattle.std.specs.BTreeMap.{keys};
@@ -150,7 +150,6 @@ impl<'a> Node<'a> {
     /// first item of another kind. Last `Unknown` with the place of the first member, in ascending order, that the plan
     /// does not name.
     pub fn shaped(&self, alloc: Global, plan: &[Entry]) -> Result<(), JsonFault>
-        requires { All (λ entry. IsUtf8 entry.name) plan.now }
         ensures { OrMemory result (first_fault (shape_faults self.now plan.now)) }
     {
         judge(alloc, self.value, &self.place, plan)

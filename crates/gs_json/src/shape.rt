@@ -1,4 +1,4 @@
-ghost use Rattle.std.specs.Prelude.{◌≡◌, ℕ, List, All, IsUtf8, option_map, slice_get};
+ghost use Rattle.std.specs.Prelude.{◌≡◌, ℕ, List, option_map, slice_get};
 ghost use Rattle.serde_json.specs.Find.{as_object, get_member};
 ghost use Rattle.serde_json.specs.View.{view, items_view, members_view};
 ghost use Rattle.gs_json.specs.Answers.{OrMemory, names_of_members};
@@ -13,7 +13,6 @@ use std::alloc::Global;
 
 /// Judges what stands at a place by a plan, and answers its first fault.
 pub(crate) fn judge(alloc: Global, value: &Value, place: &Place<'_>, plan: &[Entry]) -> Result<(), JsonFault>
-    requires { All (λ entry. IsUtf8 entry.name) plan.now }
     ensures { OrMemory result (first_fault (members_faults place.now plan.now (as_object (view value.now)))) }
 {
     let Some(map) = value.as_object() else {
@@ -27,7 +26,6 @@ pub(crate) fn judge(alloc: Global, value: &Value, place: &Place<'_>, plan: &[Ent
 
 /// Judges the member of an entry's name.
 fn judge_member(alloc: Global, map: &Map<String, Value>, place: &Place<'_>, entry: &Entry) -> Result<(), JsonFault>
-    requires { IsUtf8 entry.now.name }
     ensures { OrMemory result (first_fault (entry_faults place.now (members_view map.now.entries) entry.now)) }
 {
     let name = entry.name.as_bytes();
@@ -42,14 +40,13 @@ fn judge_member(alloc: Global, map: &Map<String, Value>, place: &Place<'_>, entr
     }
 }
 
-/// The member of a name.
+/// The member of a name. The names of members are UTF-8, so that there is none of another name.
 fn member_named<'v>(map: &'v Map<String, Value>, name: &[u8]) -> Option<&'v Value>
-    requires { IsUtf8 name.now }
     ensures { option_map (λ v. view v.now) result ≡ get_member name.now (members_view map.now.entries) }
 {
     match str::from_utf8(name) {
         Ok(name) => map.get(name),
-        Err(_) => unreachable!(),
+        Err(_) => None,
     }
 }
 

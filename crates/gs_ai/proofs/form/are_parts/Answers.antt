@@ -1,6 +1,4 @@
-use Rattle.std.proofs.Common.{◌≡◌, ◌<◌, length, arith, sym}
-use Rattle.std.proofs.lemmas.Grind.{common_steps}
-use Rattle.std.proofs.lemmas.Bool.Decides.{nat_tests}
+use Rattle.std.proofs.Common.{sym}
 use Rattle.gs_ai.proofs.RowLemmas.{judged, not_empty}
 use Rattle.gs_ai.proofs.form.are_parts.Goals as goal
 

@@ -1,4 +1,4 @@
-use Rattle.std.proofs.Common.{◌≡◌, ◌≤◌, length, arith, ◌*◌}
+use Rattle.std.proofs.Common.{◌≤◌, length, arith, ◌*◌}
 use Rattle.gs_ai.proofs.RowLemmas.{row_code, row_parts, few, listed, code_short, small_parts}
 use Rattle.gs_ai.proofs.form.keeps_predefined.Goals as goal
 

@@ -1,5 +1,4 @@
-use Rattle.std.proofs.Common.{◌≡◌, ℕ, ◌≤◌, ◌++◌, sym, arith}
-use Rattle.gs_ai.proofs.PartTexts.{no_front, no_back, number_of, joined}
+use Rattle.gs_ai.proofs.PartTexts.{no_front, no_back, joined}
 use Rattle.gs_ai.proofs.part.read_between.Goals as goal
 
 pub returns-in_err-strip_prefix-clause-none : goal.returns-in_err-strip_prefix-clause-none

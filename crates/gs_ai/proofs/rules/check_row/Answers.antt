@@ -1,4 +1,4 @@
-use Rattle.std.proofs.Common.{◌≡◌, sym, ◌∙◌}
+use Rattle.std.proofs.Common.{sym, ◌∙◌}
 use Rattle.gs_ai.proofs.RuleLemmas.{row_out_of_form, row_clashes, row_has_other_length, row_in_order}
 use Rattle.gs_ai.proofs.rules.check_row.Goals as goal
 

@@ -1,4 +1,3 @@
-use Rattle.std.proofs.Common.{◌≡◌}
 use Rattle.gs_ai.proofs.TableLemmas.{fresh_code}
 use Rattle.gs_ai.proofs.table.codes_of.Goals as goal
 

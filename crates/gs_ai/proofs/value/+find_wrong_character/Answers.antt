@@ -1,4 +1,4 @@
-use Rattle.std.proofs.Common.{◌≡◌, sym, ◌∙◌}
+use Rattle.std.proofs.Common.{sym, ◌∙◌}
 use Rattle.gs_ai.proofs.PartLemmas.{wrong_here, wrong_later, wrong_nowhere}
 use Rattle.gs_ai.proofs.value.+find_wrong_character.Goals as goal
 

@@ -1,4 +1,4 @@
-use Rattle.std.proofs.Common.{◌≡◌, sym, bytes_eq}
+use Rattle.std.proofs.Common.{sym, bytes_eq}
 use Rattle.gs_ai.proofs.Searches.{position-map}
 use Rattle.gs_ai.proofs.codes.Codes.find.Goals as goal
 

@@ -1,6 +1,5 @@
-use Rattle.std.proofs.Common.{◌≡◌, ◌+◌, ◌-◌, ◌*◌, sym, ◌∙◌, arith, position, ◌==◌, Some, None, get_or}
-use Rattle.gs_ai.specs.declared.predefined.TheConstants.{STARTS}
-use Rattle.gs_ai.proofs.StartLemmas.{length_found, length_not_found}
+use Rattle.std.proofs.Common.{◌≡◌, ◌+◌, ◌-◌, ◌*◌, sym, ◌∙◌, get_or}
+use Rattle.gs_ai.proofs.StartLemmas.{length_found}
 use Rattle.gs_ai.proofs.predefined.Predefined.length_of.Goals as goal
 
 pub returns : goal.returns

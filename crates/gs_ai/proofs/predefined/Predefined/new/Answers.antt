@@ -1,4 +1,3 @@
-use Rattle.std.proofs.Common.{◌≡◌, refl}
 use Rattle.gs_ai.proofs.StartLemmas.{starts_rise}
 use Rattle.gs_ai.proofs.predefined.Predefined.new.Goals as goal
 

@@ -1,4 +1,4 @@
-use Rattle.std.proofs.Common.{◌≡◌, sym, ◌≤◌, arith}
+use Rattle.std.proofs.Common.{sym, arith}
 use Rattle.gs_ai.proofs.TableLemmas.{found_begins, none_begins}
 use Rattle.gs_ai.proofs.table.AiTable.begins.Goals as goal
 

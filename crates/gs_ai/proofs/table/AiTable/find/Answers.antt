@@ -1,4 +1,4 @@
-use Rattle.std.proofs.Common.{◌≡◌, sym, ◌∙◌, bytes_eq}
+use Rattle.std.proofs.Common.{◌∙◌, bytes_eq}
 use Rattle.gs_ai.specs.Values.{has_code}
 use Rattle.gs_ai.proofs.Searches.{position-map, some_within}
 use Rattle.gs_ai.proofs.table.AiTable.find.Goals as goal

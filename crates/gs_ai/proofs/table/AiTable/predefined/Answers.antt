@@ -1,7 +1,5 @@
-use Rattle.std.proofs.Common.{◌≡◌, ◌<◌, true, length, sym, ap, ◌∙◌, get_or, slice_get, Some}
-use Rattle.gs_ai.specs.Tables.{is_row, KeepsRules}
+use Rattle.std.proofs.Common.{sym, ap, ◌∙◌}
 use Rattle.gs_ai.specs.declared.row.AiRow.{AiRow}
-use Rattle.gs_ai.proofs.Searches.{read_at}
 use Rattle.gs_ai.proofs.RowLemmas.{row_code, code_long, code_digits}
 use Rattle.gs_ai.proofs.TableLemmas.{row_kept, length_read}
 use Rattle.gs_ai.proofs.table.AiTable.predefined.Goals as goal

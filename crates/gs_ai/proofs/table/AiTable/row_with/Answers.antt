@@ -1,4 +1,4 @@
-use Rattle.std.proofs.Common.{◌≡◌, sym, ◌∙◌, get_or, slice_get, Some, ◌<◌, length}
+use Rattle.std.proofs.Common.{sym, ◌∙◌}
 use Rattle.gs_ai.proofs.Searches.{find_none, find_read, read_at}
 use Rattle.gs_ai.specs.Values.{has_code}
 use Rattle.gs_ai.proofs.table.AiTable.row_with.Goals as goal

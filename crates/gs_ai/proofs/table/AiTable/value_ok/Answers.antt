@@ -1,4 +1,3 @@
-use Rattle.std.proofs.Common.{◌≡◌}
 use Rattle.gs_ai.proofs.RowLemmas.{row_parts, few, listed}
 use Rattle.gs_ai.proofs.table.AiTable.value_ok.Goals as goal
 
