@@ -10,86 +10,65 @@ fn named(rt: &HostRuntime, name: &str) -> Result<Text, Fail> {
     Ok(Text::from_bytes(rt.alloc(), name.as_bytes()).ok().ok_or("no memory")?)
 }
 
+fn refused(rt: &HostRuntime, bytes: &[u8]) -> bool {
+    Doc::parse(rt.alloc(), bytes).err() == Some(JsonFault::Syntax)
+}
+
 #[test]
-fn bytes_that_are_no_document(rt: HostRuntime) -> Result<(), Fail> {
+fn bytes_that_are_no_document(rt: HostRuntime) {
+    assert!(rt; refused(&rt, b""));
+    assert!(rt; refused(&rt, b"\xef\xbb\xbf{}"), "a byte order mark");
+    assert!(rt; refused(&rt, b"\"\xff\""), "no UTF-8");
+    assert!(rt; refused(&rt, b"{\"a\":1e400}"), "beyond a double");
+    assert!(rt; refused(&rt, b"\"\\ud800\""), "half a surrogate pair");
+    assert!(rt; refused(&rt, b"{}{}"));
+}
+
+fn nested(rt: &HostRuntime, depth: usize) -> Result<bool, Fail> {
     let alloc = rt.alloc();
-    assert_eq!(rt; Doc::parse(alloc, b"").err(), Some(JsonFault::Syntax));
-    assert_eq!(rt; Doc::parse(alloc, b"\xef\xbb\xbf{}").err(), Some(JsonFault::Syntax), "a byte order mark");
-    assert_eq!(rt; Doc::parse(alloc, b"\"\xff\"").err(), Some(JsonFault::Syntax), "no UTF-8");
-    assert_eq!(rt; Doc::parse(alloc, b"{\"a\":1e400}").err(), Some(JsonFault::Syntax), "beyond a double");
-    assert_eq!(rt; Doc::parse(alloc, b"\"\\ud800\"").err(), Some(JsonFault::Syntax), "half a surrogate pair");
-    assert_eq!(rt; Doc::parse(alloc, b"{}{}").err(), Some(JsonFault::Syntax));
-    let deep = "[".repeat(alloc, 127)?;
-    let mut text = String::new(alloc);
-    text.push_str(deep.as_str())?;
-    text.push_str("]".repeat(alloc, 127)?.as_str())?;
-    assert!(rt; Doc::parse(alloc, text.as_bytes()).is_ok());
-    text.clear();
-    text.push_str("[".repeat(alloc, 128)?.as_str())?;
-    text.push_str("]".repeat(alloc, 128)?.as_str())?;
-    assert_eq!(rt; Doc::parse(alloc, text.as_bytes()).err(), Some(JsonFault::Syntax), "128 deep");
+    let mut text = "[".repeat(alloc, depth)?;
+    text.push_str("]".repeat(alloc, depth)?.as_str())?;
+    Ok(Doc::parse(alloc, text.as_bytes()).is_ok())
+}
+
+#[test]
+fn documents_nest_127_deep(rt: HostRuntime) -> Result<(), Fail> {
+    assert!(rt; nested(&rt, 127)?);
+    assert!(rt; !nested(&rt, 128)?);
     Ok(())
 }
 
 #[test]
-fn parts_are_found_by_name_and_place(rt: HostRuntime) -> Result<(), Fail> {
+fn the_last_of_two_members_stays(rt: HostRuntime) -> Result<(), Fail> {
     let alloc = rt.alloc();
-    let doc = parsed(&rt, r#"{"b":[1,{"a/b~c":"x"},true],"a":18446744073709551615,"a":2,"n":1.0}"#)?;
+    let doc = parsed(&rt, r#"{"b":[],"a":18446744073709551615,"a":2}"#)?;
     let root = doc.root(alloc);
     let names = root.names(alloc).ok().ok_or("names")?;
-    assert_eq!(rt; names.items(), ["a", "b", "n"].as_slice());
+    assert_eq!(rt; names.items(), ["a", "b"].as_slice());
     let a = root.member(alloc, "a").ok().ok_or("a member")?;
-    assert_eq!(rt; a.number(alloc), Ok(2), "the last of two members with one name stays");
-    let b = root.maybe(alloc, "b").ok().flatten().ok_or("a member")?;
-    assert_eq!(rt; b.count(alloc), Ok(3));
-    let text = parsed(&rt, r#"{"x":"t"}"#)?;
-    let x = text.root(alloc).member(alloc, "x").ok().ok_or("a member")?;
-    assert_eq!(rt; x.text(alloc), Ok(named(&rt, "t")?));
-    assert!(rt; root.maybe(alloc, "c").ok().ok_or("no member")?.is_none());
-    assert_eq!(rt; root.member(alloc, "c~/").err(), Some(JsonFault::Lacks(named(&rt, "/c~0~1")?)));
-    assert_eq!(rt; a.member(alloc, "c").err(), Some(JsonFault::Kind(named(&rt, "/a")?)));
-    assert_eq!(rt; root.text(alloc), Err(JsonFault::Kind(named(&rt, "")?)));
-    let n = root.member(alloc, "n").ok().ok_or("a member")?;
-    assert_eq!(rt; n.number(alloc), Err(JsonFault::Kind(named(&rt, "/n")?)), "a fraction");
+    assert_eq!(rt; a.number(alloc), Ok(2));
     Ok(())
 }
 
-// A row of a table of application identifiers, and the first fault of each row that is not one.
 #[test]
-fn rows_are_judged_by_their_plan(rt: HostRuntime) -> Result<(), Fail> {
+fn absent_members_have_a_place(rt: HostRuntime) -> Result<(), Fail> {
     let alloc = rt.alloc();
-    let mut plan = Vec::new(alloc);
-    for (name, required, sort) in [
-        ("code", true, Sort::Text),
-        ("parts", true, Sort::Texts),
-        ("length", true, Sort::Number),
-        ("qualifiers", false, Sort::Arrays),
-        ("short", false, Sort::Truth),
-        ("notes", false, Sort::Array),
-    ] {
-        plan.push(Entry { name: named(&rt, name)?, required, sort })?;
-    }
-    let right = r#"{"code":"01","parts":["n14c"],"length":18,"qualifiers":[[],[1]],"short":true,"notes":[{}]}"#;
-    let rows = [
-        (right, None),
-        (r#"{"code":"01","parts":[],"length":0}"#, None),
-        ("[]", Some(JsonFault::Kind(named(&rt, "")?))),
-        (r#"{"z":1,"parts":1}"#, Some(JsonFault::Lacks(named(&rt, "/code")?))),
-        (r#"{"code":1,"z":1}"#, Some(JsonFault::Kind(named(&rt, "/code")?))),
-        (r#"{"code":"","parts":["",1,2]}"#, Some(JsonFault::Kind(named(&rt, "/parts/1")?))),
-        (r#"{"code":"","parts":{}}"#, Some(JsonFault::Kind(named(&rt, "/parts")?))),
-        (r#"{"code":"","parts":[],"length":18446744073709551616}"#, Some(JsonFault::Kind(named(&rt, "/length")?))),
-        (r#"{"code":"","parts":[],"length":1.0}"#, Some(JsonFault::Kind(named(&rt, "/length")?))),
-        (r#"{"code":"","parts":[],"length":1,"qualifiers":[[],""]}"#, Some(JsonFault::Kind(named(&rt, "/qualifiers/1")?))),
-        (r#"{"code":"","parts":[],"length":1,"short":0}"#, Some(JsonFault::Kind(named(&rt, "/short")?))),
-        (r#"{"code":"","parts":[],"length":1,"notes":null}"#, Some(JsonFault::Kind(named(&rt, "/notes")?))),
-        (r#"{"code":"","parts":[],"length":1,"z":1,"y/~":2}"#, Some(JsonFault::Unknown(named(&rt, "/y~1~0")?))),
-    ];
-    for (text, fault) in rows.iter() {
-        let doc = parsed(&rt, text)?;
-        let first = doc.root(alloc).shaped(alloc, plan.as_slice()).err();
-        assert!(rt; first == *fault, "{text}");
-    }
+    let doc = parsed(&rt, r#"{"a":1.0}"#)?;
+    let root = doc.root(alloc);
+    assert!(rt; root.maybe(alloc, "c").ok().ok_or("no member")?.is_none());
+    let lacks = root.member(alloc, "c~/").err();
+    assert_eq!(rt; lacks, Some(JsonFault::Lacks(named(&rt, "/c~0~1")?)));
+    Ok(())
+}
+
+#[test]
+fn parts_of_another_kind_have_a_place(rt: HostRuntime) -> Result<(), Fail> {
+    let alloc = rt.alloc();
+    let doc = parsed(&rt, r#"{"a":1.0}"#)?;
+    let root = doc.root(alloc);
+    assert_eq!(rt; root.text(alloc), Err(JsonFault::Kind(named(&rt, "")?)));
+    let a = root.member(alloc, "a").ok().ok_or("a member")?;
+    assert_eq!(rt; a.number(alloc), Err(JsonFault::Kind(named(&rt, "/a")?)), "a fraction");
     Ok(())
 }
 
@@ -108,5 +87,69 @@ fn items_are_found_by_their_number(rt: HostRuntime) -> Result<(), Fail> {
     let text = object.member(alloc, "a/b~c").ok().ok_or("a member")?;
     assert_eq!(rt; text.text(alloc), Ok(named(&rt, "x")?));
     assert_eq!(rt; text.count(alloc), Err(JsonFault::Kind(named(&rt, "/b/1/a~1b~0c")?)));
+    Ok(())
+}
+
+const ROW: [(&str, bool, Sort); 6] = [
+    ("code", true, Sort::Text),
+    ("parts", true, Sort::Texts),
+    ("length", true, Sort::Number),
+    ("qualifiers", false, Sort::Arrays),
+    ("short", false, Sort::Truth),
+    ("notes", false, Sort::Array),
+];
+
+// The first fault of a row of a table.
+fn judged(rt: &HostRuntime, row: &str) -> Result<Option<JsonFault>, Fail> {
+    let alloc = rt.alloc();
+    let mut plan = Vec::new(alloc);
+    for (name, required, sort) in ROW {
+        let name = named(rt, name)?;
+        plan.push(Entry {
+            name,
+            required,
+            sort,
+        })?;
+    }
+    let doc = parsed(rt, row)?;
+    Ok(doc.root(alloc).shaped(alloc, plan.as_slice()).err())
+}
+
+fn is_kind(rt: &HostRuntime, row: &str, place: &str) -> Result<bool, Fail> {
+    Ok(judged(rt, row)? == Some(JsonFault::Kind(named(rt, place)?)))
+}
+
+#[test]
+fn rows_that_keep_their_plan(rt: HostRuntime) -> Result<(), Fail> {
+    let whole = r#"{"code":"01","parts":["n14c"],"length":18,"qualifiers":[[],[1]],"short":true,"notes":[{}]}"#;
+    assert!(rt; judged(&rt, whole)?.is_none());
+    assert!(rt; judged(&rt, r#"{"code":"01","parts":[],"length":0}"#)?.is_none());
+    Ok(())
+}
+
+#[test]
+fn rows_of_another_kind(rt: HostRuntime) -> Result<(), Fail> {
+    assert!(rt; is_kind(&rt, "[]", "")?);
+    assert!(rt; is_kind(&rt, r#"{"code":1,"z":1}"#, "/code")?);
+    assert!(rt; is_kind(&rt, r#"{"code":"","parts":["",1,2]}"#, "/parts/1")?);
+    assert!(rt; is_kind(&rt, r#"{"code":"","parts":{}}"#, "/parts")?);
+    Ok(())
+}
+
+#[test]
+fn members_of_another_kind(rt: HostRuntime) -> Result<(), Fail> {
+    assert!(rt; is_kind(&rt, r#"{"code":"","parts":[],"length":18446744073709551616}"#, "/length")?);
+    assert!(rt; is_kind(&rt, r#"{"code":"","parts":[],"length":1,"qualifiers":[[],""]}"#, "/qualifiers/1")?);
+    assert!(rt; is_kind(&rt, r#"{"code":"","parts":[],"length":1,"short":0}"#, "/short")?);
+    assert!(rt; is_kind(&rt, r#"{"code":"","parts":[],"length":1,"notes":null}"#, "/notes")?);
+    Ok(())
+}
+
+#[test]
+fn members_absent_and_unknown(rt: HostRuntime) -> Result<(), Fail> {
+    let lacks = judged(&rt, r#"{"z":1,"parts":1}"#)?;
+    assert_eq!(rt; lacks, Some(JsonFault::Lacks(named(&rt, "/code")?)));
+    let unknown = judged(&rt, r#"{"code":"","parts":[],"length":1,"z":1,"y/~":2}"#)?;
+    assert_eq!(rt; unknown, Some(JsonFault::Unknown(named(&rt, "/y~1~0")?)));
     Ok(())
 }
