@@ -9,5 +9,4 @@ pub fn places_point_to_their_parts()
     ensures whole { (d : Data) → pointer [] d ≡ Some d }
     ensures member { (place name : List ℕ) (d part e : Data) → pointer place d ≡ Some part → get name part ≡ Some e → pointer (member_place place name) d ≡ Some e }
     ensures item { (place : List ℕ) (i : ℕ) (d part e : Data) → i < 2 ^ 64 → pointer place d ≡ Some part → at i part ≡ Some e → pointer (item_place place i) d ≡ Some e }
-{
-}
+{}
