@@ -5,3 +5,5 @@ pub mod ItemTests
 pub mod Cuts
 pub mod Options
 pub mod Packs
+pub mod Held
+pub mod Written

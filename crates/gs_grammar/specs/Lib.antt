@@ -5,3 +5,4 @@ pub mod Levels
 pub mod Derivations
 pub mod Readings
 pub mod Searches
+pub mod Writing
