@@ -1,13 +1,13 @@
 -- Which values items hold: those for which there is no reason against are those that have a word.
-use Rattle.std.proofs.Common.{◌≡◌, ◌↔◌, ℕ, ◌<◌, ◌≤◌, ◌+◌, ◌-◌, ◌*◌, ◌^◌, ◌&&◌, Bool, true, false, not, IsTrue, List, [], ◌∷◌, ◌++◌, length, get_or, suc, Option, Some, None, Result, Ok, Err, IsOk, MatchResult, refl, sym, ◌∙◌, ap, subst, arith, leb, eqb, decimal, inl, inr, replicate, length-append}
+use Rattle.std.proofs.Common.{◌≡◌, ◌↔◌, ℕ, ◌<◌, ◌≤◌, ◌+◌, ◌-◌, ◌*◌, ◌^◌, ◌&&◌, Bool, true, false, not, List, [], ◌∷◌, ◌++◌, length, suc, Some, None, Result, Ok, Err, IsOk, MatchResult, refl, sym, ◌∙◌, ap, subst, arith, leb, eqb, decimal, inl, inr, replicate, length-append}
 use Rattle.std.specs.List.{list_all, list_any, flat_map}
 use Rattle.std.proofs.Math.Pow.{pow_mono}
-use Rattle.std.proofs.lemmas.Bool.{leb-true, le-leb}
+use Rattle.std.proofs.lemmas.Bool.{leb-true}
 use Rattle.std.proofs.lemmas.Bool.Decides.{nat_tests, eqb_tells}
-use Rattle.std.proofs.lemmas.List.{nil_from_length, take_at, append-nil, length-replicate}
+use Rattle.std.proofs.lemmas.List.{nil_from_length, take_at, length-replicate}
 use Rattle.std.proofs.lemmas.Fmt.{decimal_nonempty}
 use Rattle.gs_chars.specs.Characters.{are_digits, are_in_set82, is_in_set82}
-use Rattle.gs_chars.specs.Escapes.{Spells, written_spelling, is_escaped, is_plain}
+use Rattle.gs_chars.specs.Escapes.{Spells, written_spelling, is_escaped}
 use Rattle.gs_chars.proofs.Spellings.{written_is_read}
 use Rattle.gs_bits.specs.Bits.{bits_of}
 use Rattle.gs_bits.specs.BitLaws.{length-bits_of}
@@ -19,7 +19,7 @@ use Rattle.gs_grammar.specs.Items.{is_between, IsItem}
 use Rattle.gs_grammar.specs.Words.{Word, SpellsEach, no_more, one_more, decimal_value, written_word}
 use Rattle.gs_grammar.specs.Writing.{first_reason, has_leading_zero, why_not}
 use Rattle.gs_grammar.proofs.Numbers.{numeral_is, value_decimal, digits_of_decimal, leading_zero}
-use Rattle.gs_grammar.proofs.WordLaws.{int_bounds, num_bounds, numpad_bounds}
+use Rattle.gs_grammar.proofs.WordLaws.{int_bounds, num_bounds}
 use Rattle.gs_grammar.proofs.ItemTests.{between_is, is_between_of}
 
 pub both_of : (a b : Bool) → (a && b) ≡ true → (a ≡ true) × (b ≡ true)

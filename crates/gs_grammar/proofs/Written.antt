@@ -1,20 +1,19 @@
 -- What is written of the values of an option, word by word.
-use Rattle.std.proofs.Common.{◌≡◌, ℕ, ◌<◌, ◌≤◌, ◌+◌, ◌-◌, ◌*◌, ◌^◌, ◌⊎◌, suc, zero, Bool, true, false, IsTrue, List, [], ◌∷◌, ◌++◌, length, get_or, take, drop, replicate, Option, Some, None, Result, Ok, Err, IsErr, OnOk, ◌↔◌, refl, sym, ◌∙◌, ap, subst, arith, All, inl, inr, length-append}
-use Rattle.std.specs.List.{AllPass, concat, flat_map, list_all, position, slice_get}
+use Rattle.std.proofs.Common.{◌≡◌, ℕ, ◌<◌, ◌≤◌, ◌+◌, ◌-◌, ◌*◌, ◌^◌, suc, Bool, true, List, [], ◌∷◌, ◌++◌, length, get_or, take, drop, replicate, Some, None, Result, Ok, Err, IsErr, OnOk, ◌↔◌, refl, sym, ◌∙◌, ap, subst, arith, All, inl, inr, length-append}
+use Rattle.std.specs.List.{AllPass, flat_map, list_all, position, slice_get}
 use Rattle.std.proofs.Math.Pow.{pow_mono}
 use Rattle.std.proofs.lemmas.Bool.{cases_eq, ltb-true}
-use Rattle.std.proofs.lemmas.Bool.Decides.{nat_tests}
 use Rattle.std.proofs.lemmas.List.{drop_more, drop_all, append_assoc, append-nil, length-drop, length-replicate, length-take-le, take_more}
 use Rattle.std.proofs.lemmas.List.Elements.{All-cons, All-nil, All-head, All-tail}
 use Rattle.std.proofs.lemmas.Option.{slice_get-get_or}
 use Rattle.gs_chars.specs.Characters.{are_in_set82, is_in_set82}
 use Rattle.gs_bits.specs.Bits.{AreBits, bits_of, number_of}
-use Rattle.gs_bits.specs.BitLaws.{bits_of-number_of, length-bits_of}
+use Rattle.gs_bits.specs.BitLaws.{bits_of-number_of}
 use Rattle.gs_grammar.specs.declared.item.Item.{Item}
-use Rattle.gs_grammar.specs.declared.item.Item.TheVariants.{Lit, Pad, Int, Esc, NumPad, Num, Ascii7, Fill}
+use Rattle.gs_grammar.specs.declared.item.Item.TheVariants.{Lit, NumPad, Num, Ascii7}
 use Rattle.gs_grammar.specs.declared.fault.Why.{Why}
 use Rattle.gs_grammar.specs.Items.{is_bad, is_between, is_in_bounds, is_symbol, IsItem, size_of, size_of_all}
-use Rattle.gs_grammar.specs.Words.{Word, decimal_value, written_word}
+use Rattle.gs_grammar.specs.Words.{decimal_value, written_word}
 use Rattle.gs_grammar.specs.Derivations.{EachWord, no_item, one_item, Derives, Derivation, OneDerivation}
 use Rattle.gs_grammar.specs.Writing.{why_not, written, written_words, AreHeldBefore, AreHeld, IsFirstRefusal}
 use Rattle.gs_grammar.proofs.Held.{held_word, packed_length, both_of}

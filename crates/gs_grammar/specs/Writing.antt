@@ -1,5 +1,5 @@
 -- Which values an item holds, and what is written of the values of an option.
-use Rattle.std.specs.Prelude.{◌≡◌, ℕ, ◌^◌, ◌<◌, ◌==◌, ◌&&◌, nat_lt, nat_le, not, Bool, true, false, if◌then◌else◌, List, [], ◌∷◌, Option, Some, None, length, slice_index, slice_get, Result, Ok, Err}
+use Rattle.std.specs.Prelude.{◌≡◌, ℕ, ◌^◌, ◌<◌, ◌==◌, ◌&&◌, nat_lt, nat_le, not, Bool, false, if◌then◌else◌, List, [], ◌∷◌, Option, Some, None, length, slice_index, slice_get}
 use Rattle.std.specs.List.{concat}
 use Rattle.gs_chars.specs.Characters.{are_digits, are_in_set82}
 use Rattle.gs_grammar.specs.declared.item.Item.{Item}
