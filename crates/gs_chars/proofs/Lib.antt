@@ -1,2 +1,4 @@
+pub mod Ascending
 pub mod Sets
 pub mod Spellings
+pub mod SpelledSets

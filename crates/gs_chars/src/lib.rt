@@ -6,6 +6,7 @@ mod check_digits;
 mod escapes;
 mod list;
 mod memory;
+mod rows;
 mod text;
 
 pub use char_set::CharSet;
@@ -15,6 +16,7 @@ pub use escapes::{
 };
 pub use list::List;
 pub use memory::Memory;
+pub use rows::Rows;
 pub use text::Text;
 
 #[cfg(test)]

@@ -1,4 +1,4 @@
-use crate::{CharSet, List, Text, check_digit, read_escape, write_escape};
+use crate::{CharSet, List, Rows, Text, check_digit, read_escape, write_escape};
 use std::test::Fail;
 
 #[test]
@@ -55,4 +55,14 @@ fn escapes_are_written_in_upper_case(rt: HostRuntime) {
     assert_eq!(rt; &out, b"%3F");
     assert_eq!(rt; write_escape(b'a', &mut out), 1);
     assert_eq!(rt; &out, b"a3F", "what is behind stays");
+}
+
+/// Keys that ascend, and keys that do not.
+#[test]
+fn rows_of_keys(rt: HostRuntime) -> Result<(), Fail> {
+    let rows = Rows::new([6, 7, 12]).ok_or("ascending")?;
+    assert_eq!(rt; rows.find(12), Some(2));
+    assert_eq!(rt; rows.find(8), None);
+    assert!(rt; Rows::new([6, 6]).is_none());
+    Ok(())
 }

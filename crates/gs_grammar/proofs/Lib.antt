@@ -7,3 +7,7 @@ pub mod Options
 pub mod Packs
 pub mod Held
 pub mod Written
+pub mod Counting
+pub mod DecidedSpellings
+pub mod DecidedWords
+pub mod OneReading

@@ -1,9 +1,10 @@
 ghost use Rattle.std.specs.Prelude.{◌≡◌, ◌<◌, ℕ, All, Bool, List, IsTrue, Some, length, slice_get};
 ghost use Rattle.gs_grammar.specs.declared.item.Item.{Item};
 ghost use Rattle.gs_grammar.specs.Items.{IsItem, is_in_bounds};
-ghost use Rattle.gs_grammar.specs.Derivations.{Derives, OneDerivation};
+ghost use Rattle.gs_grammar.specs.Derivations.{Derives, OneDerivation, TwoDerivations};
 ghost use Rattle.gs_grammar.specs.Words.{Word};
 ghost use Rattle.gs_grammar.specs.Writing.{AreHeld, written, written_words};
+ghost use Rattle.gs_grammar.specs.Counts.{Counted};
 
 /// A word fixes its value: no list of symbols is a word of one item with two values.
 pub fn word_fixes_its_value()
@@ -23,4 +24,17 @@ pub fn what_is_written_is_derived()
 /// What is written of values that an option holds gives them back, wherever it has one derivation in the level.
 pub fn what_is_written_is_read()
     ensures { (level : List (List Item)) (option other : ℕ) (items : List Item) (values given : List (List ℕ)) → slice_get level option ≡ Some items → All IsItem items → length values ≡ length items → AreHeld items values → OneDerivation level (written items values) other given → (other ≡ option) × (given ≡ values) }
+{}
+
+/// The derivations of every text can be counted: a list of symbols has no derivation in a level, one, or two different ones.
+pub fn each_text_is_counted()
+    ensures { (level : List (List Item)) (w : List ℕ) → Counted level w }
+{}
+
+/// The only derivation of a list of symbols has one option and one list of values, and beside it there are not two.
+pub fn one_derivation_is_alone()
+    ensures reading { (level : List (List Item)) (w : List ℕ) (option other : ℕ) (values others : List (List ℕ)) →
+        OneDerivation level w option values → OneDerivation level w other others → (option ≡ other) × (values ≡ others) }
+    ensures not_two { (level : List (List Item)) (w : List ℕ) (option : ℕ) (values : List (List ℕ)) →
+        OneDerivation level w option values → TwoDerivations level w → ⊥ }
 {}

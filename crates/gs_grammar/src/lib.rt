@@ -27,7 +27,8 @@ pub use fault::{OptFault, Why, WriteFault};
 pub use holding::holds;
 pub use item::Item;
 pub use laws::{
-    no_word_is_empty, what_is_written_is_derived, what_is_written_is_read, word_fixes_its_value,
+    each_text_is_counted, no_word_is_empty, one_derivation_is_alone, what_is_written_is_derived,
+    what_is_written_is_read, word_fixes_its_value,
 };
 pub use level::Level;
 pub use opt::Opt;

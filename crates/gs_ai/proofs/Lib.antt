@@ -1,0 +1,8 @@
+pub mod CodeOrder
+pub mod PartLemmas
+pub mod PartTexts
+pub mod RowLemmas
+pub mod RuleLemmas
+pub mod Searches
+pub mod StartLemmas
+pub mod TableLemmas

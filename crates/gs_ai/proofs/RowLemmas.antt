@@ -1,0 +1,70 @@
+-- What a row in order says of its code and its parts.
+use Rattle.std.proofs.Common.{◌≡◌, ℕ, ◌+◌, ◌*◌, ◌<◌, ◌≤◌, ◌&&◌, ◌-◌, not, take, nat_le, ◌==◌, Bool, true, false, List, [], ◌∷◌, length, arith, IsTrue, refl}
+use Rattle.std.specs.List.{list_all}
+use Rattle.std.proofs.lemmas.List.Sums.{sum_by-cons}
+use Rattle.std.proofs.lemmas.Bool.Decides.{nat_tests}
+use Rattle.gs_chars.specs.Characters.{are_digits}
+use Rattle.gs_ai.specs.declared.part.Part.{Part}
+use Rattle.gs_ai.specs.declared.part.Part.TheVariants.{Zero, Num, NumCheck, NumUpTo, Set, SetOpt, Date, Other}
+use Rattle.gs_ai.specs.declared.row.AiRow.{AiRow}
+use Rattle.gs_ai.specs.Parts.{is_part, is_open, greatest_length}
+use Rattle.gs_ai.specs.Values.{greatest_of}
+use Rattle.gs_ai.specs.Tables.{is_row, is_code, are_parts}
+
+pub and_left : (a b : Bool) → (a && b) ≡ true → a ≡ true
+and_left true b h = refl
+and_left false b h = h
+
+pub and_right : (a b : Bool) → (a && b) ≡ true → b ≡ true
+and_right true b h = h
+and_right false b h = absurd (let f : false ≡ true = h in cc)
+
+pub row_code : (row : AiRow) → is_row row ≡ true → is_code row.code ≡ true
+unfolding is_row
+row_code row h = and_left _ _ (and_left _ _ (and_left _ _ (and_left _ _ (and_left _ _ h))))
+
+pub row_parts : (row : AiRow) → is_row row ≡ true → are_parts row.parts ≡ true
+unfolding is_row
+row_parts row h = and_right _ _ (and_left _ _ (and_left _ _ (and_left _ _ (and_left _ _ h))))
+
+pub few : (parts : List Part) → are_parts parts ≡ true → length parts ≤ 3
+few parts h = let n : nat_le (length parts) 3 ≡ true = and_right _ _ (and_left _ _ (and_left _ _ h)) in grind (arith, nat_tests)
+
+pub listed : (parts : List Part) → are_parts parts ≡ true → list_all is_part parts ≡ true
+listed parts h = and_right _ _ (and_left _ _ h)
+
+pub code_digits : (code : List ℕ) → is_code code ≡ true → IsTrue (are_digits code)
+code_digits code h = and_left _ _ (and_left _ _ h)
+
+pub code_long : (code : List ℕ) → is_code code ≡ true → 2 ≤ length code
+code_long code h = let n : nat_le 2 (length code) ≡ true = and_right _ _ (and_left _ _ h) in grind (arith, nat_tests)
+
+pub code_short : (code : List ℕ) → is_code code ≡ true → length code ≤ 4
+code_short code h = let n : nat_le (length code) 4 ≡ true = and_right _ _ h in grind (arith, nat_tests)
+
+small_part : (p : Part) → is_part p ≡ true → greatest_length p ≤ 90
+small_part Zero h = omega arith
+small_part (Num k) h = grind (arith, nat_tests)
+small_part (NumCheck k) h = grind (arith, nat_tests)
+small_part (NumUpTo k) h = grind (arith, nat_tests)
+small_part (Set k) h = grind (arith, nat_tests)
+small_part (SetOpt k) h = grind (arith, nat_tests)
+small_part Date h = omega arith
+small_part Other h = omega arith
+
+pub small_parts : (parts : List Part) → list_all is_part parts ≡ true → greatest_of parts ≤ 90 * length parts
+small_parts [] h = omega arith
+small_parts (p ∷ ps) h =
+    let one = small_part p (and_left _ _ h) in
+    let others = small_parts ps (and_right _ _ h) in
+    let sum : greatest_of (p ∷ ps) ≡ greatest_length p + greatest_of ps = sum_by-cons greatest_length p ps in
+    omega arith
+
+pub judged : (parts : List Part) (r : Bool) → 0 < length parts → length parts ≤ 3 → list_all is_part parts ≡ true → r ≡ list_all (λ p. not (is_open p)) (take (length parts - 1) parts) → r ≡ are_parts parts
+judged parts r some few listed e =
+    let least : nat_le 1 (length parts) ≡ true = grind (arith, nat_tests) in
+    let most : nat_le (length parts) 3 ≡ true = grind (arith, nat_tests) in
+    rw (least, most, listed) e
+
+pub not_empty : {X : Type 0} (xs : List X) → false ≡ (length xs == 0) → 0 < length xs
+not_empty xs h = grind (arith, nat_tests)

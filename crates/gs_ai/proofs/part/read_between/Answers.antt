@@ -1,0 +1,18 @@
+use Rattle.gs_ai.proofs.PartTexts.{no_front, no_back, joined}
+use Rattle.gs_ai.proofs.part.read_between.Goals as goal
+
+pub returns-in_err-strip_prefix-clause-none : goal.returns-in_err-strip_prefix-clause-none
+returns-in_err-strip_prefix-clause-none c = rw c.from_residual.ensures (λ k low high e. no_front _ _ _ _ c.in_err-strip_prefix.ensures.cases e)
+
+pub returns-in_err-number-clause-none : goal.returns-in_err-number-clause-none
+returns-in_err-number-clause-none c =
+    let front = c.in_ok-strip_prefix.ensures.cases in
+    rw c.from_residual-in_err-number.ensures (λ k low high e. no_back _ _ _ _ _ front.1 c.in_err-number.ensures.cases e)
+
+pub returns-then-k-greatest-clause-read : goal.returns-then-k-greatest-clause-read
+returns-then-k-greatest-clause-read c =
+    let front = c.in_ok-strip_prefix.ensures.cases in
+    let back = c.in_ok-number.ensures.cases in
+    let middle = c.in_ok-k.ensures.read in
+    let whole = joined _ _ _ _ _ front.0 front.1 back.0 back.1 in
+    (c.if-least-k.true, c.if-k-greatest.true, rw middle.2 whole)

@@ -1,0 +1,4 @@
+pub mod Parts
+pub mod Predefined
+pub mod Tables
+pub mod Values

@@ -1,0 +1,35 @@
+ghost use Rattle.std.specs.Prelude.{◌≡◌};
+ghost use Rattle.gs_ai.specs.declared.faults.AiFault.TheVariants.{Memory as memory};
+
+use gs_chars::Memory;
+use std::alloc::{AllocError, AllocFailed};
+
+/// Why rows are no table. Rows are counted from 0.
+#[derive(Clone, Copy, Debug, PartialEq, Eq)]
+pub enum AiFault {
+    /// The row by itself is out of form, or lists a code that is not that of a qualifier.
+    BadAi(usize),
+    /// The code of the first row begins that of the second, a later one, or the other way round.
+    CodePrefix(usize, usize),
+    /// The row lists the code of a key as a qualifier.
+    KeyIsQualifier(usize),
+    /// The row's code has a predefined length, which the row does not keep.
+    PredefinedLength(usize),
+    /// Want of memory.
+    Memory,
+}
+
+/// Why a value is none of its application identifier.
+#[derive(Clone, Copy, Debug, PartialEq, Eq)]
+pub enum ValueFault {
+    /// No row has the code.
+    Unknown,
+    /// The value is too short or too long.
+    Length,
+    /// The character at this place is the first that may not stand there.
+    Char(usize),
+    /// The check digit is wrong.
+    Check,
+    /// The month or the day is out of range.
+    Date,
+}

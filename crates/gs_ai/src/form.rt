@@ -1,0 +1,105 @@
+ghost use Rattle.std.specs.Prelude.{◌≡◌, ◌≤◌, true, not, IsTrue, length, is_none};
+ghost use Rattle.std.specs.List.{list_all};
+ghost use Rattle.gs_ai.specs.Parts.{is_open, is_part};
+ghost use Rattle.gs_ai.specs.Tables.{is_code, are_parts, keeps_role, are_distinct, is_gtin, is_empty, is_row, keeps_predefined};
+ghost use Rattle.gs_ai.specs.Values.{parts_fault};
+
+use crate::part::{Part, Role};
+use crate::predefined::Predefined;
+use crate::row::AiRow;
+use crate::value::{are_digits, greatest_length_of, least_length_of, parts_ok};
+use gs_chars::Text;
+
+/// Whether the code is 2 to 4 digits.
+fn is_code(code: &[u8]) -> bool
+    ensures { result ≡ is_code code.now }
+{
+    are_digits(code) && 2 <= code.len() && code.len() <= 4
+}
+
+/// Whether no part is written with `..`.
+fn are_closed(parts: &[Part]) -> bool
+    ensures { result ≡ list_all (λ p. not (is_open p)) parts.now }
+{
+    parts.iter().all(|part| !part.is_open())
+}
+
+/// Whether each part is one of the list.
+fn are_listed(parts: &[Part]) -> bool
+    ensures { result ≡ list_all is_part parts.now }
+{
+    parts.iter().all(|part| part.is_listed())
+}
+
+/// Whether these are 1 to 3 parts of the list, of which none but the last is written with `..`.
+fn are_parts(parts: &[Part]) -> bool
+    ensures { result ≡ are_parts parts.now }
+{
+    if parts.is_empty() || parts.len() > 3 || !are_listed(parts) {
+        return false;
+    }
+    are_closed(&parts[..parts.len() - 1])
+}
+
+/// Whether no code stands twice.
+fn are_distinct(codes: &[Text]) -> bool
+    ensures { result ≡ are_distinct codes.now }
+{
+    let Some((code, others)) = codes.split_first() else {
+        return true;
+    };
+    !others.contains(code) && are_distinct(others)
+}
+
+/// Whether a key has no `none` text, and another row no qualifiers.
+fn keeps_role(row: &AiRow) -> bool
+    ensures { result ≡ keeps_role row.now }
+{
+    match row.role {
+        Role::Key => row.none.as_bytes().is_empty(),
+        Role::Qualifier | Role::Attribute => row.qualifiers.items().is_empty(),
+        Role::Other => false,
+    }
+}
+
+/// Whether the parts are 14 digits with a check digit.
+fn is_gtin(parts: &[Part]) -> bool
+    ensures { result ≡ is_gtin parts.now }
+{
+    match parts {
+        [Part::NumCheck(k)] => *k == 14,
+        _ => false,
+    }
+}
+
+/// Whether the row by itself is in order.
+#[tactic(auto, unfolding(crate::specs::Tables::is_row))]
+pub fn is_row(row: &AiRow) -> bool
+    ensures { result ≡ is_row row.now }
+{
+    let parts = row.parts.items();
+    let none = row.none.as_bytes();
+    is_code(row.code.as_bytes())
+        && are_parts(parts)
+        && keeps_role(row)
+        && are_distinct(row.qualifiers.items())
+        && (!row.short || is_gtin(parts))
+        && (none.is_empty() || parts_ok(parts, none).is_ok())
+}
+
+/// Whether code and value have the predefined length together, where the code's start has one.
+#[tactic(auto, unfolding(crate::specs::Tables::is_row, crate::specs::Tables::keeps_predefined))]
+pub fn keeps_predefined(predefined: &Predefined, row: &AiRow) -> bool
+    requires { is_row row.now ≡ true }
+    ensures { result ≡ keeps_predefined row.now }
+{
+    let parts = row.parts.items();
+    let code = row.code.as_bytes();
+    match predefined.length_of(code) {
+        Some(n) => {
+            let greatest = greatest_length_of(parts);
+            least_length_of(parts) == greatest && code.len() + greatest == n
+        }
+        None => true,
+    }
+}

@@ -1,0 +1,25 @@
+ghost use Rattle.std.specs.Prelude.{◌≡◌, IfOk};
+
+use gs_chars::{Memory, Text};
+use std::alloc::Global;
+
+/// An application identifier and its value.
+#[derive(Debug, Drop)]
+pub struct Pair {
+    /// The digits of the application identifier.
+    pub code: Text,
+    /// The value, as it stands in an element string.
+    pub value: Text,
+}
+
+impl Pair {
+    /// A pair of the same code and value. The one refusal is want of memory.
+    pub fn copy(&self, alloc: Global) -> Result<Pair, Memory>
+        ensures { IfOk result (λ pair. pair ≡ self.now) }
+    {
+        Ok(Pair {
+            code: Text::from_bytes(alloc, self.code.as_bytes())?,
+            value: Text::from_bytes(alloc, self.value.as_bytes())?,
+        })
+    }
+}

@@ -1,0 +1,19 @@
+use crate::part::{Part, Role};
+use gs_chars::{List, Text};
+
+/// A row of a table of application identifiers.
+#[derive(Debug, Drop)]
+pub struct AiRow {
+    /// The digits of the application identifier.
+    pub code: Text,
+    /// The parts of its value.
+    pub parts: List<Part>,
+    /// Its role in an identity.
+    pub role: Role,
+    /// The codes of the qualifiers of a key, in the order in which they stand in a link.
+    pub qualifiers: List<Text>,
+    /// Whether a link may have the value with 8, 12 or 13 digits in place of 14.
+    pub short: bool,
+    /// The value that stands for none, or the empty text where there is no such value.
+    pub none: Text,
+}

@@ -1,0 +1,122 @@
+ghost use Rattle.std.specs.Prelude.{◌≡◌, ◌≤◌, ◌++◌, take, length, position};
+ghost use Rattle.std.specs.List.{flat_map, enumerate_from, list_all, list_any};
+ghost use Rattle.gs_ai.specs.Tables.{clash, is_key_of, is_qualifier_of, row_faults, list_faults, table_faults, IsFirstFault};
+
+use crate::faults::AiFault;
+use crate::form::{is_row, keeps_predefined};
+use crate::predefined::Predefined;
+use crate::row::AiRow;
+use gs_chars::Text;
+
+/// Whether one of the two codes begins the other.
+#[tactic(auto, unfolding(crate::specs::Tables::clash))]
+fn clash(a: &[u8], b: &[u8]) -> bool
+    ensures { result ≡ clash a.now b.now }
+{
+    b.starts_with(a) || a.starts_with(b)
+}
+
+/// Whether a row of the role key has the code.
+fn is_key_of(rows: &[AiRow], code: &[u8]) -> bool
+    ensures { result ≡ is_key_of rows.now code.now }
+{
+    rows.iter().any(|row| code == row.code.as_bytes() && row.role.is_key())
+}
+
+/// Whether a row of the role qualifier has the code.
+fn is_qualifier_of(rows: &[AiRow], code: &[u8]) -> bool
+    ensures { result ≡ is_qualifier_of rows.now code.now }
+{
+    rows.iter().any(|row| code == row.code.as_bytes() && row.role.is_qualifier())
+}
+
+/// The index of the first row whose code clashes with this one.
+fn find_clash(earlier: &[AiRow], code: &[u8]) -> Option<usize>
+    ensures { result ≡ position (λ other. clash other.code code.now) earlier.now }
+{
+    earlier
+        .iter()
+        .position(|other| clash(other.code.as_bytes(), code))
+}
+
+/// Whether one of the codes is that of a key.
+fn lists_key(rows: &[AiRow], codes: &[Text]) -> bool
+    ensures { result ≡ list_any (is_key_of rows.now) codes.now }
+{
+    codes.iter().any(|code| is_key_of(rows, code.as_bytes()))
+}
+
+/// Whether all codes are those of qualifiers.
+fn lists_qualifiers(rows: &[AiRow], codes: &[Text]) -> bool
+    ensures { result ≡ list_all (is_qualifier_of rows.now) codes.now }
+{
+    codes
+        .iter()
+        .all(|code| is_qualifier_of(rows, code.as_bytes()))
+}
+
+/// The first fault of row `i` by itself and beside the earlier rows.
+fn check_row(
+    predefined: &Predefined,
+    i: usize,
+    earlier: &[AiRow],
+    row: &AiRow,
+) -> Result<(), AiFault>
+    ensures { IsFirstFault (row_faults i earlier.now row.now) result }
+{
+    if !is_row(row) {
+        return Err(AiFault::BadAi(i));
+    }
+    if let Some(j) = find_clash(earlier, row.code.as_bytes()) {
+        return Err(AiFault::CodePrefix(j, i));
+    }
+    if !keeps_predefined(predefined, row) {
+        return Err(AiFault::PredefinedLength(i));
+    }
+    Ok(())
+}
+
+/// The first fault of the codes that row `i` lists.
+#[tactic(auto, unfolding(crate::specs::Tables::list_faults))]
+fn check_list(rows: &[AiRow], i: usize, row: &AiRow) -> Result<(), AiFault>
+    ensures { IsFirstFault (list_faults rows.now i row.now) result }
+{
+    let codes = row.qualifiers.items();
+    if lists_key(rows, codes) {
+        return Err(AiFault::KeyIsQualifier(i));
+    }
+    if !lists_qualifiers(rows, codes) {
+        return Err(AiFault::BadAi(i));
+    }
+    Ok(())
+}
+
+/// The first fault of a row by itself and beside those before it.
+fn check_each_row(predefined: &Predefined, rows: &[AiRow]) -> Result<(), AiFault>
+    ensures { IsFirstFault (flat_map (λ row. row_faults row.0 (take row.0 rows.now) row.1)
+        (enumerate_from 0 rows.now)) result }
+{
+    for (i, row) in rows.iter().enumerate() {
+        check_row(predefined, i, &rows[..i], row)?;
+    }
+    Ok(())
+}
+
+/// The first fault of a list of qualifiers.
+fn check_each_list(rows: &[AiRow]) -> Result<(), AiFault>
+    ensures { IsFirstFault (flat_map (λ row. list_faults rows.now row.0 row.1)
+        (enumerate_from 0 rows.now)) result }
+{
+    for (i, row) in rows.iter().enumerate() {
+        check_list(rows, i, row)?;
+    }
+    Ok(())
+}
+
+/// The first fault of the rows.
+pub fn check_rows(predefined: &Predefined, rows: &[AiRow]) -> Result<(), AiFault>
+    ensures { IsFirstFault (table_faults rows.now) result }
+{
+    check_each_row(predefined, rows)?;
+    check_each_list(rows)
+}

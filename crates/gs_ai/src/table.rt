@@ -1,0 +1,169 @@
+ghost use Rattle.std.specs.Prelude.{◌≡◌, ◌≢◌, ◌<◌, ◌≤◌, ℕ, List, [], true, None, Some, OnOk, IfOk, IfErr, IfSome, IfNone, find, length, take, map, position, slice_get};
+ghost use Rattle.std.specs.Option.{option_and_then, option_copied};
+ghost use Rattle.gs_ai.specs.Predefined.{predefined_length};
+ghost use Rattle.gs_ai.specs.Tables.{table_faults, KeepsRules, ascending_codes, begins, is_key_of, is_row, row_at};
+ghost use Rattle.gs_ai.specs.Values.{has_code, value_fault};
+
+use crate::ascending::ascending_codes;
+use crate::codes::Codes;
+use crate::faults::{AiFault, ValueFault};
+use crate::predefined::Predefined;
+use crate::row::AiRow;
+use crate::rules::check_rows;
+use crate::value::parts_ok;
+use gs_chars::{List, Memory, Text};
+use std::alloc::Global;
+use std::marker::Model;
+
+/// A table of application identifiers, which contracts see as the list of its rows. Its rows keep the rules that
+/// `AiTable::new` asks for.
+#[derive(Drop)]
+pub struct AiTable {
+    rows: List<AiRow>,
+    codes: Codes,
+    ascending: List<Text>,
+    predefined: Predefined,
+}
+
+impl Model for AiTable {
+    ghost use Rattle.std.specs.Prelude.{◌≡◌, List, [], map};
+    ghost use Rattle.gs_ai.specs.declared.row.AiRow.{AiRow};
+    ghost use Rattle.gs_ai.specs.Tables.{KeepsRules, ascending_codes};
+
+    ghost Value = { List AiRow };
+
+    ghost view = { λ a. a.rows };
+
+    ghost invariant = { λ a. KeepsRules a.rows × (a.codes ≡ map (λ row. row.code) a.rows)
+        × (a.ascending ≡ ascending_codes a.rows) };
+}
+
+/// The codes of the rows, in their order.
+fn codes_of(alloc: Global, rows: &[AiRow]) -> Result<Codes, Memory>
+    requires { KeepsRules rows.now }
+    ensures { IfOk result (λ codes. codes ≡ map (λ row. row.code) rows.now) }
+{
+    let mut codes = Codes::new(alloc);
+    for row in rows {
+        codes.push(alloc, row.code.as_bytes())?;
+    }
+    Ok(codes)
+}
+
+impl AiTable {
+    /// The table of the rows, in their order. A refusal is the first of the faults of the rows: row by row `BadAi`,
+    /// `CodePrefix`, `PredefinedLength`, then row by row `KeyIsQualifier` and `BadAi` of the qualifiers that it lists.
+    /// `Memory` is want of memory, and may come in place of any answer.
+    pub fn new(alloc: Global, rows: Vec<AiRow>) -> Result<AiTable, AiFault>
+        ensures made { IfOk result (λ table. (table ≡ rows.items) × (table_faults rows.items ≡ [])) }
+        ensures refused { IfErr result (λ fault. fault ≢ AiFault.Memory
+            → slice_get (table_faults rows.items) 0 ≡ Some fault) }
+    {
+        let predefined = Predefined::new();
+        check_rows(&predefined, rows.as_slice())?;
+        let Ok(codes) = codes_of(alloc, rows.as_slice()) else {
+            return Err(AiFault::Memory);
+        };
+        let Ok(ascending) = ascending_codes(alloc, rows.as_slice()) else {
+            return Err(AiFault::Memory);
+        };
+        Ok(AiTable {
+            rows: List::from_vec(rows),
+            codes,
+            ascending: List::from_vec(ascending),
+            predefined,
+        })
+    }
+
+    /// The rows, in their order.
+    pub fn rows(&self) -> &[AiRow]
+        ensures rows { result.now ≡ self.now }
+        ensures kept { KeepsRules self.now }
+    {
+        self.rows.items()
+    }
+
+    /// The codes of the rows, in ascending order of their bytes.
+    pub fn codes(&self) -> &[Text]
+        ensures { result.now ≡ ascending_codes self.now }
+    {
+        self.ascending.items()
+    }
+
+    /// The index of the row with this code.
+    pub fn find(&self, code: &[u8]) -> Option<usize>
+        ensures row { result ≡ position (has_code code.now) self.now }
+        ensures within { IfSome result (λ row. row < length self.now) }
+        ensures kept { KeepsRules self.now }
+    {
+        self.codes.find(code)
+    }
+
+    /// The row with this code.
+    pub fn row_with(&self, code: &[u8]) -> Option<&AiRow>
+        ensures row { option_copied result ≡ find (has_code code.now) self.now }
+        ensures kept { IfSome result (λ row. is_row row.now ≡ true) }
+    {
+        let row = self.find(code)?;
+        Some(&self.rows.items()[row])
+    }
+
+    /// Whether the code is that of a key.
+    pub fn is_key(&self, code: &[u8]) -> bool
+        ensures { result ≡ is_key_of self.now code.now }
+    {
+        let _ = &self.rows;
+        match self.row_with(code) {
+            Some(row) => row.role.is_key(),
+            None => false,
+        }
+    }
+
+    /// The index of the row whose code begins the text. At most one row's code does.
+    pub fn begins(&self, text: &[u8]) -> Option<usize>
+        ensures row { result ≡ row_at self.now text.now }
+        ensures within { IfSome result (λ row. row < length self.now) }
+    {
+        let _ = &self.rows;
+        for n in 2..5 {
+            if n <= text.len() {
+                let found = self.find(&text[..n]);
+                if found.is_some() {
+                    return found;
+                }
+            }
+        }
+        None
+    }
+
+    /// The length of code and value together, where the first two digits of the row's code are in the list of predefined
+    /// lengths (GS1 General Specifications, figure 7.8.5-2).
+    pub fn predefined(&self, row: usize) -> Option<usize>
+        requires { row < length self.now }
+        ensures { result ≡ option_and_then (λ r. predefined_length r.code) (slice_get self.now row) }
+    {
+        self.predefined
+            .length_of(self.rows.items()[row].code.as_bytes())
+    }
+
+    /// Whether the value is one of the application identifier with this code, and the first fault if it is not: `Unknown`,
+    /// `Length`, `Char`, `Check`, `Date`, in this order.
+    pub fn value_ok(&self, code: &[u8], value: &[u8]) -> Result<(), ValueFault>
+        ensures ok { OnOk result (value_fault self.now code.now value.now ≡ None) }
+        ensures fault { IfErr result (λ e. value_fault self.now code.now value.now ≡ Some e) }
+    {
+        match self.row_with(code) {
+            Some(row) => parts_ok(row.parts.items(), value),
+            None => Err(ValueFault::Unknown),
+        }
+    }
+}
+
+/// At most one row of a table has a code that begins a text.
+pub fn one_code_begins(table: &AiTable)
+    ensures { (text : List ℕ) (i j : ℕ) → (a b : AiRow)
+        → slice_get table.now i ≡ Some a → slice_get table.now j ≡ Some b
+        → begins a.code text ≡ true → begins b.code text ≡ true → i ≡ j }
+{
+    let _ = &table.rows;
+}

@@ -1,0 +1,49 @@
+-- The first fault of an object, entry by entry and name by name.
+use Rattle.std.proofs.Common.{◌≡◌, ℕ, ◌+◌, ◌<◌, ◌≤◌, false, List, [], ◌∷◌, ◌++◌, length, get_or, drop, map, Option, Some, Result, Ok, Err, String, Global, string_bytes, refl, sym, ap, ◌∙◌}
+use Rattle.std.specs.List.{flat_map}
+use Rattle.std.specs.Map.{keys_of}
+use Rattle.std.proofs.lemmas.List.{drop_all, drop_more}
+use Rattle.serde_json.specs.Data.{Members}
+use Rattle.serde_json.specs.View.{members_view}
+use Rattle.serde_json.specs.declared.value.Value.{Value as Tree}
+use Rattle.gs_json.specs.Answers.{OrMemory}
+use Rattle.gs_json.specs.Places.{member_place}
+use Rattle.gs_json.specs.Shapes.{entry_faults, first_fault, is_named, members_faults, unknown_among, unknown_faults}
+use Rattle.gs_json.specs.declared.fault.JsonFault.{JsonFault}
+use Rattle.gs_json.specs.declared.fault.JsonFault.TheVariants.{Syntax, Lacks, Kind, Unknown, Memory}
+use Rattle.gs_json.specs.declared.plan.Entry.{Entry}
+use Rattle.gs_json.proofs.Looked.{names_are_keys}
+
+module _ (place : List ℕ) (plan : List Entry) (entries : List (String Global × Tree)) (start left : List (String Global)) (all : start ≡ keys_of entries)
+  (so_far : unknown_among plan (map string_bytes start) ≡ unknown_among plan (map string_bytes left)) where
+  pub unknown_here : (key : String Global) (next : List (String Global)) → left ≡ key ∷ next → is_named plan (string_bytes key) ≡ false
+      → Err (Unknown (member_place place (string_bytes key))) ≡ first_fault (unknown_faults place plan (members_view entries))
+  unknown_here key next e named = rw (names_are_keys entries, ← all, so_far, e, named) refl
+
+  pub all_known : left ≡ [] → Ok tt ≡ first_fault (unknown_faults place plan (members_view entries))
+  all_known e = rw (names_are_keys entries, ← all, so_far, e) refl
+
+first_stays : (fault : JsonFault) (faults more : List JsonFault) → Err fault ≡ first_fault faults → Err fault ≡ first_fault (faults ++ more)
+first_stays fault [] more h = cc h
+first_stays fault (first ∷ faults) more h = h
+
+-- a fault stays the first where more come behind it
+pub fault_stays : (fault : JsonFault) (faults more : List JsonFault) → OrMemory {X = Unit {0}} (Err fault) (first_fault faults) → OrMemory {X = Unit {0}} (Err fault) (first_fault (faults ++ more))
+fault_stays Syntax faults more h = first_stays Syntax faults more h
+fault_stays (Lacks at) faults more h = first_stays (Lacks at) faults more h
+fault_stays (Kind at) faults more h = first_stays (Kind at) faults more h
+fault_stays (Unknown at) faults more h = first_stays (Unknown at) faults more h
+fault_stays Memory faults more h = tt
+
+pub no_first : (faults : List JsonFault) → Ok tt ≡ first_fault faults → faults ≡ []
+no_first [] h = refl
+no_first (fault ∷ faults) h = cc h
+
+-- the faults of the entries from one on
+pub entries_from : (faults : Entry → List JsonFault) (plan : List Entry) (i : ℕ) (entry : Entry) → i < length plan → entry ≡ get_or plan i entry
+    → flat_map faults (drop i plan) ≡ faults entry ++ flat_map faults (drop (i + 1) plan)
+entries_from faults plan i entry within here =
+    ap (flat_map faults) (drop_more plan i entry within) ∙ ap (λ e. faults e ++ flat_map faults (drop (i + 1) plan)) (sym here)
+
+pub entries_end : (faults : Entry → List JsonFault) (plan : List Entry) (i : ℕ) → length plan ≤ i → flat_map faults (drop i plan) ≡ []
+entries_end faults plan i h = ap (flat_map faults) (drop_all i plan h)

@@ -1,0 +1,4 @@
+pub mod Fitted
+pub mod Judged
+pub mod Looked
+pub mod Walked

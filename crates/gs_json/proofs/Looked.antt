@@ -1,0 +1,80 @@
+-- What a look-up in a tree finds.
+use Rattle.std.proofs.Common.{◌≡◌, ℕ, zero, suc, ◌+◌, ◌<◌, List, [], ◌∷◌, ◌++◌, length, get_or, map, Option, Some, None, option_map, Result, Ok, Err, String, Global, Equal, string_bytes, nat_cmp, is_eq, bytes_eq, BTreeMap, Bor, Vec, refl, subst, sym, ap, ◌∙◌, arith}
+use Rattle.std.proofs.lemmas.Map.Text.{is_eq-slice_cmp}
+use Rattle.std.proofs.lemmas.Slice.Eq.{bytes_eq-Decides}
+use Rattle.std.proofs.lemmas.Str.{IsUtf8-had}
+use Rattle.std.specs.Prelude.{IsUtf8}
+use Rattle.std.specs.BTreeMap.{get_by, is_at}
+use Rattle.std.specs.Cmp.Lexicographic.{slice_cmp}
+use Rattle.std.specs.Map.{keys_of, lookup}
+use Rattle.serde_json.specs.Data.{Data, Items, Members, null, boolean, number, string, array, object}
+use Rattle.serde_json.specs.Events.{items_len}
+use Rattle.serde_json.specs.Find.{as_array, as_object, at, get_item, get_member}
+use Rattle.serde_json.specs.View.{view, items_view, members_view}
+use Rattle.serde_json.specs.declared.value.Value.{Value as Tree}
+use Rattle.serde_json.proofs.Views.{get_item_within, items_len-items_view, member_later, view-lookup}
+use Rattle.gs_json.specs.Answers.{asked, count_of, items_count, member_at, names_of, names_of_members}
+use Rattle.gs_json.specs.Places.{member_place}
+use Rattle.gs_json.specs.declared.fault.JsonFault.{JsonFault}
+
+-- the items of an array
+pub counted : (d : Data) (items : List Tree) → Some (items_view items) ≡ as_array d → count_of d ≡ Some (length items)
+counted d items h = ap (option_map items_len) (sym h) ∙ ap Some (items_len-items_view items)
+
+pub count_is : (d : Data) (items : List Tree) → Some (items_view items) ≡ as_array d → items_count d ≡ length items
+count_is d items h = rw (counted d items h) refl
+
+at_array : (d : Data) (i : ℕ) (items : Items) → Some items ≡ as_array d → at i d ≡ get_item i items
+at_array null i items h = cc h
+at_array (boolean b) i items h = cc h
+at_array (number n) i items h = cc h
+at_array (string s) i items h = cc h
+at_array (array ds) i items h = let same : ds ≡ items = cc in ap (get_item i) same
+at_array (object ms) i items h = cc h
+
+pub item_found : (d : Data) (items : List Tree) (i : ℕ) (e : Tree) → Some (items_view items) ≡ as_array d → i < length items
+    → Some (view (get_or items i e)) ≡ at i d
+item_found d items i e h within = get_item_within items i e within ∙ sym (at_array d i (items_view items) h)
+
+-- two texts that compare as equal are one
+pub same_text : (a b : List ℕ) → slice_cmp nat_cmp a b ≡ Equal → a ≡ b
+same_text a b h = (bytes_eq-Decides a b).0 (sym (is_eq-slice_cmp a b) ∙ ap is_eq h)
+
+-- the member that a map has
+pub member_found : (entries : List (String Global × Tree)) (name : List ℕ) (found : Option Tree)
+    → found ≡ lookup (is_at (λ k. slice_cmp nat_cmp name (string_bytes k))) entries
+    → get_member name (members_view entries) ≡ option_map view found
+member_found entries name found h = sym (ap (option_map view) h ∙ view-lookup name entries)
+
+pub maybe_some : (d : Data) (place name key : List ℕ) (entries : List (String Global × Tree)) (v : Tree)
+    → Some (members_view entries) ≡ as_object d → slice_cmp nat_cmp name key ≡ Equal
+    → Some v ≡ lookup (is_at (λ k. slice_cmp nat_cmp name (string_bytes k))) entries
+    → Ok (Some (view v, member_place place key)) ≡ asked place (option_map (member_at place name) (as_object d))
+maybe_some d place name key entries v h same found =
+    let one : name ≡ key = same_text name key same in
+    rw (← h, member_found entries name (Some v) found, one) refl
+
+pub maybe_none : (d : Data) (place name : List ℕ) (entries : List (String Global × Tree))
+    → Some (members_view entries) ≡ as_object d
+    → None ≡ lookup (is_at (λ k. slice_cmp nat_cmp name (string_bytes k))) entries
+    → Ok None ≡ asked place (option_map (member_at place name) (as_object d))
+maybe_none d place name entries h found =
+    rw (← h, member_found entries name None found) refl
+
+-- the names of the members are the keys
+pub names_are_keys : (entries : List (String Global × Tree)) → names_of_members (members_view entries) ≡ map string_bytes (keys_of entries)
+names_are_keys [] = refl
+names_are_keys (e ∷ entries) = ap (λ names. string_bytes e.0 ∷ names) (names_are_keys entries)
+
+pub names_found : (d : Data) (place : List ℕ) (entries : List (String Global × Tree)) (names : List (List ℕ))
+    → Some (members_view entries) ≡ as_object d → names ≡ map string_bytes (keys_of entries)
+    → Ok names ≡ asked place (names_of d)
+names_found d place entries names h e = rw (← h, names_are_keys entries, e) refl
+
+-- each key is UTF-8, so there is no member of a name that is not
+pub no_such_member : (entries : List (String Global × Tree)) (name : List ℕ) → (IsUtf8 name → ⊥) → None ≡ get_member name (members_view entries)
+no_such_member [] name h = refl
+no_such_member (e ∷ entries) name h =
+    let P : List ℕ → Type 0 = λ text. IsUtf8 text in
+    let other : name ≡ string_bytes e.0 → ⊥ = λ same. h (subst P (sym same) (IsUtf8-had (string_bytes e.0) e.0.ok)) in
+    no_such_member entries name h ∙ sym (member_later name e entries other)

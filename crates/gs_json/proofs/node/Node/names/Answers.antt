@@ -1,0 +1,7 @@
+use Rattle.std.proofs.Common.{◌≡◌, ◌∙◌, ap, map}
+use Rattle.gs_json.proofs.Looked.{names_found}
+use Rattle.gs_json.proofs.node.Node.names.Goals as goal
+
+pub returns : goal.returns
+returns c =
+    rw (← c.self.view_is) (names_found _ _ _ _ c.in-Some.ensures (ap (map (λ name. name.now)) c.from_vec.ensures ∙ c.in_ok-keys_of.ensures))

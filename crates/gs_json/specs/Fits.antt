@@ -1,0 +1,19 @@
+-- The answer to a member by how it fits. No contract of a public call names it.
+use Rattle.std.specs.Prelude.{ℕ, Bool, if◌then◌else◌, List, Option, Some, None, Result, Ok, Err}
+use Rattle.gs_json.specs.Places.{item_place}
+use Rattle.gs_json.specs.declared.fault.JsonFault.{JsonFault}
+use Rattle.gs_json.specs.declared.fault.JsonFault.TheVariants.{Kind}
+use Rattle.gs_json.specs.declared.fit.Fit.{Fit}
+use Rattle.gs_json.specs.declared.fit.Fit.TheVariants as fit
+
+abbrev pub fit_answer : List ℕ → Fit → Result Unit JsonFault
+fit_answer place fit.Whole = Ok tt
+fit_answer place fit.Not = Err (Kind place)
+fit_answer place (fit.AllBut i) = Err (Kind (item_place place i))
+
+abbrev pub fit_if : Bool → Fit
+fit_if fits = if fits then fit.Whole else fit.Not
+
+abbrev pub fit_but : Option ℕ → Fit
+fit_but (Some i) = fit.AllBut i
+fit_but None = fit.Whole

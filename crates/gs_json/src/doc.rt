@@ -1,0 +1,53 @@
+ghost use Rattle.std.specs.Prelude.{◌≡◌, ◌⊎◌, Some, None, Err, IfOk, IfErr, IsUtf8, []};
+ghost use Rattle.serde_json.specs.Read.{read as read_text};
+ghost use Rattle.serde_json.specs.View.{view};
+
+use crate::fault::JsonFault;
+use crate::node::Node;
+use serde_json::Value;
+use std::alloc::Global;
+use std::marker::Model;
+
+/// A JSON document. Contracts see its tree, which is that of the crate `serde_json`.
+#[derive(Drop)]
+pub struct Doc {
+    tree: Value,
+}
+
+impl Model for Doc {
+    ghost use Rattle.serde_json.specs.declared.value.Value.{Value as Tree};
+
+    ghost use Rattle.serde_json.specs.contracts.value.Value as e;
+    ghost use Rattle.std.specs.Coded.{codes};
+
+    ghost Value = { Tree };
+
+    ghost coded = { Prim.hlevel (codes, e.the_row.coded) };
+
+    ghost view = { λ d. d.tree };
+}
+
+impl Doc {
+    /// The document that the bytes are (RFC 8259). `Syntax` comes exactly where they are no JSON text that `serde_json`
+    /// reads: also where they are no UTF-8, where a number is beyond a double, and where arrays and objects nest more than
+    /// 127 deep. Of members with one name the last one stays.
+    pub fn parse(alloc: Global, bytes: &[u8]) -> Result<Doc, JsonFault>
+        ensures read { IfOk result (λ doc. IsUtf8 bytes.now × (read_text bytes.now ≡ Some (view doc))) }
+        ensures syntax { result ≡ Err (JsonFault.Syntax) → IsUtf8 bytes.now → read_text bytes.now ≡ None }
+        ensures only { IfErr result (λ e. (e ≡ JsonFault.Syntax) ⊎ (e ≡ JsonFault.Memory)) }
+    {
+        match Value::from_slice(alloc, bytes) {
+            Ok(tree) => Ok(Doc { tree }),
+            Err(fault) if fault.is_memory() => Err(JsonFault::Memory),
+            Err(_) => Err(JsonFault::Syntax),
+        }
+    }
+
+    /// The whole document, at the empty place.
+    pub fn root(&self, alloc: Global) -> Node<'_>
+        ensures tree { result.tree ≡ self.now }
+        ensures place { result.place ≡ [] }
+    {
+        Node::of_root(alloc, &self.tree)
+    }
+}

@@ -1,0 +1,70 @@
+ghost use Rattle.std.specs.Prelude.{◌≡◌, ℕ, List, option_map, slice_get};
+ghost use Rattle.serde_json.specs.Find.{as_object, get_member};
+ghost use Rattle.serde_json.specs.View.{view, items_view, members_view};
+ghost use Rattle.gs_json.specs.Answers.{OrMemory, names_of_members};
+ghost use Rattle.gs_json.specs.Shapes.{entry_faults, failing_from, first_fault, is_array, is_named, is_text, members_faults, sort_faults, unknown_faults};
+
+use crate::fault::JsonFault;
+use crate::fit::{Fit, fit_of};
+use crate::place::Place;
+use crate::plan::Entry;
+use serde_json::{Map, Value};
+use std::alloc::Global;
+
+/// Judges what stands at a place by a plan, and answers its first fault.
+pub(crate) fn judge(alloc: Global, value: &Value, place: &Place<'_>, plan: &[Entry]) -> Result<(), JsonFault>
+    ensures { OrMemory result (first_fault (members_faults place.now plan.now (as_object (view value.now)))) }
+{
+    let Some(map) = value.as_object() else {
+        return Err(JsonFault::Kind(place.text(alloc)?));
+    };
+    for entry in plan {
+        judge_member(alloc, map, place, entry)?;
+    }
+    judge_names(alloc, map, place, plan)
+}
+
+/// Judges the member of an entry's name.
+fn judge_member(alloc: Global, map: &Map<String, Value>, place: &Place<'_>, entry: &Entry) -> Result<(), JsonFault>
+    ensures { OrMemory result (first_fault (entry_faults place.now (members_view map.now.entries) entry.now)) }
+{
+    let name = entry.name.as_bytes();
+    match member_named(map, name) {
+        Some(value) => match fit_of(value, entry.sort) {
+            Fit::Whole => Ok(()),
+            Fit::Not => Err(JsonFault::Kind(place.member_text(alloc, name)?)),
+            Fit::AllBut(i) => Err(JsonFault::Kind(place.member_item_text(alloc, name, i)?)),
+        },
+        None if entry.required => Err(JsonFault::Lacks(place.member_text(alloc, name)?)),
+        None => Ok(()),
+    }
+}
+
+/// The member of a name. The names of members are UTF-8, so that there is none of another name.
+fn member_named<'v>(map: &'v Map<String, Value>, name: &[u8]) -> Option<&'v Value>
+    ensures { option_map (λ v. view v.now) result ≡ get_member name.now (members_view map.now.entries) }
+{
+    match str::from_utf8(name) {
+        Ok(name) => map.get(name),
+        Err(_) => None,
+    }
+}
+
+/// Judges the names of the members, of which the plan must name each.
+fn judge_names(alloc: Global, map: &Map<String, Value>, place: &Place<'_>, plan: &[Entry]) -> Result<(), JsonFault>
+    ensures { OrMemory result (first_fault (unknown_faults place.now plan.now (members_view map.now.entries))) }
+{
+    for name in map.keys() {
+        if !names(plan, name.as_bytes()) {
+            return Err(JsonFault::Unknown(place.member_text(alloc, name.as_bytes())?));
+        }
+    }
+    Ok(())
+}
+
+/// Whether a plan names a member.
+fn names(plan: &[Entry], name: &[u8]) -> bool
+    ensures { result ≡ is_named plan.now name.now }
+{
+    plan.iter().any(|entry| entry.name.as_bytes() == name)
+}

@@ -1,0 +1,103 @@
+-- Answers to some of the lines of an input.
+use Rattle.std.proofs.Common.{◌≡◌, ℕ, ◌||◌, Bool, true, false, List, [], ◌∷◌, ◌++◌, length, take, refl, sym, ◌∙◌, ap, arith, append_assoc, append-nil}
+use Rattle.std.specs.List.{list_any}
+use Rattle.std.proofs.lemmas.List.{take_all}
+use Rattle.std.proofs.lemmas.List.Folds.{list_any-append}
+use Rattle.std.proofs.lemmas.List.Concat.{flat_map-append}
+use Rattle.tdl.specs.declared.answer.Answer.{Answer}
+use Rattle.tdl.specs.Answers.{IsAnswer, printed, is_refused}
+use Rattle.tdl.specs.Lines.{lines_of, text_of}
+use Rattle.tdl.specs.Outputs.{AnswersEach, no_line, one_line, printed_lines, AnswersAll, AnswersFront, BeginsAnswers}
+
+-- lines and more lines have their answers
+each-append : (lines more : List (List ℕ)) (answers others : List Answer) → AnswersEach lines answers → AnswersEach more others → AnswersEach (lines ++ more) (answers ++ others)
+each-append [] more [] others no_line b = b
+each-append [] more (answer ∷ answers) others a b = elim a [ ]
+each-append (line ∷ lines) more [] others a b = elim a [ ]
+each-append (line ∷ lines) more (answer ∷ answers) others (one_line _ _ _ _ first rest) b = one_line line answer (lines ++ more) (answers ++ others) first (each-append lines more answers others rest b)
+
+printed_lines-append : (answers others : List Answer) → printed_lines (answers ++ others) ≡ printed_lines answers ++ printed_lines others
+printed_lines-append answers others = flat_map-append printed answers others
+
+-- nothing was done at the start
+pub front_start : (bytes before : List ℕ) → AnswersFront bytes bytes before before false
+front_start bytes before = record { lines = []; answers = []; split = refl; each = no_line; written = sym (append-nil before); any_refused = refl }
+
+-- one part was done after another
+pub front_join : (bytes mid rest a b c : List ℕ) (first second : Bool) → AnswersFront bytes mid a b first → AnswersFront mid rest b c second → AnswersFront bytes rest a c (first || second)
+front_join bytes mid rest a b c first second x y = record {
+  lines = x.lines ++ y.lines;
+  answers = x.answers ++ y.answers;
+  split = x.split ∙ ap (λ ls. x.lines ++ ls) y.split ∙ sym (append_assoc x.lines y.lines (lines_of rest));
+  each = each-append x.lines y.lines x.answers y.answers x.each y.each;
+  written = y.written ∙ ap (λ w. w ++ printed_lines y.answers) x.written ∙ append_assoc a (printed_lines x.answers) (printed_lines y.answers) ∙ ap (λ w. a ++ w) (sym (printed_lines-append x.answers y.answers));
+  any_refused = ap (λ r. r || second) x.any_refused ∙ ap (λ r. list_any is_refused x.answers || r) y.any_refused ∙ sym (list_any-append is_refused x.answers y.answers);
+}
+
+or_false : (b : Bool) → b ≡ (b || false)
+or_false true = refl
+or_false false = refl
+
+-- one line was done
+pub front_line : (rest behind line before now : List ℕ) (answer : Answer) → lines_of rest ≡ line ∷ lines_of behind → IsAnswer (text_of line) answer → now ≡ before ++ printed answer → AnswersFront rest behind before now (is_refused answer)
+front_line rest behind line before now answer split is written = record {
+  lines = line ∷ [];
+  answers = answer ∷ [];
+  split = split;
+  each = one_line line answer [] [] is no_line;
+  written = written ∙ ap (λ w. before ++ w) (sym (append-nil (printed answer)));
+  any_refused = or_false (is_refused answer);
+}
+
+-- one line more was done
+pub front_more : (bytes rest behind line text before now after : List ℕ) (answer : Answer) (refused done all : Bool) → AnswersFront bytes rest before now refused → lines_of rest ≡ line ∷ lines_of behind → text ≡ text_of line → IsAnswer text answer → after ≡ now ++ printed answer → done ≡ is_refused answer → all ≡ (refused || done) → AnswersFront bytes behind before after all
+front_more bytes rest behind line text before now after answer refused done all x split same is written d a =
+    let answered : IsAnswer (text_of line) answer = rw same at is in
+    let more : AnswersFront rest behind now after (is_refused answer) = front_line rest behind line now after answer split answered written in
+    let joined : AnswersFront bytes behind before after (refused || is_refused answer) = front_join bytes rest behind before now after refused (is_refused answer) x more in
+    let is_all : all ≡ (refused || is_refused answer) = a ∙ ap (λ (b : Bool). refused || b) d in
+    rw is_all joined
+
+-- what is done where nothing is left is all
+pub front_all : (bytes rest output : List ℕ) (refused : Bool) → rest ≡ [] → AnswersFront bytes rest [] output refused → AnswersAll bytes output refused
+front_all bytes rest output refused none x = record {
+  answers = x.answers;
+  each = rw x.split (rw none (rw (append-nil x.lines) x.each));
+  written = x.written;
+  any_refused = x.any_refused;
+}
+
+-- what was done, and what was written of it, begins the answers
+pub front_begins : (bytes rest output : List ℕ) (refused : Bool) (n : ℕ) → AnswersFront bytes rest [] output refused → BeginsAnswers bytes (take n output)
+front_begins bytes rest output refused n x = record {
+  lines = x.lines;
+  others = lines_of rest;
+  first = x.split;
+  answers = x.answers;
+  each = x.each;
+  len = n;
+  front = ap (take n) x.written;
+}
+
+pub all_begins : (bytes output : List ℕ) (refused : Bool) → AnswersAll bytes output refused → BeginsAnswers bytes output
+all_begins bytes output refused x = record {
+  lines = lines_of bytes;
+  others = [];
+  first = sym (append-nil (lines_of bytes));
+  answers = x.answers;
+  each = x.each;
+  len = length output;
+  front = sym (take_all (length output) output (omega arith)) ∙ ap (take (length output)) x.written;
+}
+
+-- a front of the answers to bytes whose lines come first among others is one of those too
+pub begins_more : (bytes more output : List ℕ) (others : List (List ℕ)) → lines_of more ≡ lines_of bytes ++ others → BeginsAnswers bytes output → BeginsAnswers more output
+begins_more bytes more output others e x = record {
+  lines = x.lines;
+  others = x.others ++ others;
+  first = e ∙ ap (λ ls. ls ++ others) x.first ∙ append_assoc x.lines x.others others;
+  answers = x.answers;
+  each = x.each;
+  len = x.len;
+  front = x.front;
+}

@@ -1,0 +1,10 @@
+pub mod Options
+pub mod Meanings
+pub mod Answers
+pub mod Lines
+pub mod Commands
+pub mod Statuses
+pub mod Outputs
+pub mod Gathered
+pub mod Answering
+pub mod Runs

@@ -1,0 +1,174 @@
+ghost use Rattle.std.specs.Prelude.{◌≡◌, ◌≢◌, ℕ, ◌<◌, ◌≤◌, ◌^◌, ◌||◌, ◌++◌, List, [], Some, IfOk, length};
+ghost use Rattle.gs_port.specs.Counts.{Rises};
+ghost use Rattle.tdl.specs.Options.{pure_form};
+ghost use Rattle.tdl.specs.Outputs.{AnswersEnded, AnswersFront, AnswersInput, Appends, BeginsAnswers, answered_part};
+ghost use Rattle.tdl.specs.Answering.{OnSinkFault, OfLines, OfStatus, status_of_end};
+ghost use Rattle.tdl.specs.Statuses.{OnAnswered, OnCutShort, OnInputLong, OnLinesWritten, OnReadFault, OnWriteFault};
+
+use crate::answer::{answer_text, print_answer};
+use crate::gathering::{End, gather, part};
+use crate::level::pure_level;
+use crate::lines::{first_line, without_return};
+use crate::status::Status;
+use gs_chars::Memory;
+use gs_grammar::Level;
+use gs_port::{Sink, Source, Whole, write_whole};
+use std::alloc::Global;
+
+/// How many bytes of answers are handed to the output at a time, and those of one answer more.
+const BLOCK: usize = 65536;
+
+/// What is left of the bytes, and whether an answer is a refusal.
+#[derive(Clone, Copy)]
+struct Answered<'a> {
+    rest: &'a [u8],
+    refused: bool,
+}
+
+/// Whether one of two holds.
+fn either(a: bool, b: bool) -> bool
+    ensures { result ≡ (a || b) }
+{
+    a || b
+}
+
+/// Adds the answers to the first lines, until they are a block or nothing is left.
+fn answer_block<'a>(
+    alloc: Global,
+    level: &Level,
+    bytes: &'a [u8],
+    out: &mut Vec<u8>,
+) -> Result<Answered<'a>, Memory>
+    requires some { 0 < length bytes.now }
+    requires level { level.now ≡ pure_form }
+    ensures front { IfOk result (λ a. AnswersFront bytes.now a.rest.now out.old.items out.new.items a.refused) }
+    ensures shorter { IfOk result (λ a. length a.rest.now < length bytes.now) }
+{
+    let mut rest = bytes;
+    let mut refused = false;
+    loop {
+        let (line, behind) = first_line(rest);
+        let answer = answer_text(alloc, level, without_return(line))?;
+        print_answer(out, &answer)?;
+        refused = either(refused, answer.is_refused());
+        rest = behind;
+        if rest.is_empty() || out.len() >= BLOCK {
+            return Ok(Answered { rest, refused });
+        }
+    }
+}
+
+/// How the answering of lines ended.
+#[derive(Clone, Copy, Debug, PartialEq, Eq)]
+enum Answering {
+    /// All lines were answered, and an answer is a refusal or not.
+    Whole { refused: bool },
+    /// A fault of the output was counted.
+    SinkFault,
+    /// Memory ran out.
+    Memory,
+}
+
+/// Writes the answers to the lines of the bytes.
+fn write_answers<K: Sink>(alloc: Global, level: &Level, bytes: &[u8], output: &mut K) -> Answering
+    requires { level.now ≡ pure_form }
+    ensures written { Appends (K.held output.old) (K.held output.new) (λ out. OfLines bytes.now out result) }
+    ensures fault { OnSinkFault result (Rises (K.faults output.old) (K.faults output.new)) }
+    ensures counts { K.faults output.old ≤ K.faults output.new }
+{
+    let mut out = Vec::new(alloc);
+    let mut rest = bytes;
+    let mut refused = false;
+    while !rest.is_empty() {
+        let Ok(block) = answer_block(alloc, level, rest, &mut out) else {
+            return Answering::Memory;
+        };
+        match write_whole(output, out.as_slice()) {
+            Whole::Done => {}
+            Whole::SinkFault => return Answering::SinkFault,
+            Whole::Memory => return Answering::Memory,
+        }
+        out.clear();
+        refused = either(refused, block.refused);
+        rest = block.rest;
+    }
+    Answering::Whole { refused }
+}
+
+/// The status after the lines of what was gathered were answered.
+fn status_after(end: End, answering: Answering) -> Status
+    ensures { result ≡ status_of_end end answering }
+{
+    match (end, answering) {
+        (_, Answering::SinkFault) => Status::WriteFault,
+        (_, Answering::Memory) => Status::Memory,
+        (End::Fault, Answering::Whole { refused: _ }) => Status::ReadFault,
+        (End::Long, Answering::Whole { refused: _ }) => Status::InputLong,
+        (End::Whole, Answering::Whole { refused: true }) => Status::SomeRefused,
+        (End::Whole, Answering::Whole { refused: false }) => Status::Done,
+    }
+}
+
+/// Answers the lines of what was gathered, and writes the answers.
+fn answer_gathered<K: Sink>(
+    alloc: Global,
+    end: End,
+    limit: u64,
+    bytes: &[u8],
+    output: &mut K,
+) -> Status
+    requires long { end ≡ End.Long → limit < length bytes.now }
+    ensures written { Appends (K.held output.old) (K.held output.new) (λ out. OfStatus limit end bytes.now out result) }
+    ensures fault { OnWriteFault result (Rises (K.faults output.old) (K.faults output.new)) }
+    ensures counts { K.faults output.old ≤ K.faults output.new }
+{
+    let Ok(level) = pure_level(alloc) else {
+        return Status::Memory;
+    };
+    status_after(
+        end,
+        write_answers(alloc, &level, part(end, limit, bytes), output),
+    )
+}
+
+/// Answers each line of the input: `ok LINK`, the canonical link of what the line names, or `no REASON`, each with a line
+/// feed. A line goes up to a line feed or to the end of the input, and loses one carriage return at its end. At most
+/// `limit` bytes are answered, those of the lines that end within them where the input has more.
+///
+/// `ReadFault` comes only where the input's count of faults rose in this call; the lines that had ended are answered then.
+/// `WriteFault` comes only where the output's count rose. `InputLong` comes exactly where more than `limit` bytes were
+/// taken. After each of these and after `Memory`, what was written is a front of the answer lines.
+pub fn answer_lines<S: Source, K: Sink>(
+    alloc: Global,
+    input: &mut S,
+    output: &mut K,
+    limit: u64,
+) -> Status
+    requires { limit < 2 ^ 63 }
+
+    // All answers and the status, whatever count rose.
+    ensures written { OnLinesWritten result ((bytes : List ℕ) → S.left input.old ≡ Some bytes →
+        Appends (K.held output.old) (K.held output.new) (λ out. AnswersInput limit bytes out result)) }
+    ensures read_to_end { OnAnswered result ((rest : List ℕ) → S.left input.new ≡ Some rest → rest ≡ []) }
+    ensures no_usage { result ≢ Status.Usage }
+
+    // Each cause.
+    ensures read_fault { OnReadFault result (Rises (S.faults input.old) (S.faults input.new)) }
+    ensures write_fault { OnWriteFault result (Rises (K.faults output.old) (K.faults output.new)) }
+    ensures input_long { OnInputLong result ((taken rest : List ℕ) →
+        S.left input.old ≡ Some (taken ++ rest) → S.left input.new ≡ Some rest → limit < length taken) }
+
+    // What was written then.
+    ensures ended { OnReadFault result ((taken rest : List ℕ) → S.left input.old ≡ Some (taken ++ rest) → S.left input.new ≡ Some rest →
+        Appends (K.held output.old) (K.held output.new) (λ out. AnswersEnded taken out)) }
+    ensures front { OnCutShort result ((bytes : List ℕ) → S.left input.old ≡ Some bytes →
+        Appends (K.held output.old) (K.held output.new) (λ out. BeginsAnswers (answered_part limit bytes) out)) }
+    ensures input_counts { S.faults input.old ≤ S.faults input.new }
+    ensures output_counts { K.faults output.old ≤ K.faults output.new }
+{
+    let mut bytes = Vec::new(alloc);
+    match gather(alloc, input, limit, &mut bytes) {
+        Ok(end) => answer_gathered(alloc, end, limit, bytes.as_slice(), output),
+        Err(Memory) => Status::Memory,
+    }
+}
