@@ -19,7 +19,7 @@ use Rattle.gs_grammar.proofs.WordLaws.{int_bounds, num_bounds}
 pub between_is : (low high n : ℕ) → is_between low high n ≡ true → (low ≤ n) × (n ≤ high)
 between_is low high n h = (grind (arith, nat_tests), grind (arith, nat_tests))
 
-is_between_of : (low high n : ℕ) → low ≤ n → n ≤ high → is_between low high n ≡ true
+pub is_between_of : (low high n : ℕ) → low ≤ n → n ≤ high → is_between low high n ≡ true
 is_between_of low high n h k = grind (arith, nat_tests)
 
 pub pad_word : (item : Item) (n : ℕ) (w : List ℕ) (answer : Bool) → item ≡ Pad n → answer ≡ (nat_eq (length w) n && are_digits w) → IsTrue answer ↔ IsWord item w

@@ -5,6 +5,8 @@ pub mod ItemTests
 pub mod Cuts
 pub mod Options
 pub mod Packs
+pub mod Held
+pub mod Written
 pub mod Counting
 pub mod DecidedSpellings
 pub mod DecidedWords

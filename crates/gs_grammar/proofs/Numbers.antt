@@ -1,10 +1,10 @@
 -- Decimal digits and the numbers that they write.
-use Rattle.std.proofs.Common.{◌≡◌, ℕ, ◌<◌, ◌≤◌, ◌+◌, ◌-◌, ◌*◌, ◌/◌, ◌%◌, ◌^◌, ◌&&◌, inl, inr, zero, suc, Bool, true, false, List, [], ◌∷◌, ◌++◌, length, take, drop, refl, sym, ◌∙◌, ap, arith, add-one, leb, eqb, subst, rules, decimal, get_or, length-append}
+use Rattle.std.proofs.Common.{◌≡◌, ℕ, ◌<◌, ◌≤◌, ◌+◌, ◌-◌, ◌*◌, ◌/◌, ◌%◌, ◌^◌, ◌&&◌, inl, inr, zero, suc, Bool, true, false, Option, Some, None, SomeIff, IfSome, IfNone, List, [], ◌∷◌, ◌++◌, length, drop, refl, sym, ◌∙◌, ap, arith, add-one, leb, eqb, subst, rules, decimal, get_or, length-append}
 use Rattle.std.proofs.Math.Nat.{pow-le-pow_right, pow-suc, pow-succ', one-le-pow, div-eq_of_lt, div-div-eq-div-mul}
 use Rattle.std.proofs.lemmas.Bool.{cases_eq}
 use Rattle.std.proofs.lemmas.Bool.Decides.{nat_tests, leb_tells}
-use Rattle.std.proofs.lemmas.List.{drop_more, take_more, take_all, drop_all}
-use Rattle.std.proofs.lemmas.List.Folds.{list_all_at, list_all-append}
+use Rattle.std.proofs.lemmas.List.{drop_more}
+use Rattle.std.proofs.lemmas.List.Folds.{list_all-append}
 use Rattle.std.proofs.lemmas.Str.Parse.{IsNumeralModel, numerals_by_fold, digits_value_short}
 use Rattle.std.proofs.lemmas.Fmt.{digits_value-decimal, digits_decimal, decimal-digits_value, length-decimal-le, decimal_nonempty, first_decimal, decimal_digit}
 use Rattle.gs_chars.specs.Characters.{are_digits, is_digit}
@@ -64,31 +64,12 @@ no_leading_zero symbols z l number small e = elim (cases_eq number 0) as (λ _. 
   | inr n ↦ let f = first_decimal number (omega arith) small in let s = ap (λ ds. get_or ds 0 0) e in omega arith
 ]
 
-pub no_letter : (symbols : List ℕ) (i : ℕ) → i < length symbols → is_digit (get_or symbols i 0) ≡ false → (number : ℕ) → number < 2 ^ 64 → symbols ≡ decimal number → ⊥
-no_letter symbols i l d number small e =
-    let all : are_digits symbols ≡ true = ap are_digits e ∙ digits_of_decimal number small in
-    let none : are_digits symbols ≡ false = list_all_at is_digit symbols i 0 l d in
-    let x : true ≡ false = sym all ∙ none in cc
-
 value_grows : (n : ℕ) (ds : List ℕ) → n ≤ value_after n ds
 value_grows n [] = omega arith
 value_grows n (d ∷ ds) = let r = value_grows (10 * n + (d - 48)) ds in omega arith
 
 pub value_step : (symbols : List ℕ) (i number : ℕ) → i < length symbols → value_after number (drop i symbols) ≡ value_after (10 * number + (get_or symbols i 0 - 48)) (drop (i + 1) symbols)
 value_step symbols i number l = ap (value_after number) (drop_more symbols i 0 l)
-
-pub no_large_numeral : (symbols : List ℕ) (i number : ℕ) → i < length symbols → value_after number (drop i symbols) ≡ decimal_value symbols → 2 ^ 64 ≤ 10 * number + (get_or symbols i 0 - 48) → (m : ℕ) → m < 2 ^ 64 → symbols ≡ decimal m → ⊥
-no_large_numeral symbols i number l v h m small e =
-    let s = value_step symbols i number l in
-    let g = value_grows (10 * number + (get_or symbols i 0 - 48)) (drop (i + 1) symbols) in
-    let w = ap decimal_value e ∙ value_decimal m small in
-    omega arith
-
-pub digits_step : (symbols : List ℕ) (i : ℕ) → i < length symbols → are_digits (take i symbols) ≡ true → is_digit (get_or symbols i 0) ≡ true → are_digits (take (i + 1) symbols) ≡ true
-digits_step symbols i l h d =
-    let more = take_more symbols i 0 l in
-    let split = list_all-append is_digit (take i symbols) (get_or symbols i 0 ∷ []) in
-    rw (more, split, h, d) refl
 
 pub leading_zero : (symbols : List ℕ) (b : Bool) → b ≡ (leb 2 (length symbols) && eqb (get_or symbols 0 0) 48) → b ≡ true → (number : ℕ) → number < 2 ^ 64 → symbols ≡ decimal number → ⊥
 leading_zero symbols b e t =
@@ -101,17 +82,6 @@ numeral_whole : (symbols : List ℕ) (number : ℕ) → 0 < length symbols → (
 numeral_whole symbols number n z d v small =
     let e = decimal-digits_value own symbols d n z (rw (← v) small) in
     sym e ∙ ap decimal (sym v)
-
-pub numeral_end : (symbols : List ℕ) (i number : ℕ) (empty zero_first : Bool) → empty ≡ eqb (length symbols) 0 → empty ≡ false → zero_first ≡ (leb 2 (length symbols) && eqb (get_or symbols 0 0) 48) → zero_first ≡ false → length symbols ≤ i → value_after number (drop i symbols) ≡ decimal_value symbols → are_digits (take i symbols) ≡ true → number < 2 ^ 64 → symbols ≡ decimal number
-numeral_end symbols i number empty zero_first e f z g l v d small =
-    let some : 0 < length symbols = grind (arith, nat_tests) in
-    let none : drop i symbols ≡ [] = drop_all i symbols l in
-    let value : number ≡ decimal_value symbols = rw none at v in
-    let digits : are_digits symbols ≡ true = rw (take_all i symbols l) at d in
-    let alone : get_or symbols 0 0 ≡ 48 → length symbols ≡ 1 = λ h.
-    let no : (leb 2 (length symbols) && eqb (get_or symbols 0 0) 48) ≡ false = sym z ∙ g in
-    grind (arith, nat_tests) in
-    numeral_whole symbols number some alone digits value small
 
 -- digits of one count that write one number are the same
 
@@ -185,3 +155,31 @@ padded_from n number (suc place) digits p = padded_from n number place (digits +
 -- there are n digits of each number below 10 to the n
 pub some_padded : (n number : ℕ) → number < 10 ^ n → (digits : List ℕ) × IsPadded n number digits
 some_padded n number h = let r = padded_from n number n [] (pads_start n number h) in (r.0, pads_end n number r.0 r.1)
+
+pub no_digits : (symbols : List ℕ) → are_digits symbols ≡ false → (number : ℕ) → number < 2 ^ 64 → symbols ≡ decimal number → ⊥
+no_digits symbols d number small e = let x : true ≡ false = sym (digits_of_decimal number small) ∙ sym (ap are_digits e) ∙ d in cc
+
+pub no_great_numeral : (symbols : List ℕ) → (decimal_value symbols < 2 ^ 64 → ⊥) → (number : ℕ) → number < 2 ^ 64 → symbols ≡ decimal number → ⊥
+no_great_numeral symbols n number small e = let v = ap decimal_value e ∙ value_decimal number small in n (omega arith)
+
+pub too_great : (symbols : List ℕ) (i number : ℕ) → i < length symbols → value_after number (drop i symbols) ≡ decimal_value symbols → 2 ^ 64 ≤ 10 * number + (get_or symbols i 0 - 48) → decimal_value symbols < 2 ^ 64 → ⊥
+too_great symbols i number l v h small =
+    let s = value_step symbols i number l in
+    let g = value_grows (10 * number + (get_or symbols i 0 - 48)) (drop (i + 1) symbols) in
+    omega arith
+
+pub numeral_is : (symbols : List ℕ) (number : ℕ) (empty zero_first : Bool) → empty ≡ eqb (length symbols) 0 → empty ≡ false → zero_first ≡ (leb 2 (length symbols) && eqb (get_or symbols 0 0) 48) → zero_first ≡ false → are_digits symbols ≡ true → number ≡ decimal_value symbols → number < 2 ^ 64 → symbols ≡ decimal number
+numeral_is symbols number empty zero_first e f z g d v small =
+    let some : 0 < length symbols = grind (arith, nat_tests) in
+    let alone : get_or symbols 0 0 ≡ 48 → length symbols ≡ 1 = λ h.
+    let no : (leb 2 (length symbols) && eqb (get_or symbols 0 0) 48) ≡ false = sym z ∙ g in
+    grind (arith, nat_tests) in
+    numeral_whole symbols number some alone d v small
+
+pub numeral_gives : (symbols : List ℕ) (result : Option ℕ) (empty zero_first : Bool) → empty ≡ eqb (length symbols) 0 → empty ≡ false → zero_first ≡ (leb 2 (length symbols) && eqb (get_or symbols 0 0) 48) → zero_first ≡ false → are_digits symbols ≡ true → SomeIff result (decimal_value symbols < 2 ^ 64) (decimal_value symbols) → IfSome result (λ number. symbols ≡ decimal number)
+numeral_gives symbols (Some number) empty zero_first e f z g d h = numeral_is symbols number empty zero_first e f z g d h.1 (let s = h.0 in let v = h.1 in omega arith)
+numeral_gives symbols None empty zero_first e f z g d h = tt
+
+pub numeral_lacks : (symbols : List ℕ) (result : Option ℕ) → SomeIff result (decimal_value symbols < 2 ^ 64) (decimal_value symbols) → IfNone result ((number : ℕ) → number < 2 ^ 64 → symbols ≡ decimal number → ⊥)
+numeral_lacks symbols (Some number) h = tt
+numeral_lacks symbols None h = no_great_numeral symbols h

@@ -6,3 +6,4 @@ pub mod Derivations
 pub mod Readings
 pub mod Counts
 pub mod Searches
+pub mod Writing

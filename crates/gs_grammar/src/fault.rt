@@ -6,3 +6,25 @@ pub enum OptFault {
     /// No item is bad, and their sizes add up to more than 512 symbols.
     Size,
 }
+
+/// Why an item does not hold a value. The reasons are tried in this order.
+#[derive(Clone, Copy, Debug, PartialEq, Eq)]
+pub enum Why {
+    /// A character is no digit, or not in the set of 82.
+    Char,
+    /// The number of characters is not allowed; of a decimal text this is the empty one.
+    Length,
+    /// A decimal text begins with a zero that is not the whole of it.
+    Zero,
+    /// The number is above the greatest, or has no room in the bits.
+    Large,
+}
+
+/// Why values are not written.
+#[derive(Clone, Copy, Debug, PartialEq, Eq)]
+pub enum WriteFault {
+    /// The item of this number is the first that does not hold its value.
+    CannotHold { item: usize, why: Why },
+    /// Memory ran out.
+    Memory,
+}

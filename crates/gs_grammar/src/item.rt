@@ -55,7 +55,7 @@ pub fn is_within(least: usize, most: usize, number: usize) -> bool
 }
 
 /// Whether the number has room in this many bits.
-fn fits_bits(number: u64, bits: u8) -> bool
+pub fn fits_bits(number: u64, bits: u8) -> bool
     requires { bits ≤ 64 }
     ensures { result ≡ nat_lt number (2 ^ bits) }
 {

@@ -1,8 +1,9 @@
-ghost use Rattle.std.specs.Prelude.{◌≡◌, ◌<◌, ℕ, Bool, List, IsTrue, length};
+ghost use Rattle.std.specs.Prelude.{◌≡◌, ◌<◌, ℕ, All, Bool, List, IsTrue, Some, length, slice_get};
 ghost use Rattle.gs_grammar.specs.declared.item.Item.{Item};
-ghost use Rattle.gs_grammar.specs.Items.{is_in_bounds};
+ghost use Rattle.gs_grammar.specs.Items.{IsItem, is_in_bounds};
+ghost use Rattle.gs_grammar.specs.Derivations.{Derives, OneDerivation, TwoDerivations};
 ghost use Rattle.gs_grammar.specs.Words.{Word};
-ghost use Rattle.gs_grammar.specs.Derivations.{OneDerivation, TwoDerivations};
+ghost use Rattle.gs_grammar.specs.Writing.{AreHeld, written, written_words};
 ghost use Rattle.gs_grammar.specs.Counts.{Counted};
 
 /// A word fixes its value: no list of symbols is a word of one item with two values.
@@ -13,6 +14,16 @@ pub fn word_fixes_its_value()
 /// No word of an item that keeps its bounds is empty.
 pub fn no_word_is_empty()
     ensures { (bit_level : Bool) (item : Item) (value w : List ℕ) → IsTrue (is_in_bounds bit_level item) → Word item value w → 0 < length w }
+{}
+
+/// What is written of values that the items hold is a list that the items derive, with these values.
+pub fn what_is_written_is_derived()
+    ensures { (items : List Item) (values : List (List ℕ)) → All IsItem items → length values ≡ length items → AreHeld items values → Derives items (written items values) values (written_words items values) }
+{}
+
+/// What is written of values that an option holds gives them back, wherever it has one derivation in the level.
+pub fn what_is_written_is_read()
+    ensures { (level : List (List Item)) (option other : ℕ) (items : List Item) (values given : List (List ℕ)) → slice_get level option ≡ Some items → All IsItem items → length values ≡ length items → AreHeld items values → OneDerivation level (written items values) other given → (other ≡ option) × (given ≡ values) }
 {}
 
 /// The derivations of every text can be counted: a list of symbols has no derivation in a level, one, or two different ones.

@@ -2,9 +2,11 @@
 #![tactic(auto)]
 
 mod bit_words;
+mod bit_writing;
 mod escaped;
 mod fault;
 mod found;
+mod holding;
 mod item;
 mod laws;
 mod level;
@@ -18,14 +20,19 @@ mod tally;
 mod tests;
 mod unpack;
 mod words;
+mod writing;
 
-pub use fault::OptFault;
+pub use bit_writing::write_bits;
+pub use fault::{OptFault, Why, WriteFault};
+pub use holding::holds;
 pub use item::Item;
 pub use laws::{
-    each_text_is_counted, no_word_is_empty, one_derivation_is_alone, word_fixes_its_value,
+    each_text_is_counted, no_word_is_empty, one_derivation_is_alone, what_is_written_is_derived,
+    what_is_written_is_read, word_fixes_its_value,
 };
 pub use level::Level;
 pub use opt::Opt;
 pub use read::{read_bits, read_text};
 pub use reading::Reading;
 pub use tally::read_option;
+pub use writing::write_text;

@@ -1,7 +1,10 @@
-ghost use Rattle.std.specs.Prelude.{◌≡◌, ◌↔◌, ◌==◌, ◌&&◌, ◌^◌, nat_lt, slice_index, ◌<◌, ◌≤◌, ℕ, List, IsTrue, IfSome, IfNone, IfOk, length, decimal};
+ghost use Rattle.std.specs.Prelude.{◌≡◌, ◌↔◌, ◌^◌, ◌<◌, ◌≤◌, ℕ, List, IsTrue, IfSome, IfNone, IfOk, SomeIff, length, decimal};
 ghost use Rattle.gs_grammar.specs.Numerals.{IsPadded};
+ghost use Rattle.gs_grammar.specs.Words.{decimal_value};
+ghost use Rattle.gs_grammar.specs.Writing.{has_leading_zero};
 
-use gs_chars::{CharSet, Memory, Text};
+use crate::words::all_digits;
+use gs_chars::{Memory, Text};
 use std::alloc::Global;
 
 /// The number of decimal digits of a number.
@@ -23,11 +26,23 @@ pub fn has_at_most_digits(number: u64, n: u8) -> bool
     number < 10u64.pow(u32::from(n))
 }
 
-/// Whether digits begin with a zero that is not the only one.
-fn has_leading_zero(symbols: &[u8]) -> bool
-    ensures { result ≡ (nat_lt 1 (length symbols.now) && (slice_index symbols.now 0 == 48)) }
+/// Whether digits begin with a zero that is not the whole of them.
+pub fn has_leading_zero(symbols: &[u8]) -> bool
+    ensures { result ≡ has_leading_zero symbols.now }
 {
     symbols.len() > 1 && symbols[0] == b'0'
+}
+
+/// The number that decimal digits write. `None` comes exactly where it is not below 2 to the 64.
+pub fn decimal_number(digits: &[u8]) -> Option<u64>
+    ensures { SomeIff result (decimal_value digits.now < 2 ^ 64) (decimal_value digits.now) }
+{
+    let mut number: u64 = 0;
+    for digit in digits {
+        let shifted = number.checked_mul(10)?;
+        number = shifted.checked_add(u64::from(digit.saturating_sub(b'0')))?;
+    }
+    Some(number)
 }
 
 /// The number whose decimal text, without leading zeros, the symbols are. `None` comes exactly where they are the text of no
@@ -42,15 +57,10 @@ pub fn numeral(symbols: &[u8]) -> Option<u64>
     if has_leading_zero(symbols) {
         return None;
     }
-    let mut number: u64 = 0;
-    for symbol in symbols {
-        if !CharSet::Digits.holds(*symbol) {
-            return None;
-        }
-        let shifted = number.checked_mul(10)?;
-        number = shifted.checked_add(u64::from(*symbol - b'0'))?;
+    if !all_digits(symbols) {
+        return None;
     }
-    Some(number)
+    decimal_number(symbols)
 }
 
 /// The n digits of a number, zeros in front.

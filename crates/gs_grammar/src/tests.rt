@@ -1,4 +1,7 @@
-use crate::{Item, Level, Opt, OptFault, Reading, read_bits, read_option, read_text};
+use crate::{
+    Item, Level, Opt, OptFault, Reading, Why, WriteFault, holds, read_bits, read_option, read_text,
+    write_bits, write_text,
+};
 use gs_bits::BitBuf;
 use gs_chars::{Memory, Text};
 use std::alloc::Global;
@@ -170,5 +173,114 @@ fn a_decimal_text_has_no_leading_zeros(rt: HostRuntime) -> Result<(), Fail> {
     assert!(rt; is_nothing(&read_text(alloc, &level, b"007")));
     let fields: [&[u8]; 1] = [b"0"];
     assert!(rt; is_one(&read_text(alloc, &level, b"0"), 0, &fields));
+    Ok(())
+}
+
+#[test]
+fn reasons_are_tried_in_their_order(rt: HostRuntime) {
+    let serial = Item::Num {
+        bits: 38,
+        max: 274877906943,
+    };
+    assert_eq!(rt; holds(&serial, b"274877906943"), Ok(()));
+    assert_eq!(rt; holds(&serial, b"274877906944"), Err(Why::Large));
+    assert_eq!(rt; holds(&serial, b"007"), Err(Why::Zero));
+    assert_eq!(rt; holds(&serial, b"0999999999999"), Err(Why::Zero));
+    assert_eq!(rt; holds(&serial, b""), Err(Why::Length));
+    assert_eq!(rt; holds(&serial, b"a"), Err(Why::Char));
+}
+
+/// Writes the values as bits, where there is one for each item and room for the option.
+fn write_into(
+    option: &Opt,
+    values: &[Text],
+    out: &mut BitBuf<12>,
+) -> Option<Result<(), WriteFault>> {
+    if !option.bit_level() {
+        return None;
+    }
+    if values.len() != option.items().len() {
+        return None;
+    }
+    if out.len() + option.size() > 96 {
+        return None;
+    }
+    Some(write_bits(option, values, out))
+}
+
+// A tag of TDS, sgtin-96 with a company prefix of 7 digits.
+#[test]
+fn a_tag_is_written_as_its_bits(rt: HostRuntime) -> Result<(), Fail> {
+    let alloc = rt.alloc();
+    let header = literal(alloc, &[0, 0, 1, 1, 0, 0, 0, 0])?;
+    let filter = Item::Num { bits: 3, max: 7 };
+    let partition = literal(alloc, &[1, 0, 1])?;
+    let prefix = Item::NumPad { bits: 24, n: 7 };
+    let rest = Item::NumPad { bits: 20, n: 6 };
+    let serial = Item::Num {
+        bits: 38,
+        max: 274877906943,
+    };
+    let option = Opt::new(
+        true,
+        vec![in alloc; header, filter, partition, prefix, rest, serial]?,
+    )?;
+    let empty = Text::from_bytes(alloc, b"")?;
+    let none = Text::from_bytes(alloc, b"")?;
+    let three = Text::from_bytes(alloc, b"3")?;
+    let company = Text::from_bytes(alloc, b"0614141")?;
+    let item = Text::from_bytes(alloc, b"812345")?;
+    let number = Text::from_bytes(alloc, b"6789")?;
+    let values = vec![in alloc; empty, three, none, company, item, number]?;
+    let mut tag = BitBuf::<12>::new();
+    assert!(rt; write_into(&option, values.as_slice(), &mut tag) == Some(Ok(())));
+    assert_eq!(rt; tag.len(), 96);
+    let digits = tag.to_hex(alloc)?;
+    assert_eq!(rt; digits.as_bytes(), b"3074257BF7194E4000001A85".as_slice());
+    Ok(())
+}
+
+/// Writes the values as a text, where there is one for each item.
+fn write_out(alloc: Global, option: &Opt, values: &[Text]) -> Option<Result<Text, WriteFault>> {
+    if option.bit_level() {
+        return None;
+    }
+    if values.len() != option.items().len() {
+        return None;
+    }
+    Some(write_text(alloc, option, values))
+}
+
+#[test]
+fn a_text_is_written_with_upper_case_escapes(rt: HostRuntime) -> Result<(), Fail> {
+    let alloc = rt.alloc();
+    let items = vec![in alloc;
+        literal(alloc, b"n:")?,
+        Item::Esc { lo: 1, hi: 9 },
+        Item::Int { max: 9 },
+    ]?;
+    let option = Opt::new(false, items)?;
+    let empty = Text::from_bytes(alloc, b"")?;
+    let lot = Text::from_bytes(alloc, b"32a/b")?;
+    let five = Text::from_bytes(alloc, b"5")?;
+    let values = vec![in alloc; empty, lot, five]?;
+    match write_out(alloc, &option, values.as_slice()) {
+        Some(Ok(text)) => assert_eq!(rt; text.as_bytes(), b"n:32a%2Fb5".as_slice()),
+        _ => assert!(rt; false, "a text"),
+    }
+    let blank = Text::from_bytes(alloc, b"")?;
+    let space = Text::from_bytes(alloc, b"a b")?;
+    let ten = Text::from_bytes(alloc, b"10")?;
+    let wrong = vec![in alloc; blank, space, ten]?;
+    match write_out(alloc, &option, wrong.as_slice()) {
+        Some(Err(fault)) => assert!(rt;
+            fault
+                == WriteFault::CannotHold {
+                    item: 1,
+                    why: Why::Char
+                }
+        ),
+        _ => assert!(rt; false, "a refusal"),
+    }
     Ok(())
 }

@@ -4,7 +4,7 @@ ghost use Rattle.gs_bits.specs.Bits.{AreBits};
 use gs_bits::BitBuf;
 
 /// The bit at a place, as a symbol 0 or 1.
-fn bit_at<const N: usize>(bits: &BitBuf<N>, place: usize) -> u8
+pub fn bit_at<const N: usize>(bits: &BitBuf<N>, place: usize) -> u8
     requires within { place < length bits.now }
     requires bits { AreBits bits.now }
     ensures { result ≡ slice_index bits.now place }

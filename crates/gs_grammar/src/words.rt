@@ -11,7 +11,7 @@ use gs_chars::{CharSet, Memory, Text};
 use std::alloc::Global;
 
 /// Whether each symbol is a digit.
-fn all_digits(symbols: &[u8]) -> bool
+pub fn all_digits(symbols: &[u8]) -> bool
     ensures { result ≡ are_digits symbols.now }
 {
     symbols.iter().all(|symbol| CharSet::Digits.holds(*symbol))

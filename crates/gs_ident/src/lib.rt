@@ -13,4 +13,4 @@ pub use faults::IdentFault;
 pub use gs_ai::Pair;
 pub use identity::{Identity, sgtin};
 pub use making::make;
-pub use spelling::{canonical, spell};
+pub use spelling::{canonical, one_link_each, spell};

@@ -6,6 +6,7 @@ mod answering;
 mod command;
 mod gathering;
 mod identifiers;
+mod laws;
 mod level;
 mod lines;
 mod run;

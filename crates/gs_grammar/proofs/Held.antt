@@ -1,0 +1,198 @@
+-- Which values items hold: those for which there is no reason against are those that have a word.
+use Rattle.std.proofs.Common.{◌≡◌, ◌↔◌, ℕ, ◌<◌, ◌≤◌, ◌+◌, ◌-◌, ◌*◌, ◌^◌, ◌&&◌, Bool, true, false, not, List, [], ◌∷◌, ◌++◌, length, suc, Some, None, Result, Ok, Err, IsOk, MatchResult, refl, sym, ◌∙◌, ap, subst, arith, leb, eqb, decimal, inl, inr, replicate, length-append}
+use Rattle.std.specs.List.{list_all, list_any, flat_map}
+use Rattle.std.proofs.Math.Pow.{pow_mono}
+use Rattle.std.proofs.lemmas.Bool.{leb-true}
+use Rattle.std.proofs.lemmas.Bool.Decides.{nat_tests, eqb_tells}
+use Rattle.std.proofs.lemmas.List.{nil_from_length, take_at, length-replicate}
+use Rattle.std.proofs.lemmas.Fmt.{decimal_nonempty}
+use Rattle.gs_chars.specs.Characters.{are_digits, are_in_set82, is_in_set82}
+use Rattle.gs_chars.specs.Escapes.{Spells, written_spelling, is_escaped}
+use Rattle.gs_chars.proofs.Spellings.{written_is_read}
+use Rattle.gs_bits.specs.Bits.{bits_of}
+use Rattle.gs_bits.specs.BitLaws.{length-bits_of}
+use Rattle.gs_grammar.specs.declared.item.Item.{Item}
+use Rattle.gs_grammar.specs.declared.item.Item.TheVariants.{Lit, Pad, Int, Esc, NumPad, Num, Ascii7, Fill}
+use Rattle.gs_grammar.specs.declared.fault.Why.{Why}
+use Rattle.gs_grammar.specs.declared.fault.Why.TheVariants.{Char, Length, Zero, Large}
+use Rattle.gs_grammar.specs.Items.{is_between, IsItem}
+use Rattle.gs_grammar.specs.Words.{Word, SpellsEach, no_more, one_more, decimal_value, written_word}
+use Rattle.gs_grammar.specs.Writing.{first_reason, has_leading_zero, why_not}
+use Rattle.gs_grammar.proofs.Numbers.{numeral_is, value_decimal, digits_of_decimal, leading_zero}
+use Rattle.gs_grammar.proofs.WordLaws.{int_bounds, num_bounds}
+use Rattle.gs_grammar.proofs.ItemTests.{between_is, is_between_of}
+
+pub both_of : (a b : Bool) → (a && b) ≡ true → (a ≡ true) × (b ≡ true)
+both_of true true h = (refl, refl)
+both_of true false h = let f : false ≡ true = h in cc
+both_of false b h = let f : false ≡ true = h in cc
+
+not_false : (a : Bool) → not a ≡ false → a ≡ true
+not_false true h = refl
+not_false false h = let f : true ≡ false = h in cc
+
+is_false : (a : Bool) → (a ≡ true → ⊥) → a ≡ false
+is_false true h = absurd (h refl)
+is_false false h = refl
+
+-- no reason fits
+record NoReason (a b c d : Bool) : Type 0 where
+  char : a ≡ false
+  size : b ≡ false
+  zero : c ≡ false
+  large : d ≡ false
+
+no_reason : (a b c d : Bool) → first_reason a b c d ≡ None → NoReason a b c d
+no_reason true b c d h = let f : Some Char ≡ None = h in cc
+no_reason false true c d h = let f : Some Length ≡ None = h in cc
+no_reason false false true d h = let f : Some Zero ≡ None = h in cc
+no_reason false false false true h = let f : Some Large ≡ None = h in cc
+no_reason false false false false h = record { char = refl; size = refl; zero = refl; large = refl }
+
+reason_none : (a b c d : Bool) → a ≡ false → b ≡ false → c ≡ false → d ≡ false → first_reason a b c d ≡ None
+reason_none a b c d e f g h = rw (e, f, g, h) refl
+
+-- written spellings spell the value
+pub spelled_written : (value : List ℕ) → are_in_set82 value ≡ true → SpellsEach value (flat_map written_spelling value)
+spelled_written [] h = no_more
+spelled_written (c ∷ value) h =
+    let b = both_of (is_in_set82 c) (are_in_set82 value) h in
+    let front = (written_is_read c [] b.0).spelled in
+    let spells : Spells c (written_spelling c) = rw (take_at (written_spelling c) [] (length (written_spelling c)) refl) at front in
+    one_more c value (written_spelling c) (flat_map written_spelling value) spells (spelled_written value b.1)
+
+member_passes : (p : ℕ → Bool) (xs : List ℕ) (c : ℕ) → list_all p xs ≡ true → list_any (λ x. eqb x c) xs ≡ true → p c ≡ true
+member_passes p [] c h k = let f : false ≡ true = k in cc
+member_passes p (x ∷ xs) c h k =
+    let b = both_of (p x) (list_all p xs) h in
+    elim (eqb_tells x c) as (λ _. p c ≡ true) [
+      | inl e ↦ subst (λ (y : ℕ). p y ≡ true) e.1 b.0
+      | inr e ↦ member_passes p xs c b.1 (rw e.0 at k)
+    ]
+
+escaped_in_set : (c : ℕ) → is_escaped c ≡ true → is_in_set82 c ≡ true
+unfolding is_escaped is_in_set82
+escaped_in_set c h = member_passes is_in_set82 (34 ∷ 37 ∷ 38 ∷ 47 ∷ 60 ∷ 62 ∷ 63 ∷ []) c refl h
+
+spelled_in_set : (c : ℕ) (spelling : List ℕ) → Spells c spelling → is_in_set82 c ≡ true
+spelled_in_set c spelling (inl p) = (both_of (is_in_set82 c) (not (is_escaped c)) p.0).0
+spelled_in_set c spelling (inr p) = escaped_in_set c p.0
+
+pub spelled_set : (value w : List ℕ) → SpellsEach value w → are_in_set82 value ≡ true
+spelled_set value w no_more = refl
+spelled_set value w (one_more c v spelling rest p t) =
+    let first = spelled_in_set c spelling p in
+    let others = spelled_set v rest t in
+    rw (first, others) refl
+
+pub packed_length : (value : List ℕ) → length (flat_map (bits_of 7) value) ≡ 7 * length value
+packed_length [] = omega arith
+packed_length (c ∷ value) =
+    let l = length-append (bits_of 7 c) (flat_map (bits_of 7) value) in
+    let f = length-bits_of 7 c in
+    let r = packed_length value in
+    omega arith
+
+empty_of : (value : List ℕ) → not (eqb (length value) 0) ≡ false → value ≡ []
+empty_of value h = nil_from_length value (let e = not_false (eqb (length value) 0) h in grind (arith, nat_tests))
+
+count_of : (value : List ℕ) (n : ℕ) → not (eqb (length value) n) ≡ false → length value ≡ n
+count_of value n h = let e = not_false (eqb (length value) n) h in grind (arith, nat_tests)
+
+esc_bounds : (lo hi : ℕ) → IsItem (Esc lo hi) → hi ≤ 64
+esc_bounds lo hi h = grind (arith, nat_tests)
+
+ascii_bounds : (lo hi bits : ℕ) → IsItem (Ascii7 lo hi bits) → 7 * hi ≤ bits
+ascii_bounds lo hi bits h = grind (arith, nat_tests)
+
+numeral_text : (value : List ℕ) (greatest : ℕ) → greatest < 2 ^ 64 → NoReason (not (are_digits value)) (eqb (length value) 0) (has_leading_zero value) (leb (suc greatest) (decimal_value value)) → (decimal_value value ≤ greatest) × (value ≡ decimal (decimal_value value))
+numeral_text value greatest g r =
+    let l = r.large in
+    let small : decimal_value value ≤ greatest = grind (arith, nat_tests) in
+    (small, numeral_is value (decimal_value value) (eqb (length value) 0) (has_leading_zero value) refl r.size refl r.zero (not_false (are_digits value) r.char) refl (omega arith))
+
+-- a value with no reason against it has its written word
+pub held_word : (item : Item) (value : List ℕ) → IsItem item → why_not item value ≡ None → Word item value (written_word item value)
+held_word (Lit literal) value i h =
+    let r = no_reason false (not (eqb (length value) 0)) false false h in
+    (empty_of value r.size, refl)
+held_word (Pad n) value i h =
+    let r = no_reason (not (are_digits value)) (not (eqb (length value) n)) false false h in
+    (count_of value n r.size, not_false (are_digits value) r.char, refl)
+held_word (Int greatest) value i h =
+    let r = no_reason (not (are_digits value)) (eqb (length value) 0) (has_leading_zero value) (leb (suc greatest) (decimal_value value)) h in
+    let t = numeral_text value greatest (int_bounds greatest i) r in
+    ((decimal_value value, record { small = t.0; text = t.1 }), refl)
+held_word (Esc lo hi) value i h =
+    let r = no_reason (not (are_in_set82 value)) (not (is_between lo hi (length value))) false false h in
+    let b = between_is lo hi (length value) (not_false (is_between lo hi (length value)) r.size) in
+    (record { least = b.0; most = b.1 }, spelled_written value (not_false (are_in_set82 value) r.char))
+held_word (NumPad bits n) value i h =
+    let r = no_reason (not (are_digits value)) (not (eqb (length value) n)) false (leb (2 ^ bits) (decimal_value value)) h in
+    let l = r.large in
+    (count_of value n r.size, not_false (are_digits value) r.char, record { fits = grind (arith, nat_tests); written = refl })
+held_word (Num bits greatest) value i h =
+    let r = no_reason (not (are_digits value)) (eqb (length value) 0) (has_leading_zero value) (leb (suc greatest) (decimal_value value)) h in
+    let b = num_bounds bits greatest i in
+    let most : bits ≤ 64 = b.1 in
+    let power : 2 ^ bits ≤ 2 ^ 64 = pow_mono most in
+    let room = b.2 in
+    let t = numeral_text value greatest (omega arith) r in
+    (decimal_value value, (record { small = t.0; text = t.1 }, record { fits = let s = t.0 in omega arith; written = refl }))
+held_word (Ascii7 lo hi bits) value i h =
+    let r = no_reason (not (are_in_set82 value)) (not (is_between lo hi (length value))) false false h in
+    let b = between_is lo hi (length value) (not_false (is_between lo hi (length value)) r.size) in
+    let most = b.1 in
+    let room = ascii_bounds lo hi bits i in
+    let l : length (flat_map (bits_of 7) value ++ replicate {A = ℕ} (bits - 7 * length value) 0) ≡ length (flat_map (bits_of 7) value) + length (replicate {A = ℕ} (bits - 7 * length value) 0) = length-append (flat_map (bits_of 7) value) (replicate {A = ℕ} (bits - 7 * length value) 0) in
+    let p = packed_length value in
+    let z : length (replicate {A = ℕ} (bits - 7 * length value) 0) ≡ bits - 7 * length value = length-replicate {A = ℕ} (bits - 7 * length value) 0 in
+    let whole : length (flat_map (bits_of 7) value ++ replicate {A = ℕ} (bits - 7 * length value) 0) ≡ bits = omega arith in
+    (record { least = b.0; most = b.1 }, record { characters = not_false (are_in_set82 value) r.char; padding = bits - 7 * length value; packed = refl }, whole)
+held_word (Fill a b) value i h =
+    let r = no_reason false (not (eqb (length value) 0)) false false h in
+    (empty_of value r.size, inr refl)
+
+not_true : (a : Bool) → a ≡ true → not a ≡ false
+not_true a h = rw h refl
+
+count_is : (value : List ℕ) (n : ℕ) → length value ≡ n → not (eqb (length value) n) ≡ false
+count_is value n h = not_true (eqb (length value) n) (grind (arith, nat_tests))
+
+numeral_reasons : (value : List ℕ) (greatest number : ℕ) → greatest < 2 ^ 64 → number ≤ greatest → value ≡ decimal number → first_reason (not (are_digits value)) (eqb (length value) 0) (has_leading_zero value) (leb (suc greatest) (decimal_value value)) ≡ None
+numeral_reasons value greatest number g s e =
+    let small : number < 2 ^ 64 = omega arith in
+    let digits : are_digits value ≡ true = ap are_digits e ∙ digits_of_decimal number small in
+    let some = decimal_nonempty number small in
+    let l = ap length e in
+    let v : decimal_value value ≡ number = ap decimal_value e ∙ value_decimal number small in
+    reason_none (not (are_digits value)) (eqb (length value) 0) (has_leading_zero value) (leb (suc greatest) (decimal_value value))
+    (not_true (are_digits value) digits)
+    (is_false (eqb (length value) 0) (λ t. let z : length value ≡ 0 = grind (arith, nat_tests) in omega arith))
+    (is_false (has_leading_zero value) (λ t. leading_zero value (has_leading_zero value) refl t number small e))
+    (is_false (leb (suc greatest) (decimal_value value)) (λ t. let m = leb-true (suc greatest) (decimal_value value) t in omega arith))
+
+-- a value with a word has no reason against it
+pub word_held : (item : Item) (value w : List ℕ) → IsItem item → Word item value w → why_not item value ≡ None
+word_held (Lit literal) value w i h = reason_none false (not (eqb (length value) 0)) false false refl (count_is value 0 (ap length h.0)) refl refl
+word_held (Pad n) value w i h = reason_none (not (are_digits value)) (not (eqb (length value) n)) false false (not_true (are_digits value) h.1) (count_is value n h.0) refl refl
+word_held (Int greatest) value w i h = numeral_reasons value greatest h.0.0 (int_bounds greatest i) h.0.1.small h.0.1.text
+word_held (Esc lo hi) value w i h =
+    reason_none (not (are_in_set82 value)) (not (is_between lo hi (length value))) false false (not_true (are_in_set82 value) (spelled_set value w h.1)) (not_true (is_between lo hi (length value)) (is_between_of lo hi (length value) h.0.least h.0.most)) refl refl
+word_held (NumPad bits n) value w i h =
+    reason_none (not (are_digits value)) (not (eqb (length value) n)) false (leb (2 ^ bits) (decimal_value value)) (not_true (are_digits value) h.1) (count_is value n h.0) refl
+    (is_false (leb (2 ^ bits) (decimal_value value)) (λ t. let m = leb-true (2 ^ bits) (decimal_value value) t in let f = h.2.fits in omega arith))
+word_held (Num bits greatest) value w i h =
+    let b = num_bounds bits greatest i in
+    let most : bits ≤ 64 = b.1 in
+    let power : 2 ^ bits ≤ 2 ^ 64 = pow_mono most in
+    let room = b.2 in
+    numeral_reasons value greatest h.0 (omega arith) h.1.0.small h.1.0.text
+word_held (Ascii7 lo hi bits) value w i h =
+    reason_none (not (are_in_set82 value)) (not (is_between lo hi (length value))) false false (not_true (are_in_set82 value) h.1.characters) (not_true (is_between lo hi (length value)) (is_between_of lo hi (length value) h.0.least h.0.most)) refl refl
+word_held (Fill a b) value w i h = reason_none false (not (eqb (length value) 0)) false false refl (count_is value 0 (ap length h.0)) refl refl
+
+-- an answer by reasons tells whether there is a word
+pub holds_word : (item : Item) (value : List ℕ) (result : Result (Unit {0}) Why) → IsItem item → MatchResult result (λ _. why_not item value ≡ None) (λ why. why_not item value ≡ Some why) → IsOk result ↔ ((w : List ℕ) × Word item value w)
+holds_word item value (Ok u) i h = (λ _. (written_word item value, held_word item value i h), λ _. refl)
+holds_word item value (Err why) i h = (λ f. absurd (let x : false ≡ true = f in cc), λ w. let n = word_held item value w.0 i w.1 in let f : Some why ≡ None = sym h ∙ n in cc)

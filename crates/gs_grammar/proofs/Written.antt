@@ -1,0 +1,281 @@
+-- What is written of the values of an option, word by word.
+use Rattle.std.proofs.Common.{◌≡◌, ℕ, ◌<◌, ◌≤◌, ◌+◌, ◌-◌, ◌*◌, ◌^◌, suc, Bool, true, List, [], ◌∷◌, ◌++◌, length, get_or, take, drop, replicate, Some, None, Result, Ok, Err, IsErr, OnOk, ◌↔◌, refl, sym, ◌∙◌, ap, subst, arith, All, inl, inr, length-append}
+use Rattle.std.specs.List.{AllPass, flat_map, list_all, position, slice_get}
+use Rattle.std.proofs.Math.Pow.{pow_mono}
+use Rattle.std.proofs.lemmas.Bool.{cases_eq, ltb-true}
+use Rattle.std.proofs.lemmas.List.{drop_more, drop_all, append_assoc, append-nil, length-drop, length-replicate, length-take-le, take_more}
+use Rattle.std.proofs.lemmas.List.Elements.{All-cons, All-nil, All-head, All-tail}
+use Rattle.std.proofs.lemmas.Option.{slice_get-get_or}
+use Rattle.gs_chars.specs.Characters.{are_in_set82, is_in_set82}
+use Rattle.gs_bits.specs.Bits.{AreBits, bits_of, number_of}
+use Rattle.gs_bits.specs.BitLaws.{bits_of-number_of}
+use Rattle.gs_grammar.specs.declared.item.Item.{Item}
+use Rattle.gs_grammar.specs.declared.item.Item.TheVariants.{Lit, NumPad, Num, Ascii7}
+use Rattle.gs_grammar.specs.declared.fault.Why.{Why}
+use Rattle.gs_grammar.specs.Items.{is_bad, is_between, is_in_bounds, is_symbol, IsItem, size_of, size_of_all}
+use Rattle.gs_grammar.specs.Words.{decimal_value, written_word}
+use Rattle.gs_grammar.specs.Derivations.{EachWord, no_item, one_item, Derives, Derivation, OneDerivation}
+use Rattle.gs_grammar.specs.Writing.{why_not, written, written_words, AreHeldBefore, AreHeld, IsFirstRefusal}
+use Rattle.gs_grammar.proofs.Held.{held_word, packed_length, both_of}
+use Rattle.gs_grammar.proofs.Packs.{set82_bounds}
+use Rattle.gs_grammar.proofs.WordLaws.{word_fixes_value, none_bad, of_level, word_length, numpad_bounds, num_bounds}
+use Rattle.gs_grammar.proofs.Numbers.{value_decimal}
+
+-- one more piece of a text
+pub flat_step : (f : ℕ → List ℕ) (t all value : List ℕ) (i : ℕ) → i < length value → t ++ flat_map f (drop i value) ≡ all → (t ++ f (get_or value i 0)) ++ flat_map f (drop (i + 1) value) ≡ all
+flat_step f t all value i l e =
+    let more : flat_map f (drop i value) ≡ f (get_or value i 0) ++ flat_map f (drop (i + 1) value) = ap (flat_map f) (drop_more value i 0 l) in
+    append_assoc t (f (get_or value i 0)) (flat_map f (drop (i + 1) value)) ∙ ap (λ r. t ++ r) (sym more) ∙ e
+
+pub flat_end : (f : ℕ → List ℕ) (t all value : List ℕ) (i : ℕ) → length value ≤ i → t ++ flat_map f (drop i value) ≡ all → t ≡ all
+flat_end f t all value i l e =
+    let none : flat_map f (drop i value) ≡ [] = ap (flat_map f) (drop_all i value l) in
+    sym (append-nil t) ∙ ap (λ r. t ++ r) (sym none) ∙ e
+
+pub one_bit : (b : ℕ) → b < 2 → bits_of 1 b ≡ b ∷ []
+one_bit b h =
+    let bits = bits_of-number_of (b ∷ []) (All-cons (λ b. b < 2) b [] h (All-nil (λ b. b < 2))) in
+    let number : number_of (b ∷ []) ≡ b = omega arith in
+    sym (ap (bits_of 1) number) ∙ bits
+
+pub symbols_step : (t all symbols : List ℕ) (i : ℕ) → i < length symbols → get_or symbols i 0 < 2 → t ++ drop i symbols ≡ all → (t ++ bits_of 1 (get_or symbols i 0)) ++ drop (i + 1) symbols ≡ all
+symbols_step t all symbols i l b e =
+    let bit = one_bit (get_or symbols i 0) b in
+    rw bit (append_assoc t (get_or symbols i 0 ∷ []) (drop (i + 1) symbols) ∙ ap (λ r. t ++ r) (sym (drop_more symbols i 0 l)) ∙ e)
+
+pub symbols_end : (t all symbols : List ℕ) (i : ℕ) → length symbols ≤ i → t ++ drop i symbols ≡ all → t ≡ all
+symbols_end t all symbols i l e = sym (append-nil t) ∙ ap (λ r. t ++ r) (sym (drop_all i symbols l)) ∙ e
+
+same_zeros : (m n : ℕ) → m ≡ n → replicate {A = ℕ} m 0 ≡ replicate {A = ℕ} n 0
+same_zeros m n e = ap (λ (k : ℕ). replicate {A = ℕ} k 0) e
+
+pub zeros_step : (t all : List ℕ) (count place : ℕ) → place < count → t ++ replicate (count - place) 0 ≡ all → (t ++ bits_of 1 0) ++ replicate (count - (place + 1)) 0 ≡ all
+zeros_step t all count place l e =
+    let bit = one_bit 0 (omega arith) in
+    let n : count - place ≡ suc (count - (place + 1)) = omega arith in
+    let more : replicate (count - place) 0 ≡ 0 ∷ replicate (count - (place + 1)) 0 = same_zeros (count - place) (suc (count - (place + 1))) n in
+    rw bit (append_assoc t (0 ∷ []) (replicate (count - (place + 1)) 0) ∙ ap (λ r. t ++ r) (sym more) ∙ e)
+
+pub zeros_end : (t all : List ℕ) (count place : ℕ) → count ≤ place → t ++ replicate (count - place) 0 ≡ all → t ≡ all
+zeros_end t all count place l e =
+    let n : count - place ≡ 0 = omega arith in
+    let none : replicate (count - place) 0 ≡ [] = same_zeros (count - place) 0 n in
+    sym (append-nil t) ∙ ap (λ r. t ++ r) (sym none) ∙ e
+
+-- items that hold their values, one by one
+
+item_at : (items : List Item) (k : ℕ) (item : Item) → k < length items → item ≡ get_or items k item → slice_get items k ≡ Some item
+item_at items k item l e = slice_get-get_or items k item l ∙ ap Some (sym e)
+
+value_at : (values : List (List ℕ)) (k : ℕ) (value : List ℕ) → k < length values → value ≡ get_or values k value → slice_get values k ≡ Some value
+value_at values k value l e = slice_get-get_or values k value l ∙ ap Some (sym e)
+
+pub held_step : (items : List Item) (values : List (List ℕ)) (k : ℕ) (item : Item) (value : List ℕ) → AreHeldBefore items values k → k < length items → k < length values → item ≡ get_or items k item → value ≡ get_or values k value → why_not item value ≡ None → AreHeldBefore items values (k + 1)
+held_step items values k item value h l m e f n j other v b p q = elim (cases_eq j k) as (λ _. why_not other v ≡ None) [
+  | inl s ↦
+      let i : Some other ≡ Some item = sym (rw s at p) ∙ item_at items k item l e in
+      let w : Some v ≡ Some value = sym (rw s at q) ∙ value_at values k value m f in
+      let same : other ≡ item = cc in
+      let equal : v ≡ value = cc in
+      rw (same, equal) n
+  | inr d ↦ h j other v (omega arith) p q
+]
+
+pub refused_at : (items : List Item) (values : List (List ℕ)) (k : ℕ) (item : Item) (value : List ℕ) (why : Why) → AreHeldBefore items values k → k < length items → k < length values → item ≡ get_or items k item → value ≡ get_or values k value → why_not item value ≡ Some why → IsFirstRefusal items values k why
+refused_at items values k item value why h l m e f r = record { item = item; value = value; item_at = item_at items k item l e; value_at = value_at values k value m f; reason = r; before = h }
+
+pub held_at : (items : List Item) (values : List (List ℕ)) (k : ℕ) (item : Item) (value : List ℕ) → AreHeld items values → k < length items → k < length values → item ≡ get_or items k item → value ≡ get_or values k value → why_not item value ≡ None
+held_at items values k item value h l m e f = h k item value l (item_at items k item l e) (value_at values k value m f)
+
+pub held_all : (items : List Item) (values : List (List ℕ)) (k : ℕ) → AreHeldBefore items values k → length items ≤ k → AreHeld items values
+held_all items values k h l j item value b p q = h j item value (omega arith) p q
+
+pub bounds_at : (bit_level level : Bool) (items : List Item) (k : ℕ) (item : Item) → level ≡ bit_level → position (is_bad level) items ≡ None → k < length items → item ≡ get_or items k item → is_in_bounds bit_level item ≡ true
+bounds_at bit_level level items k item s h l e =
+    let b = none_bad level items h k item l in
+    let c : is_in_bounds level item ≡ true = rw (← e) at b in
+    rw s at c
+
+-- one more word
+pub word_step : (items : List Item) (values : List (List ℕ)) (k : ℕ) (item : Item) (value t all : List ℕ) → k < length items → k < length values → item ≡ get_or items k item → value ≡ get_or values k value → t ++ written (drop k items) (drop k values) ≡ all → (t ++ written_word item value) ++ written (drop (k + 1) items) (drop (k + 1) values) ≡ all
+word_step items values k item value t all l m e f h =
+    let i : drop k items ≡ item ∷ drop (k + 1) items = drop_more items k item l ∙ ap (λ (x : Item). x ∷ drop (k + 1) items) (sym e) in
+    let v : drop k values ≡ value ∷ drop (k + 1) values = drop_more values k value m ∙ ap (λ (x : List ℕ). x ∷ drop (k + 1) values) (sym f) in
+    let more : written (drop k items) (drop k values) ≡ written_word item value ++ written (drop (k + 1) items) (drop (k + 1) values) = rw (i, v) refl in
+    append_assoc t (written_word item value) (written (drop (k + 1) items) (drop (k + 1) values)) ∙ ap (λ r. t ++ r) (sym more) ∙ h
+
+pub words_end : (items : List Item) (values : List (List ℕ)) (k : ℕ) (t all : List ℕ) → length items ≤ k → t ++ written (drop k items) (drop k values) ≡ all → t ≡ all
+words_end items values k t all l h =
+    let none : drop k items ≡ [] = drop_all k items l in
+    let empty : written (drop k items) (drop k values) ≡ [] = rw none refl in
+    sym (append-nil t) ∙ ap (λ r. t ++ r) (sym empty) ∙ h
+
+pub sizes_step : (items : List Item) (k : ℕ) (item : Item) → k < length items → item ≡ get_or items k item → size_of_all (drop k items) ≡ size_of item + size_of_all (drop (k + 1) items)
+sizes_step items k item l e =
+    let i : drop k items ≡ item ∷ drop (k + 1) items = drop_more items k item l ∙ ap (λ (x : Item). x ∷ drop (k + 1) items) (sym e) in
+    ap size_of_all i
+
+pub written_size : (bit_level : Bool) (item : Item) (value : List ℕ) → is_in_bounds bit_level item ≡ true → why_not item value ≡ None → length (written_word item value) ≤ size_of item
+written_size bit_level item value b h =
+    let i = of_level bit_level item b in
+    (word_length item value (written_word item value) i (held_word item value i h)).1
+
+-- the written words joined are a derivation with these values
+shift : (item : Item) (items : List Item) (value : List ℕ) (values : List (List ℕ)) → AreHeld (item ∷ items) (value ∷ values) → AreHeld items values
+shift item items value values h k other v l p q = h (suc k) other v (omega arith) p q
+
+pub written_derives : (items : List Item) (values : List (List ℕ)) → All IsItem items → length values ≡ length items → AreHeld items values → Derives items (written items values) values (written_words items values)
+written_derives [] [] i l h = record { each = no_item; joined = refl }
+written_derives [] (value ∷ values) i l h = absurd (omega arith)
+written_derives (item ∷ items) [] i l h = absurd (omega arith)
+written_derives (item ∷ items) (value ∷ values) i l h =
+    let d = written_derives items values (All-tail IsItem item items i) (omega arith) (shift item items value values h) in
+    let w = held_word item value (All-head IsItem item items i) (h 0 item value (omega arith) refl refl) in
+    record { each = one_item item value (written_word item value) items values (written_words items values) w d.each; joined = refl }
+
+-- characters that an item holds have codes of 7 bits
+set_codes : (value : List ℕ) → are_in_set82 value ≡ true → All (λ c. c < 128) value
+set_codes [] h = All-nil (λ c. c < 128)
+set_codes (c ∷ value) h =
+    let b = both_of (is_in_set82 c) (are_in_set82 value) h in
+    All-cons (λ c. c < 128) c value (set82_bounds c b.0).1 (set_codes value b.1)
+
+bits_all : (symbols : List ℕ) → list_all (is_symbol true) symbols ≡ true → AreBits symbols
+bits_all [] h = All-nil (λ b. b < 2)
+bits_all (b ∷ symbols) h =
+    let p = both_of (is_symbol true b) (list_all (is_symbol true) symbols) h in
+    All-cons (λ b. b < 2) b symbols (ltb-true b 2 p.0) (bits_all symbols p.1)
+
+-- what a bit item says of a value that it holds
+
+pub lit_bits : (item : Item) (literal : List ℕ) → item ≡ Lit literal → is_in_bounds true item ≡ true → AreBits literal
+lit_bits item literal i b =
+    let k : is_in_bounds true (Lit literal) ≡ true = rw i at b in
+    bits_all literal (both_of (is_between 1 64 (length literal)) (list_all (is_symbol true) literal) k).1
+
+pub numpad_held : (item : Item) (bits n : ℕ) (value : List ℕ) → item ≡ NumPad bits n → is_in_bounds true item ≡ true → why_not item value ≡ None → (bits ≤ 64) × (decimal_value value < 2 ^ bits)
+numpad_held item bits n value i b h =
+    let k = rw i at b in
+    let g = of_level true (NumPad bits n) k in
+    let w = held_word (NumPad bits n) value g (rw i at h) in
+    let m = numpad_bounds bits n g in
+    (m.1, w.2.fits)
+
+pub num_held : (item : Item) (bits greatest : ℕ) (value : List ℕ) → item ≡ Num bits greatest → is_in_bounds true item ≡ true → why_not item value ≡ None → (bits ≤ 64) × (decimal_value value < 2 ^ bits)
+num_held item bits greatest value i b h =
+    let k = rw i at b in
+    let g = of_level true (Num bits greatest) k in
+    let w = held_word (Num bits greatest) value g (rw i at h) in
+    let m = num_bounds bits greatest g in
+    let most = m.1 in
+    let power : 2 ^ bits ≤ 2 ^ 64 = pow_mono most in
+    let fits = w.1.1.fits in
+    let value_is : decimal_value value ≡ w.0 = ap decimal_value w.1.0.text ∙ value_decimal w.0 (omega arith) in
+    (m.1, omega arith)
+
+pub ascii_held : (item : Item) (lo hi bits : ℕ) (value : List ℕ) → item ≡ Ascii7 lo hi bits → is_in_bounds true item ≡ true → why_not item value ≡ None → All (λ c. c < 128) value × (7 * length value ≤ bits)
+ascii_held item lo hi bits value i b h =
+    let k = rw i at b in
+    let g = of_level true (Ascii7 lo hi bits) k in
+    let w = held_word (Ascii7 lo hi bits) value g (rw i at h) in
+    let l = w.2 in
+    let a : length (flat_map (bits_of 7) value ++ replicate {A = ℕ} (bits - 7 * length value) 0) ≡ length (flat_map (bits_of 7) value) + length (replicate {A = ℕ} (bits - 7 * length value) 0) = length-append (flat_map (bits_of 7) value) (replicate {A = ℕ} (bits - 7 * length value) 0) in
+    let p = packed_length value in
+    let whole : length (flat_map (bits_of 7) value ++ replicate {A = ℕ} (bits - 7 * length value) 0) ≡ bits = l in
+    (set_codes value w.1.characters, omega arith)
+
+pub written_room : (items : List Item) (values : List (List ℕ)) → All IsItem items → length values ≡ length items → AreHeld items values → length (written items values) ≤ size_of_all items
+written_room [] [] i l h = omega arith
+written_room [] (value ∷ values) i l h = absurd (omega arith)
+written_room (item ∷ items) [] i l h = absurd (omega arith)
+written_room (item ∷ items) (value ∷ values) i l h =
+    let rest = written_room items values (All-tail IsItem item items i) (omega arith) (shift item items value values h) in
+    let g = All-head IsItem item items i in
+    let first = (word_length item value (written_word item value) g (held_word item value g (h 0 item value (omega arith) refl refl))).1 in
+    let a = length-append (written_word item value) (written items values) in
+    omega arith
+
+-- room for the words to come
+
+pub characters_room : (t first value : List ℕ) (i : ℕ) → i < length value → t ++ flat_map (bits_of 7) (drop i value) ≡ first ++ flat_map (bits_of 7) value → length first + 7 * length value ≤ 512 → length t + 7 ≤ 512
+characters_room t first value i l e r =
+    let a = length-append t (flat_map (bits_of 7) (drop i value)) in
+    let b = length-append first (flat_map (bits_of 7) value) in
+    let p = packed_length (drop i value) in
+    let q = packed_length value in
+    let d = length-drop i value in
+    let m = ap length e in
+    omega arith
+
+pub symbols_room : (t first symbols : List ℕ) (i : ℕ) → i < length symbols → t ++ drop i symbols ≡ first ++ symbols → length first + length symbols ≤ 512 → length t + 1 ≤ 512
+symbols_room t first symbols i l e r =
+    let a = length-append t (drop i symbols) in
+    let b = length-append first symbols in
+    let d = length-drop i symbols in
+    let m = ap length e in
+    omega arith
+
+pub zeros_room : (t first : List ℕ) (count place : ℕ) → place < count → t ++ replicate (count - place) 0 ≡ first ++ replicate count 0 → length first + count ≤ 512 → length t + 1 ≤ 512
+zeros_room t first count place l e r =
+    let a : length (t ++ replicate {A = ℕ} (count - place) 0) ≡ length t + (count - place) = length-append t (replicate {A = ℕ} (count - place) 0) ∙ ap (λ (n : ℕ). length t + n) (length-replicate {A = ℕ} (count - place) 0) in
+    let b : length (first ++ replicate {A = ℕ} count 0) ≡ length first + count = length-append first (replicate {A = ℕ} count 0) ∙ ap (λ (n : ℕ). length first + n) (length-replicate {A = ℕ} count 0) in
+    let m = ap length e in
+    omega arith
+
+pub ascii_room : (item : Item) (lo hi bits width : ℕ) (value out new : List ℕ) → item ≡ Ascii7 lo hi bits → width ≡ bits → length out + size_of item ≤ 512 → new ≡ out ++ flat_map (bits_of 7) value → 7 * length value ≤ bits → length new + (width - 7 * length value) ≤ 512
+ascii_room item lo hi bits width value out new i w r e f =
+    let size : size_of item ≡ bits = ap size_of i in
+    let m = ap length e in
+    let a = length-append out (flat_map (bits_of 7) value) in
+    let p = packed_length value in
+    omega arith
+
+pub room_step : (items : List Item) (k : ℕ) (item : Item) (value out : List ℕ) (total : ℕ) → k < length items → item ≡ get_or items k item → is_in_bounds true item ≡ true → why_not item value ≡ None → length out + size_of_all (drop k items) ≤ total → length (out ++ written_word item value) + size_of_all (drop (k + 1) items) ≤ total
+room_step items k item value out total l e b h r =
+    let s = sizes_step items k item l e in
+    let w = written_size true item value b h in
+    let a = length-append out (written_word item value) in
+    omega arith
+
+pub all_bounds : (bit_level : Bool) (items : List Item) → bit_level ≡ true → position (is_bad bit_level) items ≡ None → AllPass (is_in_bounds true) items
+all_bounds bit_level items e h k d l = rw e at (none_bad bit_level items h k d l)
+
+pub bound_at : (items : List Item) (k : ℕ) (item : Item) → AllPass (is_in_bounds true) items → k < length items → item ≡ get_or items k item → is_in_bounds true item ≡ true
+bound_at items k item h l e = subst (λ (x : Item). is_in_bounds true x ≡ true) (sym e) (h k item l)
+
+-- a bit that has room is appended
+pushed : {E : Type 0} (r : Result (Unit {0}) E) (old new bits : List ℕ) (most : ℕ) → (IsErr r ↔ (most < length old + 1)) → OnOk r (new ≡ old ++ bits) → length old + 1 ≤ most → new ≡ old ++ bits
+pushed (Ok u) old new bits most e a r = a
+pushed (Err x) old new bits most e a r = absurd (let f = e.0 refl in omega arith)
+
+pub bit_step : {E : Type 0} (r : Result (Unit {0}) E) (items : List Item) (values : List (List ℕ)) (word first old new : List ℕ) (place bit most : ℕ) → place < length word → word ≡ written items values → All IsItem items → length values ≡ length items → AreHeld items values → length first + size_of_all items ≤ most → bit ≡ get_or word place 0 → bit < 2 → old ≡ first ++ take place word → (IsErr r ↔ (most < length old + 1)) → OnOk r (new ≡ old ++ bits_of 1 bit) → new ≡ first ++ take (place + 1) word
+bit_step r items values word first old new place bit most l w i n h room b two o e a =
+    let fits = written_room items values i n h in
+    let size = ap length w in
+    let t = length-take-le place word (omega arith) in
+    let s = length-append first (take place word) in
+    let m = ap length o in
+    let p = pushed r old new (bits_of 1 bit) most e a (omega arith) in
+    let one = one_bit bit two in
+    let more : take (place + 1) word ≡ take place word ++ bit ∷ [] = take_more word place 0 l ∙ ap (λ (x : ℕ). take place word ++ x ∷ []) (sym b) in
+    p ∙ ap (λ bs. old ++ bs) one ∙ ap (λ front. front ++ bit ∷ []) o ∙ append_assoc first (take place word) (bit ∷ []) ∙ ap (λ rest. first ++ rest) (sym more)
+
+-- the values of one list of words are the same
+same_values : (items : List Item) (values others words : List (List ℕ)) → EachWord items values words → EachWord items others words → values ≡ others
+same_values items values others words no_item no_item = refl
+same_values items values others words (one_item item value w items' values' words' h t) (one_item item'' value'' w'' items'' values'' words'' k u) =
+    let first : value ≡ value'' = word_fixes_value item value value'' w h k in
+    let rest : values' ≡ values'' = same_values items' values' values'' words' t u in
+    cc
+
+pub written_read : (level : List (List Item)) (option other : ℕ) (items : List Item) (values given : List (List ℕ)) → slice_get level option ≡ Some items → All IsItem items → length values ≡ length items → AreHeld items values → OneDerivation level (written items values) other given → (other ≡ option) × (given ≡ values)
+written_read level option other items values given at i l h one =
+    let mine : Derivation level (written items values) = record { option = option; items = items; values = values; words = written_words items values; of_level = at; derives = written_derives items values i l h } in
+    let same = one.only mine in
+    let place : one.derivation.option ≡ option = sym same.option in
+    let here : slice_get level option ≡ Some one.derivation.items = rw place at one.derivation.of_level in
+    let its : one.derivation.items ≡ items = cc in
+    let each : EachWord items one.derivation.values one.derivation.words = rw its at one.derivation.derives.each in
+    let all : EachWord items one.derivation.values (written_words items values) = rw (← same.words) at each in
+    let values_are = same_values items one.derivation.values values (written_words items values) all mine.derives.each in
+    (sym one.of_option ∙ place, sym one.of_values ∙ values_are)

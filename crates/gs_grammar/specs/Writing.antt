@@ -1,0 +1,73 @@
+-- Which values an item holds, and what is written of the values of an option.
+use Rattle.std.specs.Prelude.{◌≡◌, ℕ, ◌^◌, ◌<◌, ◌==◌, ◌&&◌, nat_lt, nat_le, not, Bool, false, if◌then◌else◌, List, [], ◌∷◌, Option, Some, None, length, slice_index, slice_get}
+use Rattle.std.specs.List.{concat}
+use Rattle.gs_chars.specs.Characters.{are_digits, are_in_set82}
+use Rattle.gs_grammar.specs.declared.item.Item.{Item}
+use Rattle.gs_grammar.specs.declared.item.Item.TheVariants.{Lit, Pad, Int, Esc, NumPad, Num, Ascii7, Fill}
+use Rattle.gs_grammar.specs.declared.fault.Why.{Why}
+use Rattle.gs_grammar.specs.declared.fault.Why.TheVariants.{Char, Length, Zero, Large}
+use Rattle.gs_grammar.specs.declared.fault.WriteFault.{WriteFault}
+use Rattle.gs_grammar.specs.declared.fault.WriteFault.TheVariants.{CannotHold, Memory}
+use Rattle.gs_grammar.specs.Items.{is_between}
+use Rattle.gs_grammar.specs.Words.{decimal_value, written_word}
+
+-- the first reason that fits
+abbrev pub first_reason : Bool → Bool → Bool → Bool → Option Why
+first_reason char size zero large =
+    if char then Some Char
+    else if size then Some Length
+    else if zero then Some Zero
+    else if large then Some Large
+    else None
+
+-- digits begin with a zero that is not the whole of them
+abbrev pub has_leading_zero : List ℕ → Bool
+has_leading_zero value = nat_lt 1 (length value) && (slice_index value 0 == 48)
+
+-- why an item has no word for the value: the first reason that fits, or none
+abbrev pub why_not : Item → List ℕ → Option Why
+why_not (Lit literal) value = first_reason false (not (length value == 0)) false false
+why_not (Pad n) value = first_reason (not (are_digits value)) (not (length value == n)) false false
+why_not (Int greatest) value = first_reason (not (are_digits value)) (length value == 0) (has_leading_zero value) (nat_lt greatest (decimal_value value))
+why_not (Esc lo hi) value = first_reason (not (are_in_set82 value)) (not (is_between lo hi (length value))) false false
+why_not (NumPad bits n) value = first_reason (not (are_digits value)) (not (length value == n)) false (nat_le (2 ^ bits) (decimal_value value))
+why_not (Num bits greatest) value = first_reason (not (are_digits value)) (length value == 0) (has_leading_zero value) (nat_lt greatest (decimal_value value))
+why_not (Ascii7 lo hi bits) value = first_reason (not (are_in_set82 value)) (not (is_between lo hi (length value))) false false
+why_not (Fill a b) value = first_reason false (not (length value == 0)) false false
+
+-- the items hold their values, as far as the first n
+abbrev pub AreHeldBefore : List Item → List (List ℕ) → ℕ → Type 0
+AreHeldBefore items values n = (k : ℕ) (item : Item) (value : List ℕ) → k < n → slice_get items k ≡ Some item → slice_get values k ≡ Some value → why_not item value ≡ None
+
+-- each item holds its value
+abbrev pub AreHeld : List Item → List (List ℕ) → Type 0
+AreHeld items values = AreHeldBefore items values (length items)
+
+-- item k is the first that does not hold its value, and this is the reason
+pub record IsFirstRefusal (items : List Item) (values : List (List ℕ)) (k : ℕ) (why : Why) : Type 0 where
+  pub item : Item
+  pub value : List ℕ
+  pub item_at : slice_get items k ≡ Some item
+  pub value_at : slice_get values k ≡ Some value
+  pub reason : why_not item value ≡ Some why
+  pub before : AreHeldBefore items values k
+
+-- the written word of each value
+abbrev pub written_words : List Item → List (List ℕ) → List (List ℕ)
+written_words [] values = []
+written_words (item ∷ items) [] = []
+written_words (item ∷ items) (value ∷ values) = written_word item value ∷ written_words items values
+
+-- what is written of the values: the written words joined
+abbrev pub written : List Item → List (List ℕ) → List ℕ
+written items values = concat (written_words items values)
+
+-- why values are not written: the first item that does not hold its value, or want of memory
+abbrev pub IsWriteFault : List Item → List (List ℕ) → WriteFault → Type 0
+IsWriteFault items values (CannotHold k why) = IsFirstRefusal items values k why
+IsWriteFault items values Memory = Unit {0}
+
+-- the same of a call that takes no memory
+abbrev pub IsHoldFault : List Item → List (List ℕ) → WriteFault → Type 0
+IsHoldFault items values (CannotHold k why) = IsFirstRefusal items values k why
+IsHoldFault items values Memory = ⊥

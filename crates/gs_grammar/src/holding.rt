@@ -1,0 +1,110 @@
+ghost use Rattle.std.specs.Prelude.{◌≡◌, ◌↔◌, ◌^◌, ◌≤◌, ℕ, List, Bool, nat_lt, nat_le, IsOk, MatchResult, Some, None};
+ghost use Rattle.gs_chars.specs.Characters.{are_in_set82};
+ghost use Rattle.gs_grammar.specs.Items.{IsItem};
+ghost use Rattle.gs_grammar.specs.Words.{Word, decimal_value};
+ghost use Rattle.gs_grammar.specs.Writing.{first_reason, why_not};
+
+use crate::fault::Why;
+use crate::item::{Item, fits_bits, is_within};
+use crate::numerals::{decimal_number, has_leading_zero};
+use crate::words::all_digits;
+use gs_chars::CharSet;
+
+/// The first reason that fits.
+fn judge(char: bool, size: bool, zero: bool, large: bool) -> Result<(), Why>
+    ensures { MatchResult result (λ _. first_reason char size zero large ≡ None) (λ why. first_reason char size zero large ≡ Some why) }
+{
+    if char {
+        return Err(Why::Char);
+    }
+    if size {
+        return Err(Why::Length);
+    }
+    if zero {
+        return Err(Why::Zero);
+    }
+    if large { Err(Why::Large) } else { Ok(()) }
+}
+
+/// Whether each character is one of the set of 82.
+fn all_in_set82(value: &[u8]) -> bool
+    ensures { result ≡ are_in_set82 value.now }
+{
+    value
+        .iter()
+        .all(|character| CharSet::Set82.holds(*character))
+}
+
+/// Whether the number that the characters write is above the greatest.
+fn is_above(value: &[u8], greatest: u64) -> bool
+    ensures { result ≡ nat_lt greatest (decimal_value value.now) }
+{
+    match decimal_number(value) {
+        Some(number) => greatest < number,
+        None => true,
+    }
+}
+
+/// Whether the number that the characters write has no room in this many bits.
+fn exceeds(value: &[u8], bits: u8) -> bool
+    requires { bits ≤ 64 }
+    ensures { result ≡ nat_le (2 ^ bits) (decimal_value value.now) }
+{
+    match decimal_number(value) {
+        Some(number) => !fits_bits(number, bits),
+        None => true,
+    }
+}
+
+/// The first reason why the item has no word for the value.
+fn reason_against(item: &Item, value: &[u8]) -> Result<(), Why>
+    requires { IsItem item.now }
+    ensures { MatchResult result (λ _. why_not item.now value.now ≡ None) (λ why. why_not item.now value.now ≡ Some why) }
+{
+    let count = value.len();
+    match item {
+        Item::Lit(_) => judge(false, count != 0, false, false),
+        Item::Pad { n } => judge(!all_digits(value), count != usize::from(*n), false, false),
+        Item::Int { max } => judge(
+            !all_digits(value),
+            count == 0,
+            has_leading_zero(value),
+            is_above(value, *max),
+        ),
+        Item::Esc { lo, hi } => judge(
+            !all_in_set82(value),
+            !is_within(usize::from(*lo), usize::from(*hi), count),
+            false,
+            false,
+        ),
+        Item::NumPad { bits, n } => judge(
+            !all_digits(value),
+            count != usize::from(*n),
+            false,
+            exceeds(value, *bits),
+        ),
+        Item::Num { bits: _, max } => judge(
+            !all_digits(value),
+            count == 0,
+            has_leading_zero(value),
+            is_above(value, *max),
+        ),
+        Item::Ascii7 { lo, hi, bits: _ } => judge(
+            !all_in_set82(value),
+            !is_within(usize::from(*lo), usize::from(*hi), count),
+            false,
+            false,
+        ),
+        Item::Fill { a: _, b: _ } => judge(false, count != 0, false, false),
+    }
+}
+
+/// Whether some word of the item has the value. The reasons against are tried in the order of `Why`. An item `Lit` or `Fill`
+/// holds the empty value alone.
+pub fn holds(item: &Item, value: &[u8]) -> Result<(), Why>
+    requires { IsItem item.now }
+    ensures reason { MatchResult result (λ _. why_not item.now value.now ≡ None) (λ why. why_not item.now value.now ≡ Some why) }
+    ensures word { IsOk result ↔ ((w : List ℕ) × Word item.now value.now w) }
+{
+    reason_against(item, value)
+}
