@@ -41,18 +41,34 @@ fn gtin_row(alloc: Global) -> Result<AiRow, Memory>
     })
 }
 
-/// The table of the application identifiers 01, 10, 21 and 22. The one refusal is want of memory.
-pub fn ai_table(alloc: Global) -> Result<AiTable, Memory>
-    ensures { IfOk result (λ table. table ≡ ai_rows) }
+/// Want of memory, which is the one refusal that can come.
+fn want_of_memory(refusal: AiFault) -> Memory
+    requires { refusal ≡ AiFault.Memory }
 {
-    let mut rows = Vec::new(alloc);
+    match refusal {
+        AiFault::Memory => Memory,
+        _ => unreachable!(),
+    }
+}
+
+/// The rows of the application identifiers 01, 10, 21 and 22.
+fn own_rows(alloc: Global) -> Result<Vec<AiRow>, Memory>
+    ensures { IfOk result (λ rows. rows.items ≡ ai_rows) }
+{
+    let mut rows = Vec::with_capacity(alloc, 4)?;
     rows.push(gtin_row(alloc)?)?;
     rows.push(qualifier(alloc, b"10")?)?;
     rows.push(qualifier(alloc, b"21")?)?;
     rows.push(qualifier(alloc, b"22")?)?;
-    match AiTable::new(alloc, rows) {
+    Ok(rows)
+}
+
+/// The table of the application identifiers 01, 10, 21 and 22. The one refusal is want of memory.
+pub fn ai_table(alloc: Global) -> Result<AiTable, Memory>
+    ensures { IfOk result (λ table. table ≡ ai_rows) }
+{
+    match AiTable::new(alloc, own_rows(alloc)?) {
         Ok(table) => Ok(table),
-        Err(AiFault::Memory) => Err(Memory),
-        Err(_) => unreachable!(),
+        Err(refusal) => Err(want_of_memory(refusal)),
     }
 }

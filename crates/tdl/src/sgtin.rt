@@ -43,6 +43,16 @@ fn pairs_of(alloc: Global, gtin: Vec<u8>, serial: &[u8]) -> Result<Vec<Pair>, Me
     Ok(pairs)
 }
 
+/// Want of memory, which is the one refusal that can come.
+fn want_of_memory(refusal: IdentFault) -> Memory
+    requires { refusal ≡ IdentFault.Memory }
+{
+    match refusal {
+        IdentFault::Memory => Memory,
+        _ => unreachable!(),
+    }
+}
+
 /// The identity that the parts of an SGTIN name.
 pub fn identity_of_parts(
     alloc: Global,
@@ -60,7 +70,6 @@ pub fn identity_of_parts(
     let pairs = pairs_of(alloc, gtin, serial)?;
     match make(alloc, table, pairs) {
         Ok(identity) => Ok(identity),
-        Err(IdentFault::Memory) => Err(Memory),
-        Err(_) => unreachable!(),
+        Err(refusal) => Err(want_of_memory(refusal)),
     }
 }

@@ -8,7 +8,7 @@ pub link_of_values-requires : goal.link_of_values-requires
 link_of_values-requires c =
     let read = c.in-One.ensures in
     let of_level : OneDerivation pure_level c.args.text.now c.in-One.option c.in-One.values = rw c.requires.level at read in
-    rw c.items.ensures (are_sgtin_values c.args.text.now c.in-One.option c.in-One.values of_level)
+    record { table = c.requires.identifiers; values = rw c.items.ensures (are_sgtin_values c.args.text.now c.in-One.option c.in-One.values of_level) }
 
 pub returns-in_ok-link-in-One : goal.returns-in_ok-link-in-One
 returns-in_ok-link-in-One c =
