@@ -1,12 +1,11 @@
 -- The identity of pairs, and the identity of its own pairs.
-use Rattle.std.proofs.Common.{◌≡◌, ◌≢◌, ℕ, zero, suc, ◌+◌, Bool, true, false, not, ◌&&◌, List, [], ◌∷◌, ◌++◌, take, filter, find, Option, Some, None, Result, Ok, Err, IfOk, slice_get, bytes_eq, All, refl, sym, ap, ◌∙◌, option_map, ◌⊎◌, inl, inr, true≢false, zero-add, subst, if◌then◌else◌}
-use Rattle.std.specs.List.{enumerate_from, list_any, filter_map}
+use Rattle.std.proofs.Common.{◌≡◌, ℕ, suc, ◌+◌, true, false, not, ◌&&◌, List, ◌∷◌, ◌++◌, take, Option, Some, None, Ok, Err, slice_get, bytes_eq, All, refl, sym, ap, ◌∙◌, inl, inr, true≢false, zero-add, subst}
+use Rattle.std.specs.List.{filter_map}
 use Rattle.std.proofs.lemmas.List.Elements.{All-filter, filter_passes}
 use Rattle.gs_ai.specs.declared.pair.Pair.{Pair}
 use Rattle.gs_ai.specs.declared.row.AiRow.{AiRow}
 use Rattle.gs_ai.specs.Tables.{is_key_of, ascending_codes}
-use Rattle.gs_ai.proofs.Searches.{equal_bytes, same_bytes, false_from, none_any, get_of_take}
-use Rattle.gs_ident.specs.declared.faults.IdentFault.{IdentFault}
+use Rattle.gs_ai.proofs.Searches.{equal_bytes, same_bytes, none_any, get_of_take}
 use Rattle.gs_ident.specs.declared.faults.IdentFault.TheVariants.{Repeat, NoKey, TwoKeys}
 use Rattle.gs_ident.specs.Elements.{Elements, pairs_of}
 use Rattle.gs_ident.specs.Identities.{pair_with, stands_for_none, counted, contradicts, contradiction, first_key, other_key, listed, is_other, other_pair, elements_of, by_contradiction, by_key, by_other_key, identity_of_counted, identity_of_pairs, IsInOrder, IsMadeWith}

@@ -1,5 +1,5 @@
 -- Two identities of one table have one link only where they are one identity.
-use Rattle.std.proofs.Common.{◌≡◌, ℕ, zero, suc, ◌+◌, ◌*◌, ◌/◌, ◌%◌, ◌<◌, ◌≤◌, ◌==◌, ◌&&◌, ◌||◌, not, nat_lt, Bool, true, false, List, [], ◌∷◌, ◌++◌, find, Option, Some, None, slice_get, bytes_eq, All, refl, sym, ap, subst, ◌∙◌, arith, ◌⊎◌, inl, inr, true≢false, append_assoc, if◌then◌else◌, ◌↔◌}
+use Rattle.std.proofs.Common.{◌≡◌, ℕ, zero, suc, ◌/◌, ◌%◌, ◌<◌, ◌≤◌, ◌==◌, ◌&&◌, ◌||◌, not, nat_lt, Bool, true, false, List, [], ◌∷◌, ◌++◌, Some, None, refl, sym, ap, subst, ◌∙◌, arith, ◌⊎◌, inl, inr, true≢false, append_assoc, ◌↔◌}
 use Rattle.std.specs.List.{flat_map, list_all}
 use Rattle.std.proofs.lemmas.List.{append_cancel_left}
 use Rattle.std.proofs.lemmas.Bool.Decides.{nat_tests}
@@ -7,15 +7,14 @@ use Rattle.gs_chars.specs.Characters.{is_digit, are_digits}
 use Rattle.gs_chars.specs.Escapes.{hex_digit}
 use Rattle.gs_ai.specs.declared.pair.Pair.{Pair}
 use Rattle.gs_ai.specs.declared.row.AiRow.{AiRow}
-use Rattle.gs_ai.specs.declared.faults.ValueFault.{ValueFault}
 use Rattle.gs_ai.specs.declared.faults.ValueFault.TheVariants.{Unknown}
 use Rattle.gs_ai.specs.Tables.{is_row, KeepsRules}
-use Rattle.gs_ai.specs.Values.{has_code, parts_fault, value_fault}
+use Rattle.gs_ai.specs.Values.{has_code}
 use Rattle.gs_ai.proofs.Searches.{equal_bytes, false_from}
 use Rattle.gs_ai.proofs.RowLemmas.{row_code, code_digits, and_left, and_right}
 use Rattle.gs_ident.specs.Elements.{Elements, pairs_of}
 use Rattle.gs_ident.specs.Identities.{IsInOrder, IsMadeWith}
-use Rattle.gs_ident.specs.Links.{is_unescaped, escaped_byte, percent_escape, percent_encoded, path_step, query_part, query_of, spelled, canonical_stem, canonical_link}
+use Rattle.gs_ident.specs.Links.{is_unescaped, escaped_byte, percent_encoded, path_step, query_part, query_of, spelled, canonical_stem, canonical_link}
 use Rattle.gs_ident.proofs.PairLemmas.{two_ways, Each, each_from_all, found_passes, found_each, find_by_cases, place_left, place_right}
 
 -- ---- the four bytes that separate the pieces of a link
@@ -279,7 +278,7 @@ free_code rows rules pair h = elim (find_by_cases (has_code pair.code) rows) [
       let same = equal_bytes pair.code found.0.code (found_passes (has_code pair.code) rows found.0 found.1) in
       let digits = code_digits found.0.code (row_code found.0 ok) in
       digits_free pair.code (subst (λ (code : List ℕ). are_digits code ≡ true) (sym same) digits)
-  | inr none ↦ absurd (let f = rw none at h in let g : Some Unknown ≡ None = f in cc)
+  | inr none ↦ absurd (let f = rw none at h.fits in let g : Some Unknown ≡ None = f in cc)
 ]
 
 all_free : (ps : List Pair) → Each (λ p. is_free p.code ≡ true) ps → AllFree ps

@@ -1,6 +1,6 @@
 -- The pairs of a list by their places and by their codes.
-use Rattle.std.proofs.Common.{◌≡◌, ℕ, zero, suc, ◌+◌, ◌<◌, ◌≤◌, subst, Bool, true, false, not, ◌&&◌, cond, List, [], ◌∷◌, ◌++◌, length, take, get_or, filter, find, Option, Some, None, slice_get, bytes_eq, All, refl, sym, ap, ◌∙◌, arith, option_map, ◌⊎◌, inl, inr, true≢false}
-use Rattle.std.specs.List.{cons_option, enumerate_from, list_any, filter_map}
+use Rattle.std.proofs.Common.{◌≡◌, ℕ, zero, suc, ◌+◌, ◌<◌, ◌≤◌, subst, Bool, true, false, List, [], ◌∷◌, ◌++◌, length, take, get_or, filter, find, Option, Some, None, slice_get, All, refl, sym, ap, ◌∙◌, arith, ◌⊎◌, inl, inr, true≢false}
+use Rattle.std.specs.List.{cons_option, enumerate_from, filter_map}
 use Rattle.std.specs.Option.{option_to_list}
 use Rattle.std.proofs.lemmas.List.{take_all}
 use Rattle.std.proofs.lemmas.List.Elements.{All-cons, All-head, All-nil, All-tail}
