@@ -1,6 +1,6 @@
 -- The pairs of a list by their places and by their codes.
-use Rattle.std.proofs.Common.{◌≡◌, ℕ, zero, suc, ◌+◌, ◌<◌, ◌≤◌, subst, Bool, true, false, not, ◌&&◌, cond, List, [], ◌∷◌, ◌++◌, length, take, get_or, filter, find, Option, Some, None, slice_get, bytes_eq, All, refl, sym, ap, ◌∙◌, arith, option_map, ◌⊎◌, inl, inr, true≢false}
-use Rattle.std.specs.List.{cons_option, enumerate_from, list_any, filter_map}
+use Rattle.std.proofs.Common.{◌≡◌, ℕ, zero, suc, ◌+◌, ◌<◌, ◌≤◌, subst, Bool, true, false, List, [], ◌∷◌, ◌++◌, length, take, get_or, filter, find, Option, Some, None, slice_get, All, refl, sym, ap, ◌∙◌, arith, ◌⊎◌, inl, inr, true≢false}
+use Rattle.std.specs.List.{cons_option, enumerate_from, filter_map}
 use Rattle.std.specs.Option.{option_to_list}
 use Rattle.std.proofs.lemmas.List.{take_all}
 use Rattle.std.proofs.lemmas.List.Elements.{All-cons, All-head, All-nil, All-tail}
@@ -17,34 +17,34 @@ two_ways false = inr refl
 place_at : {X : Type 0} (p : ℕ × X → Bool) (n : ℕ) (xs : List X) (i : ℕ) (x : X) → slice_get xs i ≡ Some x → find p (enumerate_from n (take i xs)) ≡ None → p (n + i, x) ≡ true → find p (enumerate_from n xs) ≡ Some (n + i, x)
 place_at p n [] i x at none h = absurd (let g : None ≡ Some x = at in cc)
 place_at p n (y ∷ ys) zero x at none h =
-  let same : y ≡ x = cc in
-  let here : n + 0 ≡ n = omega arith in
-  let h' = rw here at h in
-  rw (here, same, h') refl
-place_at p n (y ∷ ys) (suc i) x at none h = elim (two_ways (p (n, y))) [
-    inl t ↦ absurd (let f = rw t at none in let g : Some (n, y) ≡ None = f in cc)
-  | inr t ↦
-    let f = rw t at none in
-    let here : n + suc i ≡ n + 1 + i = omega arith in
+    let same : y ≡ x = cc in
+    let here : n + 0 ≡ n = omega arith in
     let h' = rw here at h in
-    rw (t, here) (place_at p (n + 1) ys i x at f h')
-  ]
+    rw (here, same, h') refl
+place_at p n (y ∷ ys) (suc i) x at none h = elim (two_ways (p (n, y))) [
+  | inl t ↦ absurd (let f = rw t at none in let g : Some (n, y) ≡ None = f in cc)
+  | inr t ↦
+      let f = rw t at none in
+      let here : n + suc i ≡ n + 1 + i = omega arith in
+      let h' = rw here at h in
+      rw (t, here) (place_at p (n + 1) ys i x at f h')
+]
 
 place_none : {X : Type 0} (p : ℕ × X → Bool) (n : ℕ) (xs : List X) (i : ℕ) (x : X) → slice_get xs i ≡ Some x → find p (enumerate_from n (take i xs)) ≡ None → p (n + i, x) ≡ false → find p (enumerate_from n (take (suc i) xs)) ≡ None
 place_none p n [] i x at none h = absurd (let g : None ≡ Some x = at in cc)
 place_none p n (y ∷ ys) zero x at none h =
-  let same : y ≡ x = cc in
-  let here : n + 0 ≡ n = omega arith in
-  let h' = rw here at h in
-  rw (same, h') refl
-place_none p n (y ∷ ys) (suc i) x at none h = elim (two_ways (p (n, y))) [
-    inl t ↦ absurd (let f = rw t at none in let g : Some (n, y) ≡ None = f in cc)
-  | inr t ↦
-    let f = rw t at none in
-    let here : n + suc i ≡ n + 1 + i = omega arith in
+    let same : y ≡ x = cc in
+    let here : n + 0 ≡ n = omega arith in
     let h' = rw here at h in
-    rw t (place_none p (n + 1) ys i x at f h')
-  ]
+    rw (same, h') refl
+place_none p n (y ∷ ys) (suc i) x at none h = elim (two_ways (p (n, y))) [
+  | inl t ↦ absurd (let f = rw t at none in let g : Some (n, y) ≡ None = f in cc)
+  | inr t ↦
+      let f = rw t at none in
+      let here : n + suc i ≡ n + 1 + i = omega arith in
+      let h' = rw here at h in
+      rw t (place_none p (n + 1) ys i x at f h')
+]
 
 -- ---- contradictions
 
@@ -54,16 +54,16 @@ is_contradiction pairs place = contradicts (take place.0 pairs) place.1
 pub first_place : (pairs : List Pair) (i : ℕ) (pair : Pair) → i < length pairs → pair ≡ get_or pairs i pair → find (is_contradiction pairs) (enumerate_from 0 (take i pairs)) ≡ None → contradicts (take i pairs) pair ≡ true → Some pair ≡ contradiction pairs
 unfolding contradiction
 first_place pairs i pair low read none h =
-  let at = read_at pairs i pair low read in
-  let zero_plus : i ≡ 0 + i = omega arith in
-  rw (place_at (is_contradiction pairs) 0 pairs i pair at none (rw zero_plus at h)) refl
+    let at = read_at pairs i pair low read in
+    let zero_plus : i ≡ 0 + i = omega arith in
+    rw (place_at (is_contradiction pairs) 0 pairs i pair at none (rw zero_plus at h)) refl
 
 pub no_more : (pairs : List Pair) (i : ℕ) (pair : Pair) → i < length pairs → pair ≡ get_or pairs i pair → find (is_contradiction pairs) (enumerate_from 0 (take i pairs)) ≡ None → contradicts (take i pairs) pair ≡ false → find (is_contradiction pairs) (enumerate_from 0 (take (i + 1) pairs)) ≡ None
 no_more pairs i pair low read none h =
-  let at = read_at pairs i pair low read in
-  let zero_plus : i ≡ 0 + i = omega arith in
-  let next : i + 1 ≡ suc i = omega arith in
-  rw next (place_none (is_contradiction pairs) 0 pairs i pair at none (rw zero_plus at h))
+    let at = read_at pairs i pair low read in
+    let zero_plus : i ≡ 0 + i = omega arith in
+    let next : i + 1 ≡ suc i = omega arith in
+    rw next (place_none (is_contradiction pairs) 0 pairs i pair at none (rw zero_plus at h))
 
 pub none_found : (pairs : List Pair) (i : ℕ) → length pairs ≤ i → find (is_contradiction pairs) (enumerate_from 0 (take i pairs)) ≡ None → None ≡ contradiction pairs
 unfolding contradiction
@@ -86,10 +86,10 @@ taken h (d ∷ cs) (suc i) c at = rw (taken h cs i c at) (front_option (h d) (fi
 
 pub filter_map_more : {A X : Type 0} (h : A → Option X) (cs : List A) (i : ℕ) (c : A) (done new : List X) → i < length cs → c ≡ get_or cs i c → done ≡ filter_map h (take i cs) → new ≡ done ++ option_to_list (h c) → new ≡ filter_map h (take (i + 1) cs)
 filter_map_more h cs i c done new low read d n =
-  let next : i + 1 ≡ suc i = omega arith in
-  let more = taken h cs i c (read_at cs i c low read) in
-  let put = rw d at n in
-  rw next (put ∙ sym more)
+    let next : i + 1 ≡ suc i = omega arith in
+    let more = taken h cs i c (read_at cs i c low read) in
+    let put = rw d at n in
+    rw next (put ∙ sym more)
 
 -- ---- what holds of each element
 
@@ -125,34 +125,34 @@ all_from_each P (x ∷ xs) a = All-cons P x xs (a zero x refl) (all_from_each P 
 pub found_passes : {X : Type 0} (t : X → Bool) (xs : List X) (x : X) → find t xs ≡ Some x → t x ≡ true
 found_passes t [] x e = absurd (let g : None ≡ Some x = e in cc)
 found_passes t (y ∷ xs) x e = elim (two_ways (t y)) [
-    inl h ↦ let f = rw h at e in let same : y ≡ x = cc in rw (← same) h
+  | inl h ↦ let f = rw h at e in let same : y ≡ x = cc in rw (← same) h
   | inr h ↦ let f = rw h at e in found_passes t xs x f
-  ]
+]
 
 pub found_each : {X : Type 0} (P : X → Type 0) (t : X → Bool) (xs : List X) (x : X) → find t xs ≡ Some x → Each P xs → P x
 found_each P t [] x e a = absurd (let g : None ≡ Some x = e in cc)
 found_each P t (y ∷ xs) x e a = elim (two_ways (t y)) [
-    inl h ↦ let f = rw h at e in let same : y ≡ x = cc in subst P same (a zero y refl)
+  | inl h ↦ let f = rw h at e in let same : y ≡ x = cc in subst P same (a zero y refl)
   | inr h ↦ let f = rw h at e in found_each P t xs x f (λ j z at. a (suc j) z at)
-  ]
+]
 
 -- a sharper test that the found element passes finds it too
 pub found_sharper : {X : Type 0} (t p : X → Bool) (xs : List X) (x : X) → find p xs ≡ Some x → ((y : X) → t y ≡ true → p y ≡ true) → t x ≡ true → find t xs ≡ Some x
 found_sharper t p [] x e sharper h = absurd (let g : None ≡ Some x = e in cc)
 found_sharper t p (y ∷ xs) x e sharper h = elim (two_ways (p y)) [
-    inl q ↦ let f = rw q at e in let same : y ≡ x = cc in let ty : t y ≡ true = rw same h in rw ty (ap Some same)
+  | inl q ↦ let f = rw q at e in let same : y ≡ x = cc in let ty : t y ≡ true = rw same h in rw ty (ap Some same)
   | inr q ↦
-    let f = rw q at e in
-    let ty : t y ≡ false = false_from (t y) (λ k. true≢false (sym (sharper y k) ∙ q)) in
-    rw ty (found_sharper t p xs x f sharper h)
-  ]
+      let f = rw q at e in
+      let ty : t y ≡ false = false_from (t y) (λ k. true≢false (sym (sharper y k) ∙ q)) in
+      rw ty (found_sharper t p xs x f sharper h)
+]
 
 pub not_found : {X : Type 0} (t : X → Bool) (xs : List X) → find t xs ≡ None → Each (λ x. t x ≡ false) xs
 not_found t [] e j x at = absurd (let g : None ≡ Some x = at in cc)
 not_found t (y ∷ xs) e j x at = elim (two_ways (t y)) [
-    inl h ↦ absurd (let f = rw h at e in let g : Some y ≡ None = f in cc)
+  | inl h ↦ absurd (let f = rw h at e in let g : Some y ≡ None = f in cc)
   | inr h ↦ let f = rw h at e in each_cons (λ z. t z ≡ false) y xs h (not_found t xs f) j x at
-  ]
+]
 
 pub find_nothing : {X : Type 0} (t : X → Bool) (xs : List X) → Each (λ x. t x ≡ false) xs → find t xs ≡ None
 find_nothing t [] a = refl
@@ -195,6 +195,6 @@ filter_all t (x ∷ xs) a = rw (a zero x refl, filter_all t xs (λ j y at. a (su
 pub place_absent : {X : Type 0} (p : ℕ × X → Bool) (n : ℕ) (xs : List X) → ((i : ℕ) (x : X) → slice_get xs i ≡ Some x → p (n + i, x) ≡ false) → find p (enumerate_from n xs) ≡ None
 place_absent p n [] a = refl
 place_absent p n (x ∷ xs) a =
-  let zero_plus : n ≡ n + 0 = omega arith in
-  let first : p (n, x) ≡ false = rw zero_plus (a zero x refl) in
-  rw first (place_absent p (n + 1) xs (λ i y at. let next : n + 1 + i ≡ n + suc i = omega arith in rw next (a (suc i) y at)))
+    let zero_plus : n ≡ n + 0 = omega arith in
+    let first : p (n, x) ≡ false = rw zero_plus (a zero x refl) in
+    rw first (place_absent p (n + 1) xs (λ i y at. let next : n + 1 + i ≡ n + suc i = omega arith in rw next (a (suc i) y at)))

@@ -1,7 +1,7 @@
 -- The identity of a list of elements: GS1 Digital Link URI Syntax, section 3 (keys, qualifiers and attributes), and GS1
 -- General Specifications, section 4.14 (elements that stand together). The treatment of repeated elements is this
 -- project's own.
-use Rattle.std.specs.Prelude.{◌≡◌, ℕ, Bool, false, not, ◌&&◌, List, [], ◌∷◌, All, take, filter, find, Option, Some, None, Result, Ok, Err, bytes_eq, if◌then◌else◌}
+use Rattle.std.specs.Prelude.{◌≡◌, ℕ, Bool, false, not, ◌&&◌, List, [], All, take, filter, find, Option, Some, None, Result, Ok, Err, bytes_eq, if◌then◌else◌}
 use Rattle.std.specs.List.{enumerate_from, filter_map, list_any}
 use Rattle.std.specs.Option.{option_map, option_map_or}
 use Rattle.gs_ai.specs.declared.pair.Pair.{Pair}
@@ -85,9 +85,9 @@ identity_of_counted table pairs = by_contradiction table pairs (contradiction pa
 abbrev pub identity_of_pairs : List AiRow → List Pair → Result Elements IdentFault
 identity_of_pairs table pairs = identity_of_counted table (counted table pairs)
 
--- the value is one of its code's
-abbrev pub IsInOrder : List AiRow → Pair → Type 0
-IsInOrder table pair = value_fault table pair.code pair.value ≡ None
+-- The value is one of its code's.
+pub record IsInOrder (table : List AiRow) (pair : Pair) : Type 0 where
+  pub fits : value_fault table pair.code pair.value ≡ None
 
 -- The identity was made with the table: each of its pairs is in order, and its pairs have this identity.
 pub record IsMadeWith (table : List AiRow) (identity : Elements) : Type 0 where

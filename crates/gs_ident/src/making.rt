@@ -29,7 +29,12 @@ fn listed_codes<'a>(table: &'a AiTable, key: &Pair) -> &'a [Text]
 
 /// The identity of this key and of the pairs around it.
 #[tactic(auto, unfolding(crate::specs::Identities::elements_of))]
-fn elements_of(alloc: Global, table: &AiTable, pairs: &[Pair], key: &Pair) -> Result<Identity, Memory>
+fn elements_of(
+    alloc: Global,
+    table: &AiTable,
+    pairs: &[Pair],
+    key: &Pair,
+) -> Result<Identity, Memory>
     ensures { IfOk result (λ identity. identity ≡ elements_of table.now pairs.now key.now) }
 {
     let own = key.copy(alloc)?;

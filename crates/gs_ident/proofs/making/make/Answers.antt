@@ -1,6 +1,6 @@
-use Rattle.std.proofs.Common.{◌≡◌, ◌≢◌, sym, ◌∙◌, Ok, Err}
+use Rattle.std.proofs.Common.{◌≡◌, Ok}
 use Rattle.std.proofs.lemmas.Result.{IfOk-weaker}
-use Rattle.gs_ident.specs.Identities.{identity_of_pairs, identity_of_counted, counted, IsMadeWith}
+use Rattle.gs_ident.specs.Identities.{identity_of_pairs, IsMadeWith}
 use Rattle.gs_ident.proofs.IdentityLemmas.{made_with}
 use Rattle.gs_ident.proofs.making.make.Goals as goal
 

@@ -1,4 +1,3 @@
-use Rattle.std.proofs.Common.{◌≡◌, sym, ◌∙◌, ap, Ok}
 use Rattle.gs_ident.proofs.IdentityLemmas.{repeat_answer, no_key_answer, two_keys_answer, made_answer}
 use Rattle.gs_ident.proofs.making.make_counted.Goals as goal
 
