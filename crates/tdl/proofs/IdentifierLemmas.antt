@@ -76,8 +76,8 @@ serial_in_order serial is =
 -- each of the two pairs is in order
 pub pairs_in_order : (gtin serial : List ℕ) → IsGtin gtin → IsSerial serial → All (IsInOrder ai_rows) (sgtin_pairs gtin serial)
 pairs_in_order gtin serial is_gtin is_serial =
-  All-cons (IsInOrder ai_rows) (gtin_pair gtin) (serial_pair serial ∷ []) (gtin_in_order gtin is_gtin)
-    (All-cons (IsInOrder ai_rows) (serial_pair serial) [] (serial_in_order serial is_serial) (All-nil (IsInOrder ai_rows)))
+  All-cons (IsInOrder ai_rows) (gtin_pair gtin) (serial_pair serial ∷ []) (record { fits = gtin_in_order gtin is_gtin })
+    (All-cons (IsInOrder ai_rows) (serial_pair serial) [] (record { fits = serial_in_order serial is_serial }) (All-nil (IsInOrder ai_rows)))
 
 -- the identity of a GTIN and a serial number
 pub identity_of_sgtin : (gtin serial : List ℕ) → identity_of_pairs ai_rows (sgtin_pairs gtin serial) ≡ Ok (sgtin_elements gtin serial)
