@@ -103,9 +103,9 @@ length_read rows i row low read = rw (read_at rows i row low read) refl
 not_any : {X : Type 0} (p q : X → Bool) (xs : List X) → find p xs ≡ None → list_any (λ x. p x && q x) xs ≡ false
 not_any p q [] e = refl
 not_any p q (x ∷ xs) e = elim (two_ways (p x)) [
-    inl t ↦ absurd (let f = rw t at e in let g : Some x ≡ None = f in cc)
+  | inl t ↦ absurd (let f = rw t at e in let g : Some x ≡ None = f in cc)
   | inr t ↦ let f = rw t at e in rw t (not_any p q xs f)
-  ]
+]
   where
     two_ways : (b : Bool) → (b ≡ true) ⊎ (b ≡ false)
     two_ways true = inl refl
@@ -115,17 +115,18 @@ not_any p q (x ∷ xs) e = elim (two_ways (p x)) [
 only_any : {X : Type 0} (p q : X → Bool) (xs : List X) (x : X) → find p xs ≡ Some x → ((i j : ℕ) (a b : X) → slice_get xs i ≡ Some a → slice_get xs j ≡ Some b → p a ≡ true → p b ≡ true → i ≡ j) → list_any (λ y. p y && q y) xs ≡ q x
 only_any p q [] x e one = absurd (let f : None ≡ Some x = e in cc)
 only_any p q (y ∷ ys) x e one = elim (two_ways (p y)) [
-    inl t ↦
+  | inl t ↦
       let f = rw t at e in
       let same : y ≡ x = cc in
       let later : find p ys ≡ None = find_absent p ys (λ j z at. false_from (p z) (λ pz. let bad = one 0 (suc j) y z refl at t pz in absurd (let e : 0 ≡ suc j = bad in cc))) in
       rw (t, not_any p q ys later, same) (or_false (q x))
   | inr t ↦ let f = rw t at e in rw t (only_any p q ys x f (λ i j a b at there pa pb. let e = one (suc i) (suc j) a b at there pa pb in omega arith))
-  ]
+]
   where
     two_ways : (b : Bool) → (b ≡ true) ⊎ (b ≡ false)
     two_ways true = inl refl
     two_ways false = inr refl
+
     or_false : (b : Bool) → (b || false) ≡ b
     or_false true = refl
     or_false false = refl
@@ -133,9 +134,9 @@ only_any p q (y ∷ ys) x e one = elim (two_ways (p y)) [
 module _ (rows : List AiRow) (rules : KeepsRules rows) where
   pub key_by_row : (code : List ℕ) (row : AiRow) → find (has_code code) rows ≡ Some row → is_key_of rows code ≡ is_key row.role
   key_by_row code row e = only_any (has_code code) (λ r. is_key r.role) rows row e (λ i j a b at there ha hb.
-    let ea = equal_bytes code a.code ha in
-    let eb = equal_bytes code b.code hb in
-    rules.codes_apart i j a b at there (begins_itself a.code b.code (sym ea ∙ eb)))
+      let ea = equal_bytes code a.code ha in
+      let eb = equal_bytes code b.code hb in
+      rules.codes_apart i j a b at there (begins_itself a.code b.code (sym ea ∙ eb)))
 
   pub no_key : (code : List ℕ) → find (has_code code) rows ≡ None → is_key_of rows code ≡ false
   no_key code e = not_any (has_code code) (λ r. is_key r.role) rows e

@@ -20,7 +20,8 @@ fn clash(a: &[u8], b: &[u8]) -> bool
 fn is_key_of(rows: &[AiRow], code: &[u8]) -> bool
     ensures { result ≡ is_key_of rows.now code.now }
 {
-    rows.iter().any(|row| code == row.code.as_bytes() && row.role.is_key())
+    rows.iter()
+        .any(|row| code == row.code.as_bytes() && row.role.is_key())
 }
 
 /// Whether a row of the role qualifier has the code.

@@ -1,1 +1,4 @@
+pub mod IdentityLemmas
+pub mod LinkLemmas
+pub mod PairLemmas
 pub mod ValueEscapes

@@ -3,7 +3,7 @@ use Rattle.std.specs.Prelude.{ℕ, Bool, ◌==◌, ◌||◌, ◌&&◌, ◌/◌, 
 use Rattle.std.specs.List.{flat_map, list_any}
 use Rattle.gs_chars.specs.Characters.{is_digit}
 use Rattle.gs_chars.specs.Escapes.{hex_digit}
-use Rattle.gs_ident.specs.declared.pair.Pair.{Pair}
+use Rattle.gs_ai.specs.declared.pair.Pair.{Pair}
 use Rattle.gs_ident.specs.Elements.{Elements}
 
 -- the ASCII letters

@@ -1,7 +1,8 @@
-ghost use Rattle.std.specs.Prelude.{◌≡◌, IfOk};
+ghost use Rattle.std.specs.Prelude.{◌≡◌, ◌≤◌, IfOk, length, take};
+ghost use Rattle.gs_ident.specs.Elements.{first_qualifiers};
 ghost use Rattle.gs_ident.specs.Sgtin.{IsGtin, IsSerial, sgtin_elements};
 
-use crate::pair::Pair;
+use gs_ai::Pair;
 use gs_chars::{List, Memory, Text};
 use std::alloc::Global;
 use std::marker::Model;
@@ -23,6 +24,27 @@ impl Model for Identity {
 }
 
 impl Identity {
+    /// The identity of these pairs.
+    pub(crate) fn from_pairs(key: Pair, qualifiers: Vec<Pair>, attributes: Vec<Pair>) -> Identity
+        ensures { result ≡ record { key = key; qualifiers = qualifiers.items; attributes = attributes.items } }
+    {
+        Identity {
+            key,
+            qualifiers: List::from_vec(qualifiers),
+            attributes: List::from_vec(attributes),
+        }
+    }
+
+    /// The identity of the key and the first `k` qualifiers. The one refusal is want of memory.
+    pub fn prefix(&self, alloc: Global, k: usize) -> Result<Identity, Memory>
+        requires { k ≤ length self.now.qualifiers }
+        ensures { IfOk result (λ identity. identity ≡ first_qualifiers k self.now) }
+    {
+        let key = self.key().copy(alloc)?;
+        let qualifiers = copies(alloc, &self.qualifiers()[..k])?;
+        Ok(Identity::from_pairs(key, qualifiers, Vec::new(alloc)))
+    }
+
     /// The pair of the key.
     pub fn key(&self) -> &Pair
         ensures { result.now ≡ self.now.key }
@@ -43,6 +65,17 @@ impl Identity {
     {
         self.attributes.items()
     }
+}
+
+/// Copies of the pairs.
+fn copies(alloc: Global, pairs: &[Pair]) -> Result<Vec<Pair>, Memory>
+    ensures { IfOk result (λ list. list.items ≡ pairs.now) }
+{
+    let mut list = Vec::new(alloc);
+    for pair in pairs {
+        list.push(pair.copy(alloc)?)?;
+    }
+    Ok(list)
 }
 
 /// A pair of these bytes. The one refusal is want of memory.

@@ -1,12 +1,16 @@
 //! Identities of things: a key, its qualifiers and the attributes, and the GS1 Digital Link that spells them.
 #![tactic(auto)]
 
+mod choosing;
+mod faults;
 mod identity;
-mod pair;
+mod making;
 mod spelling;
 #[cfg(test)]
 mod tests;
 
+pub use faults::IdentFault;
+pub use gs_ai::Pair;
 pub use identity::{Identity, sgtin};
-pub use pair::Pair;
-pub use spelling::{canonical, spell};
+pub use making::make;
+pub use spelling::{canonical, one_link_each, spell};

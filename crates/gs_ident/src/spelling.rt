@@ -1,9 +1,11 @@
-ghost use Rattle.std.specs.Prelude.{◌≡◌, ◌++◌, ◌∷◌, IfOk};
+ghost use Rattle.std.specs.Prelude.{◌≡◌, ◌↔◌, ◌++◌, ◌∷◌, IfOk};
 ghost use Rattle.std.specs.List.{flat_map};
+ghost use Rattle.gs_ident.specs.Elements.{Elements};
+ghost use Rattle.gs_ident.specs.Identities.{IsMadeWith};
 ghost use Rattle.gs_ident.specs.Links.{percent_encoded, query_of, spelled, canonical_link};
 
 use crate::identity::Identity;
-use crate::pair::Pair;
+use gs_ai::{AiTable, Pair};
 use gs_chars::{Memory, Text};
 use percent_encoding::{AsciiSet, NON_ALPHANUMERIC, percent_encode};
 use std::alloc::Global;
@@ -75,4 +77,12 @@ pub fn canonical(alloc: Global, identity: &Identity) -> Result<Text, Memory>
     ensures { IfOk result (λ text. text ≡ canonical_link identity.now) }
 {
     spell(alloc, b"https://id.gs1.org", identity)
+}
+
+/// Two identities that were made with one table are equal exactly where their canonical links are equal bytes.
+pub fn one_link_each(table: &AiTable)
+    ensures { (a b : Elements) → IsMadeWith table.now a → IsMadeWith table.now b
+        → (a ≡ b) ↔ (canonical_link a ≡ canonical_link b) }
+{
+    let _ = table.rows();
 }

@@ -1,21 +1,20 @@
 -- The first fault of an object, entry by entry and name by name.
-use Rattle.std.proofs.Common.{◌≡◌, ℕ, ◌+◌, ◌<◌, ◌≤◌, false, List, [], ◌∷◌, ◌++◌, length, get_or, drop, map, Option, Some, Result, Ok, Err, String, Global, string_bytes, refl, sym, ap, ◌∙◌}
+use Rattle.std.proofs.Common.{◌≡◌, ℕ, ◌+◌, ◌<◌, ◌≤◌, false, List, [], ◌∷◌, ◌++◌, length, get_or, drop, map, Ok, Err, String, Global, string_bytes, refl, sym, ap, ◌∙◌}
 use Rattle.std.specs.List.{flat_map}
 use Rattle.std.specs.Map.{keys_of}
 use Rattle.std.proofs.lemmas.List.{drop_all, drop_more}
-use Rattle.serde_json.specs.Data.{Members}
 use Rattle.serde_json.specs.View.{members_view}
 use Rattle.serde_json.specs.declared.value.Value.{Value as Tree}
 use Rattle.gs_json.specs.Answers.{OrMemory}
 use Rattle.gs_json.specs.Places.{member_place}
-use Rattle.gs_json.specs.Shapes.{entry_faults, first_fault, is_named, members_faults, unknown_among, unknown_faults}
+use Rattle.gs_json.specs.Shapes.{first_fault, is_named, unknown_among, unknown_faults}
 use Rattle.gs_json.specs.declared.fault.JsonFault.{JsonFault}
 use Rattle.gs_json.specs.declared.fault.JsonFault.TheVariants.{Syntax, Lacks, Kind, Unknown, Memory}
 use Rattle.gs_json.specs.declared.plan.Entry.{Entry}
 use Rattle.gs_json.proofs.Looked.{names_are_keys}
 
 module _ (place : List ℕ) (plan : List Entry) (entries : List (String Global × Tree)) (start left : List (String Global)) (all : start ≡ keys_of entries)
-  (so_far : unknown_among plan (map string_bytes start) ≡ unknown_among plan (map string_bytes left)) where
+    (so_far : unknown_among plan (map string_bytes start) ≡ unknown_among plan (map string_bytes left)) where
   pub unknown_here : (key : String Global) (next : List (String Global)) → left ≡ key ∷ next → is_named plan (string_bytes key) ≡ false
       → Err (Unknown (member_place place (string_bytes key))) ≡ first_fault (unknown_faults place plan (members_view entries))
   unknown_here key next e named = rw (names_are_keys entries, ← all, so_far, e, named) refl

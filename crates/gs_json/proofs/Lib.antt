@@ -2,3 +2,4 @@ pub mod Fitted
 pub mod Judged
 pub mod Looked
 pub mod Walked
+pub mod Pointers

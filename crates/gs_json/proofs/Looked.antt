@@ -1,13 +1,13 @@
 -- What a look-up in a tree finds.
-use Rattle.std.proofs.Common.{◌≡◌, ℕ, zero, suc, ◌+◌, ◌<◌, List, [], ◌∷◌, ◌++◌, length, get_or, map, Option, Some, None, option_map, Result, Ok, Err, String, Global, Equal, string_bytes, nat_cmp, is_eq, bytes_eq, BTreeMap, Bor, Vec, refl, subst, sym, ap, ◌∙◌, arith}
+use Rattle.std.proofs.Common.{◌≡◌, ℕ, ◌<◌, List, [], ◌∷◌, length, get_or, map, Option, Some, None, option_map, Ok, String, Global, Equal, string_bytes, nat_cmp, is_eq, refl, subst, sym, ap, ◌∙◌}
 use Rattle.std.proofs.lemmas.Map.Text.{is_eq-slice_cmp}
 use Rattle.std.proofs.lemmas.Slice.Eq.{bytes_eq-Decides}
 use Rattle.std.proofs.lemmas.Str.{IsUtf8-had}
 use Rattle.std.specs.Prelude.{IsUtf8}
-use Rattle.std.specs.BTreeMap.{get_by, is_at}
+use Rattle.std.specs.BTreeMap.{is_at}
 use Rattle.std.specs.Cmp.Lexicographic.{slice_cmp}
 use Rattle.std.specs.Map.{keys_of, lookup}
-use Rattle.serde_json.specs.Data.{Data, Items, Members, null, boolean, number, string, array, object}
+use Rattle.serde_json.specs.Data.{Data, Items, null, boolean, number, string, array, object}
 use Rattle.serde_json.specs.Events.{items_len}
 use Rattle.serde_json.specs.Find.{as_array, as_object, at, get_item, get_member}
 use Rattle.serde_json.specs.View.{view, items_view, members_view}
@@ -15,7 +15,6 @@ use Rattle.serde_json.specs.declared.value.Value.{Value as Tree}
 use Rattle.serde_json.proofs.Views.{get_item_within, items_len-items_view, member_later, view-lookup}
 use Rattle.gs_json.specs.Answers.{asked, count_of, items_count, member_at, names_of, names_of_members}
 use Rattle.gs_json.specs.Places.{member_place}
-use Rattle.gs_json.specs.declared.fault.JsonFault.{JsonFault}
 
 -- the items of an array
 pub counted : (d : Data) (items : List Tree) → Some (items_view items) ≡ as_array d → count_of d ≡ Some (length items)

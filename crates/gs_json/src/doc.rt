@@ -16,7 +16,6 @@ pub struct Doc {
 
 impl Model for Doc {
     ghost use Rattle.serde_json.specs.declared.value.Value.{Value as Tree};
-
     ghost use Rattle.serde_json.specs.contracts.value.Value as e;
     ghost use Rattle.std.specs.Coded.{codes};
 

@@ -4,6 +4,7 @@
 mod doc;
 mod fault;
 mod fit;
+mod laws;
 mod node;
 mod place;
 mod plan;
@@ -11,6 +12,7 @@ mod shape;
 
 pub use doc::Doc;
 pub use fault::JsonFault;
+pub use laws::places_point_to_their_parts;
 pub use node::Node;
 pub use plan::{Entry, Sort};
 

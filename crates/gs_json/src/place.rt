@@ -71,7 +71,12 @@ impl<'a> Place<'a> {
     }
 
     /// The JSON Pointer of an item of the member of this name.
-    pub(crate) fn member_item_text(&self, alloc: Global, name: &[u8], i: usize) -> Result<Text, Memory>
+    pub(crate) fn member_item_text(
+        &self,
+        alloc: Global,
+        name: &[u8],
+        i: usize,
+    ) -> Result<Text, Memory>
         ensures { IfOk result (λ text. text ≡ item_place (member_place self.now name.now) i) }
     {
         let mut text = self.pointer(alloc)?;

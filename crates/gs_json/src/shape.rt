@@ -12,7 +12,12 @@ use serde_json::{Map, Value};
 use std::alloc::Global;
 
 /// Judges what stands at a place by a plan, and answers its first fault.
-pub(crate) fn judge(alloc: Global, value: &Value, place: &Place<'_>, plan: &[Entry]) -> Result<(), JsonFault>
+pub(crate) fn judge(
+    alloc: Global,
+    value: &Value,
+    place: &Place<'_>,
+    plan: &[Entry],
+) -> Result<(), JsonFault>
     ensures { OrMemory result (first_fault (members_faults place.now plan.now (as_object (view value.now)))) }
 {
     let Some(map) = value.as_object() else {
@@ -25,7 +30,12 @@ pub(crate) fn judge(alloc: Global, value: &Value, place: &Place<'_>, plan: &[Ent
 }
 
 /// Judges the member of an entry's name.
-fn judge_member(alloc: Global, map: &Map<String, Value>, place: &Place<'_>, entry: &Entry) -> Result<(), JsonFault>
+fn judge_member(
+    alloc: Global,
+    map: &Map<String, Value>,
+    place: &Place<'_>,
+    entry: &Entry,
+) -> Result<(), JsonFault>
     ensures { OrMemory result (first_fault (entry_faults place.now (members_view map.now.entries) entry.now)) }
 {
     let name = entry.name.as_bytes();
@@ -51,7 +61,12 @@ fn member_named<'v>(map: &'v Map<String, Value>, name: &[u8]) -> Option<&'v Valu
 }
 
 /// Judges the names of the members, of which the plan must name each.
-fn judge_names(alloc: Global, map: &Map<String, Value>, place: &Place<'_>, plan: &[Entry]) -> Result<(), JsonFault>
+fn judge_names(
+    alloc: Global,
+    map: &Map<String, Value>,
+    place: &Place<'_>,
+    plan: &[Entry],
+) -> Result<(), JsonFault>
     ensures { OrMemory result (first_fault (unknown_faults place.now plan.now (members_view map.now.entries))) }
 {
     for name in map.keys() {

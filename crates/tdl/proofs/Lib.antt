@@ -5,3 +5,5 @@ pub mod OptionLemmas
 pub mod OutputLemmas
 pub mod WriteLemmas
 pub mod RunLemmas
+pub mod AnswerLaws
+pub mod RunLaws

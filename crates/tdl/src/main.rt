@@ -5,6 +5,7 @@ mod answer;
 mod answering;
 mod command;
 mod gathering;
+mod laws;
 mod level;
 mod lines;
 mod run;

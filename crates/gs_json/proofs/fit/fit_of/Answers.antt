@@ -1,4 +1,4 @@
-use Rattle.std.proofs.Common.{◌≡◌, ◌∙◌, ap, sym, slice_get}
+use Rattle.std.proofs.Common.{◌∙◌, ap, sym, slice_get}
 use Rattle.serde_json.specs.View.{items_view, view}
 use Rattle.gs_json.specs.Fits.{fit_answer, fit_but}
 use Rattle.gs_json.specs.Shapes.{failing_from, first_fault, is_array, is_text, sort_faults}

@@ -1,5 +1,5 @@
-use Rattle.std.proofs.Common.{◌≡◌, ◌++◌, ◌∷◌, take}
-use Rattle.gs_json.specs.Places.{escaped, member_place}
+use Rattle.std.proofs.Common.{◌≡◌, take}
+use Rattle.gs_json.specs.Places.{member_place}
 use Rattle.gs_json.proofs.place.push_member.Given as goal
 
 abbrev pub invariant-loop-c : goal.invariant-loop-c

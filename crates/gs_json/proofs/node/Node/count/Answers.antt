@@ -1,8 +1,4 @@
-use Rattle.std.proofs.Common.{◌≡◌, ◌∙◌, Ok, length, refl, sym, ap, arith, rules}
-use Rattle.std.specs.Vec.{vec_len}
-use Rattle.serde_json.specs.Find.{as_array}
-use Rattle.serde_json.specs.View.{view}
-use Rattle.gs_json.specs.Answers.{asked}
+use Rattle.std.proofs.Common.{◌≡◌, ◌∙◌, length, refl}
 use Rattle.gs_json.proofs.Looked.{counted, count_is}
 use Rattle.gs_json.proofs.node.Node.count.Goals as goal
 

@@ -1,4 +1,4 @@
-use Rattle.std.proofs.Common.{◌≡◌, ◌∙◌, ◌<◌, Some, length, sym, ap, arith, rules}
+use Rattle.std.proofs.Common.{◌≡◌, ◌∙◌, ◌<◌, Some, length, ap, arith, rules}
 use Rattle.std.specs.Vec.{vec_len}
 use Rattle.serde_json.specs.View.{view}
 use Rattle.gs_json.proofs.Looked.{count_is, item_found}

@@ -1,7 +1,4 @@
-use Rattle.std.proofs.Common.{◌≡◌, ◌∙◌, Some, Ok, List, ℕ, sym, ap, arith}
-use Rattle.serde_json.specs.Data.{Data}
-use Rattle.serde_json.specs.View.{view}
-use Rattle.gs_json.specs.Answers.{asked, member_at, maybe_of}
+use Rattle.std.proofs.Common.{◌∙◌, ap}
 use Rattle.gs_json.specs.Places.{member_place}
 use Rattle.gs_json.proofs.Looked.{maybe_some, maybe_none}
 use Rattle.gs_json.proofs.node.Node.maybe.Goals as goal

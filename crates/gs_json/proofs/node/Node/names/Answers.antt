@@ -1,4 +1,4 @@
-use Rattle.std.proofs.Common.{◌≡◌, ◌∙◌, ap, map}
+use Rattle.std.proofs.Common.{◌∙◌, ap, map}
 use Rattle.gs_json.proofs.Looked.{names_found}
 use Rattle.gs_json.proofs.node.Node.names.Goals as goal
 

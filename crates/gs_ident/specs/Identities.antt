@@ -1,0 +1,95 @@
+-- The identity of a list of elements: GS1 Digital Link URI Syntax, section 3 (keys, qualifiers and attributes), and GS1
+-- General Specifications, section 4.14 (elements that stand together). The treatment of repeated elements is this
+-- project's own.
+use Rattle.std.specs.Prelude.{◌≡◌, ℕ, Bool, false, not, ◌&&◌, List, [], ◌∷◌, All, take, filter, find, Option, Some, None, Result, Ok, Err, bytes_eq, if◌then◌else◌}
+use Rattle.std.specs.List.{enumerate_from, filter_map, list_any}
+use Rattle.std.specs.Option.{option_map, option_map_or}
+use Rattle.gs_ai.specs.declared.pair.Pair.{Pair}
+use Rattle.gs_ai.specs.declared.row.AiRow.{AiRow}
+use Rattle.gs_ai.specs.Tables.{is_empty, is_key_of, ascending_codes}
+use Rattle.gs_ai.specs.Values.{has_code, value_fault}
+use Rattle.gs_ident.specs.declared.faults.IdentFault.{IdentFault}
+use Rattle.gs_ident.specs.declared.faults.IdentFault.TheVariants.{Repeat, NoKey, TwoKeys}
+use Rattle.gs_ident.specs.Elements.{Elements, pairs_of}
+
+-- the first pair with the code
+abbrev pub pair_with : List Pair → List ℕ → Option Pair
+pair_with pairs code = find (λ pair. bytes_eq code pair.code) pairs
+
+-- the value is the text that stands for none in the row of its code
+abbrev pub stands_for_none : List AiRow → Pair → Bool
+stands_for_none table pair =
+    option_map_or (λ row. not (is_empty row.none) && bytes_eq row.none pair.value) (find (has_code pair.code) table) false
+
+-- the pairs that count
+abbrev pub counted : List AiRow → List Pair → List Pair
+counted table pairs = filter (λ pair. not (stands_for_none table pair)) pairs
+
+-- an earlier pair has the code and another value
+abbrev pub contradicts : List Pair → Pair → Bool
+contradicts earlier pair = list_any (λ other. bytes_eq other.code pair.code && not (bytes_eq other.value pair.value)) earlier
+
+-- the first pair whose code stood before with another value
+unfoldable pub contradiction : List Pair → Option Pair
+contradiction pairs =
+    option_map (λ place. place.1) (find (λ place. contradicts (take place.0 pairs) place.1) (enumerate_from 0 pairs))
+
+-- the first pair with the code of a key
+abbrev pub first_key : List AiRow → List Pair → Option Pair
+first_key table pairs = find (λ pair. is_key_of table pair.code) pairs
+
+-- the first pair with the code of another key
+abbrev pub other_key : List AiRow → List Pair → Pair → Option Pair
+other_key table pairs key = find (λ pair. is_key_of table pair.code && not (bytes_eq key.code pair.code)) pairs
+
+-- the codes that the row of the key lists as qualifiers
+abbrev pub listed : List AiRow → Pair → List (List ℕ)
+listed table key = option_map_or (λ row. row.qualifiers) (find (has_code key.code) table) []
+
+-- the code is neither the key's nor listed
+abbrev pub is_other : List (List ℕ) → Pair → List ℕ → Bool
+is_other codes key code = not (bytes_eq key.code code) && not (list_any (bytes_eq code) codes)
+
+-- the pair of such a code
+abbrev pub other_pair : List (List ℕ) → Pair → List Pair → List ℕ → Option Pair
+other_pair codes key pairs code = if is_other codes key code then pair_with pairs code else None
+
+-- The key, the pairs of the listed codes in the order of the list, and all other pairs in ascending order of their codes:
+-- each code once.
+unfoldable pub elements_of : List AiRow → List Pair → Pair → Elements
+elements_of table pairs key = record {
+  key = key;
+  qualifiers = filter_map (pair_with pairs) (listed table key);
+  attributes = filter_map (other_pair (listed table key) key pairs) (ascending_codes table);
+}
+
+-- the answer where no pair contradicts another
+abbrev pub by_other_key : List AiRow → List Pair → Pair → Option Pair → Result Elements IdentFault
+by_other_key table pairs key (Some other) = Err (TwoKeys other.code)
+by_other_key table pairs key None = Ok (elements_of table pairs key)
+
+abbrev pub by_key : List AiRow → List Pair → Option Pair → Result Elements IdentFault
+by_key table pairs None = Err NoKey
+by_key table pairs (Some key) = by_other_key table pairs key (other_key table pairs key)
+
+-- the answer by the first contradiction, the first key and another key
+abbrev pub by_contradiction : List AiRow → List Pair → Option Pair → Result Elements IdentFault
+by_contradiction table pairs (Some pair) = Err (Repeat pair.code)
+by_contradiction table pairs None = by_key table pairs (first_key table pairs)
+
+-- the identity of the pairs that count, or the first reason why there is none
+unfoldable pub identity_of_counted : List AiRow → List Pair → Result Elements IdentFault
+identity_of_counted table pairs = by_contradiction table pairs (contradiction pairs)
+
+-- the identity of the pairs
+abbrev pub identity_of_pairs : List AiRow → List Pair → Result Elements IdentFault
+identity_of_pairs table pairs = identity_of_counted table (counted table pairs)
+
+-- the value is one of its code's
+abbrev pub IsInOrder : List AiRow → Pair → Type 0
+IsInOrder table pair = value_fault table pair.code pair.value ≡ None
+
+-- The identity was made with the table: each of its pairs is in order, and its pairs have this identity.
+pub record IsMadeWith (table : List AiRow) (identity : Elements) : Type 0 where
+  pub in_order : All (IsInOrder table) (pairs_of identity)
+  pub given_back : identity_of_pairs table (pairs_of identity) ≡ Ok identity
