@@ -1,4 +1,3 @@
 pub mod Elements
 pub mod Identities
 pub mod Links
-pub mod Sgtin

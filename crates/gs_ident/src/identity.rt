@@ -1,6 +1,5 @@
 ghost use Rattle.std.specs.Prelude.{◌≡◌, ◌≤◌, IfOk, length, take};
 ghost use Rattle.gs_ident.specs.Elements.{first_qualifiers};
-ghost use Rattle.gs_ident.specs.Sgtin.{IsGtin, IsSerial, sgtin_elements};
 
 use gs_ai::Pair;
 use gs_chars::{List, Memory, Text};
@@ -76,31 +75,4 @@ fn copies(alloc: Global, pairs: &[Pair]) -> Result<Vec<Pair>, Memory>
         list.push(pair.copy(alloc)?)?;
     }
     Ok(list)
-}
-
-/// A pair of these bytes. The one refusal is want of memory.
-fn pair_of(alloc: Global, code: &[u8], value: &[u8]) -> Result<Pair, Memory>
-    ensures { IfOk result (λ pair. pair ≡ record { code = code.now; value = value.now }) }
-{
-    Ok(Pair {
-        code: Text::from_bytes(alloc, code)?,
-        value: Text::from_bytes(alloc, value)?,
-    })
-}
-
-/// The identity of a trade item with a serial number: the key 01 of a GTIN of 14 digits with its check digit, and the
-/// qualifier 21 of 1 to 20 characters. The one refusal is want of memory.
-pub fn sgtin(alloc: Global, gtin: &[u8], serial: &[u8]) -> Result<Identity, Memory>
-    requires gtin { IsGtin gtin.now }
-    requires serial { IsSerial serial.now }
-    ensures { IfOk result (λ identity. identity ≡ sgtin_elements gtin.now serial.now) }
-{
-    let key = pair_of(alloc, b"01", gtin)?;
-    let mut qualifiers = Vec::new(alloc);
-    qualifiers.push(pair_of(alloc, b"21", serial)?)?;
-    Ok(Identity {
-        key,
-        qualifiers: List::from_vec(qualifiers),
-        attributes: List::from_vec(Vec::new(alloc)),
-    })
 }

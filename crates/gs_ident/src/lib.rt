@@ -11,6 +11,6 @@ mod tests;
 
 pub use faults::IdentFault;
 pub use gs_ai::Pair;
-pub use identity::{Identity, sgtin};
+pub use identity::Identity;
 pub use making::make;
 pub use spelling::{canonical, one_link_each, spell};
