@@ -29,14 +29,14 @@ no_fault = refl
 failing_place : (p : ℕ → Bool) (xs : List ℕ) → list_all p xs ≡ true → position_or_len not (map p xs) ≡ length (map p xs)
 failing_place p [] all = refl
 failing_place p (x ∷ xs) all =
-  let first : p x ≡ true = and_first (p x) (list_all p xs) all in
-  rw first (omega (arith, failing_place p xs (and_second (p x) (list_all p xs) all)))
+    let first : p x ≡ true = and_first (p x) (list_all p xs) all in
+    rw first (omega (arith, failing_place p xs (and_second (p x) (list_all p xs) all)))
 
 none_fails : (p : ℕ → Bool) (xs : List ℕ) → list_all p xs ≡ true → position not (map p xs ++ []) ≡ None
 none_fails p xs all =
-  let place = failing_place p xs all in
-  let never : ltb (length (map p xs)) (length (map p xs)) ≡ false = grind (arith, nat_tests) in
-  rw (append-nil (map p xs), place, never) refl
+    let place = failing_place p xs all in
+    let never : ltb (length (map p xs)) (length (map p xs)) ≡ false = grind (arith, nat_tests) in
+    rw (append-nil (map p xs), place, never) refl
 
 -- texts are equal to themselves
 same_text : (text : List ℕ) → bytes_eq text text ≡ true
@@ -50,33 +50,33 @@ last_behind gtin front check size e = ap (drop 13) e ∙ drop_at front (check �
 -- the check digit is right
 gtin_checked : (gtin : List ℕ) → IsGtin gtin → is_checked 14 gtin ≡ true
 gtin_checked gtin is =
-  let front : length (take 13 gtin) ≡ 13 = simp length-take (omega (arith, is.size)) in
-  let last : drop 13 gtin ≡ check_digit_of (take 13 gtin) ∷ [] = last_behind gtin (take 13 gtin) (check_digit_of (take 13 gtin)) front is.checked in
-  rw (is.digits, last) (same_text (check_digit_of (take 13 gtin) ∷ []))
+    let front : length (take 13 gtin) ≡ 13 = simp length-take (omega (arith, is.size)) in
+    let last : drop 13 gtin ≡ check_digit_of (take 13 gtin) ∷ [] = last_behind gtin (take 13 gtin) (check_digit_of (take 13 gtin)) front is.checked in
+    rw (is.digits, last) (same_text (check_digit_of (take 13 gtin) ∷ []))
 
 -- a GTIN is a value of 01
 gtin_in_order : (gtin : List ℕ) → IsGtin gtin → value_fault ai_rows (codes "01") gtin ≡ None
 gtin_in_order gtin is =
-  let whole : take 14 gtin ≡ gtin = take_all 14 gtin (omega (arith, is.size)) in
-  let characters : position not (map is_digit gtin ++ []) ≡ None = none_fails is_digit gtin is.digits in
-  let least : leb 14 (length gtin) ≡ true = rw is.size refl in
-  let greatest : leb (length gtin) 14 ≡ true = rw is.size refl in
-  let checked : is_checked 14 gtin ≡ true = gtin_checked gtin is in
-  rw (least, greatest, whole, characters, checked) refl
+    let whole : take 14 gtin ≡ gtin = take_all 14 gtin (omega (arith, is.size)) in
+    let characters : position not (map is_digit gtin ++ []) ≡ None = none_fails is_digit gtin is.digits in
+    let least : leb 14 (length gtin) ≡ true = rw is.size refl in
+    let greatest : leb (length gtin) 14 ≡ true = rw is.size refl in
+    let checked : is_checked 14 gtin ≡ true = gtin_checked gtin is in
+    rw (least, greatest, whole, characters, checked) refl
 
 -- a serial number is a value of 21
 serial_in_order : (serial : List ℕ) → IsSerial serial → value_fault ai_rows (codes "21") serial ≡ None
 serial_in_order serial is =
-  let whole : take 20 serial ≡ serial = take_all 20 serial is.greatest in
-  let characters : position not (map is_in_set82 serial ++ []) ≡ None = none_fails is_in_set82 serial is.characters in
-  let least : leb 1 (length serial) ≡ true = grind (arith, nat_tests, is.least) in
-  let greatest : leb (length serial) 20 ≡ true = grind (arith, nat_tests, is.greatest) in
-  rw (least, greatest, whole, characters) refl
+    let whole : take 20 serial ≡ serial = take_all 20 serial is.greatest in
+    let characters : position not (map is_in_set82 serial ++ []) ≡ None = none_fails is_in_set82 serial is.characters in
+    let least : leb 1 (length serial) ≡ true = grind (arith, nat_tests, is.least) in
+    let greatest : leb (length serial) 20 ≡ true = grind (arith, nat_tests, is.greatest) in
+    rw (least, greatest, whole, characters) refl
 
 -- each of the two pairs is in order
 pub pairs_in_order : (gtin serial : List ℕ) → IsGtin gtin → IsSerial serial → All (IsInOrder ai_rows) (sgtin_pairs gtin serial)
 pairs_in_order gtin serial is_gtin is_serial =
-  All-cons (IsInOrder ai_rows) (gtin_pair gtin) (serial_pair serial ∷ []) (record { fits = gtin_in_order gtin is_gtin })
+    All-cons (IsInOrder ai_rows) (gtin_pair gtin) (serial_pair serial ∷ []) (record { fits = gtin_in_order gtin is_gtin })
     (All-cons (IsInOrder ai_rows) (serial_pair serial) [] (record { fits = serial_in_order serial is_serial }) (All-nil (IsInOrder ai_rows)))
 
 -- the identity of a GTIN and a serial number

@@ -6,7 +6,6 @@ use Rattle.gs_chars.proofs.SpelledSets.{spelled_in_set82}
 use Rattle.gs_grammar.specs.declared.item.Item.{Item}
 use Rattle.gs_grammar.specs.Words.{Word, SpellsEach, one_more}
 use Rattle.gs_grammar.specs.Derivations.{EachWord, one_item, OneDerivation}
-
 use Rattle.tdl.proofs.GtinLemmas.{and_true}
 use Rattle.tdl.specs.Options.{sgtin_items, pure_level}
 use Rattle.tdl.specs.Meanings.{AreKeyParts, AreSgtinValues, IsSerial}

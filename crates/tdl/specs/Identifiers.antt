@@ -13,7 +13,7 @@ key_row = record {
   role = Key;
   qualifiers = codes "22" ∷ codes "10" ∷ codes "21" ∷ [];
   short = true;
-  none = []
+  none = [];
 }
 
 -- 1 to 20 characters

@@ -7,8 +7,8 @@ ghost use Rattle.tdl.specs.Answers.{IsAnswer, printed, reason_text};
 
 use crate::sgtin::identity_of_parts;
 use crate::tables::Tables;
-use gs_chars::{Memory, Text};
 use gs_ai::AiTable;
+use gs_chars::{Memory, Text};
 use gs_grammar::{Reading, read_text};
 use gs_ident::canonical;
 use std::alloc::Global;

@@ -7,9 +7,9 @@ ghost use Rattle.tdl.specs.Statuses.{OnAnswered, OnCutShort, OnInputLong, OnLine
 
 use crate::answer::{answer_text, print_answer};
 use crate::gathering::{End, gather, part};
-use crate::tables::{Tables, own_tables};
 use crate::lines::{first_line, without_return};
 use crate::status::Status;
+use crate::tables::{Tables, own_tables};
 use gs_chars::Memory;
 use gs_port::{Sink, Source, Whole, write_whole};
 use std::alloc::Global;
