@@ -1,7 +1,6 @@
 -- Which values items hold: those for which there is no reason against are those that have a word.
-use Rattle.std.proofs.Common.{◌≡◌, ◌↔◌, ℕ, ◌<◌, ◌≤◌, ◌+◌, ◌-◌, ◌*◌, ◌^◌, ◌&&◌, Bool, true, false, not, List, [], ◌∷◌, ◌++◌, length, suc, Some, None, Result, Ok, Err, IsOk, MatchResult, refl, sym, ◌∙◌, ap, subst, arith, leb, eqb, decimal, inl, inr, replicate, length-append}
+use Rattle.std.proofs.Common.{◌≡◌, ◌↔◌, ℕ, ◌<◌, ◌≤◌, ◌+◌, ◌-◌, ◌*◌, ◌^◌, ◌&&◌, ◌||◌, Bool, true, false, not, List, [], ◌∷◌, ◌++◌, length, suc, Some, None, Result, Ok, Err, IsOk, MatchResult, refl, sym, ◌∙◌, ap, subst, arith, leb, eqb, decimal, inl, inr, replicate, length-append}
 use Rattle.std.specs.List.{list_all, list_any, flat_map}
-use Rattle.std.proofs.Math.Pow.{pow_mono}
 use Rattle.std.proofs.lemmas.Bool.{leb-true}
 use Rattle.std.proofs.lemmas.Bool.Decides.{nat_tests, eqb_tells}
 use Rattle.std.proofs.lemmas.List.{nil_from_length, take_at, length-replicate}
@@ -15,17 +14,20 @@ use Rattle.gs_grammar.specs.declared.item.Item.{Item}
 use Rattle.gs_grammar.specs.declared.item.Item.TheVariants.{Lit, Pad, Int, Esc, NumPad, Num, Ascii7, Fill}
 use Rattle.gs_grammar.specs.declared.fault.Why.{Why}
 use Rattle.gs_grammar.specs.declared.fault.Why.TheVariants.{Char, Length, Zero, Large}
-use Rattle.gs_grammar.specs.Items.{is_between, IsItem}
+use Rattle.gs_grammar.specs.Items.{is_between, greatest_of}
 use Rattle.gs_grammar.specs.Words.{Word, SpellsEach, no_more, one_more, decimal_value, written_word}
 use Rattle.gs_grammar.specs.Writing.{first_reason, has_leading_zero, why_not}
 use Rattle.gs_grammar.proofs.Numbers.{numeral_is, value_decimal, digits_of_decimal, leading_zero}
-use Rattle.gs_grammar.proofs.WordLaws.{int_bounds, num_bounds}
 use Rattle.gs_grammar.proofs.ItemTests.{between_is, is_between_of}
 
 pub both_of : (a b : Bool) → (a && b) ≡ true → (a ≡ true) × (b ≡ true)
 both_of true true h = (refl, refl)
 both_of true false h = let f : false ≡ true = h in cc
 both_of false b h = let f : false ≡ true = h in cc
+
+neither_of : (a b : Bool) → (a || b) ≡ false → (a ≡ false) × (b ≡ false)
+neither_of true b h = let f : true ≡ false = h in cc
+neither_of false b h = (refl, h)
 
 not_false : (a : Bool) → not a ≡ false → a ≡ true
 not_false true h = refl
@@ -93,17 +95,18 @@ packed_length (c ∷ value) =
     let r = packed_length value in
     omega arith
 
+length_packed : (value : List ℕ) (padding : ℕ) → length (flat_map (bits_of 7) value ++ replicate {A = ℕ} padding 0) ≡ 7 * length value + padding
+length_packed value padding =
+    let a = length-append (flat_map (bits_of 7) value) (replicate {A = ℕ} padding 0) in
+    let z = length-replicate {A = ℕ} padding 0 in
+    let p = packed_length value in
+    omega arith
+
 empty_of : (value : List ℕ) → not (eqb (length value) 0) ≡ false → value ≡ []
 empty_of value h = nil_from_length value (let e = not_false (eqb (length value) 0) h in grind (arith, nat_tests))
 
 count_of : (value : List ℕ) (n : ℕ) → not (eqb (length value) n) ≡ false → length value ≡ n
 count_of value n h = let e = not_false (eqb (length value) n) h in grind (arith, nat_tests)
-
-esc_bounds : (lo hi : ℕ) → IsItem (Esc lo hi) → hi ≤ 64
-esc_bounds lo hi h = grind (arith, nat_tests)
-
-ascii_bounds : (lo hi bits : ℕ) → IsItem (Ascii7 lo hi bits) → 7 * hi ≤ bits
-ascii_bounds lo hi bits h = grind (arith, nat_tests)
 
 numeral_text : (value : List ℕ) (greatest : ℕ) → greatest < 2 ^ 64 → NoReason (not (are_digits value)) (eqb (length value) 0) (has_leading_zero value) (leb (suc greatest) (decimal_value value)) → (decimal_value value ≤ greatest) × (value ≡ decimal (decimal_value value))
 numeral_text value greatest g r =
@@ -112,7 +115,7 @@ numeral_text value greatest g r =
     (small, numeral_is value (decimal_value value) (eqb (length value) 0) (has_leading_zero value) refl r.size refl r.zero (not_false (are_digits value) r.char) refl (omega arith))
 
 -- a value with no reason against it has its written word
-pub held_word : (item : Item) (value : List ℕ) → IsItem item → why_not item value ≡ None → Word item value (written_word item value)
+pub held_word : (item : Item) (value : List ℕ) → greatest_of item < 2 ^ 64 → why_not item value ≡ None → Word item value (written_word item value)
 held_word (Lit literal) value i h =
     let r = no_reason false (not (eqb (length value) 0)) false false h in
     (empty_of value r.size, refl)
@@ -121,7 +124,7 @@ held_word (Pad n) value i h =
     (count_of value n r.size, not_false (are_digits value) r.char, refl)
 held_word (Int greatest) value i h =
     let r = no_reason (not (are_digits value)) (eqb (length value) 0) (has_leading_zero value) (leb (suc greatest) (decimal_value value)) h in
-    let t = numeral_text value greatest (int_bounds greatest i) r in
+    let t = numeral_text value greatest i r in
     ((decimal_value value, record { small = t.0; text = t.1 }), refl)
 held_word (Esc lo hi) value i h =
     let r = no_reason (not (are_in_set82 value)) (not (is_between lo hi (length value))) false false h in
@@ -132,23 +135,17 @@ held_word (NumPad bits n) value i h =
     let l = r.large in
     (count_of value n r.size, not_false (are_digits value) r.char, record { fits = grind (arith, nat_tests); written = refl })
 held_word (Num bits greatest) value i h =
-    let r = no_reason (not (are_digits value)) (eqb (length value) 0) (has_leading_zero value) (leb (suc greatest) (decimal_value value)) h in
-    let b = num_bounds bits greatest i in
-    let most : bits ≤ 64 = b.1 in
-    let power : 2 ^ bits ≤ 2 ^ 64 = pow_mono most in
-    let room = b.2 in
-    let t = numeral_text value greatest (omega arith) r in
-    (decimal_value value, (record { small = t.0; text = t.1 }, record { fits = let s = t.0 in omega arith; written = refl }))
+    let r = no_reason (not (are_digits value)) (eqb (length value) 0) (has_leading_zero value) (leb (suc greatest) (decimal_value value) || leb (2 ^ bits) (decimal_value value)) h in
+    let l = neither_of (leb (suc greatest) (decimal_value value)) (leb (2 ^ bits) (decimal_value value)) r.large in
+    let room = l.1 in
+    let t = numeral_text value greatest i (record { char = r.char; size = r.size; zero = r.zero; large = l.0 }) in
+    (decimal_value value, (record { small = t.0; text = t.1 }, record { fits = grind (arith, nat_tests); written = refl }))
 held_word (Ascii7 lo hi bits) value i h =
-    let r = no_reason (not (are_in_set82 value)) (not (is_between lo hi (length value))) false false h in
-    let b = between_is lo hi (length value) (not_false (is_between lo hi (length value)) r.size) in
-    let most = b.1 in
-    let room = ascii_bounds lo hi bits i in
-    let l : length (flat_map (bits_of 7) value ++ replicate {A = ℕ} (bits - 7 * length value) 0) ≡ length (flat_map (bits_of 7) value) + length (replicate {A = ℕ} (bits - 7 * length value) 0) = length-append (flat_map (bits_of 7) value) (replicate {A = ℕ} (bits - 7 * length value) 0) in
-    let p = packed_length value in
-    let z : length (replicate {A = ℕ} (bits - 7 * length value) 0) ≡ bits - 7 * length value = length-replicate {A = ℕ} (bits - 7 * length value) 0 in
-    let whole : length (flat_map (bits_of 7) value ++ replicate {A = ℕ} (bits - 7 * length value) 0) ≡ bits = omega arith in
-    (record { least = b.0; most = b.1 }, record { characters = not_false (are_in_set82 value) r.char; padding = bits - 7 * length value; packed = refl }, whole)
+    let r = no_reason (not (are_in_set82 value)) (not (is_between lo hi (length value) && leb (7 * length value) bits)) false false h in
+    let s = both_of (is_between lo hi (length value)) (leb (7 * length value) bits) (not_false (is_between lo hi (length value) && leb (7 * length value) bits) r.size) in
+    let b = between_is lo hi (length value) s.0 in
+    let room = leb-true (7 * length value) bits s.1 in
+    (record { least = b.0; most = b.1 }, record { characters = not_false (are_in_set82 value) r.char; padding = bits - 7 * length value; packed = refl }, let l = length_packed value (bits - 7 * length value) in omega arith)
 held_word (Fill a b) value i h =
     let r = no_reason false (not (eqb (length value) 0)) false false h in
     (empty_of value r.size, inr refl)
@@ -159,40 +156,47 @@ not_true a h = rw h refl
 count_is : (value : List ℕ) (n : ℕ) → length value ≡ n → not (eqb (length value) n) ≡ false
 count_is value n h = not_true (eqb (length value) n) (grind (arith, nat_tests))
 
-numeral_reasons : (value : List ℕ) (greatest number : ℕ) → greatest < 2 ^ 64 → number ≤ greatest → value ≡ decimal number → first_reason (not (are_digits value)) (eqb (length value) 0) (has_leading_zero value) (leb (suc greatest) (decimal_value value)) ≡ None
-numeral_reasons value greatest number g s e =
-    let small : number < 2 ^ 64 = omega arith in
+numeral_reasons : (value : List ℕ) (number : ℕ) (large : Bool) → number < 2 ^ 64 → value ≡ decimal number → (decimal_value value ≡ number → large ≡ true → ⊥) → first_reason (not (are_digits value)) (eqb (length value) 0) (has_leading_zero value) large ≡ None
+numeral_reasons value number large small e f =
     let digits : are_digits value ≡ true = ap are_digits e ∙ digits_of_decimal number small in
     let some = decimal_nonempty number small in
     let l = ap length e in
     let v : decimal_value value ≡ number = ap decimal_value e ∙ value_decimal number small in
-    reason_none (not (are_digits value)) (eqb (length value) 0) (has_leading_zero value) (leb (suc greatest) (decimal_value value))
+    reason_none (not (are_digits value)) (eqb (length value) 0) (has_leading_zero value) large
     (not_true (are_digits value) digits)
     (is_false (eqb (length value) 0) (λ t. let z : length value ≡ 0 = grind (arith, nat_tests) in omega arith))
     (is_false (has_leading_zero value) (λ t. leading_zero value (has_leading_zero value) refl t number small e))
-    (is_false (leb (suc greatest) (decimal_value value)) (λ t. let m = leb-true (suc greatest) (decimal_value value) t in omega arith))
+    (is_false large (f v))
+
+above_or_full : (number greatest bits value : ℕ) → number ≤ greatest → number < 2 ^ bits → value ≡ number → (leb (suc greatest) value || leb (2 ^ bits) value) ≡ true → ⊥
+above_or_full number greatest bits value s f e t = grind (arith, nat_tests)
 
 -- a value with a word has no reason against it
-pub word_held : (item : Item) (value w : List ℕ) → IsItem item → Word item value w → why_not item value ≡ None
+pub word_held : (item : Item) (value w : List ℕ) → greatest_of item < 2 ^ 64 → Word item value w → why_not item value ≡ None
 word_held (Lit literal) value w i h = reason_none false (not (eqb (length value) 0)) false false refl (count_is value 0 (ap length h.0)) refl refl
 word_held (Pad n) value w i h = reason_none (not (are_digits value)) (not (eqb (length value) n)) false false (not_true (are_digits value) h.1) (count_is value n h.0) refl refl
-word_held (Int greatest) value w i h = numeral_reasons value greatest h.0.0 (int_bounds greatest i) h.0.1.small h.0.1.text
+word_held (Int greatest) value w i h =
+    let s = h.0.1.small in
+    numeral_reasons value h.0.0 (leb (suc greatest) (decimal_value value)) (omega arith) h.0.1.text (λ v t. let m = leb-true (suc greatest) (decimal_value value) t in omega arith)
 word_held (Esc lo hi) value w i h =
     reason_none (not (are_in_set82 value)) (not (is_between lo hi (length value))) false false (not_true (are_in_set82 value) (spelled_set value w h.1)) (not_true (is_between lo hi (length value)) (is_between_of lo hi (length value) h.0.least h.0.most)) refl refl
 word_held (NumPad bits n) value w i h =
     reason_none (not (are_digits value)) (not (eqb (length value) n)) false (leb (2 ^ bits) (decimal_value value)) (not_true (are_digits value) h.1) (count_is value n h.0) refl
     (is_false (leb (2 ^ bits) (decimal_value value)) (λ t. let m = leb-true (2 ^ bits) (decimal_value value) t in let f = h.2.fits in omega arith))
 word_held (Num bits greatest) value w i h =
-    let b = num_bounds bits greatest i in
-    let most : bits ≤ 64 = b.1 in
-    let power : 2 ^ bits ≤ 2 ^ 64 = pow_mono most in
-    let room = b.2 in
-    numeral_reasons value greatest h.0 (omega arith) h.1.0.small h.1.0.text
+    let s = h.1.0.small in
+    numeral_reasons value h.0 (leb (suc greatest) (decimal_value value) || leb (2 ^ bits) (decimal_value value)) (omega arith) h.1.0.text (above_or_full h.0 greatest bits (decimal_value value) s h.1.1.fits)
 word_held (Ascii7 lo hi bits) value w i h =
-    reason_none (not (are_in_set82 value)) (not (is_between lo hi (length value))) false false (not_true (are_in_set82 value) h.1.characters) (not_true (is_between lo hi (length value)) (is_between_of lo hi (length value) h.0.least h.0.most)) refl refl
+    let l = ap length h.1.packed in
+    let m = length_packed value h.1.padding in
+    let n = h.2 in
+    let room : 7 * length value ≤ bits = omega arith in
+    let between = is_between_of lo hi (length value) h.0.least h.0.most in
+    let fits : leb (7 * length value) bits ≡ true = grind (arith, nat_tests) in
+    reason_none (not (are_in_set82 value)) (not (is_between lo hi (length value) && leb (7 * length value) bits)) false false (not_true (are_in_set82 value) h.1.characters) (not_true (is_between lo hi (length value) && leb (7 * length value) bits) (rw (between, fits) refl)) refl refl
 word_held (Fill a b) value w i h = reason_none false (not (eqb (length value) 0)) false false refl (count_is value 0 (ap length h.0)) refl refl
 
 -- an answer by reasons tells whether there is a word
-pub holds_word : (item : Item) (value : List ℕ) (result : Result (Unit {0}) Why) → IsItem item → MatchResult result (λ _. why_not item value ≡ None) (λ why. why_not item value ≡ Some why) → IsOk result ↔ ((w : List ℕ) × Word item value w)
+pub holds_word : (item : Item) (value : List ℕ) (result : Result (Unit {0}) Why) → greatest_of item < 2 ^ 64 → MatchResult result (λ _. why_not item value ≡ None) (λ why. why_not item value ≡ Some why) → IsOk result ↔ ((w : List ℕ) × Word item value w)
 holds_word item value (Ok u) i h = (λ _. (written_word item value, held_word item value i h), λ _. refl)
 holds_word item value (Err why) i h = (λ f. absurd (let x : false ≡ true = f in cc), λ w. let n = word_held item value w.0 i w.1 in let f : Some why ≡ None = sym h ∙ n in cc)

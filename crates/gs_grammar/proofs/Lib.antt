@@ -5,6 +5,7 @@ pub mod ItemTests
 pub mod Cuts
 pub mod Options
 pub mod Packs
+pub mod Rooms
 pub mod Held
 pub mod Written
 pub mod Counting

@@ -162,8 +162,8 @@ no_digits symbols d number small e = let x : true ≡ false = sym (digits_of_dec
 pub no_great_numeral : (symbols : List ℕ) → (decimal_value symbols < 2 ^ 64 → ⊥) → (number : ℕ) → number < 2 ^ 64 → symbols ≡ decimal number → ⊥
 no_great_numeral symbols n number small e = let v = ap decimal_value e ∙ value_decimal number small in n (omega arith)
 
-pub too_great : (symbols : List ℕ) (i number : ℕ) → i < length symbols → value_after number (drop i symbols) ≡ decimal_value symbols → 2 ^ 64 ≤ 10 * number + (get_or symbols i 0 - 48) → decimal_value symbols < 2 ^ 64 → ⊥
-too_great symbols i number l v h small =
+pub too_great : (symbols : List ℕ) (i number limit : ℕ) → i < length symbols → value_after number (drop i symbols) ≡ decimal_value symbols → limit ≤ 10 * number + (get_or symbols i 0 - 48) → decimal_value symbols < limit → ⊥
+too_great symbols i number limit l v h small =
     let s = value_step symbols i number l in
     let g = value_grows (10 * number + (get_or symbols i 0 - 48)) (drop (i + 1) symbols) in
     omega arith

@@ -1,13 +1,14 @@
 -- The words of items: their lengths, and the one value of each.
 use Rattle.std.proofs.Common.{◌≡◌, ℕ, ◌<◌, ◌≤◌, ◌^◌, ◌||◌, Bool, true, false, IsTrue, List, length, get_or, suc, All, None, refl, sym, ◌∙◌, ap, arith, inl, inr, decimal}
 use Rattle.std.specs.List.{position, position_or_len}
+use Rattle.std.proofs.Math.Pow.{pow_mono}
 use Rattle.std.proofs.lemmas.List.{length-replicate}
 use Rattle.std.proofs.lemmas.List.Sums.{fails_before_first}
 use Rattle.std.proofs.lemmas.Bool.Decides.{nat_tests, leb_tells}
 use Rattle.std.proofs.lemmas.Fmt.{decimal_nonempty}
 use Rattle.gs_grammar.specs.declared.item.Item.{Item}
 use Rattle.gs_grammar.specs.declared.item.Item.TheVariants.{Lit, Pad, Int, Esc, NumPad, Num, Ascii7, Fill}
-use Rattle.gs_grammar.specs.Items.{is_in_bounds, is_bad, IsItem, size_of, shortest_of}
+use Rattle.gs_grammar.specs.Items.{is_in_bounds, is_bad, IsItem, greatest_of, size_of, shortest_of}
 use Rattle.gs_grammar.specs.Words.{Word, decimal_value}
 use Rattle.gs_grammar.proofs.Spelled.{spelled_fixes, spelled_length}
 use Rattle.gs_grammar.proofs.Numbers.{same_digits, count_order}
@@ -59,6 +60,20 @@ numpad_bounds bits n h = (grind (arith, nat_tests), grind (arith, nat_tests), gr
 
 pub num_bounds : (bits greatest : ℕ) → IsItem (Num bits greatest) → (1 ≤ bits) × (bits ≤ 64) × (greatest < 2 ^ bits)
 num_bounds bits greatest h = (grind (arith, nat_tests), grind (arith, nat_tests), grind (arith, nat_tests))
+
+pub greatest_small : (item : Item) → IsItem item → greatest_of item < 2 ^ 64
+greatest_small (Lit literal) h = omega arith
+greatest_small (Pad n) h = omega arith
+greatest_small (Int greatest) h = int_bounds greatest h
+greatest_small (Esc lo hi) h = omega arith
+greatest_small (NumPad bits n) h = omega arith
+greatest_small (Num bits greatest) h =
+    let b = num_bounds bits greatest h in
+    let power : 2 ^ bits ≤ 2 ^ 64 = pow_mono b.1 in
+    let room = b.2 in
+    omega arith
+greatest_small (Ascii7 lo hi bits) h = omega arith
+greatest_small (Fill a b) h = omega arith
 
 pub fill_bounds : (a b : ℕ) → IsItem (Fill a b) → (1 ≤ a) × (a ≤ b)
 fill_bounds a b h = (grind (arith, nat_tests), grind (arith, nat_tests))

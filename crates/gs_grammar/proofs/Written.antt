@@ -18,7 +18,7 @@ use Rattle.gs_grammar.specs.Derivations.{EachWord, no_item, one_item, Derives, D
 use Rattle.gs_grammar.specs.Writing.{why_not, written, written_words, AreHeldBefore, AreHeld, IsFirstRefusal}
 use Rattle.gs_grammar.proofs.Held.{held_word, packed_length, both_of}
 use Rattle.gs_grammar.proofs.Packs.{set82_bounds}
-use Rattle.gs_grammar.proofs.WordLaws.{word_fixes_value, none_bad, of_level, word_length, numpad_bounds, num_bounds}
+use Rattle.gs_grammar.proofs.WordLaws.{word_fixes_value, none_bad, of_level, word_length, greatest_small, numpad_bounds, num_bounds}
 use Rattle.gs_grammar.proofs.Numbers.{value_decimal}
 
 -- one more piece of a text
@@ -118,7 +118,7 @@ sizes_step items k item l e =
 pub written_size : (bit_level : Bool) (item : Item) (value : List ℕ) → is_in_bounds bit_level item ≡ true → why_not item value ≡ None → length (written_word item value) ≤ size_of item
 written_size bit_level item value b h =
     let i = of_level bit_level item b in
-    (word_length item value (written_word item value) i (held_word item value i h)).1
+    (word_length item value (written_word item value) i (held_word item value (greatest_small item i) h)).1
 
 -- the written words joined are a derivation with these values
 shift : (item : Item) (items : List Item) (value : List ℕ) (values : List (List ℕ)) → AreHeld (item ∷ items) (value ∷ values) → AreHeld items values
@@ -130,7 +130,7 @@ written_derives [] (value ∷ values) i l h = absurd (omega arith)
 written_derives (item ∷ items) [] i l h = absurd (omega arith)
 written_derives (item ∷ items) (value ∷ values) i l h =
     let d = written_derives items values (All-tail IsItem item items i) (omega arith) (shift item items value values h) in
-    let w = held_word item value (All-head IsItem item items i) (h 0 item value (omega arith) refl refl) in
+    let w = held_word item value (greatest_small item (All-head IsItem item items i)) (h 0 item value (omega arith) refl refl) in
     record { each = one_item item value (written_word item value) items values (written_words items values) w d.each; joined = refl }
 
 -- characters that an item holds have codes of 7 bits
@@ -157,7 +157,7 @@ pub numpad_held : (item : Item) (bits n : ℕ) (value : List ℕ) → item ≡ N
 numpad_held item bits n value i b h =
     let k = rw i at b in
     let g = of_level true (NumPad bits n) k in
-    let w = held_word (NumPad bits n) value g (rw i at h) in
+    let w = held_word (NumPad bits n) value (greatest_small (NumPad bits n) g) (rw i at h) in
     let m = numpad_bounds bits n g in
     (m.1, w.2.fits)
 
@@ -165,7 +165,7 @@ pub num_held : (item : Item) (bits greatest : ℕ) (value : List ℕ) → item �
 num_held item bits greatest value i b h =
     let k = rw i at b in
     let g = of_level true (Num bits greatest) k in
-    let w = held_word (Num bits greatest) value g (rw i at h) in
+    let w = held_word (Num bits greatest) value (greatest_small (Num bits greatest) g) (rw i at h) in
     let m = num_bounds bits greatest g in
     let most = m.1 in
     let power : 2 ^ bits ≤ 2 ^ 64 = pow_mono most in
@@ -177,7 +177,7 @@ pub ascii_held : (item : Item) (lo hi bits : ℕ) (value : List ℕ) → item �
 ascii_held item lo hi bits value i b h =
     let k = rw i at b in
     let g = of_level true (Ascii7 lo hi bits) k in
-    let w = held_word (Ascii7 lo hi bits) value g (rw i at h) in
+    let w = held_word (Ascii7 lo hi bits) value (greatest_small (Ascii7 lo hi bits) g) (rw i at h) in
     let l = w.2 in
     let a : length (flat_map (bits_of 7) value ++ replicate {A = ℕ} (bits - 7 * length value) 0) ≡ length (flat_map (bits_of 7) value) + length (replicate {A = ℕ} (bits - 7 * length value) 0) = length-append (flat_map (bits_of 7) value) (replicate {A = ℕ} (bits - 7 * length value) 0) in
     let p = packed_length value in
@@ -191,7 +191,7 @@ written_room (item ∷ items) [] i l h = absurd (omega arith)
 written_room (item ∷ items) (value ∷ values) i l h =
     let rest = written_room items values (All-tail IsItem item items i) (omega arith) (shift item items value values h) in
     let g = All-head IsItem item items i in
-    let first = (word_length item value (written_word item value) g (held_word item value g (h 0 item value (omega arith) refl refl))).1 in
+    let first = (word_length item value (written_word item value) g (held_word item value (greatest_small item g) (h 0 item value (omega arith) refl refl))).1 in
     let a = length-append (written_word item value) (written items values) in
     omega arith
 

@@ -32,6 +32,17 @@ is_bad bit_level item = not (is_in_bounds bit_level item)
 abbrev pub IsItem : Item → Type 0
 IsItem item = IsTrue (is_in_bounds true item || is_in_bounds false item)
 
+-- the greatest number of an item `Int` or `Num`, and 0 of any other
+abbrev pub greatest_of : Item → ℕ
+greatest_of (Lit literal) = 0
+greatest_of (Pad n) = 0
+greatest_of (Int most) = most
+greatest_of (Esc lo hi) = 0
+greatest_of (NumPad bits n) = 0
+greatest_of (Num bits most) = most
+greatest_of (Ascii7 lo hi bits) = 0
+greatest_of (Fill a b) = 0
+
 -- the most symbols that a word of the item has
 abbrev pub size_of : Item → ℕ
 size_of (Lit literal) = length literal

@@ -12,7 +12,8 @@ pub enum OptFault {
 pub enum Why {
     /// A character is no digit, or not in the set of 82.
     Char,
-    /// The number of characters is not allowed; of a decimal text this is the empty one.
+    /// The number of characters is not allowed, or packed they have no room in the bits; of a decimal text this is the empty
+    /// one.
     Length,
     /// A decimal text begins with a zero that is not the whole of it.
     Zero,

@@ -1,12 +1,12 @@
-ghost use Rattle.std.specs.Prelude.{◌≡◌, ◌↔◌, ◌^◌, ◌≤◌, ℕ, List, Bool, nat_lt, nat_le, IsOk, MatchResult, Some, None};
+ghost use Rattle.std.specs.Prelude.{◌≡◌, ◌↔◌, ◌*◌, ◌^◌, ◌&&◌, ◌||◌, ◌<◌, ℕ, List, Bool, nat_lt, nat_le, IsOk, MatchResult, Some, None};
 ghost use Rattle.gs_chars.specs.Characters.{are_in_set82};
-ghost use Rattle.gs_grammar.specs.Items.{IsItem};
+ghost use Rattle.gs_grammar.specs.Items.{greatest_of, is_between};
 ghost use Rattle.gs_grammar.specs.Words.{Word, decimal_value};
 ghost use Rattle.gs_grammar.specs.Writing.{first_reason, why_not};
 
 use crate::fault::Why;
 use crate::item::{Item, fits_bits, is_within};
-use crate::numerals::{decimal_number, has_leading_zero};
+use crate::numerals::{decimal_number, fits_wide_bits, has_leading_zero};
 use crate::words::all_digits;
 use gs_chars::CharSet;
 
@@ -47,19 +47,35 @@ fn is_above(value: &[u8], greatest: u64) -> bool
 
 /// Whether the number that the characters write has no room in this many bits.
 fn exceeds(value: &[u8], bits: u8) -> bool
-    requires { bits ≤ 64 }
     ensures { result ≡ nat_le (2 ^ bits) (decimal_value value.now) }
 {
     match decimal_number(value) {
         Some(number) => !fits_bits(number, bits),
+        None => bits <= 64 || !fits_wide_bits(value, bits),
+    }
+}
+
+/// Whether the number that the characters write is above the greatest, or has no room in this many bits.
+fn is_too_large(value: &[u8], greatest: u64, bits: u8) -> bool
+    ensures { result ≡ (nat_lt greatest (decimal_value value.now) || nat_le (2 ^ bits) (decimal_value value.now)) }
+{
+    match decimal_number(value) {
+        Some(number) => greatest < number || !fits_bits(number, bits),
         None => true,
     }
 }
 
-/// The first reason why the item has no word for the value.
+/// Whether the number of characters is within the two bounds, and 7 bits of each have room.
+fn is_packable(lo: u8, hi: u8, bits: u16, count: usize) -> bool
+    ensures { result ≡ (is_between lo hi count && nat_le (7 * count) bits) }
+{
+    is_within(usize::from(lo), usize::from(hi), count) && count <= usize::from(bits / 7)
+}
+
+/// The first reason why the item has no word for the value. The greatest number of an item is one of 64 bits.
 fn reason_against(item: &Item, value: &[u8]) -> Result<(), Why>
-    requires { IsItem item.now }
-    ensures { MatchResult result (λ _. why_not item.now value.now ≡ None) (λ why. why_not item.now value.now ≡ Some why) }
+    ensures greatest { greatest_of item.now < 2 ^ 64 }
+    ensures reason { MatchResult result (λ _. why_not item.now value.now ≡ None) (λ why. why_not item.now value.now ≡ Some why) }
 {
     let count = value.len();
     match item {
@@ -83,15 +99,15 @@ fn reason_against(item: &Item, value: &[u8]) -> Result<(), Why>
             false,
             exceeds(value, *bits),
         ),
-        Item::Num { bits: _, max } => judge(
+        Item::Num { bits, max } => judge(
             !all_digits(value),
             count == 0,
             has_leading_zero(value),
-            is_above(value, *max),
+            is_too_large(value, *max, *bits),
         ),
-        Item::Ascii7 { lo, hi, bits: _ } => judge(
+        Item::Ascii7 { lo, hi, bits } => judge(
             !all_in_set82(value),
-            !is_within(usize::from(*lo), usize::from(*hi), count),
+            !is_packable(*lo, *hi, *bits, count),
             false,
             false,
         ),
@@ -99,10 +115,9 @@ fn reason_against(item: &Item, value: &[u8]) -> Result<(), Why>
     }
 }
 
-/// Whether some word of the item has the value. The reasons against are tried in the order of `Why`. An item `Lit` or `Fill`
-/// holds the empty value alone.
+/// Whether some word of the item has the value, also where the item breaks its bounds. The reasons against are tried in the
+/// order of `Why`. An item `Lit` or `Fill` holds the empty value alone.
 pub fn holds(item: &Item, value: &[u8]) -> Result<(), Why>
-    requires { IsItem item.now }
     ensures reason { MatchResult result (λ _. why_not item.now value.now ≡ None) (λ why. why_not item.now value.now ≡ Some why) }
     ensures word { IsOk result ↔ ((w : List ℕ) × Word item.now value.now w) }
 {

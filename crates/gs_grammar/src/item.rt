@@ -56,10 +56,9 @@ pub fn is_within(least: usize, most: usize, number: usize) -> bool
 
 /// Whether the number has room in this many bits.
 pub fn fits_bits(number: u64, bits: u8) -> bool
-    requires { bits ≤ 64 }
     ensures { result ≡ nat_lt number (2 ^ bits) }
 {
-    bits == 64 || number < 1 << bits
+    bits >= 64 || number < 1 << bits
 }
 
 /// Whether an item `Num` keeps its bounds.

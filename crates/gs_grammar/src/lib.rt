@@ -19,6 +19,7 @@ mod tally;
 #[cfg(test)]
 mod tests;
 mod unpack;
+mod wide;
 mod words;
 mod writing;
 

@@ -1,8 +1,9 @@
-ghost use Rattle.std.specs.Prelude.{◌≡◌, ◌↔◌, ◌^◌, ◌<◌, ◌≤◌, ℕ, List, IsTrue, IfSome, IfNone, IfOk, SomeIff, length, decimal};
+ghost use Rattle.std.specs.Prelude.{◌≡◌, ◌↔◌, ◌^◌, ◌<◌, ◌≤◌, ℕ, List, IsTrue, IfSome, IfNone, IfOk, SomeIff, length, decimal, nat_lt};
 ghost use Rattle.gs_grammar.specs.Numerals.{IsPadded};
 ghost use Rattle.gs_grammar.specs.Words.{decimal_value};
 ghost use Rattle.gs_grammar.specs.Writing.{has_leading_zero};
 
+use crate::wide::WideNumber;
 use crate::words::all_digits;
 use gs_chars::{Memory, Text};
 use std::alloc::Global;
@@ -43,6 +44,27 @@ pub fn decimal_number(digits: &[u8]) -> Option<u64>
         number = shifted.checked_add(u64::from(digit.saturating_sub(b'0')))?;
     }
     Some(number)
+}
+
+/// The number that decimal digits write. `None` comes exactly where it is not below 2 to the 256.
+fn wide_decimal_number(digits: &[u8]) -> Option<WideNumber>
+    ensures { SomeIff result (decimal_value digits.now < 2 ^ 256) (decimal_value digits.now) }
+{
+    let mut number = WideNumber::from_digit(0);
+    for digit in digits {
+        number = number.with_digit(digit.saturating_sub(b'0'))?;
+    }
+    Some(number)
+}
+
+/// Whether the number that decimal digits write has room in this many bits.
+pub fn fits_wide_bits(digits: &[u8], bits: u8) -> bool
+    ensures { result ≡ nat_lt (decimal_value digits.now) (2 ^ bits) }
+{
+    match wide_decimal_number(digits) {
+        Some(number) => number.fits_bits(bits),
+        None => false,
+    }
 }
 
 /// The number whose decimal text, without leading zeros, the symbols are. `None` comes exactly where they are the text of no

@@ -190,6 +190,28 @@ fn reasons_are_tried_in_their_order(rt: HostRuntime) {
     assert_eq!(rt; holds(&serial, b"a"), Err(Why::Char));
 }
 
+#[test]
+fn an_item_out_of_its_bounds_is_answered(rt: HostRuntime) {
+    let wide = Item::NumPad { bits: 70, n: 22 };
+    assert_eq!(rt; holds(&wide, b"1180591620717411303423"), Ok(()));
+    assert_eq!(rt; holds(&wide, b"1180591620717411303424"), Err(Why::Large));
+    let widest = Item::NumPad { bits: 255, n: 77 };
+    let greatest = b"57896044618658097711785492504343953926634992332820282019728792003956564819967";
+    assert_eq!(rt; holds(&widest, greatest), Ok(()));
+    let above = b"57896044618658097711785492504343953926634992332820282019728792003956564819968";
+    assert_eq!(rt; holds(&widest, above), Err(Why::Large));
+    let narrow = Item::Num { bits: 3, max: 100 };
+    assert_eq!(rt; holds(&narrow, b"7"), Ok(()));
+    assert_eq!(rt; holds(&narrow, b"8"), Err(Why::Large));
+    let packed = Item::Ascii7 {
+        lo: 1,
+        hi: 9,
+        bits: 14,
+    };
+    assert_eq!(rt; holds(&packed, b"AB"), Ok(()));
+    assert_eq!(rt; holds(&packed, b"ABC"), Err(Why::Length));
+}
+
 /// Writes the values as bits, where there is one for each item and room for the option.
 fn write_into(
     option: &Opt,

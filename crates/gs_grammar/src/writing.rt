@@ -1,7 +1,7 @@
-ghost use Rattle.std.specs.Prelude.{◌≡◌, ◌++◌, All, IsTrue, IsOk, IfOk, IfErr, IfSome, IfNone, OnOk, None, true, false, length, flat_map};
+ghost use Rattle.std.specs.Prelude.{◌≡◌, ◌++◌, IsTrue, IsOk, IfOk, IfErr, IfSome, IfNone, OnOk, None, true, false, length, flat_map};
 ghost use Rattle.gs_chars.specs.Characters.{are_in_set82};
 ghost use Rattle.gs_chars.specs.Escapes.{written_spelling};
-ghost use Rattle.gs_grammar.specs.Items.{IsItem, is_in_bounds};
+ghost use Rattle.gs_grammar.specs.Items.{is_in_bounds};
 ghost use Rattle.gs_grammar.specs.Words.{written_word};
 ghost use Rattle.gs_grammar.specs.Writing.{why_not, written, AreHeld, IsFirstRefusal, IsWriteFault};
 
@@ -14,8 +14,7 @@ use std::alloc::Global;
 
 /// The number of the first item that does not hold its value, and why.
 pub fn first_refusal(items: &[Item], values: &[Text]) -> Option<(usize, Why)>
-    requires items { All IsItem items.now }
-    requires one_each { length values.now ≡ length items.now }
+    requires { length values.now ≡ length items.now }
     ensures some { IfSome result (λ r. IsFirstRefusal items.now values.now r.0 r.1) }
     ensures none { IfNone result (AreHeld items.now values.now) }
 {

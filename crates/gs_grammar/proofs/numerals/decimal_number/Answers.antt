@@ -6,10 +6,10 @@ pub returns-in_err-shifted : goal.returns-in_err-shifted
 returns-in_err-shifted c =
     let large : 2 ^ 64 ≤ 10 * c.loop-digit.number + (get_or c.args.digits.now c.loop-digit.digit-index 0 - 48) =
     let e = c.in_err-shifted.ensures in omega arith in
-    rw c.from_residual.ensures (too_great _ _ _ c.loop-digit-test.true c.loop-digit.invariant.value large)
+    rw c.from_residual.ensures (too_great _ _ _ _ c.loop-digit-test.true c.loop-digit.invariant.value large)
 
 pub returns-in_err-number : goal.returns-in_err-number
 returns-in_err-number c =
     let large : 2 ^ 64 ≤ 10 * c.loop-digit.number + (get_or c.args.digits.now c.loop-digit.digit-index 0 - 48) =
     let e = c.in_err-number.ensures in let s = c.in_ok-shifted.ensures.1 in let f = c.from.ensures in let m = c.saturating_sub.ensures in omega arith in
-    rw c.from_residual-in_err-number.ensures (too_great _ _ _ c.loop-digit-test.true c.loop-digit.invariant.value large)
+    rw c.from_residual-in_err-number.ensures (too_great _ _ _ _ c.loop-digit-test.true c.loop-digit.invariant.value large)
