@@ -1,0 +1,53 @@
+-- Chains of tests, and the refusals of an option.
+use Rattle.std.proofs.Common.{◌≡◌, ℕ, Bool, true, false, not, ◌&&◌, ◌≤◌, nat_lt, arith, List, [], ◌++◌, Option, Some, None, slice_get, refl, sym, option_map}
+use Rattle.std.proofs.lemmas.Grind.{common_steps}
+use Rattle.std.specs.Prelude.{option_to_list}
+use Rattle.std.specs.Option.{option_map_or}
+use Rattle.gs_tables.specs.declared.fault.LoadFault.{LoadFault}
+use Rattle.gs_tables.specs.Tables.{refuse_if}
+
+-- ---- three tests, one after the other
+
+pub stops_first : (a b c x : Bool) → x ≡ a → x ≡ false → false ≡ ((a && b) && c)
+stops_first a b c x e f = rw (sym e, f) refl
+
+pub stops_second : (a b c x y : Bool) → x ≡ a → y ≡ b → x ≡ true → y ≡ false → false ≡ ((a && b) && c)
+stops_second a b c x y e f g h = rw (sym e, sym f, g, h) refl
+
+pub goes_on : (a b c x y : Bool) → x ≡ a → y ≡ b → x ≡ true → y ≡ true → c ≡ ((a && b) && c)
+goes_on a b c x y e f g h = rw (sym e, sym f, g, h) refl
+
+-- ---- what is found, and a test of it
+
+pub tested : {X : Type 0} (test : X → Bool) (found : Option X) (x : X) (b : Bool) → found ≡ Some x → b ≡ test x → b ≡ option_map_or test found false
+tested test found x b e f = rw (e, f) refl
+
+pub not_tested : {X : Type 0} (test : X → Bool) (found : Option X) → found ≡ None → false ≡ option_map_or test found false
+not_tested test found e = rw e refl
+
+-- ---- the refusals of an option, in their order
+
+-- the refusals of an option by the tests that they come of
+abbrev pub listed : Option ℕ → Option ℕ → (ℕ → LoadFault) → (ℕ → LoadFault) → Bool → Bool → LoadFault → LoadFault → List LoadFault
+listed bad twin f twins large fit size mismatch = option_to_list (option_map f bad) ++ refuse_if large size ++ refuse_if (not fit) mismatch ++ option_to_list (option_map twins twin)
+
+pub bad_first : (bad twin : Option ℕ) (f twins : ℕ → LoadFault) (large fit : Bool) (size mismatch : LoadFault) (k : ℕ) → bad ≡ Some k → slice_get (listed bad twin f twins large fit size mismatch) 0 ≡ Some (f k)
+bad_first bad twin f twins large fit size mismatch k e = rw e refl
+
+pub size_next : (bad twin : Option ℕ) (f twins : ℕ → LoadFault) (large fit : Bool) (size mismatch : LoadFault) → bad ≡ None → large ≡ true → slice_get (listed bad twin f twins large fit size mismatch) 0 ≡ Some size
+size_next bad twin f twins large fit size mismatch e g = rw (e, g) refl
+
+pub mismatch_next : (bad twin : Option ℕ) (f twins : ℕ → LoadFault) (large fit : Bool) (size mismatch : LoadFault) → bad ≡ None → large ≡ false → fit ≡ false → slice_get (listed bad twin f twins large fit size mismatch) 0 ≡ Some mismatch
+mismatch_next bad twin f twins large fit size mismatch e g h = rw (e, g, h) refl
+
+pub twin_last : (bad twin : Option ℕ) (f twins : ℕ → LoadFault) (large fit : Bool) (size mismatch : LoadFault) (j : ℕ) → bad ≡ None → large ≡ false → fit ≡ true → twin ≡ Some j → slice_get (listed bad twin f twins large fit size mismatch) 0 ≡ Some (twins j)
+twin_last bad twin f twins large fit size mismatch j e g h i = rw (e, g, h, i) refl
+
+pub no_refusal : (bad twin : Option ℕ) (f twins : ℕ → LoadFault) (large fit : Bool) (size mismatch : LoadFault) → bad ≡ None → large ≡ false → fit ≡ true → twin ≡ None → listed bad twin f twins large fit size mismatch ≡ []
+no_refusal bad twin f twins large fit size mismatch e g h i = rw (e, g, h, i) refl
+
+pub above_limit : (limit size : ℕ) → (size ≤ limit → ⊥) → nat_lt limit size ≡ true
+above_limit limit size h = grind (arith, common_steps)
+
+pub within_limit : (limit size : ℕ) → size ≤ limit → nat_lt limit size ≡ false
+within_limit limit size h = grind (arith, common_steps)

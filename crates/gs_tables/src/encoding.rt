@@ -1,0 +1,39 @@
+use gs_chars::Text;
+use gs_grammar::Item;
+
+/// A length of the company prefix: its digits, its number in the partition table, and its bits.
+#[derive(Clone, Copy, Debug)]
+pub struct Partition {
+    pub digits: u8,
+    pub number: u8,
+    pub bits: u8,
+}
+
+/// What stands behind the prefix: the digits that the key has beside its check digit, less those of the prefix, a number,
+/// or characters.
+#[derive(Clone, Copy, Debug)]
+pub enum RestForm {
+    Digits(u8),
+    Number,
+    Characters,
+}
+
+/// An encoding of a kind: its header, the bits of prefix and rest together, the rest, the serial, and the zeros at the end.
+#[derive(Debug, Drop)]
+pub struct Encoding {
+    pub name: Text,
+    pub kind: Text,
+    pub header: u8,
+    pub width: u8,
+    pub rest: RestForm,
+    pub serial: Option<Item>,
+    pub after: Option<Item>,
+}
+
+/// The pure identity of a kind: its name, the rest, and the serial.
+#[derive(Debug, Drop)]
+pub struct Identity {
+    pub name: Text,
+    pub rest: RestForm,
+    pub serial: Option<Item>,
+}

@@ -1,0 +1,184 @@
+ghost use Rattle.std.specs.Prelude.{◌≡◌, ◌&&◌, ◌≤◌, map, option_to_list, SomeIff};
+ghost use Rattle.std.specs.List.{flat_map};
+ghost use Rattle.gs_grammar.specs.Items.{size_of_all};
+ghost use Rattle.gs_tables.specs.Founds.{IsFound};
+ghost use Rattle.gs_tables.specs.Items.{FieldItem};
+ghost use Rattle.gs_tables.specs.Rules.{has_room, is_digits, is_filter, is_free, items_of_field, keeps_gcp, keeps_level, keeps_rest, keeps_serial, longest_of};
+
+use crate::field::Field;
+use crate::form::KeyForm;
+use crate::level_name::LevelName;
+use gs_grammar::Item;
+
+/// What is found of the items of a field.
+#[derive(Clone, Copy)]
+enum Found<'a> {
+    /// There is none.
+    None,
+    /// There is this one.
+    One(&'a Item),
+    /// There are more.
+    More,
+}
+
+/// The items whose value stands for a field, as far as they are none, one or more.
+fn items_of<'a>(field: Field, items: &'a [Option<(Option<Field>, Item)>]) -> Found<'a>
+    ensures { IsFound (items_of_field field (flat_map option_to_list items.now)) result }
+{
+    let mut found = Found::None;
+    for entry in items {
+        let Some((Some(named), item)) = entry else {
+            continue;
+        };
+        if *named != field {
+            continue;
+        }
+        match found {
+            Found::None => found = Found::One(item),
+            Found::One(_) | Found::More => return Found::More,
+        }
+    }
+    found
+}
+
+/// The characters of the longest value of an item.
+fn longest_of(item: &Item) -> usize
+    ensures { result ≡ longest_of item.now }
+{
+    match item {
+        Item::Lit(_) | Item::Fill { a: _, b: _ } => 0,
+        Item::Pad { n } | Item::NumPad { bits: _, n } => usize::from(*n),
+        Item::Int { max } | Item::Num { bits: _, max } => Item::Int { max: *max }.size(),
+        Item::Esc { lo: _, hi } | Item::Ascii7 { lo: _, hi, bits: _ } => usize::from(*hi),
+    }
+}
+
+/// Whether the item is exactly so many digits.
+fn is_digits(n: u64, item: &Item) -> bool
+    ensures { result ≡ is_digits n item.now }
+{
+    match item {
+        Item::Pad { n: k } | Item::NumPad { bits: _, n: k } => u64::from(*k) == n,
+        _ => false,
+    }
+}
+
+/// Whether the item is a filter value.
+fn is_filter(item: &Item) -> bool
+    ensures { result ≡ is_filter item.now }
+{
+    match item {
+        Item::Int { max } => *max == 7,
+        Item::Num { bits, max } => *bits == 3 && *max == 7,
+        _ => false,
+    }
+}
+
+/// Whether the item has values other than the empty one, of which the longest has at most so many characters.
+fn has_room(most: usize, item: &Item) -> bool
+    ensures { result ≡ has_room most item.now }
+{
+    let longest = longest_of(item);
+    longest >= 1 && longest <= most
+}
+
+/// Whether the item is characters, of which the longest value has at most so many.
+fn is_free(most: usize, item: &Item) -> bool
+    ensures { result ≡ is_free most item.now }
+{
+    match item {
+        Item::Pad { n: _ } | Item::NumPad { bits: _, n: _ } => false,
+        _ => has_room(most, item),
+    }
+}
+
+/// Whether the prefix has a length that the key leaves room for, in the one item of it.
+#[tactic(auto, unfolding(crate::specs::Rules::keeps_gcp))]
+pub(crate) fn keeps_gcp(
+    form: KeyForm,
+    lead: u64,
+    n: u64,
+    items: &[Option<(Option<Field>, Item)>],
+) -> bool
+    ensures { result ≡ keeps_gcp form lead n (items_of_field Field.Gcp (flat_map option_to_list items.now)) }
+{
+    if n < 1 || n > 12 {
+        return false;
+    }
+    if let KeyForm::Digits(digits, _) = form {
+        if n > u64::from(digits).saturating_sub(lead) {
+            return false;
+        }
+    }
+    match items_of(Field::Gcp, items) {
+        Found::One(item) => is_digits(n, item),
+        Found::None | Found::More => false,
+    }
+}
+
+/// Whether the digits or characters of the key that are left beside the prefix stand in one item, or in none where no
+/// digit is left.
+#[tactic(auto, unfolding(crate::specs::Rules::keeps_rest))]
+pub(crate) fn keeps_rest(form: KeyForm, n: u64, items: &[Option<(Option<Field>, Item)>]) -> bool
+    ensures { result ≡ keeps_rest form n (items_of_field Field.Rest (flat_map option_to_list items.now)) }
+{
+    match (form, items_of(Field::Rest, items)) {
+        (KeyForm::Digits(digits, _), Found::None) => u64::from(digits) <= n,
+        (KeyForm::Digits(digits, _), Found::One(item)) => {
+            u64::from(digits) > n && is_digits(u64::from(digits) - n, item)
+        }
+        (KeyForm::Characters(most), Found::One(item)) => {
+            is_free(u64::from(most).saturating_sub(n) as usize, item)
+        }
+        _ => false,
+    }
+}
+
+/// Whether there is one serial item where there is a serial, with a longest value that it has room for, and else none.
+#[tactic(auto, unfolding(crate::specs::Rules::keeps_serial))]
+pub(crate) fn keeps_serial(room: Option<u8>, items: &[Option<(Option<Field>, Item)>]) -> bool
+    ensures { result ≡ keeps_serial room (items_of_field Field.Serial (flat_map option_to_list items.now)) }
+{
+    match (room, items_of(Field::Serial, items)) {
+        (None, Found::None) => true,
+        (Some(most), Found::One(item)) => has_room(usize::from(most), item),
+        _ => false,
+    }
+}
+
+/// The sizes of the items added up, where they are at most 512.
+pub(crate) fn size_within_limit(items: &[Option<(Option<Field>, Item)>]) -> Option<usize>
+    ensures { SomeIff result (size_of_all (map (λ (i : FieldItem). i.1) (flat_map option_to_list items.now)) ≤ 512) (size_of_all (map (λ (i : FieldItem). i.1) (flat_map option_to_list items.now))) }
+{
+    let mut size = 0;
+    for entry in items {
+        if let Some((_, item)) = entry {
+            size += item.size();
+            if size > 512 {
+                return None;
+            }
+        }
+    }
+    Some(size)
+}
+
+/// Whether the option has what a level asks for beside its kind: the name of an encoding, a filter value and whole words of
+/// 16 bits.
+#[tactic(auto, unfolding(crate::specs::Rules::keeps_level))]
+pub(crate) fn keeps_level(
+    level: LevelName,
+    encoding: &[u8],
+    size: usize,
+    items: &[Option<(Option<Field>, Item)>],
+) -> bool
+    requires { size ≡ size_of_all (map (λ (i : FieldItem). i.1) (flat_map option_to_list items.now)) }
+    ensures { result ≡ keeps_level level encoding.now (flat_map option_to_list items.now) }
+{
+    let named = !encoding.is_empty();
+    match (level, items_of(Field::Filter, items)) {
+        (LevelName::Binary, Found::One(item)) => { named && is_filter(item) && size % 16 == 0 }
+        (LevelName::Tag, Found::One(item)) => named && is_filter(item),
+        (LevelName::Pure, Found::None) => !named,
+        _ => false,
+    }
+}

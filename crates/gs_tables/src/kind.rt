@@ -1,0 +1,25 @@
+use gs_chars::Text;
+
+/// Where the serial of a kind of key stands.
+#[derive(Debug, Drop)]
+pub enum SerialAt {
+    /// The kind has none.
+    Nowhere,
+    /// At the end of the key's own value.
+    Tail,
+    /// In an element of its own, with this code.
+    Ai(Text),
+}
+
+/// A kind of EPC: a key of the application identifiers, and how its value is taken apart.
+#[derive(Debug, Drop)]
+pub struct Kind {
+    /// The name, as EPC URIs have it.
+    pub name: Text,
+    /// The code of the key.
+    pub key: Text,
+    /// The digits of the key, 0 or 1, that stand in front of the prefix and go with the rest.
+    pub lead: u8,
+    /// Where the serial stands.
+    pub serial: SerialAt,
+}

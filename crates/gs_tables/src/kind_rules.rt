@@ -1,0 +1,111 @@
+ghost use Rattle.std.specs.Prelude.{◌≡◌, bytes_eq};
+ghost use Rattle.std.specs.List.{list_any};
+ghost use Rattle.gs_tables.specs.Forms.{serial_at};
+ghost use Rattle.gs_tables.specs.Rules.{are_visible, fits_key, has_key, has_name, is_characters, is_kind, is_lead, is_new_name, is_serial_of};
+
+use crate::document::KindRow;
+use crate::form::KeyForm;
+use crate::forms::{characters_of, key_form, tail_of};
+use gs_ai::{AiRow, AiTable, Role};
+
+/// Whether each byte is a visible character.
+pub(crate) fn are_visible(text: &[u8]) -> bool
+    ensures { result ≡ are_visible text.now }
+{
+    text.iter().all(|c| 33 <= *c && *c <= 126)
+}
+
+/// Whether a kind has the name.
+fn is_named(kinds: &[KindRow], name: &[u8]) -> bool
+    ensures { result ≡ list_any (has_name name.now) kinds.now }
+{
+    kinds.iter().any(|kind| name == kind.name.as_bytes())
+}
+
+/// Whether a kind has the key.
+fn is_keyed(kinds: &[KindRow], key: &[u8]) -> bool
+    ensures { result ≡ list_any (has_key key.now) kinds.now }
+{
+    kinds.iter().any(|kind| key == kind.key.as_bytes())
+}
+
+/// Whether the name is there, is visible, and is no earlier one.
+fn is_new_name(earlier: &[KindRow], name: &[u8]) -> bool
+    ensures { result ≡ is_new_name earlier.now name.now }
+{
+    !name.is_empty() && are_visible(name) && !is_named(earlier, name)
+}
+
+/// Whether so many lead digits fit the form of the key.
+fn is_lead(form: KeyForm, lead: u64) -> bool
+    ensures { result ≡ is_lead form lead }
+{
+    match form {
+        KeyForm::Digits(_, _) => lead <= 1,
+        KeyForm::Characters(_) => lead == 0,
+    }
+}
+
+/// Whether the code is that of a row that is characters alone.
+fn is_characters(ais: &AiTable, code: &[u8]) -> bool
+    ensures { result ≡ is_characters ais.now code.now }
+{
+    match ais.row_with(code) {
+        Some(row) => characters_of(row.parts.items()).is_some(),
+        None => false,
+    }
+}
+
+/// Whether a row lists the code.
+fn lists(row: &AiRow, code: &[u8]) -> bool
+    ensures { result ≡ list_any (bytes_eq code.now) row.now.qualifiers }
+{
+    row.qualifiers
+        .items()
+        .iter()
+        .any(|listed| code == listed.as_bytes())
+}
+
+/// Whether the serial stands in the tail exactly where the key has one, else nowhere or in a qualifier of the key.
+fn is_serial_of(ais: &AiTable, row: &AiRow, form: KeyForm, serial: &[u8]) -> bool
+    ensures { result ≡ is_serial_of ais.now row.now form (serial_at serial.now) }
+{
+    let has_tail = tail_of(form).is_some();
+    if serial.is_empty() {
+        return !has_tail;
+    }
+    if serial == b"tail".as_slice() {
+        return has_tail;
+    }
+    !has_tail && lists(row, serial) && is_characters(ais, serial)
+}
+
+/// Whether the row of the key has a form that a kind can have, which the lead digits and the serial fit.
+fn fits_key(ais: &AiTable, row: &AiRow, kind: &KindRow) -> bool
+    ensures { result ≡ fits_key ais.now row.now kind.now }
+{
+    if !matches!(row.role, Role::Key) {
+        return false;
+    }
+    match key_form(row.parts.items()) {
+        Some(form) => {
+            is_lead(form, kind.lead) && is_serial_of(ais, row, form, kind.serial.as_bytes())
+        }
+        None => false,
+    }
+}
+
+/// Whether the kind keeps the rules of kinds, beside the earlier ones.
+#[tactic(auto, unfolding(crate::specs::Rules::is_kind))]
+pub(crate) fn is_kind(ais: &AiTable, earlier: &[KindRow], kind: &KindRow) -> bool
+    ensures { result ≡ is_kind ais.now earlier.now kind.now }
+{
+    let key = kind.key.as_bytes();
+    if !is_new_name(earlier, kind.name.as_bytes()) || is_keyed(earlier, key) {
+        return false;
+    }
+    match ais.row_with(key) {
+        Some(row) => fits_key(ais, row, kind),
+        None => false,
+    }
+}

@@ -1,0 +1,10 @@
+use crate::opt_info::OptInfo;
+use gs_chars::List;
+use gs_grammar::Level;
+
+/// A level of a table set: its options, and what is said of each beside its items, in the same order.
+#[derive(Drop)]
+pub struct LevelTable {
+    pub level: Level,
+    pub info: List<OptInfo>,
+}

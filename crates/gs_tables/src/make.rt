@@ -1,0 +1,147 @@
+ghost use Rattle.std.specs.Prelude.{◌≡◌, ◌≤◌, [], IfOk, IsSome, map, option_to_list, position};
+ghost use Rattle.gs_ai.specs.Tables.{table_faults};
+ghost use Rattle.std.specs.List.{flat_map};
+ghost use Rattle.gs_grammar.specs.Levels.{KeepBounds};
+ghost use Rattle.gs_tables.specs.Forms.{serial_at};
+ghost use Rattle.gs_tables.specs.Items.{FieldItem};
+ghost use Rattle.gs_tables.specs.Rules.{has_name};
+ghost use Rattle.gs_tables.specs.Tables.{IsAnswer, info_of, is_bits, items_alone, kind_of, kinds_refusals, level_of, level_refusals, option_form};
+ghost use Rattle.gs_tables.specs.declared.fault.LoadFault.TheVariants.{Ai};
+
+use crate::document::{KindRow, OptionRow};
+use crate::fault::LoadFault;
+use crate::field::Field;
+use crate::kind::{Kind, SerialAt};
+use crate::level_name::LevelName;
+use crate::level_table::LevelTable;
+use crate::opt_info::OptInfo;
+use gs_ai::{AiFault, AiRow, AiTable};
+use gs_chars::{List, Memory, Text};
+use gs_grammar::{Item, Level, Opt};
+use std::alloc::Global;
+
+/// The table of the application identifiers, or their first fault.
+pub(crate) fn make_ais(alloc: Global, rows: List<AiRow>) -> Result<AiTable, LoadFault>
+    ensures { IsAnswer (map Ai (table_faults rows)) rows result }
+{
+    match AiTable::new(alloc, rows.into_vec()) {
+        Ok(ais) => Ok(ais),
+        Err(AiFault::Memory) => Err(LoadFault::Memory),
+        Err(fault) => Err(LoadFault::Ai(fault)),
+    }
+}
+
+/// Where the serial stands by the text of a row.
+fn serial_at(serial: Text) -> SerialAt
+    ensures { result ≡ serial_at serial }
+{
+    let text = serial.as_bytes();
+    if text.is_empty() {
+        SerialAt::Nowhere
+    } else if text == b"tail".as_slice() {
+        SerialAt::Tail
+    } else {
+        SerialAt::Ai(serial)
+    }
+}
+
+/// The kinds of rows that no rule refuses.
+pub(crate) fn make_kinds(
+    alloc: Global,
+    ais: &AiTable,
+    rows: List<KindRow>,
+) -> Result<List<Kind>, Memory>
+    requires { kinds_refusals ais.now rows ≡ [] }
+    ensures { IfOk result (λ kinds. kinds ≡ map kind_of rows) }
+{
+    let _ = ais;
+    let mut kinds = Vec::new(alloc);
+    for row in rows.into_vec() {
+        kinds.push(Kind {
+            name: row.name,
+            key: row.key,
+            lead: row.lead as u8,
+            serial: serial_at(row.serial),
+        })?;
+    }
+    Ok(List::from_vec(kinds))
+}
+
+/// The items that are there, apart from their fields.
+fn split_items(
+    alloc: Global,
+    items: List<Option<(Option<Field>, Item)>>,
+) -> Result<(List<Option<Field>>, Vec<Item>), Memory>
+    ensures { IfOk result (λ parts. (parts.0 ≡ map (λ (i : FieldItem). i.0) (flat_map option_to_list items)) × (parts.1.items ≡ map (λ (i : FieldItem). i.1) (flat_map option_to_list items))) }
+{
+    let mut fields = Vec::new(alloc);
+    let mut alone = Vec::new(alloc);
+    for entry in items.into_vec() {
+        if let Some((field, item)) = entry {
+            fields.push(field)?;
+            alone.push(item)?;
+        }
+    }
+    Ok((List::from_vec(fields), alone))
+}
+
+/// The index of the kind of a name.
+fn kind_at(kinds: &[KindRow], name: &[u8]) -> Option<usize>
+    ensures { result ≡ position (has_name name.now) kinds.now }
+{
+    kinds.iter().position(|kind| name == kind.name.as_bytes())
+}
+
+/// The option of a row that no rule refuses, and what is said of it.
+fn make_option(
+    alloc: Global,
+    kinds: &[KindRow],
+    level: LevelName,
+    row: OptionRow,
+) -> Result<(Opt, OptInfo), Memory>
+    requires named { IsSome (position (has_name row.kind) kinds.now) }
+    requires gcp { row.gcp ≤ 12 }
+    requires items { KeepBounds (is_bits level) (items_alone row) }
+    ensures option { IfOk result (λ made. made.0 ≡ option_form (is_bits level) row) }
+    ensures info { IfOk result (λ made. made.1 ≡ info_of kinds.now row) }
+{
+    let Some(kind) = kind_at(kinds, row.kind.as_bytes()) else {
+        unreachable!();
+    };
+    let (fields, items) = split_items(alloc, row.items)?;
+    let Ok(option) = Opt::new(level.is_bits(), items) else {
+        unreachable!();
+    };
+    let info = OptInfo {
+        kind,
+        encoding: row.encoding,
+        gcp: row.gcp as u8,
+        fields,
+    };
+    Ok((option, info))
+}
+
+/// The level of rows that no rule refuses.
+pub(crate) fn make_level(
+    alloc: Global,
+    ais: &AiTable,
+    kinds: &[KindRow],
+    level: LevelName,
+    rows: List<OptionRow>,
+) -> Result<LevelTable, Memory>
+    requires { level_refusals ais.now kinds.now level rows ≡ [] }
+    ensures { IfOk result (λ made. made ≡ level_of kinds.now level rows) }
+{
+    let _ = ais;
+    let mut options = Vec::new(alloc);
+    let mut info = Vec::new(alloc);
+    for row in rows.into_vec() {
+        let (option, said) = make_option(alloc, kinds, level, row)?;
+        options.push(option)?;
+        info.push(said)?;
+    }
+    Ok(LevelTable {
+        level: Level::new(alloc, level.is_bits(), options)?,
+        info: List::from_vec(info),
+    })
+}

@@ -1,0 +1,15 @@
+use crate::field::Field;
+use gs_chars::{List, Text};
+
+/// What a table set says of an option beside its items.
+#[derive(Debug, Drop)]
+pub struct OptInfo {
+    /// The index of its kind.
+    pub kind: usize,
+    /// The name of the encoding, empty on the level of pure identities.
+    pub encoding: Text,
+    /// The digits or characters of the GS1 Company Prefix, 1 to 12.
+    pub gcp: u8,
+    /// The field of each item, none for literals and fills.
+    pub fields: List<Option<Field>>,
+}

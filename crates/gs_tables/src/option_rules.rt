@@ -1,0 +1,120 @@
+ghost use Rattle.std.specs.Prelude.{◌≡◌, ◌≤◌, length, position};
+ghost use Rattle.gs_grammar.specs.Items.{size_of_all};
+ghost use Rattle.std.specs.List.{find};
+ghost use Rattle.std.specs.Option.{option_copied};
+ghost use Rattle.gs_tables.specs.Rules.{fits_kind, has_name, keeps_form};
+ghost use Rattle.gs_tables.specs.Tables.{IsFirst, fits, is_bad_item, is_same, items_alone, items_there, option_refusals};
+
+use crate::document::{KindRow, OptionRow};
+use crate::fault::{LimitName, LoadFault};
+use crate::field::Field;
+use crate::field_items::{keeps_gcp, keeps_level, keeps_rest, keeps_serial, size_within_limit};
+use crate::form::KeyForm;
+use crate::forms::{form_at, serial_room};
+use crate::kind_rules::are_visible;
+use crate::level_name::LevelName;
+use gs_ai::AiTable;
+use gs_grammar::Item;
+
+/// The index of the first item that is not there or breaks a bound of the level.
+fn first_bad(bits: bool, items: &[Option<(Option<Field>, Item)>]) -> Option<usize>
+    ensures { result ≡ position (is_bad_item bits) items.now }
+{
+    items.iter().position(|item| match item {
+        Some((_, item)) => !item.is_in_bounds(bits),
+        None => true,
+    })
+}
+
+/// Whether two options have one kind, encoding and prefix length.
+#[tactic(auto, unfolding(crate::specs::Tables::is_same))]
+fn is_same(a: &OptionRow, b: &OptionRow) -> bool
+    ensures { result ≡ is_same a.now b.now }
+{
+    a.kind == b.kind && a.encoding == b.encoding && a.gcp == b.gcp
+}
+
+/// Whether the prefix, the rest and the serial fit a kind whose key is of this form.
+fn keeps_form(ais: &AiTable, kind: &KindRow, row: &OptionRow, form: KeyForm) -> bool
+    ensures { result ≡ keeps_form ais.now kind.now row.now.gcp (items_there row.now) form }
+{
+    let items = row.items.items();
+    if !keeps_gcp(form, kind.lead, row.gcp, items) {
+        return false;
+    }
+    if !keeps_rest(form, row.gcp, items) {
+        return false;
+    }
+    keeps_serial(serial_room(ais, form, kind.serial.as_bytes()), items)
+}
+
+/// Whether the option fits a kind.
+fn fits_kind(ais: &AiTable, kind: &KindRow, level: LevelName, size: usize, row: &OptionRow) -> bool
+    requires { size ≡ size_of_all (items_alone row.now) }
+    ensures { result ≡ fits_kind ais.now kind.now level row.now.encoding row.now.gcp (items_there row.now) }
+{
+    let encoding = row.encoding.as_bytes();
+    if !are_visible(encoding) {
+        return false;
+    }
+    if !keeps_level(level, encoding, size, row.items.items()) {
+        return false;
+    }
+    match form_at(ais, kind.key.as_bytes()) {
+        Some(form) => keeps_form(ais, kind, row, form),
+        None => false,
+    }
+}
+
+/// The first kind of this name.
+fn kind_with<'a>(kinds: &'a [KindRow], name: &[u8]) -> Option<&'a KindRow>
+    ensures { option_copied result ≡ find (has_name name.now) kinds.now }
+{
+    kinds.iter().find(|kind| name == kind.name.as_bytes())
+}
+
+/// Whether the option's kind is one of the kinds, and the option fits it.
+fn fits(ais: &AiTable, kinds: &[KindRow], level: LevelName, size: usize, row: &OptionRow) -> bool
+    requires { size ≡ size_of_all (items_alone row.now) }
+    ensures { result ≡ fits ais.now kinds.now level row.now }
+{
+    match kind_with(kinds, row.kind.as_bytes()) {
+        Some(kind) => fits_kind(ais, kind, level, size, row),
+        None => false,
+    }
+}
+
+/// The index of the first option of the same kind, encoding and prefix length.
+fn first_same(rows: &[OptionRow], row: &OptionRow) -> Option<usize>
+    ensures { result ≡ position (λ other. is_same other row.now) rows.now }
+{
+    rows.iter().position(|other| is_same(other, row))
+}
+
+/// The first refusal of option `i` of a level.
+pub(crate) fn check_option(
+    ais: &AiTable,
+    kinds: &[KindRow],
+    level: LevelName,
+    rows: &[OptionRow],
+    i: usize,
+    row: &OptionRow,
+) -> Result<(), LoadFault>
+    requires { i ≤ length rows.now }
+    ensures { IsFirst (option_refusals ais.now kinds.now level rows.now (i, row.now)) result }
+{
+    let items = row.items.items();
+    if let Some(k) = first_bad(level.is_bits(), items) {
+        return Err(LoadFault::BadItem(level, i, k));
+    }
+    let Some(size) = size_within_limit(items) else {
+        return Err(LoadFault::Limit(LimitName::Size));
+    };
+    if !fits(ais, kinds, level, size, row) {
+        return Err(LoadFault::Mismatch(level, i));
+    }
+    match first_same(&rows[..i], row) {
+        Some(j) => Err(LoadFault::Duplicate(level, j, i)),
+        None => Ok(()),
+    }
+}

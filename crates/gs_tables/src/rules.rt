@@ -1,0 +1,98 @@
+ghost use Rattle.std.specs.Prelude.{◌≡◌, ◌==◌, ◌||◌, ◌++◌, not, length, take};
+ghost use Rattle.std.specs.List.{flat_map, enumerate_from};
+ghost use Rattle.gs_tables.specs.Rules.{is_kind};
+ghost use Rattle.gs_tables.specs.Tables.{IsFirst, has_long, is_bits, kind_refusals, kinds_refusals, level_refusals, limit_refusals, more_than, option_refusals, refuse_if};
+
+use crate::document::{Document, KindRow, OptionRow};
+use crate::fault::{LimitName, LoadFault};
+use crate::kind_rules::is_kind;
+use crate::level_name::LevelName;
+use crate::option_rules::check_option;
+use gs_ai::AiTable;
+
+/// Refuses a document of another version.
+pub(crate) fn check_version(document: &Document) -> Result<(), LoadFault>
+    ensures { IsFirst (refuse_if (not (document.now.version == 1)) LoadFault.Version) result }
+{
+    if document.version == 1 {
+        Ok(())
+    } else {
+        Err(LoadFault::Version)
+    }
+}
+
+/// Whether some option has more than 24 items.
+fn has_long(rows: &[OptionRow]) -> bool
+    ensures { result ≡ has_long rows.now }
+{
+    rows.iter().any(|row| row.items.items().len() > 24)
+}
+
+/// The first of the limits of the numbers of rows that is passed.
+#[tactic(auto, unfolding(crate::specs::Tables::limit_refusals))]
+pub(crate) fn check_limits(document: &Document) -> Result<(), LoadFault>
+    ensures { IsFirst (limit_refusals document.now) result }
+{
+    let binary = document.binary.items();
+    let tag = document.tag.items();
+    let pure = document.pure.items();
+    if document.ais.items().len() > 256 {
+        return Err(LoadFault::Limit(LimitName::Ais));
+    }
+    if document.kinds.items().len() > 64 {
+        return Err(LoadFault::Limit(LimitName::Kinds));
+    }
+    if binary.len() > 256 || tag.len() > 256 || pure.len() > 256 {
+        return Err(LoadFault::Limit(LimitName::Options));
+    }
+    if has_long(binary) || has_long(tag) || has_long(pure) {
+        return Err(LoadFault::Limit(LimitName::Items));
+    }
+    Ok(())
+}
+
+/// The first kind that breaks a rule.
+fn check_kinds(ais: &AiTable, kinds: &[KindRow]) -> Result<(), LoadFault>
+    ensures { IsFirst (kinds_refusals ais.now kinds.now) result }
+{
+    for (i, kind) in kinds.iter().enumerate() {
+        if !is_kind(ais, &kinds[..i], kind) {
+            return Err(LoadFault::BadKind(i));
+        }
+    }
+    Ok(())
+}
+
+/// The first refusal of the kinds, and of the options of the levels, row by row.
+pub(crate) fn check_rows(
+    ais: &AiTable,
+    kinds: &[KindRow],
+    binary: &[OptionRow],
+    tag: &[OptionRow],
+    pure: &[OptionRow],
+) -> Result<(), LoadFault>
+    ensures { IsFirst (kinds_refusals ais.now kinds.now
+        ++ (level_refusals ais.now kinds.now LevelName.Binary binary.now
+        ++ (level_refusals ais.now kinds.now LevelName.Tag tag.now
+        ++ level_refusals ais.now kinds.now LevelName.Pure pure.now))) result }
+{
+    check_kinds(ais, kinds)?;
+    check_level(ais, kinds, LevelName::Binary, binary)?;
+    check_level(ais, kinds, LevelName::Tag, tag)?;
+    check_level(ais, kinds, LevelName::Pure, pure)
+}
+
+/// The first refusal of the options of a level, row by row.
+fn check_level(
+    ais: &AiTable,
+    kinds: &[KindRow],
+    level: LevelName,
+    rows: &[OptionRow],
+) -> Result<(), LoadFault>
+    ensures { IsFirst (level_refusals ais.now kinds.now level rows.now) result }
+{
+    for (i, row) in rows.iter().enumerate() {
+        check_option(ais, kinds, level, rows, i, row)?;
+    }
+    Ok(())
+}

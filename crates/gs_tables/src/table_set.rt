@@ -1,0 +1,129 @@
+ghost use Rattle.std.specs.Prelude.{◌≡◌};
+ghost use Rattle.gs_tables.specs.Tables.{level_rows, IsShaped, IsAnswer, row_refusals, set_of};
+ghost use Rattle.gs_tables.specs.Shapes.{Shape};
+
+use crate::document::Document;
+use crate::fault::LoadFault;
+use crate::kind::Kind;
+use crate::level_name::LevelName;
+use crate::level_table::LevelTable;
+use crate::make::{make_ais, make_kinds, make_level};
+use crate::opt_info::OptInfo;
+use crate::read_document::read_document;
+use crate::rules::{check_limits, check_rows, check_version};
+use gs_ai::AiTable;
+use gs_chars::List;
+use gs_grammar::Level;
+use std::alloc::Global;
+use std::marker::Model;
+
+/// A table set: the application identifiers, the kinds, and the options of three levels, each in the order of its rows. It
+/// keeps the rules that `TableSet::load` asks for.
+#[derive(Drop)]
+pub struct TableSet {
+    ais: AiTable,
+    kinds: List<Kind>,
+    binary: LevelTable,
+    tag: LevelTable,
+    pure: LevelTable,
+}
+
+impl Model for TableSet {
+    ghost use Rattle.gs_tables.specs.Tables.{TableRows, IsShaped};
+
+    ghost Value = { TableRows };
+
+    ghost view = { λ a. record { ais = a.ais; kinds = a.kinds; binary = a.binary; tag = a.tag; pure = a.pure } };
+
+    ghost invariant = { λ a. IsShaped (record { ais = a.ais; kinds = a.kinds; binary = a.binary; tag = a.tag; pure = a.pure }) };
+}
+
+impl TableSet {
+    /// The set that a table document gives, or its first refusal. These are tried in this order. `Json`: the bytes are no
+    /// JSON text, or the document or a row has not the form of its kind. `Version`: the version is not 1. `Limit` of the
+    /// numbers of rows: application identifiers, kinds, options, items. `Ai`: the first fault of the application
+    /// identifiers. `BadKind`: the first kind that breaks a rule. Then option by option of the levels binary, tag, pure:
+    /// `BadItem` for its first bad item, `Limit(Size)`, `Mismatch` where it does not fit its kind, `Duplicate` for the first
+    /// earlier option of the same kind, encoding and prefix length. `Memory` may come in place of any answer.
+    pub fn load(alloc: Global, bytes: &[u8]) -> Result<TableSet, LoadFault>
+        ensures { Shape bytes.now result }
+    {
+        let document = read_document(alloc, bytes)?;
+        check_version(&document)?;
+        TableSet::of_rows(alloc, document)
+    }
+
+    /// The set of the rows, or their first refusal from the limits on.
+    pub(crate) fn of_rows(alloc: Global, document: Document) -> Result<TableSet, LoadFault>
+        ensures { IsAnswer (row_refusals document) (set_of document) result }
+    {
+        check_limits(&document)?;
+        let Document {
+            version: _,
+            ais,
+            kinds,
+            binary,
+            tag,
+            pure,
+        } = document;
+        let ais = make_ais(alloc, ais)?;
+        let rows = kinds.items();
+        check_rows(&ais, rows, binary.items(), tag.items(), pure.items())?;
+        let binary = make_level(alloc, &ais, rows, LevelName::Binary, binary)?;
+        let tag = make_level(alloc, &ais, rows, LevelName::Tag, tag)?;
+        let pure = make_level(alloc, &ais, rows, LevelName::Pure, pure)?;
+        let kinds = make_kinds(alloc, &ais, kinds)?;
+        Ok(TableSet {
+            ais,
+            kinds,
+            binary,
+            tag,
+            pure,
+        })
+    }
+
+    /// The application identifiers.
+    pub fn ais(&self) -> &AiTable
+        ensures rows { result.now ≡ self.now.ais }
+        ensures shaped { IsShaped self.now }
+    {
+        &self.ais
+    }
+
+    /// The kinds, in their order.
+    pub fn kinds(&self) -> &[Kind]
+        ensures rows { result.now ≡ self.now.kinds }
+        ensures shaped { IsShaped self.now }
+    {
+        self.kinds.items()
+    }
+
+    /// The options of a level, in their order.
+    pub fn level(&self, name: LevelName) -> &Level
+        ensures rows { result.now ≡ (level_rows name self.now).level }
+        ensures shaped { IsShaped self.now }
+    {
+        let _ = &self.kinds;
+        &self.table(name).level
+    }
+
+    /// What is said of each option of a level beside its items, in the order of the options.
+    pub fn info(&self, name: LevelName) -> &[OptInfo]
+        ensures rows { result.now ≡ (level_rows name self.now).info }
+        ensures shaped { IsShaped self.now }
+    {
+        let _ = &self.kinds;
+        self.table(name).info.items()
+    }
+
+    /// A level with what is said of its options.
+    fn table(&self, name: LevelName) -> &LevelTable
+        ensures { result.now ≡ level_rows name self.now }
+    {
+        match name {
+            LevelName::Binary => &self.binary,
+            LevelName::Tag => &self.tag,
+            LevelName::Pure => &self.pure,
+        }
+    }
+}
