@@ -1,0 +1,12 @@
+pub mod FieldPlaces
+pub mod FieldRules
+pub mod KeptFields
+pub mod KeptItems
+pub mod KeptLaws
+pub mod KeptRows
+pub mod KeptRules
+pub mod LayoutElements
+pub mod LayoutLaws
+pub mod LayoutParts
+pub mod LayoutValues
+pub mod ReadingFacts

@@ -1,0 +1,20 @@
+use gs_chars::Text;
+
+/// What a tag or an EPC URI says (TDS 2.0, section 6.3): the fields of an option of a table set.
+#[derive(Debug, Drop)]
+pub struct Epc {
+    /// The index of the kind.
+    pub kind: usize,
+    /// The name of the encoding, empty for a pure identity.
+    pub encoding: Text,
+    /// The filter value, none for a pure identity.
+    pub filter: Option<u8>,
+    /// The digits of the GS1 Company Prefix, 1 to 12.
+    pub gcp: u8,
+    /// The GS1 Company Prefix.
+    pub prefix: Text,
+    /// What follows the prefix in the key, with the lead digit in front, empty where the prefix leaves nothing.
+    pub rest: Text,
+    /// The serial, empty for a kind without one.
+    pub serial: Text,
+}

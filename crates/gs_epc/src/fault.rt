@@ -1,0 +1,26 @@
+use gs_bits::HexFault;
+use gs_chars::Memory;
+
+/// Why a text says no EPC.
+#[derive(Clone, Copy, Debug, PartialEq, Eq)]
+pub enum EpcFault {
+    /// The text is no hexadecimal text of at most 128 digits.
+    Hex(HexFault),
+    /// The level has no derivation of it.
+    NoReading,
+    /// The level has two derivations of it or more.
+    Two,
+    /// Want of memory.
+    Memory,
+}
+
+impl From<Memory> for EpcFault {
+    ghost use Rattle.std.specs.Prelude.{◌≡◌};
+    ghost use Rattle.gs_epc.specs.declared.fault.EpcFault.TheVariants.{Memory as WantOfMemory};
+
+    ghost from_gives = { λ _ e. e ≡ WantOfMemory };
+
+    fn from(_refused: Memory) -> EpcFault {
+        EpcFault::Memory
+    }
+}

@@ -1,0 +1,66 @@
+ghost use Rattle.std.specs.Prelude.{◌≡◌, IfOk, IfSome, false, position};
+ghost use Rattle.gs_grammar.specs.Words.{decimal_value};
+ghost use Rattle.gs_tables.specs.declared.field.Field.{Field};
+ghost use Rattle.gs_tables.specs.Rules.{is_field};
+ghost use Rattle.gs_epc.specs.Epcs.{epc_of, filter_of, value_at, value_of};
+ghost use Rattle.gs_epc.specs.Filters.{IsFilter};
+
+use crate::epc::Epc;
+use gs_chars::{List, Memory, Text};
+use gs_tables::{Field, OptInfo};
+use std::alloc::Global;
+use std::mem;
+
+/// The place of the first item that stands for a field.
+fn place_of(field: Field, fields: &[Option<Field>]) -> Option<usize>
+    ensures { result ≡ position (is_field field) fields.now }
+{
+    fields.iter().position(|named| *named == Some(field))
+}
+
+/// The number of a filter value.
+fn filter_number(value: &Text) -> u8
+    requires { IsFilter value.now }
+    ensures { result ≡ decimal_value value.now }
+{
+    value.as_bytes()[0] - b'0'
+}
+
+/// The number of the filter value, where an item stands for it.
+fn filter_of(fields: &[Option<Field>], values: &[Text]) -> Option<u8>
+    requires { IfSome (value_at Field.Filter fields.now values.now) IsFilter }
+    ensures { result ≡ filter_of fields.now values.now }
+{
+    let value = values.get(place_of(Field::Filter, fields)?)?;
+    Some(filter_number(value))
+}
+
+/// Moves the value of a field out, the empty one where no item stands for it, and leaves the other values as they are.
+fn take_value(alloc: Global, field: Field, fields: &[Option<Field>], values: &mut [Text]) -> Text
+    ensures value { result ≡ value_of field fields.now values.old }
+    ensures others { (other : Field) → is_field other (Some field) ≡ false → value_at other fields.now values.new ≡ value_at other fields.now values.old }
+{
+    let empty = Text::from_vec(Vec::new(alloc));
+    match place_of(field, fields) {
+        Some(place) if place < values.len() => mem::replace(&mut values[place], empty),
+        _ => empty,
+    }
+}
+
+/// What an option says by the values of its items. The one refusal is want of memory.
+pub(crate) fn epc_of(alloc: Global, info: &OptInfo, values: List<Text>) -> Result<Epc, Memory>
+    requires { IfSome (value_at Field.Filter info.now.fields values) IsFilter }
+    ensures { IfOk result (λ epc. epc ≡ epc_of info.now values) }
+{
+    let fields = info.fields.items();
+    let mut values = values.into_vec();
+    Ok(Epc {
+        kind: info.kind,
+        encoding: Text::from_bytes(alloc, info.encoding.as_bytes())?,
+        filter: filter_of(fields, &values),
+        gcp: info.gcp,
+        prefix: take_value(alloc, Field::Gcp, fields, &mut values),
+        rest: take_value(alloc, Field::Rest, fields, &mut values),
+        serial: take_value(alloc, Field::Serial, fields, &mut values),
+    })
+}

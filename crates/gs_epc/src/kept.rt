@@ -1,0 +1,15 @@
+ghost use Rattle.std.specs.Prelude.{◌≡◌, Some, slice_get};
+ghost use Rattle.gs_epc.specs.Epcs.{IsOfSet};
+ghost use Rattle.gs_epc.specs.Kept.{FitKind};
+
+use crate::epc::Epc;
+use gs_tables::{Kind, TableSet};
+
+/// The kind of an EPC of the set. What the EPC says fits it.
+pub(crate) fn kind_of<'a>(set: &'a TableSet, epc: &Epc) -> &'a Kind
+    requires { IsOfSet set.now epc.now }
+    ensures named { slice_get set.now.kinds epc.now.kind ≡ Some result.now }
+    ensures fit { FitKind set.now.ais result.now epc.now.prefix epc.now.rest epc.now.serial }
+{
+    &set.kinds()[epc.kind]
+}

@@ -1,0 +1,183 @@
+ghost use Rattle.std.specs.Prelude.{◌≡◌, ◌≤◌, ◌∷◌, ◌++◌, IfOk, is_some, length};
+ghost use Rattle.gs_ident.specs.Identities.{IsMadeWith};
+ghost use Rattle.gs_tables.specs.Forms.{characters_of};
+ghost use Rattle.gs_epc.specs.Epcs.{IsOfSet};
+ghost use Rattle.gs_epc.specs.Kept.{FitKind};
+ghost use Rattle.gs_epc.specs.Layout.{AreKeyDigits, IsLaidOut, key_digits, key_value, lay, parts_at, serial_pairs, tail_of_key, with_check, zero_in_front};
+
+use crate::epc::Epc;
+use crate::kept::kind_of;
+use gs_ai::{AiTable, Pair, Part};
+use gs_chars::{Memory, Text, check_digit};
+use gs_ident::{IdentFault, Identity, make};
+use gs_tables::{Kind, SerialAt, TableSet};
+use std::alloc::Global;
+
+/// A copy of the text.
+fn copy_text(alloc: Global, text: &Text) -> Result<Text, Memory>
+    ensures { IfOk result (λ copy. copy ≡ text.now) }
+{
+    Text::from_bytes(alloc, text.as_bytes())
+}
+
+/// The zero in front of the key, where its parts begin with one.
+fn zero_in_front(parts: &[Part]) -> &'static [u8]
+    ensures { result.now ≡ zero_in_front parts.now }
+{
+    match parts {
+        [Part::Zero, ..] => b"0",
+        _ => b"",
+    }
+}
+
+/// The serial, where it stands in the key's own value.
+fn tail_of_key<'a>(at: &SerialAt, serial: &'a Text) -> &'a [u8]
+    ensures { result.now ≡ tail_of_key at.now serial.now }
+{
+    match at {
+        SerialAt::Tail => serial.as_bytes(),
+        SerialAt::Nowhere | SerialAt::Ai(_) => &[],
+    }
+}
+
+/// Appends the digits of the key: the lead digits of the rest, the prefix, and the other digits of the rest.
+fn push_digits(value: &mut Vec<u8>, lead: u8, prefix: &[u8], rest: &[u8]) -> Result<(), Memory>
+    requires { lead ≤ length rest.now }
+    ensures { IfOk result (λ _. value.new.items
+        ≡ value.old.items ++ key_digits lead prefix.now rest.now) }
+{
+    let (first, others) = rest.split_at(usize::from(lead));
+    value.extend_from_slice(first)?;
+    value.extend_from_slice(prefix)?;
+    value.extend_from_slice(others)?;
+    Ok(())
+}
+
+/// Appends the digits of the key and their check digit.
+fn push_checked(value: &mut Vec<u8>, lead: u8, prefix: &[u8], rest: &[u8]) -> Result<(), Memory>
+    requires { AreKeyDigits lead prefix.now rest.now }
+    ensures { IfOk result (λ _. value.new.items
+        ≡ value.old.items ++ with_check (key_digits lead prefix.now rest.now)) }
+{
+    let start = value.len();
+    push_digits(value, lead, prefix, rest)?;
+    let check = check_digit(&value.as_slice()[start..]);
+    value.push(check)?;
+    Ok(())
+}
+
+/// The value of a key of digits: a zero in front, the digits with their check digit, and the tail.
+fn digits_value(alloc: Global, parts: &[Part], kind: &Kind, epc: &Epc) -> Result<Text, Memory>
+    requires { AreKeyDigits kind.now.lead epc.now.prefix epc.now.rest }
+    ensures { IfOk result (λ value. value ≡ zero_in_front parts.now
+        ++ with_check (key_digits kind.now.lead epc.now.prefix epc.now.rest)
+        ++ tail_of_key kind.now.serial epc.now.serial) }
+{
+    let tail = tail_of_key(&kind.serial, &epc.serial);
+    // a zero, at most 18 digits and their check digit
+    let mut value = Vec::with_capacity(alloc, 20 + tail.len())?;
+    value.extend_from_slice(zero_in_front(parts))?;
+    push_checked(
+        &mut value,
+        kind.lead,
+        epc.prefix.as_bytes(),
+        epc.rest.as_bytes(),
+    )?;
+    value.extend_from_slice(tail)?;
+    Ok(Text::from_vec(value))
+}
+
+/// The value of a key of characters: the prefix and the rest, as they are.
+fn characters_value(alloc: Global, prefix: &[u8], rest: &[u8]) -> Result<Text, Memory>
+    ensures { IfOk result (λ value. value ≡ prefix.now ++ rest.now) }
+{
+    let mut value = Vec::with_capacity(alloc, prefix.len() + rest.len())?;
+    value.extend_from_slice(prefix)?;
+    value.extend_from_slice(rest)?;
+    Ok(Text::from_vec(value))
+}
+
+/// Whether the parts are characters alone.
+fn are_characters(parts: &[Part]) -> bool
+    ensures { result ≡ is_some (characters_of parts.now) }
+{
+    matches!(parts, [Part::Set(_)])
+}
+
+/// The value of the key, by the parts of its row.
+fn key_value(alloc: Global, ais: &AiTable, kind: &Kind, epc: &Epc) -> Result<Text, Memory>
+    requires { FitKind ais.now kind.now epc.now.prefix epc.now.rest epc.now.serial }
+    ensures { IfOk result (λ value. value ≡ key_value (parts_at ais.now kind.now.key) kind.now
+        epc.now.prefix epc.now.rest epc.now.serial) }
+{
+    let Some(row) = ais.row_with(kind.key.as_bytes()) else {
+        unreachable!()
+    };
+    let parts = row.parts.items();
+    if are_characters(parts) {
+        return characters_value(alloc, epc.prefix.as_bytes(), epc.rest.as_bytes());
+    }
+    digits_value(alloc, parts, kind, epc)
+}
+
+/// The pair of the key, and that of a serial that has an element of its own.
+fn pairs_of(alloc: Global, key: Pair, at: &SerialAt, serial: &Text) -> Result<Vec<Pair>, Memory>
+    ensures { IfOk result (λ pairs. pairs.items ≡ key ∷ serial_pairs at.now serial.now) }
+{
+    let mut pairs = Vec::with_capacity(alloc, 2)?;
+    pairs.push(key)?;
+    match at {
+        SerialAt::Ai(code) => {
+            pairs.push(Pair {
+                code: copy_text(alloc, code)?,
+                value: copy_text(alloc, serial)?,
+            })?;
+            Ok(pairs)
+        }
+        SerialAt::Nowhere | SerialAt::Tail => Ok(pairs),
+    }
+}
+
+/// Want of memory, which is the one refusal that can come.
+fn want_of_memory(refusal: IdentFault) -> Memory
+    requires { refusal ≡ IdentFault.Memory }
+{
+    match refusal {
+        IdentFault::Memory => Memory,
+        _ => unreachable!(),
+    }
+}
+
+/// The identity of a key of the kind, and of its serial.
+pub(crate) fn lay_out(
+    alloc: Global,
+    ais: &AiTable,
+    kind: &Kind,
+    epc: &Epc,
+) -> Result<Identity, Memory>
+    requires fit { FitKind ais.now kind.now epc.now.prefix epc.now.rest epc.now.serial }
+    ensures laid { IfOk result (λ identity. identity ≡ lay ais.now kind.now
+        epc.now.prefix epc.now.rest epc.now.serial) }
+    ensures with_table { IfOk result (IsMadeWith ais.now) }
+{
+    let _ = ais.rows();
+    let key = Pair {
+        code: copy_text(alloc, &kind.key)?,
+        value: key_value(alloc, ais, kind, epc)?,
+    };
+    let pairs = pairs_of(alloc, key, &kind.serial, &epc.serial)?;
+    match make(alloc, ais, pairs) {
+        Ok(identity) => Ok(identity),
+        Err(refusal) => Err(want_of_memory(refusal)),
+    }
+}
+
+/// The identity that an EPC of the set names (TDS 2.0, section 7): the key of its kind, laid out with its check digit, and
+/// its serial. The one refusal is want of memory.
+pub fn identity_of(alloc: Global, set: &TableSet, epc: &Epc) -> Result<Identity, Memory>
+    requires { IsOfSet set.now epc.now }
+    ensures laid { IfOk result (IsLaidOut set.now epc.now) }
+    ensures with_table { IfOk result (IsMadeWith set.now.ais) }
+{
+    lay_out(alloc, set.ais(), kind_of(set, epc), epc)
+}

@@ -1,0 +1,70 @@
+ghost use Rattle.std.specs.Prelude.{IfOk, List, ℕ};
+ghost use Rattle.gs_grammar.specs.Readings.{Reads};
+ghost use Rattle.gs_epc.specs.Epcs.{IsOfSet, options_of};
+ghost use Rattle.gs_epc.specs.Readings.{ReadsAs, ReadsHex};
+
+use crate::epc::Epc;
+use crate::fault::EpcFault;
+use crate::fields::epc_of;
+use gs_bits::BitBuf;
+use gs_grammar::{Reading, read_bits, read_text};
+use gs_tables::{LevelName, TableSet};
+use std::alloc::Global;
+
+/// What a reading of some symbols in a level says.
+fn answer(
+    alloc: Global,
+    set: &TableSet,
+    level: LevelName,
+    reading: Reading,
+) -> Result<Epc, EpcFault>
+    requires { (symbols : List ℕ) × Reads (options_of level set.now) symbols reading }
+    ensures says { (symbols : List ℕ) → Reads (options_of level set.now) symbols reading → ReadsAs set.now level symbols result }
+    ensures of_set { IfOk result (IsOfSet set.now) }
+{
+    match reading {
+        Reading::One { option, values } => Ok(epc_of(alloc, &set.info(level)[option], values)?),
+        Reading::Nothing => Err(EpcFault::NoReading),
+        Reading::Two => Err(EpcFault::Two),
+        Reading::Memory => Err(EpcFault::Memory),
+    }
+}
+
+/// What the bits of a tag say, in a text of at most 128 hexadecimal digits of either case (TDS 2.0, section 14). The faults
+/// are tried in this order: the text is no such hexadecimal text; the bits have no derivation in the level of bits, or two.
+pub fn read_hex(alloc: Global, set: &TableSet, text: &[u8]) -> Result<Epc, EpcFault>
+    ensures answer { ReadsHex set.now text.now result }
+    ensures of_set { IfOk result (IsOfSet set.now) }
+{
+    let level = LevelName::Binary;
+    match BitBuf::<64>::from_hex(text) {
+        Ok(bits) => answer(alloc, set, level, read_bits(alloc, set.level(level), &bits)),
+        Err(fault) => Err(EpcFault::Hex(fault)),
+    }
+}
+
+/// What a text of a level says.
+fn read_level(alloc: Global, set: &TableSet, level: LevelName, text: &[u8]) -> Result<Epc, EpcFault>
+    ensures answer { ReadsAs set.now level text.now result }
+    ensures of_set { IfOk result (IsOfSet set.now) }
+{
+    answer(alloc, set, level, read_text(alloc, set.level(level), text))
+}
+
+/// What an EPC tag URI says (TDS 2.0, section 12): `NoReading` comes exactly where the text has no derivation in the level
+/// of tag URIs, `Two` exactly where it has two or more.
+pub fn read_tag(alloc: Global, set: &TableSet, text: &[u8]) -> Result<Epc, EpcFault>
+    ensures answer { ReadsAs set.now LevelName.Tag text.now result }
+    ensures of_set { IfOk result (IsOfSet set.now) }
+{
+    read_level(alloc, set, LevelName::Tag, text)
+}
+
+/// What an EPC pure identity URI says (TDS 2.0, section 6): `NoReading` comes exactly where the text has no derivation in the
+/// level of pure identity URIs, `Two` exactly where it has two or more.
+pub fn read_pure(alloc: Global, set: &TableSet, text: &[u8]) -> Result<Epc, EpcFault>
+    ensures answer { ReadsAs set.now LevelName.Pure text.now result }
+    ensures of_set { IfOk result (IsOfSet set.now) }
+{
+    read_level(alloc, set, LevelName::Pure, text)
+}
