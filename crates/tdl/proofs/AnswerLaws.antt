@@ -1,67 +1,244 @@
--- A text has one answer.
-use Rattle.std.proofs.Common.{◌≡◌, ℕ, ◌≤◌, List, refl, sym, ◌∙◌, ap, inl, inr, length, arith}
+-- A text has at most one answer, and one by tables that keep their rules.
+use Rattle.std.proofs.Common.{◌≡◌, ℕ, zero, suc, ◌≤◌, ◌⊎◌, true, List, [], ◌∷◌, Option, Some, None, refl, sym, ◌∙◌, ap, inl, inr, length, take, slice_get, get_or, arith}
+use Rattle.std.specs.Prelude.{◌≢◌, ◌%◌, is_some, Result, Ok, Err}
+use Rattle.std.specs.List.{AllPass}
+use Rattle.std.proofs.lemmas.Bool.{cases_eq}
 use Rattle.std.proofs.lemmas.Bool.Decides.{leb_tells}
-use Rattle.gs_grammar.specs.Derivations.{Derivation, TwoDerivations}
+use Rattle.std.proofs.lemmas.List.Elements.{All-cons, All-nil}
+use Rattle.gs_chars.specs.Escapes.{hex_value}
+use Rattle.gs_bits.specs.HexText.{FirstBadDigit, bits_of_hex, is_hex_digit}
+use Rattle.gs_bits.specs.declared.faults.HexFault.{HexFault}
+use Rattle.gs_bits.specs.declared.faults.HexFault.TheVariants.{OddDigits, Full, BadDigit}
+use Rattle.gs_bits.proofs.HexBits.{first_bad_same, no_bad_digit}
 use Rattle.gs_grammar.specs.Counts.{Counted, none_of, one_of, two_of}
+use Rattle.gs_grammar.specs.Derivations.{OneDerivation}
 use Rattle.gs_grammar.proofs.DecidedWords.{each_counted}
 use Rattle.gs_grammar.proofs.OneReading.{one_reading, not_two}
 use Rattle.gs_ident.specs.Elements.{Elements}
 use Rattle.gs_ident.specs.Links.{canonical_link}
+use Rattle.gs_tables.specs.declared.level_name.LevelName.{LevelName}
+use Rattle.gs_tables.specs.declared.level_name.LevelName.TheVariants as level
+use Rattle.gs_tables.specs.declared.opt_info.OptInfo.{OptInfo}
+use Rattle.gs_tables.specs.Tables.{IsShaped, TableRows, level_rows}
+use Rattle.gs_epc.specs.declared.epc.Epc.{Epc}
+use Rattle.gs_epc.specs.declared.fault.EpcFault.{EpcFault}
+use Rattle.gs_epc.specs.declared.fault.EpcFault.TheVariants.{Hex, NoReading, Two, Memory}
+use Rattle.gs_epc.specs.Epcs.{IsOfSet, epc_of, options_of}
+use Rattle.gs_epc.specs.Layout.{IsLaidOut, lay}
+use Rattle.gs_epc.specs.Readings.{IsHex, IsHexFault, ReadsAs, ReadsHex, Says}
+use Rattle.gs_epc.proofs.KeptLaws.{fit_kind}
+use Rattle.gs_epc.proofs.ReadingFacts.{hex_answer, of_set, said_of, says}
 use Rattle.tdl.specs.declared.answer.Answer.{Answer}
 use Rattle.tdl.specs.declared.answer.Answer.TheVariants.{Canonical, Refused}
-use Rattle.tdl.specs.declared.answer.Reason.TheVariants.{Long, NoReading, Two}
+use Rattle.tdl.specs.declared.answer.Reason.TheVariants.{Long, Epc as NoEpc}
+use Rattle.tdl.specs.declared.command.Form.{Form}
+use Rattle.tdl.specs.declared.command.Form.TheVariants as form
 use Rattle.tdl.specs.Answers.{IsAnswer}
-use Rattle.tdl.specs.Meanings.{Means, elements_of_values}
-use Rattle.tdl.specs.Options.{pure_level}
+use Rattle.tdl.specs.Meanings.{Means, ReadsIn}
 
--- at most one
+-- the answer is no want of memory
+abbrev IsTold : Result Epc EpcFault → Type 0
+IsTold (Ok epc) = Unit {0}
+IsTold (Err fault) = fault ≢ Memory
 
-same_elements : (text : List ℕ) (one other : Elements) → Means text one → Means text other → one ≡ other
-same_elements text one other m n =
-    let same = (one_reading pure_level text m.option n.option m.values n.values m.read n.read).1 in
-    m.named ∙ ap elements_of_values same ∙ sym n.named
+-- ---- at most one answer to the symbols of a level
 
-same_links : (text link link' : List ℕ) (one other : Elements) → Means text one → Means text other → link ≡ canonical_link one → link' ≡ canonical_link other → link ≡ link'
-same_links text link link' one other m n e f = e ∙ ap canonical_link (same_elements text one other m n) ∙ sym f
+same_at : {X : Type 0} (xs : List X) (i j : ℕ) (x y : X) → slice_get xs i ≡ Some x → slice_get xs j ≡ Some y → i ≡ j → x ≡ y
+same_at xs i j x y a b e =
+    let c : Some x ≡ Some y = sym a ∙ ap (slice_get xs) e ∙ b in
+    cc
 
-means_some : (text : List ℕ) (elements : Elements) → Means text elements → (Derivation pure_level text → ⊥) → ⊥
-means_some text elements m none = none m.read.derivation
+same_epc : (set : TableRows) (level : LevelName) (symbols : List ℕ) (one other : Epc) → Says set level symbols one → Says set level symbols other → one ≡ other
+same_epc set level symbols one other a b =
+    let same = one_reading (options_of level set) symbols a.option b.option a.values b.values a.read b.read in
+    let info = same_at (level_rows level set).info a.option b.option a.info b.info a.said b.said same.0 in
+    a.fields ∙ ap (λ i. epc_of i a.values) info ∙ ap (epc_of b.info) same.1 ∙ sym b.fields
 
-means_one : (text : List ℕ) (elements : Elements) → Means text elements → TwoDerivations pure_level text → ⊥
-means_one text elements m two = not_two pure_level text m.option m.values m.read two
+same_read : (set : TableRows) (level : LevelName) (symbols : List ℕ) (one other : Result Epc EpcFault) → IsTold one → IsTold other → ReadsAs set level symbols one → ReadsAs set level symbols other → one ≡ other
+same_read set level symbols (Err Memory) other t u a b = absurd (t refl)
+same_read set level symbols (Err (Hex fault)) other t u a b = absurd a
+same_read set level symbols (Ok epc) (Ok epc') t u a b = ap Ok (same_epc set level symbols epc epc' a b)
+same_read set level symbols (Ok epc) (Err NoReading) t u a b = absurd (b a.read.derivation)
+same_read set level symbols (Ok epc) (Err Two) t u a b = absurd (not_two (options_of level set) symbols a.option a.values a.read b)
+same_read set level symbols (Ok epc) (Err Memory) t u a b = absurd (u refl)
+same_read set level symbols (Ok epc) (Err (Hex fault)) t u a b = absurd b
+same_read set level symbols (Err NoReading) (Ok epc) t u a b = absurd (a b.read.derivation)
+same_read set level symbols (Err NoReading) (Err NoReading) t u a b = refl
+same_read set level symbols (Err NoReading) (Err Two) t u a b = absurd (a b.one)
+same_read set level symbols (Err NoReading) (Err Memory) t u a b = absurd (u refl)
+same_read set level symbols (Err NoReading) (Err (Hex fault)) t u a b = absurd b
+same_read set level symbols (Err Two) (Ok epc) t u a b = absurd (not_two (options_of level set) symbols b.option b.values b.read a)
+same_read set level symbols (Err Two) (Err NoReading) t u a b = absurd (b a.one)
+same_read set level symbols (Err Two) (Err Two) t u a b = refl
+same_read set level symbols (Err Two) (Err Memory) t u a b = absurd (u refl)
+same_read set level symbols (Err Two) (Err (Hex fault)) t u a b = absurd b
 
-pub at_most_one : (text : List ℕ) (one other : Answer) → IsAnswer text one → IsAnswer text other → one ≡ other
-at_most_one text (Canonical link) (Canonical link') a b = ap Canonical (same_links text link link' a.1 b.1 a.2 b.2 a.3 b.3)
-at_most_one text (Canonical link) (Refused Long) a b = absurd (let l = a.0 in omega arith)
-at_most_one text (Canonical link) (Refused NoReading) a b = absurd (means_some text a.1 a.2 b.1)
-at_most_one text (Canonical link) (Refused Two) a b = absurd (means_one text a.1 a.2 b.1)
-at_most_one text (Refused Long) (Canonical link) a b = absurd (let l = b.0 in omega arith)
-at_most_one text (Refused NoReading) (Canonical link) a b = absurd (means_some text b.1 b.2 a.1)
-at_most_one text (Refused Two) (Canonical link) a b = absurd (means_one text b.1 b.2 a.1)
-at_most_one text (Refused Long) (Refused Long) a b = refl
-at_most_one text (Refused Long) (Refused NoReading) a b = absurd (let l = b.0 in omega arith)
-at_most_one text (Refused Long) (Refused Two) a b = absurd (let l = b.0 in omega arith)
-at_most_one text (Refused NoReading) (Refused Long) a b = absurd (let l = a.0 in omega arith)
-at_most_one text (Refused NoReading) (Refused NoReading) a b = refl
-at_most_one text (Refused NoReading) (Refused Two) a b = absurd (a.1 b.1.one)
-at_most_one text (Refused Two) (Refused Long) a b = absurd (let l = a.0 in omega arith)
-at_most_one text (Refused Two) (Refused NoReading) a b = absurd (b.1 a.1.one)
-at_most_one text (Refused Two) (Refused Two) a b = refl
+-- ---- at most one answer to hexadecimal digits
 
--- one
+no_fault : (text : List ℕ) (fault : HexFault) → IsHexFault text fault → IsHex text → ⊥
+no_fault text OddDigits f hex = let even = hex.even in omega arith
+no_fault text Full f hex = let long = f.1 in let short = hex.short in omega arith
+no_fault text (BadDigit place) f hex = no_bad_digit text place hex.digits f.2
 
-abbrev pub HasAnswer : List ℕ → Type 0
-HasAnswer text = (answer : Answer) × IsAnswer text answer
+same_fault : (text : List ℕ) (fault other : HexFault) → IsHexFault text fault → IsHexFault text other → fault ≡ other
+same_fault text OddDigits OddDigits f g = refl
+same_fault text OddDigits Full f g = absurd (let even = g.0 in omega arith)
+same_fault text OddDigits (BadDigit place) f g = absurd (let even = g.0 in omega arith)
+same_fault text Full OddDigits f g = absurd (let even = f.0 in omega arith)
+same_fault text Full Full f g = refl
+same_fault text Full (BadDigit place) f g = absurd (let long = f.1 in let short = g.1 in omega arith)
+same_fault text (BadDigit place) OddDigits f g = absurd (let even = f.0 in omega arith)
+same_fault text (BadDigit place) Full f g = absurd (let short = f.1 in let long = g.1 in omega arith)
+same_fault text (BadDigit place) (BadDigit place') f g = ap BadDigit (first_bad_same text place place' f.2 g.2)
 
-by_count : (text : List ℕ) → length text ≤ 2048 → Counted pure_level text → HasAnswer text
-by_count text short (none_of none) = (Refused NoReading, (short, none))
-by_count text short (one_of option values one) =
-    let means : Means text (elements_of_values values) = record { option = option; values = values; read = one; named = refl } in
-    (Canonical (canonical_link (elements_of_values values)), (short, elements_of_values values, means, refl))
-by_count text short (two_of two) = (Refused Two, (short, two))
+-- why the text is no hexadecimal one, or the answer to its bits
+abbrev HexCase : TableRows → List ℕ → Result Epc EpcFault → Type 0
+HexCase set text answer = ((fault : HexFault) × (answer ≡ Err (Hex fault)) × IsHexFault text fault) ⊎ (IsHex text × ReadsAs set level.Binary (bits_of_hex text) answer)
 
-pub some_answer : (text : List ℕ) → HasAnswer text
-some_answer text = elim (leb_tells (length text) 2048) as (λ _. HasAnswer text) [
-  | inl e ↦ by_count text e.1 (each_counted pure_level text)
+hex_case : (set : TableRows) (text : List ℕ) (answer : Result Epc EpcFault) → IsTold answer → ReadsHex set text answer → HexCase set text answer
+hex_case set text (Ok epc) t a = inr a
+hex_case set text (Err NoReading) t a = inr a
+hex_case set text (Err Two) t a = inr a
+hex_case set text (Err Memory) t a = absurd (t refl)
+hex_case set text (Err (Hex fault)) t a = inl (fault, refl, a)
+
+same_hex : (set : TableRows) (text : List ℕ) (one other : Result Epc EpcFault) → IsTold one → IsTold other → ReadsHex set text one → ReadsHex set text other → one ≡ other
+same_hex set text one other t u a b = elim (hex_case set text one t a) as (λ _. one ≡ other) [
+  | inl f ↦ elim (hex_case set text other u b) as (λ _. one ≡ other) [
+    | inl g ↦ f.1 ∙ ap (λ fault. Err (Hex fault)) (same_fault text f.0 g.0 f.2 g.2) ∙ sym g.1
+    | inr h ↦ absurd (no_fault text f.0 f.2 h.0)
+  ]
+  | inr h ↦ elim (hex_case set text other u b) as (λ _. one ≡ other) [
+    | inl g ↦ absurd (no_fault text g.0 g.2 h.0)
+    | inr k ↦ same_read set level.Binary (bits_of_hex text) one other t u h.1 k.1
+  ]
+]
+
+-- ---- at most one answer to a text
+
+same_told : (set : TableRows) (form : Form) (text : List ℕ) (one other : Result Epc EpcFault) → IsTold one → IsTold other → ReadsIn set form text one → ReadsIn set form text other → one ≡ other
+same_told set form.Hex text one other t u a b = same_hex set text one other t u a b
+same_told set form.Tag text one other t u a b = same_read set level.Tag text one other t u a b
+same_told set form.Pure text one other t u a b = same_read set level.Pure text one other t u a b
+
+same_laid : (set : TableRows) (epc epc' : Epc) (one other : Elements) → epc ≡ epc' → IsLaidOut set epc one → IsLaidOut set epc' other → one ≡ other
+same_laid set epc epc' one other e a b =
+    let kind = same_at set.kinds epc.kind epc'.kind a.kind b.kind a.named b.named (ap (λ (x : Epc). x.kind) e) in
+    a.laid ∙ ap (λ (x : Epc). lay set.ais a.kind x.prefix x.rest x.serial) e ∙ ap (λ k. lay set.ais k epc'.prefix epc'.rest epc'.serial) kind ∙ sym b.laid
+
+same_elements : (set : TableRows) (form : Form) (text : List ℕ) (one other : Elements) → Means set form text one → Means set form text other → one ≡ other
+same_elements set form text one other m n =
+    let told : Ok m.epc ≡ Ok n.epc = same_told set form text (Ok m.epc) (Ok n.epc) tt tt m.read n.read in
+    let same : m.epc ≡ n.epc = cc in
+    same_laid set m.epc n.epc one other same m.laid n.laid
+
+no_meaning : (set : TableRows) (form : Form) (text : List ℕ) (elements : Elements) (fault : EpcFault) → Means set form text elements → fault ≢ Memory → ReadsIn set form text (Err fault) → ⊥
+no_meaning set form text elements fault m t b =
+    let told : Ok m.epc ≡ Err fault = same_told set form text (Ok m.epc) (Err fault) tt t m.read b in
+    cc
+
+same_refusal : (set : TableRows) (form : Form) (text : List ℕ) (fault other : EpcFault) → fault ≢ Memory → other ≢ Memory → ReadsIn set form text (Err fault) → ReadsIn set form text (Err other) → fault ≡ other
+same_refusal set form text fault other t u a b =
+    let told : Err fault ≡ Err other = same_told set form text (Err fault) (Err other) t u a b in
+    cc
+
+pub at_most_one : (set : TableRows) (form : Form) (text : List ℕ) (one other : Answer) → IsAnswer set form text one → IsAnswer set form text other → one ≡ other
+at_most_one set form text (Canonical link) (Canonical link') a b = ap Canonical (a.3 ∙ ap canonical_link (same_elements set form text a.1 b.1 a.2 b.2) ∙ sym b.3)
+at_most_one set form text (Canonical link) (Refused Long) a b = absurd (let l = a.0 in omega arith)
+at_most_one set form text (Canonical link) (Refused (NoEpc fault)) a b = absurd (no_meaning set form text a.1 fault a.2 b.1 b.2)
+at_most_one set form text (Refused Long) (Canonical link) a b = absurd (let l = b.0 in omega arith)
+at_most_one set form text (Refused Long) (Refused Long) a b = refl
+at_most_one set form text (Refused Long) (Refused (NoEpc fault)) a b = absurd (let l = b.0 in omega arith)
+at_most_one set form text (Refused (NoEpc fault)) (Canonical link) a b = absurd (no_meaning set form text b.1 fault b.2 a.1 a.2)
+at_most_one set form text (Refused (NoEpc fault)) (Refused Long) a b = absurd (let l = a.0 in omega arith)
+at_most_one set form text (Refused (NoEpc fault)) (Refused (NoEpc other)) a b = ap (λ f. Refused (NoEpc f)) (same_refusal set form text fault other a.1 b.1 a.2 b.2)
+
+-- ---- an answer to the symbols of a level
+
+-- a text says an EPC of the set, or there is a fault that is no want of memory
+data Told (set : TableRows) (Reads : Result Epc EpcFault → Type 0) : Type 0 where
+  says_epc : (epc : Epc) → Reads (Ok epc) → IsOfSet set epc → Told set Reads
+  has_fault : (fault : EpcFault) → fault ≢ Memory → Reads (Err fault) → Told set Reads
+
+-- what is read at a place, or behind the last one anything
+some_info : (infos : List OptInfo) (i : ℕ) → (info : OptInfo) × (info ≡ get_or infos i info)
+some_info [] i = (record { kind = 0; encoding = []; gcp = 0; fields = [] }, refl)
+some_info (info ∷ infos) zero = (info, refl)
+some_info (info ∷ infos) (suc i) = some_info infos i
+
+told_one : (set : TableRows) (level : LevelName) (symbols : List ℕ) (option : ℕ) (values : List (List ℕ)) → IsShaped set → OneDerivation (options_of level set) symbols option values → Told set (λ answer. ReadsAs set level symbols answer)
+told_one set level symbols option values shaped one =
+    let info = some_info (level_rows level set).info option in
+    let said = said_of set level symbols option values (level_rows level set).info info.0 shaped one refl info.1 in
+    says_epc (epc_of info.0 values) (says set level symbols option values info.0 (epc_of info.0 values) said one refl) (of_set set level option values info.0 (epc_of info.0 values) said refl)
+
+told_counted : (set : TableRows) (level : LevelName) (symbols : List ℕ) → IsShaped set → Counted (options_of level set) symbols → Told set (λ answer. ReadsAs set level symbols answer)
+told_counted set level symbols shaped (none_of none) = has_fault NoReading (λ e. cc) none
+told_counted set level symbols shaped (one_of option values one) = told_one set level symbols option values shaped one
+told_counted set level symbols shaped (two_of two) = has_fault Two (λ e. cc) two
+
+told_level : (set : TableRows) (level : LevelName) (symbols : List ℕ) → IsShaped set → Told set (λ answer. ReadsAs set level symbols answer)
+told_level set level symbols shaped = told_counted set level symbols shaped (each_counted (options_of level set) symbols)
+
+-- ---- an answer to hexadecimal digits
+
+-- all bytes are digits, or one is the first that is none
+abbrev AreTold : List ℕ → Type 0
+AreTold text = AllPass is_hex_digit text ⊎ ((place : ℕ) × FirstBadDigit text place)
+
+bad_later : (c : ℕ) (text : List ℕ) (place : ℕ) → is_hex_digit c ≡ true → FirstBadDigit text place → FirstBadDigit (c ∷ text) (suc place)
+bad_later c text place digit bad = record {
+  within = let l = bad.within in omega arith;
+  bad = bad.bad;
+  digits_before = All-cons (λ x. is_hex_digit x ≡ true) c (take place text) digit bad.digits_before;
+}
+
+digits_behind : (c : ℕ) (text : List ℕ) (value : Option ℕ) → hex_value c ≡ value → AreTold text → AreTold (c ∷ text)
+digits_behind c text None e rest = inr (0, record { within = omega arith; bad = e; digits_before = All-nil (λ x. is_hex_digit x ≡ true) })
+digits_behind c text (Some v) e (inl all) = inl (All-cons (λ x. is_hex_digit x ≡ true) c text (ap is_some e) all)
+digits_behind c text (Some v) e (inr bad) = inr (suc bad.0, bad_later c text bad.0 (ap is_some e) bad.1)
+
+digits_told : (text : List ℕ) → AreTold text
+digits_told [] = inl (All-nil (λ x. is_hex_digit x ≡ true))
+digits_told (c ∷ text) = digits_behind c text (hex_value c) refl (digits_told text)
+
+told_bits : (set : TableRows) (text : List ℕ) → IsHex text → Told set (λ answer. ReadsAs set level.Binary (bits_of_hex text) answer) → Told set (λ answer. ReadsHex set text answer)
+told_bits set text hex (says_epc epc read of) = says_epc epc (hex, read) of
+told_bits set text hex (has_fault fault t read) = has_fault fault t (hex_answer set text (bits_of_hex text) (Err fault) hex refl read)
+
+told_digits : (set : TableRows) (text : List ℕ) → IsShaped set → length text % 2 ≡ 0 → length text ≤ 128 → AreTold text → Told set (λ answer. ReadsHex set text answer)
+told_digits set text shaped even short (inl all) = told_bits set text (record { even = even; short = short; digits = all }) (told_level set level.Binary (bits_of_hex text) shaped)
+told_digits set text shaped even short (inr bad) = has_fault (Hex (BadDigit bad.0)) (λ e. cc) (even, short, bad.1)
+
+told_hex : (set : TableRows) (text : List ℕ) → IsShaped set → Told set (λ answer. ReadsHex set text answer)
+told_hex set text shaped = elim (cases_eq (length text % 2) 0) as (λ _. Told set (λ answer. ReadsHex set text answer)) [
+  | inr odd ↦ has_fault (Hex OddDigits) (λ e. cc) (omega arith)
+  | inl even ↦ elim (leb_tells (length text) 128) as (λ _. Told set (λ answer. ReadsHex set text answer)) [
+    | inl e ↦ told_digits set text shaped even e.1 (digits_told text)
+    | inr e ↦ has_fault (Hex Full) (λ f. cc) (even, e.1)
+  ]
+]
+
+-- ---- an answer to a text
+
+told_text : (set : TableRows) (form : Form) (text : List ℕ) → IsShaped set → Told set (λ answer. ReadsIn set form text answer)
+told_text set form.Hex text shaped = told_hex set text shaped
+told_text set form.Tag text shaped = told_level set level.Tag text shaped
+told_text set form.Pure text shaped = told_level set level.Pure text shaped
+
+abbrev pub HasAnswer : TableRows → Form → List ℕ → Type 0
+HasAnswer set form text = (answer : Answer) × IsAnswer set form text answer
+
+answer_of : (set : TableRows) (form : Form) (text : List ℕ) → IsShaped set → length text ≤ 2048 → Told set (λ answer. ReadsIn set form text answer) → HasAnswer set form text
+answer_of set form text shaped short (has_fault fault t read) = (Refused (NoEpc fault), (short, t, read))
+answer_of set form text shaped short (says_epc epc read of) =
+    let kind = fit_kind set epc shaped of in
+    let elements = lay set.ais kind.0 epc.prefix epc.rest epc.serial in
+    let means : Means set form text elements = record { epc = epc; read = read; laid = record { kind = kind.0; named = kind.1; laid = refl } } in
+    (Canonical (canonical_link elements), (short, elements, means, refl))
+
+pub some_answer : (set : TableRows) (form : Form) (text : List ℕ) → IsShaped set → HasAnswer set form text
+some_answer set form text shaped = elim (leb_tells (length text) 2048) as (λ _. HasAnswer set form text) [
+  | inl e ↦ answer_of set form text shaped e.1 (told_text set form text shaped)
   | inr e ↦ (Refused Long, e.1)
 ]

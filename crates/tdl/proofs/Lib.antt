@@ -1,10 +1,10 @@
 pub mod LineLemmas
-pub mod GtinLemmas
-pub mod IdentifierLemmas
 pub mod WordLemmas
-pub mod OptionLemmas
 pub mod OutputLemmas
 pub mod WriteLemmas
 pub mod RunLemmas
+pub mod CanonLemmas
+pub mod CheckLemmas
+pub mod LoadLemmas
 pub mod AnswerLaws
 pub mod RunLaws

@@ -5,12 +5,12 @@ use Rattle.std.proofs.lemmas.List.{take_all}
 use Rattle.std.proofs.lemmas.List.Folds.{list_any-append}
 use Rattle.std.proofs.lemmas.List.Concat.{flat_map-append}
 use Rattle.tdl.specs.declared.answer.Answer.{Answer}
-use Rattle.tdl.specs.Answers.{IsAnswer, printed, is_refused}
+use Rattle.tdl.specs.Answers.{printed, is_refused}
 use Rattle.tdl.specs.Lines.{lines_of, text_of}
 use Rattle.tdl.specs.Outputs.{AnswersEach, no_line, one_line, printed_lines, AnswersAll, AnswersFront, BeginsAnswers}
 
 -- lines and more lines have their answers
-each-append : (lines more : List (List ℕ)) (answers others : List Answer) → AnswersEach lines answers → AnswersEach more others → AnswersEach (lines ++ more) (answers ++ others)
+each-append : {Is : List ℕ → Answer → Type 0} (lines more : List (List ℕ)) (answers others : List Answer) → AnswersEach Is lines answers → AnswersEach Is more others → AnswersEach Is (lines ++ more) (answers ++ others)
 each-append [] more [] others no_line b = b
 each-append [] more (answer ∷ answers) others a b = elim a [ ]
 each-append (line ∷ lines) more [] others a b = elim a [ ]
@@ -20,11 +20,11 @@ printed_lines-append : (answers others : List Answer) → printed_lines (answers
 printed_lines-append answers others = flat_map-append printed answers others
 
 -- nothing was done at the start
-pub front_start : (bytes before : List ℕ) → AnswersFront bytes bytes before before false
+pub front_start : {Is : List ℕ → Answer → Type 0} (bytes before : List ℕ) → AnswersFront Is bytes bytes before before false
 front_start bytes before = record { lines = []; answers = []; split = refl; each = no_line; written = sym (append-nil before); any_refused = refl }
 
 -- one part was done after another
-pub front_join : (bytes mid rest a b c : List ℕ) (first second : Bool) → AnswersFront bytes mid a b first → AnswersFront mid rest b c second → AnswersFront bytes rest a c (first || second)
+pub front_join : {Is : List ℕ → Answer → Type 0} (bytes mid rest a b c : List ℕ) (first second : Bool) → AnswersFront Is bytes mid a b first → AnswersFront Is mid rest b c second → AnswersFront Is bytes rest a c (first || second)
 front_join bytes mid rest a b c first second x y = record {
   lines = x.lines ++ y.lines;
   answers = x.answers ++ y.answers;
@@ -39,7 +39,7 @@ or_false true = refl
 or_false false = refl
 
 -- one line was done
-pub front_line : (rest behind line before now : List ℕ) (answer : Answer) → lines_of rest ≡ line ∷ lines_of behind → IsAnswer (text_of line) answer → now ≡ before ++ printed answer → AnswersFront rest behind before now (is_refused answer)
+pub front_line : {Is : List ℕ → Answer → Type 0} (rest behind line before now : List ℕ) (answer : Answer) → lines_of rest ≡ line ∷ lines_of behind → Is (text_of line) answer → now ≡ before ++ printed answer → AnswersFront Is rest behind before now (is_refused answer)
 front_line rest behind line before now answer split is written = record {
   lines = line ∷ [];
   answers = answer ∷ [];
@@ -50,16 +50,16 @@ front_line rest behind line before now answer split is written = record {
 }
 
 -- one line more was done
-pub front_more : (bytes rest behind line text before now after : List ℕ) (answer : Answer) (refused done all : Bool) → AnswersFront bytes rest before now refused → lines_of rest ≡ line ∷ lines_of behind → text ≡ text_of line → IsAnswer text answer → after ≡ now ++ printed answer → done ≡ is_refused answer → all ≡ (refused || done) → AnswersFront bytes behind before after all
-front_more bytes rest behind line text before now after answer refused done all x split same is written d a =
-    let answered : IsAnswer (text_of line) answer = rw same at is in
-    let more : AnswersFront rest behind now after (is_refused answer) = front_line rest behind line now after answer split answered written in
-    let joined : AnswersFront bytes behind before after (refused || is_refused answer) = front_join bytes rest behind before now after refused (is_refused answer) x more in
+pub front_more : {Is : List ℕ → Answer → Type 0} (bytes rest behind line text before now after : List ℕ) (answer : Answer) (refused done all : Bool) → AnswersFront Is bytes rest before now refused → lines_of rest ≡ line ∷ lines_of behind → text ≡ text_of line → Is text answer → after ≡ now ++ printed answer → done ≡ is_refused answer → all ≡ (refused || done) → AnswersFront Is bytes behind before after all
+front_more {Is = Is} bytes rest behind line text before now after answer refused done all x split same is written d a =
+    let answered : Is (text_of line) answer = rw same at is in
+    let more : AnswersFront Is rest behind now after (is_refused answer) = front_line rest behind line now after answer split answered written in
+    let joined : AnswersFront Is bytes behind before after (refused || is_refused answer) = front_join bytes rest behind before now after refused (is_refused answer) x more in
     let is_all : all ≡ (refused || is_refused answer) = a ∙ ap (λ (b : Bool). refused || b) d in
     rw is_all joined
 
 -- what is done where nothing is left is all
-pub front_all : (bytes rest output : List ℕ) (refused : Bool) → rest ≡ [] → AnswersFront bytes rest [] output refused → AnswersAll bytes output refused
+pub front_all : {Is : List ℕ → Answer → Type 0} (bytes rest output : List ℕ) (refused : Bool) → rest ≡ [] → AnswersFront Is bytes rest [] output refused → AnswersAll Is bytes output refused
 front_all bytes rest output refused none x = record {
   answers = x.answers;
   each = rw x.split (rw none (rw (append-nil x.lines) x.each));
@@ -68,7 +68,7 @@ front_all bytes rest output refused none x = record {
 }
 
 -- what was done, and what was written of it, begins the answers
-pub front_begins : (bytes rest output : List ℕ) (refused : Bool) (n : ℕ) → AnswersFront bytes rest [] output refused → BeginsAnswers bytes (take n output)
+pub front_begins : {Is : List ℕ → Answer → Type 0} (bytes rest output : List ℕ) (refused : Bool) (n : ℕ) → AnswersFront Is bytes rest [] output refused → BeginsAnswers Is bytes (take n output)
 front_begins bytes rest output refused n x = record {
   lines = x.lines;
   others = lines_of rest;
@@ -79,7 +79,7 @@ front_begins bytes rest output refused n x = record {
   front = ap (take n) x.written;
 }
 
-pub all_begins : (bytes output : List ℕ) (refused : Bool) → AnswersAll bytes output refused → BeginsAnswers bytes output
+pub all_begins : {Is : List ℕ → Answer → Type 0} (bytes output : List ℕ) (refused : Bool) → AnswersAll Is bytes output refused → BeginsAnswers Is bytes output
 all_begins bytes output refused x = record {
   lines = lines_of bytes;
   others = [];
@@ -91,7 +91,7 @@ all_begins bytes output refused x = record {
 }
 
 -- a front of the answers to bytes whose lines come first among others is one of those too
-pub begins_more : (bytes more output : List ℕ) (others : List (List ℕ)) → lines_of more ≡ lines_of bytes ++ others → BeginsAnswers bytes output → BeginsAnswers more output
+pub begins_more : {Is : List ℕ → Answer → Type 0} (bytes more output : List ℕ) (others : List (List ℕ)) → lines_of more ≡ lines_of bytes ++ others → BeginsAnswers Is bytes output → BeginsAnswers Is more output
 begins_more bytes more output others e x = record {
   lines = x.lines;
   others = x.others ++ others;

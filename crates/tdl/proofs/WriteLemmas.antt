@@ -4,6 +4,7 @@ use Rattle.std.proofs.lemmas.Bool.Decides.{nat_tests}
 use Rattle.std.proofs.lemmas.List.{append_cancel_right, take_all, take-append-le}
 use Rattle.std.proofs.Math.Seq.{take-append-add}
 use Rattle.gs_port.specs.Contents.{prepend_known, append_known, append_nothing, append_twice}
+use Rattle.tdl.specs.declared.answer.Answer.{Answer}
 use Rattle.tdl.specs.declared.answering.Answering.{Answering}
 use Rattle.tdl.specs.declared.answering.Answering.TheVariants as answering
 use Rattle.tdl.specs.declared.gathering.End.{End}
@@ -19,40 +20,40 @@ use Rattle.tdl.proofs.LineLemmas.{ended_lines-append, ended_lines-front, lines_o
 use Rattle.tdl.proofs.OutputLemmas.{front_start, front_join, front_all, front_begins, all_begins, begins_more}
 
 -- what was done of bytes, behind what was written before
-front_after : (bytes rest output before : List ℕ) (refused : Bool) → AnswersFront bytes rest [] output refused → AnswersFront bytes rest before (before ++ output) refused
+front_after : {Is : List ℕ → Answer → Type 0} (bytes rest output before : List ℕ) (refused : Bool) → AnswersFront Is bytes rest [] output refused → AnswersFront Is bytes rest before (before ++ output) refused
 front_after bytes rest output before refused x = record { lines = x.lines; answers = x.answers; split = x.split; each = x.each; written = ap (λ (w : List ℕ). before ++ w) x.written; any_refused = x.any_refused }
 
 -- nothing is written at the start
-pub appends_start : (held : Option (List ℕ)) (bytes : List ℕ) → Appends held held (λ out. AnswersFront bytes bytes [] out false)
+pub appends_start : {Is : List ℕ → Answer → Type 0} (held : Option (List ℕ)) (bytes : List ℕ) → Appends held held (λ out. AnswersFront Is bytes bytes [] out false)
 appends_start held bytes = ([], sym (append_nothing held), front_start bytes [])
 
 -- a block more was written
-pub appends_more : (initial before now : Option (List ℕ)) (bytes mid rest old out : List ℕ) (first second all : Bool) → Appends initial before (λ o. AnswersFront bytes mid [] o first) → old ≡ [] → AnswersFront mid rest old out second → now ≡ append_known before out → all ≡ (first || second) → Appends initial now (λ o. AnswersFront bytes rest [] o all)
-appends_more initial before now bytes mid rest old out first second all a none x w r =
-    let block : AnswersFront mid rest [] out second = rw none at x in
-    let joined : AnswersFront bytes rest [] (a.0 ++ out) (first || second) = front_join bytes mid rest [] a.0 (a.0 ++ out) first second a.2 (front_after mid rest out a.0 second block) in
+pub appends_more : {Is : List ℕ → Answer → Type 0} (initial before now : Option (List ℕ)) (bytes mid rest old out : List ℕ) (first second all : Bool) → Appends initial before (λ o. AnswersFront Is bytes mid [] o first) → old ≡ [] → AnswersFront Is mid rest old out second → now ≡ append_known before out → all ≡ (first || second) → Appends initial now (λ o. AnswersFront Is bytes rest [] o all)
+appends_more {Is = Is} initial before now bytes mid rest old out first second all a none x w r =
+    let block : AnswersFront Is mid rest [] out second = rw none at x in
+    let joined : AnswersFront Is bytes rest [] (a.0 ++ out) (first || second) = front_join bytes mid rest [] a.0 (a.0 ++ out) first second a.2 (front_after mid rest out a.0 second block) in
     (a.0 ++ out, w ∙ ap (λ (k : Option (List ℕ)). append_known k out) a.1 ∙ append_twice initial a.0 out, rw r joined)
 
 -- a part of a block more was written
-pub appends_part : (initial before now : Option (List ℕ)) (bytes mid rest old out : List ℕ) (first second : Bool) (n : ℕ) → Appends initial before (λ o. AnswersFront bytes mid [] o first) → old ≡ [] → AnswersFront mid rest old out second → now ≡ append_known before (take n out) → Appends initial now (λ o. BeginsAnswers bytes o)
-appends_part initial before now bytes mid rest old out first second n a none x w =
-    let block : AnswersFront mid rest [] out second = rw none at x in
-    let joined : AnswersFront bytes rest [] (a.0 ++ out) (first || second) = front_join bytes mid rest [] a.0 (a.0 ++ out) first second a.2 (front_after mid rest out a.0 second block) in
-    let begins : BeginsAnswers bytes (take (length a.0 + n) (a.0 ++ out)) = front_begins bytes rest (a.0 ++ out) (first || second) (length a.0 + n) joined in
+pub appends_part : {Is : List ℕ → Answer → Type 0} (initial before now : Option (List ℕ)) (bytes mid rest old out : List ℕ) (first second : Bool) (n : ℕ) → Appends initial before (λ o. AnswersFront Is bytes mid [] o first) → old ≡ [] → AnswersFront Is mid rest old out second → now ≡ append_known before (take n out) → Appends initial now (λ o. BeginsAnswers Is bytes o)
+appends_part {Is = Is} initial before now bytes mid rest old out first second n a none x w =
+    let block : AnswersFront Is mid rest [] out second = rw none at x in
+    let joined : AnswersFront Is bytes rest [] (a.0 ++ out) (first || second) = front_join bytes mid rest [] a.0 (a.0 ++ out) first second a.2 (front_after mid rest out a.0 second block) in
+    let begins : BeginsAnswers Is bytes (take (length a.0 + n) (a.0 ++ out)) = front_begins bytes rest (a.0 ++ out) (first || second) (length a.0 + n) joined in
     (a.0 ++ take n out, w ∙ ap (λ (k : Option (List ℕ)). append_known k (take n out)) a.1 ∙ append_twice initial a.0 (take n out), rw (take-append-add a.0 out n) at begins)
 
 -- what was written before a block begins the answers
-pub appends_begins : (initial now : Option (List ℕ)) (bytes rest : List ℕ) (refused : Bool) → Appends initial now (λ o. AnswersFront bytes rest [] o refused) → Appends initial now (λ o. BeginsAnswers bytes o)
-appends_begins initial now bytes rest refused a =
-    let begins : BeginsAnswers bytes (take (length a.0) a.0) = front_begins bytes rest a.0 refused (length a.0) a.2 in
+pub appends_begins : {Is : List ℕ → Answer → Type 0} (initial now : Option (List ℕ)) (bytes rest : List ℕ) (refused : Bool) → Appends initial now (λ o. AnswersFront Is bytes rest [] o refused) → Appends initial now (λ o. BeginsAnswers Is bytes o)
+appends_begins {Is = Is} initial now bytes rest refused a =
+    let begins : BeginsAnswers Is bytes (take (length a.0) a.0) = front_begins bytes rest a.0 refused (length a.0) a.2 in
     (a.0, a.1, rw (take_all (length a.0) a.0 (omega arith)) at begins)
 
 -- where nothing is left all was written
-pub appends_all : (initial now : Option (List ℕ)) (bytes rest : List ℕ) (refused : Bool) → rest ≡ [] → Appends initial now (λ o. AnswersFront bytes rest [] o refused) → Appends initial now (λ o. AnswersAll bytes o refused)
+pub appends_all : {Is : List ℕ → Answer → Type 0} (initial now : Option (List ℕ)) (bytes rest : List ℕ) (refused : Bool) → rest ≡ [] → Appends initial now (λ o. AnswersFront Is bytes rest [] o refused) → Appends initial now (λ o. AnswersAll Is bytes o refused)
 appends_all initial now bytes rest refused none a = (a.0, a.1, front_all bytes rest a.0 refused none a.2)
 
 -- nothing begins the answers
-pub begins_nothing : (bytes : List ℕ) → BeginsAnswers bytes []
+pub begins_nothing : {Is : List ℕ → Answer → Type 0} (bytes : List ℕ) → BeginsAnswers Is bytes []
 begins_nothing bytes = record { lines = []; others = lines_of bytes; first = refl; answers = []; each = no_line; len = 0; front = refl }
 
 -- what is left of bytes that are told
@@ -129,51 +130,51 @@ part_first end.Fault limit before now bytes gathered left s k =
     record { others = first.others; joined = ap (λ (w : List ℕ). lines_of (answered_part limit w)) k.whole ∙ first.joined }
 
 -- all answers to a whole input
-input_whole : (limit before now : ℕ) (bytes gathered output : List ℕ) (left : Option (List ℕ)) (refused : Bool) (status : Status) → Stopped limit gathered left before now end.Whole → Known bytes gathered left → AnswersAll gathered output refused → status ≡ status_of limit gathered refused → AnswersInput limit bytes output status
-input_whole limit before now bytes gathered output left refused status s k a h =
+input_whole : {Is : List ℕ → Answer → Type 0} (limit before now : ℕ) (bytes gathered output : List ℕ) (left : Option (List ℕ)) (refused : Bool) (status : Status) → Stopped limit gathered left before now end.Whole → Known bytes gathered left → AnswersAll Is gathered output refused → status ≡ status_of limit gathered refused → AnswersInput Is limit bytes output status
+input_whole {Is = Is} limit before now bytes gathered output left refused status s k a h =
     let none : k.rest ≡ [] = s.1 k.rest k.is in
     let same : gathered ≡ bytes = sym (k.whole ∙ ap (λ (w : List ℕ). gathered ++ w) none ∙ append-nil gathered) in
     let part : answered_part limit gathered ≡ gathered = part_whole limit gathered s.0 in
-    let answered : AnswersAll (answered_part limit gathered) output refused = rw part a in
-    let of_gathered : AnswersInput limit gathered output status = record { refused = refused; answered = answered; has_status = h } in
+    let answered : AnswersAll Is (answered_part limit gathered) output refused = rw part a in
+    let of_gathered : AnswersInput Is limit gathered output status = record { refused = refused; answered = answered; has_status = h } in
     rw same at of_gathered
 
 -- all answers to a long input
-input_long : (limit before now : ℕ) (bytes gathered output : List ℕ) (left : Option (List ℕ)) (refused : Bool) → Stopped limit gathered left before now end.Long → Known bytes gathered left → AnswersAll (ended_lines (take limit gathered)) output refused → AnswersInput limit bytes output InputLong
-input_long limit before now bytes gathered output left refused s k a =
-    let answered : AnswersAll (answered_part limit (gathered ++ k.rest)) output refused = rw (part_long limit gathered k.rest s) a in
+input_long : {Is : List ℕ → Answer → Type 0} (limit before now : ℕ) (bytes gathered output : List ℕ) (left : Option (List ℕ)) (refused : Bool) → Stopped limit gathered left before now end.Long → Known bytes gathered left → AnswersAll Is (ended_lines (take limit gathered)) output refused → AnswersInput Is limit bytes output InputLong
+input_long {Is = Is} limit before now bytes gathered output left refused s k a =
+    let answered : AnswersAll Is (answered_part limit (gathered ++ k.rest)) output refused = rw (part_long limit gathered k.rest s) a in
     let more : ltb limit (length (gathered ++ k.rest)) ≡ true = beyond limit (length (gathered ++ k.rest)) (simp length-append (omega arith)) in
-    let of_whole : AnswersInput limit (gathered ++ k.rest) output InputLong = record { refused = refused; answered = answered; has_status = rw more refl } in
+    let of_whole : AnswersInput Is limit (gathered ++ k.rest) output InputLong = record { refused = refused; answered = answered; has_status = rw more refl } in
     rw (← k.whole) at of_whole
 
 -- All answers, where they were written.
-pub written_of : (e : End) (a : Answering) (limit before now : ℕ) (gathered output : List ℕ) (old left held holds : Option (List ℕ)) → Stopped limit gathered left before now e → old ≡ prepend_known gathered left → holds ≡ append_known held output → OfLines (part_of e limit gathered) output a → OnLinesWritten (status_of_end e a) ((bytes : List ℕ) → old ≡ Some bytes → Appends held holds (λ out. AnswersInput limit bytes out (status_of_end e a)))
-written_of e answering.SinkFault limit before now gathered output old left held holds s t w a = tt
-written_of e answering.Memory limit before now gathered output old left held holds s t w a = tt
-written_of end.Fault (answering.Whole refused) limit before now gathered output old left held holds s t w a = tt
-written_of end.Long (answering.Whole refused) limit before now gathered output old left held holds s t w a =
+pub written_of : (Is : List ℕ → Answer → Type 0) (e : End) (a : Answering) (limit before now : ℕ) (gathered output : List ℕ) (old left held holds : Option (List ℕ)) → Stopped limit gathered left before now e → old ≡ prepend_known gathered left → holds ≡ append_known held output → OfLines Is (part_of e limit gathered) output a → OnLinesWritten (status_of_end e a) ((bytes : List ℕ) → old ≡ Some bytes → Appends held holds (λ out. AnswersInput Is limit bytes out (status_of_end e a)))
+written_of Is e answering.SinkFault limit before now gathered output old left held holds s t w a = tt
+written_of Is e answering.Memory limit before now gathered output old left held holds s t w a = tt
+written_of Is end.Fault (answering.Whole refused) limit before now gathered output old left held holds s t w a = tt
+written_of Is end.Long (answering.Whole refused) limit before now gathered output old left held holds s t w a =
     λ bytes f. (output, w, input_long limit before now bytes gathered output left refused s (known bytes gathered old left t f) a)
-written_of end.Whole (answering.Whole true) limit before now gathered output old left held holds s t w a =
+written_of Is end.Whole (answering.Whole true) limit before now gathered output old left held holds s t w a =
     λ bytes f. (output, w, input_whole limit before now bytes gathered output left true SomeRefused s (known bytes gathered old left t f) a (rw (within limit (length gathered) s.0) refl))
-written_of end.Whole (answering.Whole false) limit before now gathered output old left held holds s t w a =
+written_of Is end.Whole (answering.Whole false) limit before now gathered output old left held holds s t w a =
     λ bytes f. (output, w, input_whole limit before now bytes gathered output left false Done s (known bytes gathered old left t f) a (rw (within limit (length gathered) s.0) refl))
 
 -- a front of the answers, where fewer were written
-front_of_part : (e : End) (limit before now : ℕ) (bytes gathered output : List ℕ) (left : Option (List ℕ)) → Stopped limit gathered left before now e → Known bytes gathered left → BeginsAnswers (part_of e limit gathered) output → BeginsAnswers (answered_part limit bytes) output
+front_of_part : {Is : List ℕ → Answer → Type 0} (e : End) (limit before now : ℕ) (bytes gathered output : List ℕ) (left : Option (List ℕ)) → Stopped limit gathered left before now e → Known bytes gathered left → BeginsAnswers Is (part_of e limit gathered) output → BeginsAnswers Is (answered_part limit bytes) output
 front_of_part e limit before now bytes gathered output left s k b =
     let first = part_first e limit before now bytes gathered left s k in
     begins_more (part_of e limit gathered) (answered_part limit bytes) output first.others first.joined b
 
-pub front_of : (e : End) (a : Answering) (limit before now : ℕ) (gathered output : List ℕ) (old left held holds : Option (List ℕ)) → Stopped limit gathered left before now e → old ≡ prepend_known gathered left → holds ≡ append_known held output → OfLines (part_of e limit gathered) output a → OnCutShort (status_of_end e a) ((bytes : List ℕ) → old ≡ Some bytes → Appends held holds (λ out. BeginsAnswers (answered_part limit bytes) out))
-front_of e answering.SinkFault limit before now gathered output old left held holds s t w a =
+pub front_of : (Is : List ℕ → Answer → Type 0) (e : End) (a : Answering) (limit before now : ℕ) (gathered output : List ℕ) (old left held holds : Option (List ℕ)) → Stopped limit gathered left before now e → old ≡ prepend_known gathered left → holds ≡ append_known held output → OfLines Is (part_of e limit gathered) output a → OnCutShort (status_of_end e a) ((bytes : List ℕ) → old ≡ Some bytes → Appends held holds (λ out. BeginsAnswers Is (answered_part limit bytes) out))
+front_of Is e answering.SinkFault limit before now gathered output old left held holds s t w a =
     λ bytes f. (output, w, front_of_part e limit before now bytes gathered output left s (known bytes gathered old left t f) a)
-front_of e answering.Memory limit before now gathered output old left held holds s t w a =
+front_of Is e answering.Memory limit before now gathered output old left held holds s t w a =
     λ bytes f. (output, w, front_of_part e limit before now bytes gathered output left s (known bytes gathered old left t f) a)
-front_of end.Fault (answering.Whole refused) limit before now gathered output old left held holds s t w a =
+front_of Is end.Fault (answering.Whole refused) limit before now gathered output old left held holds s t w a =
     λ bytes f. (output, w, front_of_part end.Fault limit before now bytes gathered output left s (known bytes gathered old left t f) (all_begins (ended_lines gathered) output refused a))
-front_of end.Long (answering.Whole refused) limit before now gathered output old left held holds s t w a = tt
-front_of end.Whole (answering.Whole true) limit before now gathered output old left held holds s t w a = tt
-front_of end.Whole (answering.Whole false) limit before now gathered output old left held holds s t w a = tt
+front_of Is end.Long (answering.Whole refused) limit before now gathered output old left held holds s t w a = tt
+front_of Is end.Whole (answering.Whole true) limit before now gathered output old left held holds s t w a = tt
+front_of Is end.Whole (answering.Whole false) limit before now gathered output old left held holds s t w a = tt
 
 -- what was taken, by what is left
 taken_is : (gathered taken rest : List ℕ) (old left : Option (List ℕ)) → old ≡ prepend_known gathered left → old ≡ Some (taken ++ rest) → left ≡ Some rest → taken ≡ gathered
@@ -183,14 +184,14 @@ taken_is gathered taken rest old left e f l =
     append_cancel_right taken gathered rest joined
 
 -- the answers to the lines that had ended before a fault of the input
-pub ended_of : (e : End) (a : Answering) (limit before now : ℕ) (gathered output : List ℕ) (old left held holds : Option (List ℕ)) → old ≡ prepend_known gathered left → holds ≡ append_known held output → OfLines (part_of e limit gathered) output a → OnReadFault (status_of_end e a) ((taken rest : List ℕ) → old ≡ Some (taken ++ rest) → left ≡ Some rest → Appends held holds (λ out. AnswersEnded taken out))
-ended_of e answering.SinkFault limit before now gathered output old left held holds t w a = tt
-ended_of e answering.Memory limit before now gathered output old left held holds t w a = tt
-ended_of end.Fault (answering.Whole refused) limit before now gathered output old left held holds t w a =
+pub ended_of : (Is : List ℕ → Answer → Type 0) (e : End) (a : Answering) (limit before now : ℕ) (gathered output : List ℕ) (old left held holds : Option (List ℕ)) → old ≡ prepend_known gathered left → holds ≡ append_known held output → OfLines Is (part_of e limit gathered) output a → OnReadFault (status_of_end e a) ((taken rest : List ℕ) → old ≡ Some (taken ++ rest) → left ≡ Some rest → Appends held holds (λ out. AnswersEnded Is taken out))
+ended_of Is e answering.SinkFault limit before now gathered output old left held holds t w a = tt
+ended_of Is e answering.Memory limit before now gathered output old left held holds t w a = tt
+ended_of Is end.Fault (answering.Whole refused) limit before now gathered output old left held holds t w a =
     λ taken rest f l. (output, w, rw (taken_is gathered taken rest old left t f l) (record { refused = refused; answered = a }))
-ended_of end.Long (answering.Whole refused) limit before now gathered output old left held holds t w a = tt
-ended_of end.Whole (answering.Whole true) limit before now gathered output old left held holds t w a = tt
-ended_of end.Whole (answering.Whole false) limit before now gathered output old left held holds t w a = tt
+ended_of Is end.Long (answering.Whole refused) limit before now gathered output old left held holds t w a = tt
+ended_of Is end.Whole (answering.Whole true) limit before now gathered output old left held holds t w a = tt
+ended_of Is end.Whole (answering.Whole false) limit before now gathered output old left held holds t w a = tt
 
 -- more than the limit was taken of an input that is too long
 pub long_of : (e : End) (a : Answering) (limit before now : ℕ) (gathered : List ℕ) (old left : Option (List ℕ)) → Stopped limit gathered left before now e → old ≡ prepend_known gathered left → OnInputLong (status_of_end e a) ((taken rest : List ℕ) → old ≡ Some (taken ++ rest) → left ≡ Some rest → limit < length taken)

@@ -1,5 +1,6 @@
 -- How the answering of gathered bytes ends.
 use Rattle.std.specs.Prelude.{◌≡◌, ℕ, List, true, false}
+use Rattle.tdl.specs.declared.answer.Answer.{Answer}
 use Rattle.tdl.specs.declared.answering.Answering.{Answering}
 use Rattle.tdl.specs.declared.answering.Answering.TheVariants as answering
 use Rattle.tdl.specs.declared.gathering.End.{End}
@@ -10,10 +11,10 @@ use Rattle.tdl.specs.Outputs.{AnswersAll, BeginsAnswers}
 use Rattle.tdl.specs.Gathered.{part_of}
 
 -- what is written for the lines of the bytes: all answers, or a front of them
-abbrev pub OfLines : List ℕ → List ℕ → Answering → Type 0
-OfLines bytes output (answering.Whole refused) = AnswersAll bytes output refused
-OfLines bytes output answering.SinkFault = BeginsAnswers bytes output
-OfLines bytes output answering.Memory = BeginsAnswers bytes output
+abbrev pub OfLines : (List ℕ → Answer → Type 0) → List ℕ → List ℕ → Answering → Type 0
+OfLines Is bytes output (answering.Whole refused) = AnswersAll Is bytes output refused
+OfLines Is bytes output answering.SinkFault = BeginsAnswers Is bytes output
+OfLines Is bytes output answering.Memory = BeginsAnswers Is bytes output
 
 -- a fact after a fault of the output
 abbrev pub OnSinkFault : Answering → Type 0 → Type 0
@@ -31,7 +32,7 @@ status_of_end end.Whole (answering.Whole true) = SomeRefused
 status_of_end end.Whole (answering.Whole false) = Done
 
 -- what is written for gathered bytes, with this status
-pub record OfStatus (limit : ℕ) (e : End) (bytes output : List ℕ) (status : Status) : Type 0 where
+pub record OfStatus (Is : List ℕ → Answer → Type 0) (limit : ℕ) (e : End) (bytes output : List ℕ) (status : Status) : Type 0 where
   pub answering : Answering
-  pub of_lines : OfLines (part_of e limit bytes) output answering
+  pub of_lines : OfLines Is (part_of e limit bytes) output answering
   pub has_status : status ≡ status_of_end e answering

@@ -1,10 +1,11 @@
-pub mod Options
-pub mod Identifiers
-pub mod Tables
 pub mod Meanings
 pub mod Answers
 pub mod Lines
 pub mod Commands
+pub mod Loads
+pub mod Unloaded
+pub mod Refusals
+pub mod Checks
 pub mod Statuses
 pub mod Outputs
 pub mod Gathered

@@ -1,13 +1,14 @@
 -- The statuses: their numbers, and facts for some of them.
 use Rattle.std.specs.Prelude.{ℕ}
 use Rattle.tdl.specs.declared.status.Status.{Status}
-use Rattle.tdl.specs.declared.status.Status.TheVariants.{Done, SomeRefused, Usage, ReadFault, WriteFault, InputLong, Memory}
+use Rattle.tdl.specs.declared.status.Status.TheVariants.{Done, SomeRefused, Usage, Refused, ReadFault, WriteFault, InputLong, Memory}
 
 -- the number that the process ends with
 abbrev pub number_of : Status → ℕ
 number_of Done = 0
 number_of SomeRefused = 1
 number_of Usage = 2
+number_of Refused = 3
 number_of ReadFault = 4
 number_of WriteFault = 5
 number_of InputLong = 6
@@ -31,6 +32,7 @@ abbrev pub OnWritten : Status → Type 0 → Type 0
 OnWritten Done fact = fact
 OnWritten SomeRefused fact = fact
 OnWritten Usage fact = fact
+OnWritten Refused fact = fact
 OnWritten InputLong fact = fact
 OnWritten _ fact = Unit {0}
 

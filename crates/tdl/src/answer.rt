@@ -1,16 +1,13 @@
 ghost use Rattle.std.specs.Prelude.{◌≡◌, ◌++◌, IfOk, OnOk};
-ghost use Rattle.gs_ident.specs.Links.{canonical_link};
-ghost use Rattle.tdl.specs.Identifiers.{ai_rows};
-ghost use Rattle.tdl.specs.Tables.{AreTables};
-ghost use Rattle.tdl.specs.Meanings.{AreSgtinValues, elements_of_values};
-ghost use Rattle.tdl.specs.Answers.{IsAnswer, printed, reason_text};
+ghost use Rattle.tdl.specs.Answers.{IsAnswer, epc_text, hex_text, printed, reason_text};
 
-use crate::sgtin::identity_of_parts;
-use crate::tables::Tables;
-use gs_ai::AiTable;
+use crate::command::Form;
+use crate::reading::read_form;
+use gs_bits::HexFault;
 use gs_chars::{Memory, Text};
-use gs_grammar::{Reading, read_text};
+use gs_epc::{EpcFault, identity_of};
 use gs_ident::canonical;
+use gs_tables::TableSet;
 use std::alloc::Global;
 
 /// Why a text is refused.
@@ -18,10 +15,8 @@ use std::alloc::Global;
 pub enum Reason {
     /// The text has more than 2,048 bytes.
     Long,
-    /// No option of the level reads the text.
-    NoReading,
-    /// The text can be read in two ways.
-    Two,
+    /// The text says no EPC, for this reason, which is never want of memory.
+    Epc(EpcFault),
 }
 
 /// The answer to a text.
@@ -48,43 +43,25 @@ impl Answer {
     }
 }
 
-/// The answer to a text.
-pub fn answer_text(alloc: Global, tables: &Tables, text: &[u8]) -> Result<Answer, Memory>
-    requires { AreTables tables.now }
-    ensures { IfOk result (IsAnswer text.now) }
+/// The answer to a text of a form.
+pub fn answer_text(alloc: Global, set: &TableSet, form: Form, text: &[u8]) -> Result<Answer, Memory>
+    ensures { IfOk result (IsAnswer set.now form text.now) }
 {
     if text.len() > LONGEST_LINE {
         return Ok(Answer::Refused(Reason::Long));
     }
-    match read_text(alloc, &tables.level, text) {
-        Reading::Memory => Err(Memory),
-        Reading::Nothing => Ok(Answer::Refused(Reason::NoReading)),
-        Reading::Two => Ok(Answer::Refused(Reason::Two)),
-        Reading::One { option: _, values } => {
-            let link = link_of_values(alloc, &tables.identifiers, values.items())?;
-            Ok(Answer::Canonical(link))
+    match read_form(alloc, set, form, text) {
+        Ok(epc) => {
+            let identity = identity_of(alloc, set, &epc)?;
+            Ok(Answer::Canonical(canonical(alloc, &identity)?))
         }
+        Err(EpcFault::Memory) => Err(Memory),
+        Err(fault) => Ok(Answer::Refused(Reason::Epc(fault))),
     }
 }
 
-/// The canonical link of what the values of an option say.
-fn link_of_values(alloc: Global, table: &AiTable, values: &[Text]) -> Result<Text, Memory>
-    requires table { table.now ≡ ai_rows }
-    requires values { AreSgtinValues values.now }
-    ensures { IfOk result (λ link. link ≡ canonical_link (elements_of_values values.now)) }
-{
-    let identity = identity_of_parts(
-        alloc,
-        table,
-        values[1].as_bytes(),
-        values[3].as_bytes(),
-        values[5].as_bytes(),
-    )?;
-    canonical(alloc, &identity)
-}
-
 /// Appends the line of the answer: `ok LINK` or `no REASON`, and a line feed.
-pub fn print_answer(out: &mut Vec<u8>, answer: &Answer) -> Result<(), Memory>
+pub fn print_answer(alloc: Global, out: &mut Vec<u8>, answer: &Answer) -> Result<(), Memory>
     ensures { OnOk result (out.new.items ≡ out.old.items ++ printed answer.now) }
 {
     match answer {
@@ -94,20 +71,37 @@ pub fn print_answer(out: &mut Vec<u8>, answer: &Answer) -> Result<(), Memory>
         }
         Answer::Refused(reason) => {
             out.extend_from_slice(b"no ")?;
-            out.extend_from_slice(text_of_reason(*reason))?;
+            append_reason(alloc, out, *reason)?;
         }
     }
     out.push(b'\n')?;
     Ok(())
 }
 
-/// A reason as it is printed.
-fn text_of_reason(reason: Reason) -> &'static [u8]
-    ensures { result.now ≡ reason_text reason }
+/// Appends a reason.
+fn append_reason(alloc: Global, out: &mut Vec<u8>, reason: Reason) -> Result<(), Memory>
+    ensures { OnOk result (out.new.items ≡ out.old.items ++ reason_text reason) }
 {
     match reason {
-        Reason::Long => b"long",
-        Reason::NoReading => b"reading",
-        Reason::Two => b"two",
+        Reason::Long => Ok(out.extend_from_slice(b"long")?),
+        Reason::Epc(EpcFault::Hex(fault)) => append_hex(alloc, out, fault),
+        Reason::Epc(EpcFault::NoReading) => Ok(out.extend_from_slice(b"reading")?),
+        Reason::Epc(EpcFault::Two) => Ok(out.extend_from_slice(b"two")?),
+        Reason::Epc(EpcFault::Memory) => Ok(out.extend_from_slice(b"memory")?),
+    }
+}
+
+/// Appends why a text is no hexadecimal text.
+fn append_hex(alloc: Global, out: &mut Vec<u8>, fault: HexFault) -> Result<(), Memory>
+    ensures { OnOk result (out.new.items ≡ out.old.items ++ hex_text fault) }
+{
+    match fault {
+        HexFault::OddDigits => Ok(out.extend_from_slice(b"odd")?),
+        HexFault::Full => Ok(out.extend_from_slice(b"full")?),
+        HexFault::BadDigit(place) => {
+            let place = format!(in alloc; "{place}")?;
+            out.extend_from_slice(b"digit ")?;
+            Ok(out.extend_from_slice(place.as_bytes())?)
+        }
     }
 }

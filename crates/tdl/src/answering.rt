@@ -1,17 +1,18 @@
 ghost use Rattle.std.specs.Prelude.{◌≡◌, ◌≢◌, ℕ, ◌<◌, ◌≤◌, ◌^◌, ◌||◌, ◌++◌, List, [], Some, IfOk, length};
 ghost use Rattle.gs_port.specs.Counts.{Rises};
-ghost use Rattle.tdl.specs.Tables.{AreTables};
+ghost use Rattle.tdl.specs.Answers.{IsAnswer};
 ghost use Rattle.tdl.specs.Outputs.{AnswersEnded, AnswersFront, AnswersInput, Appends, BeginsAnswers, answered_part};
 ghost use Rattle.tdl.specs.Answering.{OnSinkFault, OfLines, OfStatus, status_of_end};
 ghost use Rattle.tdl.specs.Statuses.{OnAnswered, OnCutShort, OnInputLong, OnLinesWritten, OnReadFault, OnWriteFault};
 
 use crate::answer::{answer_text, print_answer};
+use crate::command::Form;
 use crate::gathering::{End, gather, part};
 use crate::lines::{first_line, without_return};
 use crate::status::Status;
-use crate::tables::{Tables, own_tables};
 use gs_chars::Memory;
 use gs_port::{Sink, Source, Whole, write_whole};
+use gs_tables::TableSet;
 use std::alloc::Global;
 
 /// How many bytes of answers are handed to the output at a time, and those of one answer more.
@@ -34,21 +35,21 @@ fn either(a: bool, b: bool) -> bool
 /// Adds the answers to the first lines, until they are a block or nothing is left.
 fn answer_block<'a>(
     alloc: Global,
-    tables: &Tables,
+    set: &TableSet,
+    from: Form,
     bytes: &'a [u8],
     out: &mut Vec<u8>,
 ) -> Result<Answered<'a>, Memory>
     requires some { 0 < length bytes.now }
-    requires tables { AreTables tables.now }
-    ensures front { IfOk result (λ a. AnswersFront bytes.now a.rest.now out.old.items out.new.items a.refused) }
+    ensures front { IfOk result (λ a. AnswersFront (IsAnswer set.now from) bytes.now a.rest.now out.old.items out.new.items a.refused) }
     ensures shorter { IfOk result (λ a. length a.rest.now < length bytes.now) }
 {
     let mut rest = bytes;
     let mut refused = false;
     loop {
         let (line, behind) = first_line(rest);
-        let answer = answer_text(alloc, tables, without_return(line))?;
-        print_answer(out, &answer)?;
+        let answer = answer_text(alloc, set, from, without_return(line))?;
+        print_answer(alloc, out, &answer)?;
         refused = either(refused, answer.is_refused());
         rest = behind;
         if rest.is_empty() || out.len() >= BLOCK {
@@ -69,9 +70,14 @@ enum Answering {
 }
 
 /// Writes the answers to the lines of the bytes.
-fn write_answers<K: Sink>(alloc: Global, tables: &Tables, bytes: &[u8], output: &mut K) -> Answering
-    requires { AreTables tables.now }
-    ensures written { Appends (K.held output.old) (K.held output.new) (λ out. OfLines bytes.now out result) }
+fn write_answers<K: Sink>(
+    alloc: Global,
+    set: &TableSet,
+    from: Form,
+    bytes: &[u8],
+    output: &mut K,
+) -> Answering
+    ensures written { Appends (K.held output.old) (K.held output.new) (λ out. OfLines (IsAnswer set.now from) bytes.now out result) }
     ensures fault { OnSinkFault result (Rises (K.faults output.old) (K.faults output.new)) }
     ensures counts { K.faults output.old ≤ K.faults output.new }
 {
@@ -79,7 +85,7 @@ fn write_answers<K: Sink>(alloc: Global, tables: &Tables, bytes: &[u8], output: 
     let mut rest = bytes;
     let mut refused = false;
     while !rest.is_empty() {
-        let Ok(block) = answer_block(alloc, tables, rest, &mut out) else {
+        let Ok(block) = answer_block(alloc, set, from, rest, &mut out) else {
             return Answering::Memory;
         };
         match write_whole(output, out.as_slice()) {
@@ -111,26 +117,23 @@ fn status_after(end: End, answering: Answering) -> Status
 /// Answers the lines of what was gathered, and writes the answers.
 fn answer_gathered<K: Sink>(
     alloc: Global,
+    set: &TableSet,
+    from: Form,
     end: End,
     limit: u64,
     bytes: &[u8],
     output: &mut K,
 ) -> Status
     requires long { end ≡ End.Long → limit < length bytes.now }
-    ensures written { Appends (K.held output.old) (K.held output.new) (λ out. OfStatus limit end bytes.now out result) }
+    ensures written { Appends (K.held output.old) (K.held output.new) (λ out. OfStatus (IsAnswer set.now from) limit end bytes.now out result) }
     ensures fault { OnWriteFault result (Rises (K.faults output.old) (K.faults output.new)) }
     ensures counts { K.faults output.old ≤ K.faults output.new }
 {
-    let Ok(tables) = own_tables(alloc) else {
-        return Status::Memory;
-    };
-    status_after(
-        end,
-        write_answers(alloc, &tables, part(end, limit, bytes), output),
-    )
+    let answering = write_answers(alloc, set, from, part(end, limit, bytes), output);
+    status_after(end, answering)
 }
 
-/// Answers each line of the input: `ok LINK`, the canonical link of what the line names, or `no REASON`, each with a line
+/// Answers each line of the input, a text of the form: `ok LINK`, the canonical link of what the line names, or `no REASON`, each with a line
 /// feed. A line goes up to a line feed or to the end of the input, and loses one carriage return at its end. At most
 /// `limit` bytes are answered, those of the lines that end within them where the input has more.
 ///
@@ -139,6 +142,8 @@ fn answer_gathered<K: Sink>(
 /// taken. After each of these and after `Memory`, what was written is a front of the answer lines.
 pub fn answer_lines<S: Source, K: Sink>(
     alloc: Global,
+    set: &TableSet,
+    from: Form,
     input: &mut S,
     output: &mut K,
     limit: u64,
@@ -147,9 +152,10 @@ pub fn answer_lines<S: Source, K: Sink>(
 
     // All answers and the status, whatever count rose.
     ensures written { OnLinesWritten result ((bytes : List ℕ) → S.left input.old ≡ Some bytes →
-        Appends (K.held output.old) (K.held output.new) (λ out. AnswersInput limit bytes out result)) }
+        Appends (K.held output.old) (K.held output.new) (λ out. AnswersInput (IsAnswer set.now from) limit bytes out result)) }
     ensures read_to_end { OnAnswered result ((rest : List ℕ) → S.left input.new ≡ Some rest → rest ≡ []) }
     ensures no_usage { result ≢ Status.Usage }
+    ensures no_refusal { result ≢ Status.Refused }
 
     // Each cause.
     ensures read_fault { OnReadFault result (Rises (S.faults input.old) (S.faults input.new)) }
@@ -159,15 +165,15 @@ pub fn answer_lines<S: Source, K: Sink>(
 
     // What was written then.
     ensures ended { OnReadFault result ((taken rest : List ℕ) → S.left input.old ≡ Some (taken ++ rest) → S.left input.new ≡ Some rest →
-        Appends (K.held output.old) (K.held output.new) (λ out. AnswersEnded taken out)) }
+        Appends (K.held output.old) (K.held output.new) (λ out. AnswersEnded (IsAnswer set.now from) taken out)) }
     ensures front { OnCutShort result ((bytes : List ℕ) → S.left input.old ≡ Some bytes →
-        Appends (K.held output.old) (K.held output.new) (λ out. BeginsAnswers (answered_part limit bytes) out)) }
+        Appends (K.held output.old) (K.held output.new) (λ out. BeginsAnswers (IsAnswer set.now from) (answered_part limit bytes) out)) }
     ensures input_counts { S.faults input.old ≤ S.faults input.new }
     ensures output_counts { K.faults output.old ≤ K.faults output.new }
 {
     let mut bytes = Vec::new(alloc);
     match gather(alloc, input, limit, &mut bytes) {
-        Ok(end) => answer_gathered(alloc, end, limit, bytes.as_slice(), output),
+        Ok(end) => answer_gathered(alloc, set, from, end, limit, bytes.as_slice(), output),
         Err(Memory) => Status::Memory,
     }
 }

@@ -3,20 +3,23 @@
 
 mod answer;
 mod answering;
+mod canon;
+mod checking;
 mod command;
 mod gathering;
-mod identifiers;
 mod laws;
-mod level;
 mod lines;
+mod loading;
+mod reading;
+mod refusals;
 mod run;
-mod sgtin;
 mod status;
-mod tables;
+#[cfg(test)]
+mod table_tests;
 #[cfg(test)]
 mod tests;
 
-use gs_port::{StdinSource, StdoutSink};
+use gs_port::{HostFiles, StdinSource, StdoutSink};
 use run::run;
 use std::process::ExitCode;
 use std::{env, io};
@@ -41,8 +44,15 @@ fn main(rt: HostRuntime) -> ExitCode {
         }
         Err(_) => return ExitCode::from(NO_WORDS),
     };
+    let mut files = HostFiles::new(rt);
     let mut input = StdinSource::new(rt.stdin());
     let mut output = StdoutSink::new(rt.stdout());
-    let status = run(rt.alloc(), words.as_slice(), &mut input, &mut output);
+    let status = run(
+        rt.alloc(),
+        words.as_slice(),
+        &mut files,
+        &mut input,
+        &mut output,
+    );
     ExitCode::from(status.number())
 }

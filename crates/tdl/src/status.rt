@@ -10,7 +10,9 @@ pub enum Status {
     SomeRefused,
     /// The words are not in order.
     Usage,
-    /// A fault of the input was counted.
+    /// A file is refused.
+    Refused,
+    /// A fault of the input or of a file was counted, or a file is not there.
     ReadFault,
     /// A fault of the output was counted.
     WriteFault,
@@ -29,6 +31,7 @@ impl Status {
             Status::Done => 0,
             Status::SomeRefused => 1,
             Status::Usage => 2,
+            Status::Refused => 3,
             Status::ReadFault => 4,
             Status::WriteFault => 5,
             Status::InputLong => 6,

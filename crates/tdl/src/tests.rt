@@ -1,7 +1,9 @@
 use crate::answering::answer_lines;
+use crate::command::Form;
 use crate::run::run;
 use crate::status::Status;
-use gs_port::{MemSink, MemSource};
+use gs_port::{MemFiles, MemSink, MemSource};
+use gs_tables::builtin;
 use std::alloc::{AllocError, Global};
 use std::test::Fail;
 
@@ -30,7 +32,8 @@ fn answered(
     let cut = usize::from(cut) + 1;
     let mut source = MemSource::new(alloc, input.to_vec(alloc)?, cut, numbers(alloc, reads)?);
     let mut sink = MemSink::new(alloc, cut, numbers(alloc, writes)?);
-    let status = run(alloc, words.as_slice(), &mut source, &mut sink);
+    let mut files = MemFiles::new(alloc, Vec::new(alloc), Vec::new(alloc));
+    let status = run(alloc, words.as_slice(), &mut files, &mut source, &mut sink);
     Ok((sink, status))
 }
 
@@ -109,6 +112,7 @@ fn long_lines_are_refused(rt: HostRuntime) -> Result<(), Fail> {
 // One byte more than the limit: the line that ends within it is answered, and no other.
 #[test]
 fn the_limit_ends_the_answers(rt: HostRuntime) -> Result<(), Fail> {
+    let set = builtin(rt.alloc())?;
     for (limit, wanted, more) in [
         (37u64, Status::InputLong, b"".as_slice()),
         (38, Status::SomeRefused, b"no reading\n".as_slice()),
@@ -117,7 +121,7 @@ fn the_limit_ends_the_answers(rt: HostRuntime) -> Result<(), Fail> {
         input.push(b'x')?;
         let mut source = MemSource::new(rt.alloc(), input, 1, Vec::new(rt.alloc()));
         let mut sink = MemSink::new(rt.alloc(), 1024, Vec::new(rt.alloc()));
-        let status = answer_lines(rt.alloc(), &mut source, &mut sink, limit);
+        let status = answer_lines(rt.alloc(), &set, Form::Pure, &mut source, &mut sink, limit);
         assert_eq!(rt; status, wanted);
         let mut answer = ANSWER.to_vec(rt.alloc())?;
         answer.extend_from_slice(more)?;
@@ -165,7 +169,14 @@ fn other_words_are_the_usage_line(rt: HostRuntime) -> Result<(), Fail> {
         Vec::new(rt.alloc()),
     );
     let mut sink = MemSink::new(rt.alloc(), 1024, Vec::new(rt.alloc()));
-    let status = run(rt.alloc(), words.as_slice(), &mut source, &mut sink);
+    let mut files = MemFiles::new(rt.alloc(), Vec::new(rt.alloc()), Vec::new(rt.alloc()));
+    let status = run(
+        rt.alloc(),
+        words.as_slice(),
+        &mut files,
+        &mut source,
+        &mut sink,
+    );
     assert_eq!(rt; status, Status::Usage);
     assert!(rt;
         sink.bytes()

@@ -1,11 +1,12 @@
 use Rattle.std.proofs.Common.{◌≡◌, ◌≤◌, [], length}
+use Rattle.tdl.specs.Answers.{IsAnswer}
 use Rattle.tdl.specs.Outputs.{AnswersFront, Appends}
 use Rattle.tdl.proofs.answering.write_answers.Given as goal
 
 -- what was written so far are the answers to the lines before the rest
 abbrev pub invariant-loop-rest : goal.invariant-loop-rest
 invariant-loop-rest g l = record {
-  written : Appends (g.K.Sink.held l.initial.output) (g.K.Sink.held l.output) (λ out. AnswersFront l.bytes l.rest [] out l.refused);
+  written : Appends (g.K.Sink.held l.initial.output) (g.K.Sink.held l.output) (λ out. AnswersFront (IsAnswer l.set l.from) l.bytes l.rest [] out l.refused);
   none : l.out.items ≡ [];
   counts : g.K.Sink.faults l.initial.output ≤ g.K.Sink.faults l.output;
 }

@@ -1,8 +1,0 @@
-use Rattle.tdl.proofs.RunLaws.{one_run, some_run}
-use Rattle.tdl.proofs.laws.each_run_has_one_outcome.Goals as goal
-
-pub returns-clause-at_most_one : goal.returns-clause-at_most_one
-returns-clause-at_most_one c = one_run
-
-pub returns-clause-some : goal.returns-clause-some
-returns-clause-some c = some_run
