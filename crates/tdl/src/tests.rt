@@ -109,23 +109,36 @@ fn long_lines_are_refused(rt: HostRuntime) -> Result<(), Fail> {
     Ok(())
 }
 
+/// What the answering of a line and one byte more writes by the built-in tables, and how it ends.
+fn limited(alloc: Global, limit: u8) -> Result<(MemSink, Status), Fail> {
+    let mut input = LINE.to_vec(alloc)?;
+    input.push(b'x')?;
+    let mut source = MemSource::new(alloc, input, 1, Vec::new(alloc));
+    let mut sink = MemSink::new(alloc, 1024, Vec::new(alloc));
+    let set = builtin(alloc)?;
+    let status = answer_lines(
+        alloc,
+        &set,
+        Form::Pure,
+        &mut source,
+        &mut sink,
+        u64::from(limit),
+    );
+    Ok((sink, status))
+}
+
 // One byte more than the limit: the line that ends within it is answered, and no other.
 #[test]
 fn the_limit_ends_the_answers(rt: HostRuntime) -> Result<(), Fail> {
-    let set = builtin(rt.alloc())?;
     for (limit, wanted, more) in [
-        (37u64, Status::InputLong, b"".as_slice()),
+        (37u8, Status::InputLong, b"".as_slice()),
         (38, Status::SomeRefused, b"no reading\n".as_slice()),
     ] {
-        let mut input = LINE.to_vec(rt.alloc())?;
-        input.push(b'x')?;
-        let mut source = MemSource::new(rt.alloc(), input, 1, Vec::new(rt.alloc()));
-        let mut sink = MemSink::new(rt.alloc(), 1024, Vec::new(rt.alloc()));
-        let status = answer_lines(rt.alloc(), &set, Form::Pure, &mut source, &mut sink, limit);
+        let (output, status) = limited(rt.alloc(), limit)?;
         assert_eq!(rt; status, wanted);
         let mut answer = ANSWER.to_vec(rt.alloc())?;
         answer.extend_from_slice(more)?;
-        assert_eq!(rt; sink.bytes(), answer.as_slice());
+        assert_eq!(rt; output.bytes(), answer.as_slice());
     }
     Ok(())
 }
