@@ -1,5 +1,5 @@
 -- The longest entry with which digits begin is found by its length.
-use Rattle.std.proofs.Common.{◌≡◌, ℕ, zero, suc, ◌+◌, ◌-◌, ◌<◌, ◌≤◌, ◌&&◌, nat_le, Bool, true, false, not, List, [], ◌∷◌, length, take, filter, find, Option, Some, None, option_map, is_some, slice_get, bytes_eq, refl, sym, ap, subst, ◌∙◌, arith, ◌⊎◌, inl, inr, true≢false, if◌then◌else◌}
+use Rattle.std.proofs.Common.{◌≡◌, ℕ, zero, suc, ◌+◌, ◌-◌, ◌<◌, ◌≤◌, ◌&&◌, nat_le, Bool, true, false, List, [], ◌∷◌, length, take, filter, find, Option, Some, None, option_map, is_some, slice_get, bytes_eq, refl, sym, ap, ◌∙◌, arith, ◌⊎◌, inl, inr, true≢false}
 use Rattle.std.specs.List.{list_all}
 use Rattle.std.specs.Option.{IfSome}
 use Rattle.std.proofs.lemmas.Bool.Decides.{nat_tests}
@@ -165,22 +165,22 @@ module _ (entries : List PrefixEntry) (digits : List ℕ) (ok : list_all is_entr
       let starts : begins digits e ≡ true = rw long there.1 in
       find_filter (is_longest (beginning entries digits)) (begins digits) entries
       ∙ find_same (λ x. begins digits x && is_longest (beginning entries digits) x) (has_prefix (take n digits)) entries (λ x in_list. same_test _ _
-        (λ t.
-          let begun = left (begins digits x) (is_longest (beginning entries digits) x) t in
-          let longest = right (begins digits x) (is_longest (beginning entries digits) x) t in
-          let least = filter_at (λ other. nat_le (length other.prefix) (length x.prefix)) (begins digits) entries e longest there.0 starts in
-          let low : length e.prefix ≤ length x.prefix = grind (arith, nat_tests) in
-          let most = no_longer n none x in_list begun in
-          let exact : length x.prefix ≡ n = omega arith in
-          rw exact at begun)
-        (λ t.
-          let own = equal_bytes (take n digits) x.prefix t in
-          let exact : length x.prefix ≡ n = sym (ap length own) ∙ length_take n digits within in
-          both (begins digits x) (is_longest (beginning entries digits) x) (rw exact t)
-          (all_of_filter (λ other. nat_le (length other.prefix) (length x.prefix)) (begins digits) entries (λ y at begun.
-            let most = no_longer n none y at begun in
-            let few : length y.prefix ≤ length x.prefix = omega arith in
-            grind (arith, nat_tests)))))
+      (λ t.
+      let begun = left (begins digits x) (is_longest (beginning entries digits) x) t in
+      let longest = right (begins digits x) (is_longest (beginning entries digits) x) t in
+      let least = filter_at (λ other. nat_le (length other.prefix) (length x.prefix)) (begins digits) entries e longest there.0 starts in
+      let low : length e.prefix ≤ length x.prefix = grind (arith, nat_tests) in
+      let most = no_longer n none x in_list begun in
+      let exact : length x.prefix ≡ n = omega arith in
+      rw exact at begun)
+      (λ t.
+      let own = equal_bytes (take n digits) x.prefix t in
+      let exact : length x.prefix ≡ n = sym (ap length own) ∙ length_take n digits within in
+      both (begins digits x) (is_longest (beginning entries digits) x) (rw exact t)
+      (all_of_filter (λ other. nat_le (length other.prefix) (length x.prefix)) (begins digits) entries (λ y at begun.
+      let most = no_longer n none y at begun in
+      let few : length y.prefix ≤ length x.prefix = omega arith in
+      grind (arith, nat_tests)))))
       ∙ h
 
   pub longest_none : NoneFrom 1 → longest_entry entries digits ≡ None

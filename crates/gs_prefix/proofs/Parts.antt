@@ -1,5 +1,5 @@
 -- The parts of a document.
-use Rattle.std.proofs.Common.{◌≡◌, ℕ, zero, suc, List, length, map, take, ◌++◌, ◌∷◌, [], Some, None, refl, slice_get, ap, arith}
+use Rattle.std.proofs.Common.{◌≡◌, ℕ, zero, suc, List, length, refl, slice_get, ap}
 use Rattle.std.specs.Option.{option_and_then}
 use Rattle.serde_json.specs.Data.{Data, null, boolean, number, string, array, object, Items, no_items, item}
 use Rattle.serde_json.specs.Events.{items_len}

@@ -1,5 +1,5 @@
 -- The refusals of entries and of documents.
-use Rattle.std.proofs.Common.{◌≡◌, ◌⊎◌, ℕ, ◌+◌, ◌<◌, ◌≤◌, ◌&&◌, not, nat_lt, nat_le, Bool, true, false, List, [], ◌∷◌, ◌++◌, length, take, map, Some, None, slice_get, refl, sym, ap, ◌∙◌, arith, inl, inr, true≢false, if◌then◌else◌}
+use Rattle.std.proofs.Common.{◌≡◌, ◌⊎◌, ℕ, ◌+◌, ◌<◌, ◌≤◌, nat_lt, nat_le, true, false, List, [], ◌∷◌, ◌++◌, length, take, map, Some, None, slice_get, refl, sym, ap, ◌∙◌, arith, inl, inr}
 use Rattle.std.specs.Prelude.{Result, Ok, Err}
 use Rattle.std.specs.List.{flat_map, enumerate_from, list_all, list_any}
 use Rattle.std.specs.Str.{IsUtf8, is_utf8}
@@ -9,17 +9,17 @@ use Rattle.std.proofs.lemmas.Str.{IsUtf8-from_is_utf8, is_utf8-from_IsUtf8}
 use Rattle.serde_json.specs.Data.{Data}
 use Rattle.serde_json.specs.Find.{as_object}
 use Rattle.serde_json.specs.Read.{read as read_text}
-use Rattle.gs_json.specs.Places.{item_place, member_place}
+use Rattle.gs_json.specs.Places.{item_place}
 use Rattle.gs_json.specs.Shapes.{members_faults}
 use Rattle.gs_json.specs.declared.fault.JsonFault.{JsonFault}
 use Rattle.gs_json.specs.declared.fault.JsonFault.TheVariants as json
 use Rattle.gs_prefix.specs.declared.entry.PrefixEntry.{PrefixEntry}
 use Rattle.gs_prefix.specs.declared.fault.PrefixFault.{PrefixFault}
-use Rattle.gs_prefix.specs.declared.fault.PrefixFault.TheVariants.{Json, BadPrefix, BadLength, Twice, Limit, Memory}
+use Rattle.gs_prefix.specs.declared.fault.PrefixFault.TheVariants.{Json, BadPrefix, BadLength, Twice, Limit}
 use Rattle.gs_prefix.specs.Answers.{OrMemory, document_answer, document_of, first_or, load_answer, of_json}
 use Rattle.gs_prefix.specs.Documents.{array_faults, entries_faults, entries_of, entry_plan, form_faults, list_plan, version_faults}
 use Rattle.gs_prefix.specs.Lengths.{has_prefix, is_entry, is_prefix}
-use Rattle.gs_prefix.specs.Rules.{entry_refusals, refuse_if, refusals, refusals_at}
+use Rattle.gs_prefix.specs.Rules.{entry_refusals, refusals, refusals_at}
 use Rattle.gs_prefix.proofs.FirstRefusals.{all_rows, first_behind, first_in_front, nothing_in_front, one_more, split_at, take_all, take_next}
 use Rattle.gs_prefix.proofs.Longest.{left, right, two_ways}
 

@@ -1,5 +1,4 @@
-use Rattle.std.proofs.Common.{sym, ◌∙◌, ◌≡◌, Bool, true, false}
-use Rattle.gs_prefix.specs.Lengths.{is_prefix}
+use Rattle.std.proofs.Common.{sym, ◌∙◌}
 use Rattle.gs_prefix.proofs.Found.{found_any}
 use Rattle.gs_prefix.proofs.Refused.{bad_length, bad_prefix, in_order, twice}
 use Rattle.gs_prefix.proofs.rules.check_entry.Goals as goal
