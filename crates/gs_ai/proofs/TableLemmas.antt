@@ -15,13 +15,13 @@ use Rattle.gs_ai.proofs.RowLemmas.{row_code, code_long, code_short}
 take_whole : (xs : List ℕ) → take (length xs) xs ≡ xs
 take_whole xs = take_all (length xs) xs (omega arith)
 
-begun : (front text : List ℕ) → begins front text ≡ true → front ≡ take (length front) text
+pub begun : (front text : List ℕ) → begins front text ≡ true → front ≡ take (length front) text
 begun front text h = equal_bytes front (take (length front) text) h
 
 begins_from : (front text : List ℕ) → front ≡ take (length front) text → begins front text ≡ true
 begins_from front text e = let f = sym e in rw f (same_bytes front)
 
-begins_itself : (front text : List ℕ) → front ≡ text → begins front text ≡ true
+pub begins_itself : (front text : List ℕ) → front ≡ text → begins front text ≡ true
 begins_itself front text e = begins_from front text (rw (← e) (sym (take_whole front)))
 
 either : (m n : ℕ) → (m ≤ n) ⊎ (n ≤ m)
