@@ -5,6 +5,7 @@ use Rattle.std.specs.Option.{option_map_or}
 use Rattle.std.proofs.lemmas.Bool.Decides.{nat_tests}
 use borrow.Author.Count.{below_more}
 use Rattle.gs_chars.specs.Characters.{is_digit, are_digits}
+use Rattle.gs_chars.proofs.TruthsAndLists.{true_or_false}
 use Rattle.gs_ai.specs.declared.row.AiRow.{AiRow}
 use Rattle.gs_ai.specs.Tables.{begins, is_code, places_at, row_at, starts_at, two_digits, AreStarts, KeepsRules}
 use Rattle.gs_ai.specs.Values.{has_code}
@@ -34,17 +35,13 @@ more_starts rows starts i len done =
 abbrev places_of : {X : Type 0} → (X → Bool) → ℕ → List X → List ℕ
 places_of t n xs = map (λ place. place.0) (filter (λ place. t place.1) (enumerate_from n xs))
 
-two_ways : (b : Bool) → (b ≡ true) ⊎ (b ≡ false)
-two_ways true = inl refl
-two_ways false = inr refl
-
 later_place : (n m k i : ℕ) (ks : List ℕ) → ((l : ℕ) → slice_get ks l ≡ Some i → i < n + 1 + m) → slice_get (n ∷ ks) k ≡ Some i → i < n + suc m
 later_place n m zero i ks low e = let same : n ≡ i = cc in omega arith
 later_place n m (suc k) i ks low e = let less = low k e in omega arith
 
 place_within : {X : Type 0} (t : X → Bool) (n : ℕ) (xs : List X) (k i : ℕ) → slice_get (places_of t n xs) k ≡ Some i → i < n + length xs
 place_within t n [] k i at = absurd (let g : None ≡ Some i = at in cc)
-place_within t n (x ∷ xs) k i at = elim (two_ways (t x)) [
+place_within t n (x ∷ xs) k i at = elim (true_or_false (t x)) [
   | inl h ↦ let f = rw h at at in later_place n (length xs) k i (places_of t (n + 1) xs) (λ l e. place_within t (n + 1) xs l i e) f
   | inr h ↦ let f = rw h at at in let low = place_within t (n + 1) xs k i f in omega arith
 ]
@@ -56,7 +53,7 @@ place_there t n (y ∷ xs) (suc j) x at h =
     let rest = place_there t (n + 1) xs j x at h in
     let e : n + 1 + j ≡ n + suc j = omega arith in
     let found = rw e at rest.1 in
-    elim (two_ways (t y)) [
+    elim (true_or_false (t y)) [
       | inl here ↦ rw here (suc rest.0, found)
       | inr here ↦ rw here (rest.0, found)
     ]

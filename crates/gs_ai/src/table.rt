@@ -92,6 +92,7 @@ impl AiTable {
     pub fn is_key(&self, code: &[u8]) -> bool
         ensures { result ≡ is_key_of self.now code.now }
     {
+        // For the proof alone: the rows keep the rules.
         let _ = &self.rows;
         match self.row_with(code) {
             Some(row) => row.role.is_key(),
@@ -144,5 +145,6 @@ pub fn one_code_begins(table: &AiTable)
         → slice_get table.now i ≡ Some a → slice_get table.now j ≡ Some b
         → begins a.code text ≡ true → begins b.code text ≡ true → i ≡ j }
 {
+    // For the proof alone: the rows keep the rules.
     let _ = &table.rows;
 }
