@@ -1,5 +1,5 @@
 -- The faults of rows, one after the other.
-use Rattle.std.proofs.Common.{◌≡◌, ℕ, zero, suc, ◌+◌, ◌<◌, ◌||◌, not, Bool, true, false, cond, List, [], ◌∷◌, ◌++◌, length, take, map, filter, position, Some, None, slice_get, get_or, refl, sym, ap, ◌∙◌, arith, ◌⊎◌, inl, inr, true≢false}
+use Rattle.std.proofs.Common.{◌≡◌, ℕ, zero, suc, ◌+◌, ◌<◌, not, Bool, true, false, cond, List, [], ◌∷◌, ◌++◌, length, take, map, filter, position, Some, None, slice_get, get_or, refl, sym, ap, ◌∙◌, arith, ◌⊎◌, inl, inr, true≢false}
 use Rattle.std.specs.List.{flat_map, enumerate_from, list_any, list_all}
 use Rattle.gs_ai.specs.declared.faults.AiFault.{AiFault}
 use Rattle.gs_ai.specs.declared.faults.AiFault.TheVariants.{BadAi, CodePrefix, KeyIsQualifier, PredefinedLength}

@@ -1,5 +1,5 @@
 -- Searches of lists: the first place at which a test passes, and equality of bytes.
-use Rattle.std.proofs.Common.{◌≡◌, ℕ, zero, suc, ◌+◌, ◌<◌, Bool, true, false, not, cond, nat_lt, List, [], ◌∷◌, ◌++◌, length, get_or, map, position, find, Option, Some, None, bytes_eq, slice_get, take, refl, sym, ap, ◌∙◌, arith, if◌then◌else◌, option_map, ◌⊎◌, inl, inr}
+use Rattle.std.proofs.Common.{◌≡◌, ℕ, zero, suc, ◌+◌, ◌<◌, Bool, true, false, not, cond, nat_lt, List, [], ◌∷◌, ◌++◌, length, get_or, map, position, find, Option, Some, None, slice_get, refl, sym, ap, ◌∙◌, arith, if◌then◌else◌, option_map, ◌⊎◌, inl, inr}
 use Rattle.std.specs.List.{position_or_len, list_any}
 use Rattle.std.specs.Option.{option_or, IfSome}
 use Rattle.std.proofs.lemmas.Bool.Decides.{nat_tests}

@@ -1,15 +1,14 @@
 -- What the rules of a table say of its codes.
-use Rattle.std.proofs.Common.{Bool, ◌≡◌, ℕ, ◌<◌, ◌≤◌, true, false, List, length, take, map, position, Option, Some, None, is_some, find, ◌&&◌, ◌||◌, bytes_eq, slice_get, get_or, refl, sym, ap, ◌∙◌, arith, true≢false, zero, suc, [], ◌∷◌, ◌⊎◌, inl, inr}
+use Rattle.std.proofs.Common.{Bool, ◌≡◌, ℕ, ◌<◌, ◌≤◌, true, false, List, length, take, Some, None, find, ◌&&◌, slice_get, get_or, refl, sym, ap, ◌∙◌, arith, zero, suc, [], ◌∷◌, ◌⊎◌, inl, inr}
 use Rattle.std.specs.List.{list_any}
 use Rattle.std.specs.Option.{option_and_then}
-use Rattle.std.proofs.lemmas.List.{take_all, length-take, length-take-le}
+use Rattle.std.proofs.lemmas.List.{take_all}
 use Rattle.gs_ai.specs.declared.row.AiRow.{AiRow}
 use Rattle.gs_ai.specs.Predefined.{predefined_length}
 use Rattle.gs_ai.specs.Values.{has_code}
-use Rattle.gs_ai.specs.Tables.{begins, is_key, is_key_of, is_row, row_at, KeepsRules}
+use Rattle.gs_ai.specs.Tables.{begins, is_key, is_key_of, is_row, KeepsRules}
 use Rattle.gs_chars.proofs.TruthsAndLists.{or_false, true_or_false}
-use Rattle.gs_ai.proofs.Searches.{find_absent, any-map, none_any, get_of_take, false_from, equal_bytes, same_bytes, read_at, position_is, position_none, position_some, passes_none}
-use Rattle.gs_ai.proofs.RowLemmas.{row_code, code_long, code_short}
+use Rattle.gs_ai.proofs.Searches.{find_absent, false_from, equal_bytes, same_bytes, read_at}
 
 -- ---- fronts of a text
 

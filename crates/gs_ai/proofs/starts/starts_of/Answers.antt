@@ -1,4 +1,4 @@
-use Rattle.std.proofs.Common.{arith, length-append, ap, ◌∙◌, sym, ◌++◌, ◌∷◌, [], List, ℕ}
+use Rattle.std.proofs.Common.{arith, length-append, List, ℕ}
 use Rattle.gs_ai.proofs.PlaceLemmas.{more_starts}
 use Rattle.gs_ai.proofs.starts.starts_of.Goals as goal
 

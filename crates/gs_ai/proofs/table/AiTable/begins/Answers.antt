@@ -1,8 +1,7 @@
-use Rattle.std.proofs.Common.{◌≡◌, ◌<◌, ◌∙◌, ap, sym, arith, length, get_or, rules}
+use Rattle.std.proofs.Common.{◌∙◌, ap, sym, arith, rules}
 use Rattle.gs_ai.proofs.Searches.{position_within, within}
 use Rattle.gs_ai.specs.declared.row.AiRow.{AiRow}
 use Rattle.gs_ai.proofs.PlaceLemmas.{found_at, no_digits, none_at, one_place_more, place_low, place_read, row_at_place, start_read, start_within}
-use Rattle.gs_ai.specs.Tables.{begins}
 use Rattle.gs_ai.proofs.table.AiTable.begins.Goals as goal
 
 pub returns-in_err-start-clause-row : goal.returns-in_err-start-clause-row

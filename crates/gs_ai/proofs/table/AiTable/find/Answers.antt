@@ -1,6 +1,5 @@
 use Rattle.std.proofs.Common.{ap, sym, ◌∙◌}
-use Rattle.gs_ai.specs.Tables.{begins}
-use Rattle.gs_ai.proofs.Searches.{read_at, some_within}
+use Rattle.gs_ai.proofs.Searches.{read_at}
 use Rattle.gs_ai.specs.declared.row.AiRow.{AiRow}
 use Rattle.gs_ai.proofs.PlaceLemmas.{code_absent, code_here, code_nowhere}
 use Rattle.gs_ai.proofs.table.AiTable.find.Goals as goal
