@@ -9,8 +9,8 @@ use Rattle.gs_grammar.specs.declared.found.Found.{Found}
 use Rattle.gs_grammar.specs.declared.found.Found.TheVariants.{Never, Once, Twice}
 use Rattle.gs_grammar.specs.declared.found.FoundOption.{FoundOption}
 use Rattle.gs_grammar.specs.declared.found.FoundOption.TheVariants.{NoOption, OneOption, TwoReadings}
-use Rattle.gs_grammar.specs.Derivations.{Derives, Derivation, AreSame, OneDerivation, TwoDerivations}
-use Rattle.gs_grammar.specs.Searches.{IsDerived, HasValues, Finds, FindsInLevel, joined_option}
+use Rattle.gs_grammar.specs.Derivations.{Derives, IsDerived, HasValues, Derivation, AreSame, OneDerivation, TwoDerivations}
+use Rattle.gs_grammar.specs.Searches.{Finds, FindsInLevel, joined_option}
 use Rattle.gs_grammar.specs.Levels.{OptionForm, item_lists}
 
 get_front : (xs ys : List (List Item)) (x : List Item) (k : ℕ) → slice_get xs k ≡ Some x → slice_get (xs ++ ys) k ≡ Some x
