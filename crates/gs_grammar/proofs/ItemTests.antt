@@ -5,12 +5,11 @@ use Rattle.std.proofs.lemmas.Bool.Decides.{nat_tests}
 use Rattle.std.proofs.lemmas.Fmt.{decimal_injective}
 use Rattle.std.specs.Cmp.Derive.{both_true}
 use Rattle.gs_chars.specs.Characters.{are_digits}
-use Rattle.gs_bits.specs.Bits.{number_of}
 use Rattle.gs_grammar.specs.declared.item.Item.{Item}
 use Rattle.gs_grammar.specs.declared.item.Item.TheVariants.{Pad, Int, Esc, NumPad, Num, Ascii7, Fill}
 use Rattle.gs_grammar.specs.Items.{is_between, IsItem}
 use Rattle.gs_grammar.specs.Words.{Word, IsWord, SpellsEach, SpellsMany, WritesNumber, IsPacked, PacksMany, decimal_value, number_of_word}
-use Rattle.gs_grammar.specs.Languages.{Language, SpellsWithin, PacksWithin, IsNumberWithin, IsNumberOfDigits}
+use Rattle.gs_grammar.specs.Languages.{Language}
 use Rattle.gs_grammar.specs.Numerals.{IsPadded}
 use Rattle.gs_grammar.proofs.Spelled.{spelled_fixes}
 use Rattle.gs_grammar.proofs.Packs.{writes_one, writes_number, packed_fixes}

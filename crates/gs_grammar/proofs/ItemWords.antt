@@ -1,9 +1,9 @@
 -- The words of each item, told without their values: laws over the definitions of words alone.
-use Rattle.std.proofs.Common.{◌≡◌, ◌↔◌, ℕ, ◌<◌, ◌≤◌, ◌^◌, ◌⊎◌, IsTrue, List, [], length, refl, sym, ◌∙◌, ap, arith, decimal, replicate}
+use Rattle.std.proofs.Common.{◌≡◌, ◌↔◌, ℕ, ◌<◌, ◌^◌, ◌⊎◌, IsTrue, List, [], length, refl, sym, ◌∙◌, ap, arith, decimal, replicate}
 use Rattle.gs_chars.specs.Characters.{are_digits}
 use Rattle.gs_grammar.specs.declared.item.Item.{Item}
 use Rattle.gs_grammar.specs.declared.item.Item.TheVariants.{Lit, Pad, Int, Esc, NumPad, Num, Ascii7, Fill}
-use Rattle.gs_grammar.specs.Words.{Word, IsWord, IsNumeral, WritesNumber, decimal_value, number_of_word}
+use Rattle.gs_grammar.specs.Words.{Word, IsWord, IsNumeral, decimal_value, number_of_word}
 use Rattle.gs_grammar.specs.Languages.{Language, SpellsWithin, PacksWithin, IsNumberWithin, IsNumberOfDigits}
 use Rattle.gs_grammar.proofs.Numbers.{some_padded, value_below, value_decimal}
 use Rattle.gs_grammar.proofs.Packs.{writes_number}

@@ -1,12 +1,12 @@
 -- What is written of the values of an option, word by word.
-use Rattle.std.proofs.Common.{◌≡◌, ℕ, ◌<◌, ◌≤◌, ◌+◌, ◌-◌, ◌*◌, ◌^◌, suc, Bool, true, List, [], ◌∷◌, ◌++◌, length, get_or, take, drop, replicate, Some, None, Result, Ok, Err, IsErr, OnOk, ◌↔◌, refl, sym, ◌∙◌, ap, subst, arith, All, inl, inr, length-append}
+use Rattle.std.proofs.Common.{◌≡◌, ℕ, ◌<◌, ◌≤◌, ◌+◌, ◌-◌, ◌*◌, ◌^◌, suc, Bool, true, List, [], ◌∷◌, ◌++◌, length, get_or, drop, replicate, Some, None, refl, sym, ◌∙◌, ap, subst, arith, All, inl, inr, length-append}
 use Rattle.std.specs.List.{AllPass, flat_map, list_all, position, slice_get}
 use Rattle.std.proofs.Math.Pow.{pow_mono}
 use Rattle.std.proofs.lemmas.Bool.{cases_eq, ltb-true}
-use Rattle.std.proofs.lemmas.List.{drop_more, drop_all, append_assoc, append-nil, length-drop, length-replicate, length-take-le, take_more}
+use Rattle.std.proofs.lemmas.List.{drop_more, drop_all, append_assoc, append-nil, length-drop, length-replicate}
 use Rattle.std.proofs.lemmas.List.Elements.{All-cons, All-nil, All-head, All-tail}
-use Rattle.std.proofs.lemmas.Option.{slice_get-get_or}
 use Rattle.gs_chars.specs.Characters.{are_in_set82, is_in_set82}
+use Rattle.gs_chars.proofs.TruthsAndLists.{and_parts, read_at}
 use Rattle.gs_bits.specs.Bits.{AreBits, bits_of, number_of}
 use Rattle.gs_bits.specs.BitLaws.{bits_of-number_of}
 use Rattle.gs_grammar.specs.declared.item.Item.{Item}
@@ -16,9 +16,10 @@ use Rattle.gs_grammar.specs.Items.{is_bad, is_between, is_in_bounds, is_symbol, 
 use Rattle.gs_grammar.specs.Words.{decimal_value, written_word}
 use Rattle.gs_grammar.specs.Derivations.{EachWord, no_item, one_item, Derives, Derivation, OneDerivation}
 use Rattle.gs_grammar.specs.Writing.{why_not, written, written_words, AreHeldBefore, AreHeld, IsFirstRefusal}
-use Rattle.gs_grammar.proofs.Held.{held_word, packed_length, both_of}
+use Rattle.gs_grammar.proofs.OneReading.{each_fixes}
+use Rattle.gs_grammar.proofs.Held.{held_word, packed_length}
 use Rattle.gs_grammar.proofs.Packs.{set82_bounds}
-use Rattle.gs_grammar.proofs.WordLaws.{word_fixes_value, none_bad, of_level, word_length, greatest_small, numpad_bounds, num_bounds}
+use Rattle.gs_grammar.proofs.WordLaws.{none_bad, of_level, word_length, greatest_small, numpad_bounds, num_bounds}
 use Rattle.gs_grammar.proofs.ItemTests.{IsBits}
 use Rattle.gs_grammar.proofs.Numbers.{value_decimal}
 
@@ -65,17 +66,11 @@ zeros_end t all count place l e =
 
 -- items that hold their values, one by one
 
-item_at : (items : List Item) (k : ℕ) (item : Item) → k < length items → item ≡ get_or items k item → slice_get items k ≡ Some item
-item_at items k item l e = slice_get-get_or items k item l ∙ ap Some (sym e)
-
-value_at : (values : List (List ℕ)) (k : ℕ) (value : List ℕ) → k < length values → value ≡ get_or values k value → slice_get values k ≡ Some value
-value_at values k value l e = slice_get-get_or values k value l ∙ ap Some (sym e)
-
 pub held_step : (items : List Item) (values : List (List ℕ)) (k : ℕ) (item : Item) (value : List ℕ) → AreHeldBefore items values k → k < length items → k < length values → item ≡ get_or items k item → value ≡ get_or values k value → why_not item value ≡ None → AreHeldBefore items values (k + 1)
 held_step items values k item value h l m e f n j other v b p q = elim (cases_eq j k) as (λ _. why_not other v ≡ None) [
   | inl s ↦
-      let i : Some other ≡ Some item = sym (rw s at p) ∙ item_at items k item l e in
-      let w : Some v ≡ Some value = sym (rw s at q) ∙ value_at values k value m f in
+      let i : Some other ≡ Some item = sym (rw s at p) ∙ read_at items k item l e in
+      let w : Some v ≡ Some value = sym (rw s at q) ∙ read_at values k value m f in
       let same : other ≡ item = cc in
       let equal : v ≡ value = cc in
       rw (same, equal) n
@@ -83,10 +78,10 @@ held_step items values k item value h l m e f n j other v b p q = elim (cases_eq
 ]
 
 pub refused_at : (items : List Item) (values : List (List ℕ)) (k : ℕ) (item : Item) (value : List ℕ) (why : Why) → AreHeldBefore items values k → k < length items → k < length values → item ≡ get_or items k item → value ≡ get_or values k value → why_not item value ≡ Some why → IsFirstRefusal items values k why
-refused_at items values k item value why h l m e f r = record { item = item; value = value; item_at = item_at items k item l e; value_at = value_at values k value m f; reason = r; before = h }
+refused_at items values k item value why h l m e f r = record { item = item; value = value; item_at = read_at items k item l e; value_at = read_at values k value m f; reason = r; before = h }
 
 pub held_at : (items : List Item) (values : List (List ℕ)) (k : ℕ) (item : Item) (value : List ℕ) → AreHeld items values → k < length items → k < length values → item ≡ get_or items k item → value ≡ get_or values k value → why_not item value ≡ None
-held_at items values k item value h l m e f = h k item value l (item_at items k item l e) (value_at values k value m f)
+held_at items values k item value h l m e f = h k item value l (read_at items k item l e) (read_at values k value m f)
 
 pub held_all : (items : List Item) (values : List (List ℕ)) (k : ℕ) → AreHeldBefore items values k → length items ≤ k → AreHeld items values
 held_all items values k h l j item value b p q = h j item value (omega arith) p q
@@ -138,13 +133,13 @@ written_derives (item ∷ items) (value ∷ values) i l h =
 set_codes : (value : List ℕ) → are_in_set82 value ≡ true → All (λ c. c < 128) value
 set_codes [] h = All-nil (λ c. c < 128)
 set_codes (c ∷ value) h =
-    let b = both_of (is_in_set82 c) (are_in_set82 value) h in
+    let b = and_parts (is_in_set82 c) (are_in_set82 value) h in
     All-cons (λ c. c < 128) c value (set82_bounds c b.0).1 (set_codes value b.1)
 
 bits_all : (symbols : List ℕ) → list_all (is_symbol true) symbols ≡ true → AreBits symbols
 bits_all [] h = All-nil (λ b. b < 2)
 bits_all (b ∷ symbols) h =
-    let p = both_of (is_symbol true b) (list_all (is_symbol true) symbols) h in
+    let p = and_parts (is_symbol true b) (list_all (is_symbol true) symbols) h in
     All-cons (λ b. b < 2) b symbols (ltb-true b 2 p.0) (bits_all symbols p.1)
 
 -- what a bit item says of a value that it holds
@@ -152,7 +147,7 @@ bits_all (b ∷ symbols) h =
 pub lit_bits : (item : Item) (literal : List ℕ) → item ≡ Lit literal → is_in_bounds true item ≡ true → AreBits literal
 lit_bits item literal i b =
     let k : is_in_bounds true (Lit literal) ≡ true = rw i at b in
-    bits_all literal (both_of (is_between 1 64 (length literal)) (list_all (is_symbol true) literal) k).1
+    bits_all literal (and_parts (is_between 1 64 (length literal)) (list_all (is_symbol true) literal) k).1
 
 numpad_held : (bits n : ℕ) (value : List ℕ) → is_in_bounds true (NumPad bits n) ≡ true → why_not (NumPad bits n) value ≡ None → (bits ≤ 64) × (decimal_value value < 2 ^ bits)
 numpad_held bits n value b h =
@@ -250,14 +245,6 @@ all_bounds bit_level items e h k d l = rw e at (none_bad bit_level items h k d l
 pub bound_at : (items : List Item) (k : ℕ) (item : Item) → AllPass (is_in_bounds true) items → k < length items → item ≡ get_or items k item → is_in_bounds true item ≡ true
 bound_at items k item h l e = subst (λ (x : Item). is_in_bounds true x ≡ true) (sym e) (h k item l)
 
--- the values of one list of words are the same
-same_values : (items : List Item) (values others words : List (List ℕ)) → EachWord items values words → EachWord items others words → values ≡ others
-same_values items values others words no_item no_item = refl
-same_values items values others words (one_item item value w items' values' words' h t) (one_item item'' value'' w'' items'' values'' words'' k u) =
-    let first : value ≡ value'' = word_fixes_value item value value'' w h k in
-    let rest : values' ≡ values'' = same_values items' values' values'' words' t u in
-    cc
-
 pub written_read : (level : List (List Item)) (option other : ℕ) (items : List Item) (values given : List (List ℕ)) → slice_get level option ≡ Some items → All IsItem items → length values ≡ length items → AreHeld items values → OneDerivation level (written items values) other given → (other ≡ option) × (given ≡ values)
 written_read level option other items values given at i l h one =
     let mine : Derivation level (written items values) = record { option = option; items = items; values = values; words = written_words items values; of_level = at; derives = written_derives items values i l h } in
@@ -267,5 +254,5 @@ written_read level option other items values given at i l h one =
     let its : one.derivation.items ≡ items = cc in
     let each : EachWord items one.derivation.values one.derivation.words = rw its at one.derivation.derives.each in
     let all : EachWord items one.derivation.values (written_words items values) = rw (← same.words) at each in
-    let values_are = same_values items one.derivation.values values (written_words items values) all mine.derives.each in
+    let values_are = each_fixes items one.derivation.values values (written_words items values) all mine.derives.each in
     (sym one.of_option ∙ place, sym one.of_values ∙ values_are)

@@ -1,5 +1,4 @@
-use Rattle.std.proofs.Common.{arith, rules, ◌≡◌, ◌≤◌, ap, refl}
-use Rattle.gs_grammar.specs.Items.{size_of}
+use Rattle.std.proofs.Common.{arith, rules}
 use Rattle.gs_grammar.proofs.Written.{ascii_held, ascii_room, bits_held, bits_written, bits_size, room_of}
 use Rattle.gs_grammar.proofs.bit_writing.push_bit_word.Goals as goal
 

@@ -1,4 +1,4 @@
-use Rattle.std.proofs.Common.{arith, rules, ◌<◌, get_or}
+use Rattle.std.proofs.Common.{arith, rules}
 use Rattle.gs_grammar.proofs.Written.{symbols_room, symbols_step}
 use Rattle.gs_grammar.proofs.bit_writing.push_symbols.Goals as goal
 
