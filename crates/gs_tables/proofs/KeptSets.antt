@@ -69,31 +69,36 @@ same_form ais key row form other found formed at =
     let same : Some other ≡ Some form = sym at ∙ here ∙ formed in
     cc
 
+of_row : (document : Document) (level : LevelName) (i : ℕ) (items : List Item) (info : OptInfo) (row : OptionRow) → row_refusals document ≡ [] → slice_get (options_of level document) i ≡ Some row
+    → items ≡ items_alone row → info ≡ info_of document.kinds row → KeptOption (set_of document) level items info
+of_row document level i items info row none at items_are info_is =
+    let none' = no_refusals document level none in
+    let kept = row_at document.ais document.kinds level (options_of level document) i row none'.1 at in
+    let place = placed (has_name row.kind) document.kinds kept.kind kept.named in
+    let rules = kind_at document.ais document.kinds place.0 kept.kind none'.0 place.2 in
+    let named : slice_get (map kind_of document.kinds) place.0 ≡ Some (kind_of kept.kind) = slice_get-map kind_of document.kinds place.0 ∙ ap (option_map kind_of) place.2 in
+    let same = same_form document.ais kept.kind.key rules.row rules.form kept.form rules.found rules.formed kept.formed in
+    rw (items_are, info_is, place.1) (record {
+      kind = kind_of kept.kind;
+      named = named;
+      of_kind = record { row = rules.row; form = kept.form; found = rules.found; key = rules.key; formed = rw same rules.formed; lead = rw same rules.lead; serial = rw same rules.serial };
+      bounds = kept.bounds;
+      parts = items_there row;
+      items_are = refl;
+      fields_are = refl;
+      visible = kept.visible;
+      of_level = kept.of_level;
+      gcp = kept.fields.gcp;
+      rest = kept.fields.rest;
+      serial = kept.fields.serial;
+    })
+
 kept_in : (document : Document) (level : LevelName) (i : ℕ) (items : List Item) (info : OptInfo) → row_refusals document ≡ []
     → slice_get (item_lists (level_of document.kinds level (options_of level document)).level.options) i ≡ Some items
     → slice_get (level_of document.kinds level (options_of level document)).info i ≡ Some info → KeptOption (set_of document) level items info
 kept_in document level i items info none of_level said =
-    let kept = no_refusals document level none in
     let here = level_at document.kinds (is_bits level) (options_of level document) i items info of_level said in
-    let row = row_at document.ais document.kinds level (options_of level document) i here.row kept.1 here.at in
-    let place = placed (has_name here.row.kind) document.kinds row.kind row.named in
-    let rules = kind_at document.ais document.kinds place.0 row.kind kept.0 place.2 in
-    let at : slice_get (map kind_of document.kinds) place.0 ≡ Some (kind_of row.kind) = slice_get-map kind_of document.kinds place.0 ∙ ap (option_map kind_of) place.2 in
-    let same = same_form document.ais row.kind.key rules.row rules.form row.form rules.found rules.formed row.formed in
-    rw (here.items_are, here.info_is, place.1) (record {
-      kind = kind_of row.kind;
-      named = at;
-      of_kind = record { row = rules.row; form = row.form; found = rules.found; key = rules.key; formed = rw same rules.formed; lead = rw same rules.lead; serial = rw same rules.serial };
-      bounds = row.bounds;
-      parts = items_there here.row;
-      items_are = refl;
-      fields_are = refl;
-      visible = row.visible;
-      of_level = row.of_level;
-      gcp = row.fields.gcp;
-      rest = row.fields.rest;
-      serial = row.fields.serial;
-    })
+    of_row document level i items info here.row none here.at here.items_are here.info_is
 
 -- each option of a set keeps the rules
 pub options_kept : (set : TableRows) (level : LevelName) → IsShaped set → AreKept set level
