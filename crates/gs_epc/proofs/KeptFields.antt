@@ -1,6 +1,6 @@
 -- The values of the fields of an option, by the items that stand for them.
 use Rattle.std.proofs.Common.{◌≡◌, ℕ, Bool, true, false, List, [], ◌∷◌, length, map, position, Option, Some, None, refl, arith, inl, inr}
-use Rattle.std.proofs.lemmas.Bool.{cases_Bool}
+use Rattle.gs_chars.proofs.TruthsAndLists.{true_or_false}
 use Rattle.gs_ai.specs.Tables.{is_empty}
 use Rattle.gs_ai.proofs.Searches.{cons_none}
 use Rattle.gs_chars.specs.Characters.{are_digits}
@@ -9,8 +9,8 @@ use Rattle.gs_grammar.specs.Derivations.{EachWord, one_item}
 use Rattle.gs_grammar.specs.Items.{IsItem, is_bad}
 use Rattle.gs_grammar.specs.Words.{Word}
 use Rattle.gs_grammar.proofs.WordLaws.{all_items}
-use Rattle.gs_tables.specs.declared.field.Field.{Field}
-use Rattle.gs_tables.specs.Items.{FieldItem}
+use Rattle.gs_document.specs.declared.field.Field.{Field}
+use Rattle.gs_document.specs.Items.{FieldItem}
 use Rattle.gs_tables.specs.Rules.{has_room, is_digits, is_field, is_one, items_of_field}
 use Rattle.gs_epc.specs.Epcs.{value_at, value_of}
 use Rattle.gs_epc.specs.Kept.{AreCharacters}
@@ -41,14 +41,14 @@ record IsValueOf (field : Field) (item : Item) (fields : List (Option Field)) (v
 no_value : (field : Field) (items : List FieldItem) (values : List (List ℕ)) → items_of_field field items ≡ [] → value_at field (fields_in items) values ≡ None
 no_value field [] values h = refl
 no_value field (i ∷ items) [] h = refl
-no_value field (i ∷ items) (value ∷ values) h = elim (cases_Bool (is_field field i.0)) as (λ _. value_at field (i.0 ∷ fields_in items) (value ∷ values) ≡ None) [
+no_value field (i ∷ items) (value ∷ values) h = elim (true_or_false (is_field field i.0)) as (λ _. value_at field (i.0 ∷ fields_in items) (value ∷ values) ≡ None) [
   | inl e ↦ absurd (let f : i.1 ∷ items_of_field field items ≡ [] = rw e at h in cc)
   | inr e ↦ rw e (no_value field items values (rw e at h))
 ]
 
 one_value : (bits : Bool) (field : Field) (items : List FieldItem) (values words : List (List ℕ)) (item : Item) → EachWord (items_in items) values words → position (is_bad bits) (items_in items) ≡ None → items_of_field field items ≡ item ∷ [] → IsValueOf field item (fields_in items) values
 one_value bits field [] values words item each good h = absurd (let f : [] ≡ item ∷ [] = h in cc)
-one_value bits field (i ∷ items) values words item (one_item x value w others rest more word each) good h = elim (cases_Bool (is_field field i.0)) as (λ _. IsValueOf field item (i.0 ∷ fields_in items) (value ∷ rest)) [
+one_value bits field (i ∷ items) values words item (one_item x value w others rest more word each) good h = elim (true_or_false (is_field field i.0)) as (λ _. IsValueOf field item (i.0 ∷ fields_in items) (value ∷ rest)) [
   | inl e ↦ let f : i.1 ∷ items_of_field field items ≡ item ∷ [] = rw e at h in
       let same : i.1 ≡ item = cc in
       record { value = value; w = w; at = rw e refl; word = rw same at word; good = rw same at (all_items bits (i.1 ∷ items_in items) good 0 i.1 (omega arith)) }

@@ -5,12 +5,12 @@ use Rattle.gs_ai.specs.Tables.{is_empty}
 use Rattle.gs_chars.specs.Characters.{are_digits}
 use Rattle.gs_grammar.specs.declared.item.Item.{Item}
 use Rattle.gs_grammar.specs.Items.{is_between}
-use Rattle.gs_grammar.proofs.Held.{both_of}
+use Rattle.gs_chars.proofs.TruthsAndLists.{and_parts}
 use Rattle.gs_grammar.proofs.ItemTests.{between_is}
-use Rattle.gs_tables.specs.declared.field.Field.TheVariants.{Gcp, Rest, Serial}
+use Rattle.gs_document.specs.declared.field.Field.TheVariants.{Gcp, Rest, Serial}
 use Rattle.gs_tables.specs.declared.form.KeyForm.{KeyForm}
 use Rattle.gs_tables.specs.declared.form.KeyForm.TheVariants.{Digits, Characters}
-use Rattle.gs_tables.specs.Items.{FieldItem}
+use Rattle.gs_document.specs.Items.{FieldItem}
 use Rattle.gs_tables.specs.Rules.{has_room, is_digits, is_free, is_gcp, is_one, is_padded, items_of_field, keeps_gcp, keeps_rest, keeps_serial}
 use Rattle.gs_epc.specs.Epcs.{value_of}
 use Rattle.gs_epc.specs.Kept.{FitForm, FitsRoom}
@@ -26,13 +26,13 @@ record IsPrefix (form : KeyForm) (lead n : ℕ) (prefix : List ℕ) : Type 0 whe
   digits : are_digits prefix ≡ true
 
 gcp_bounds : (form : KeyForm) (lead n : ℕ) → is_gcp form lead n ≡ true → (1 ≤ n) × (n ≤ 12)
-gcp_bounds (Digits digits _) lead n h = between_is 1 12 n (both_of (is_between 1 12 n) (nat_le n (digits - lead)) h).0
+gcp_bounds (Digits digits _) lead n h = between_is 1 12 n (and_parts (is_between 1 12 n) (nat_le n (digits - lead)) h).0
 gcp_bounds (Characters _) lead n h = between_is 1 12 n h
 
 prefix_kept : (bits : Bool) (form : KeyForm) (lead n : ℕ) (items : List FieldItem) (values words : List (List ℕ)) → AreHeld bits items values words → keeps_gcp form lead n (items_of_field Gcp items) ≡ true → IsPrefix form lead n (value_of Gcp (fields_in items) values)
 unfolding keeps_gcp
 prefix_kept bits form lead n items values words held h =
-    let parts = both_of (is_gcp form lead n) (is_one (is_digits n) (items_of_field Gcp items)) h in
+    let parts = and_parts (is_gcp form lead n) (is_one (is_digits n) (items_of_field Gcp items)) h in
     let bounds = gcp_bounds form lead n parts.0 in
     let value = digits_of bits Gcp items values words n held parts.1 in
     record { length_kept = parts.0; least = bounds.0; most = bounds.1; count = value.0; digits = value.1 }
@@ -52,13 +52,13 @@ digits_left bits digits n items values words held h = by (digits - n == 0) refl
 
 only_room : (most : ℕ) (items : List Item) → is_one (is_free most) items ≡ true → is_one (has_room most) items ≡ true
 only_room most [] h = h
-only_room most (item ∷ []) h = (both_of (not (is_padded item)) (has_room most item) h).1
+only_room most (item ∷ []) h = (and_parts (not (is_padded item)) (has_room most item) h).1
 only_room most (item ∷ other ∷ items) h = h
 
 fits_form : (form : KeyForm) (lead n : ℕ) (bits : Bool) (items : List FieldItem) (values words : List (List ℕ)) → AreHeld bits items values words → IsPrefix form lead n (value_of Gcp (fields_in items) values) → keeps_rest form n (items_of_field Rest items) ≡ true → FitForm form lead (value_of Gcp (fields_in items) values) (value_of Rest (fields_in items) values)
 unfolding keeps_rest
 fits_form (Digits digits _) lead n bits items values words held prefix h =
-    let room : n ≤ digits - lead = let t = (both_of (is_between 1 12 n) (nat_le n (digits - lead)) prefix.length_kept).1 in grind (arith, nat_tests) in
+    let room : n ≤ digits - lead = let t = (and_parts (is_between 1 12 n) (nat_le n (digits - lead)) prefix.length_kept).1 in grind (arith, nat_tests) in
     let count = prefix.count in
     let rest = digits_left bits digits n items values words held h in
     (omega arith, rest.0 ∙ ap (λ k. digits - k) (sym count), prefix.digits, rest.1)
