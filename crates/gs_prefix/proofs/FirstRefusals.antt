@@ -1,8 +1,9 @@
 -- The first refusal of lists of refusals, one after the other.
-use Rattle.std.proofs.Common.{◌≡◌, ℕ, zero, suc, ◌+◌, ◌<◌, ◌≤◌, List, [], ◌∷◌, ◌++◌, length, take, map, Some, None, slice_get, get_or, refl, sym, ap, arith, inl, inr}
+use Rattle.std.proofs.Common.{◌≡◌, ℕ, zero, suc, ◌+◌, ◌≤◌, List, [], ◌∷◌, ◌++◌, length, take, map, Some, None, slice_get, refl, ap, arith, inl, inr}
 use Rattle.std.specs.Prelude.{Result, Ok, Err}
 use Rattle.std.specs.List.{flat_map, enumerate_from}
 use Rattle.std.proofs.lemmas.List.{map-append}
+use Rattle.gs_chars.proofs.TruthsAndLists.{nil_parts}
 use Rattle.gs_json.specs.Answers.{OrMemory as JsonOrMemory}
 use Rattle.gs_json.specs.Shapes.{first_fault}
 use Rattle.gs_json.specs.declared.fault.JsonFault.{JsonFault}
@@ -27,15 +28,6 @@ pub first_behind : {X Y : Type 0} (a b : List PrefixFault) (x z : X) (y : Y) (an
 first_behind a b x z y answer none h = rw (nothing_in_front a x z none) h
 
 -- ---- rows
-
-nil_parts : {X : Type 0} (xs ys : List X) → xs ++ ys ≡ [] → (xs ≡ []) × (ys ≡ [])
-nil_parts [] ys e = (refl, e)
-nil_parts (x ∷ xs) ys e = absurd (let f : x ∷ (xs ++ ys) ≡ [] = e in cc)
-
-pub read_at : {X : Type 0} (xs : List X) (i : ℕ) (x : X) → i < length xs → x ≡ get_or xs i x → slice_get xs i ≡ Some x
-read_at [] i x h e = absurd (omega arith)
-read_at (y ∷ ys) zero x h e = ap Some (sym e)
-read_at (y ∷ ys) (suc i) x h e = read_at ys i x (omega arith) e
 
 pub take_all : {X : Type 0} (xs : List X) (i : ℕ) → length xs ≤ i → take i xs ≡ xs
 take_all [] zero h = refl

@@ -1,35 +1,20 @@
 -- The longest entry with which digits begin is found by its length.
-use Rattle.std.proofs.Common.{◌≡◌, ℕ, zero, suc, ◌+◌, ◌-◌, ◌<◌, ◌≤◌, ◌&&◌, nat_le, Bool, true, false, List, [], ◌∷◌, length, take, filter, find, Option, Some, None, option_map, is_some, slice_get, bytes_eq, refl, sym, ap, ◌∙◌, arith, ◌⊎◌, inl, inr, true≢false}
+use Rattle.std.proofs.Common.{◌≡◌, ℕ, zero, suc, ◌+◌, ◌-◌, ◌<◌, ◌≤◌, ◌&&◌, nat_le, Bool, true, false, List, [], ◌∷◌, length, take, filter, find, Option, Some, None, option_map, is_some, slice_get, refl, sym, ap, ◌∙◌, arith, ◌⊎◌, inl, inr, true≢false}
 use Rattle.std.specs.List.{list_all}
 use Rattle.std.specs.Option.{IfSome}
 use Rattle.std.proofs.lemmas.Bool.Decides.{nat_tests}
-use Rattle.std.proofs.lemmas.Slice.Eq.{bytes_eq-Decides}
+use Rattle.gs_chars.proofs.TruthsAndLists.{and_first, and_second, and_true, equal_bytes, true_or_false}
 use Rattle.gs_chars.specs.Characters.{are_digits}
 use Rattle.gs_prefix.specs.declared.entry.PrefixEntry.{PrefixEntry}
 use Rattle.gs_prefix.specs.Lengths.{begins, beginning, has_prefix, is_entry, is_longest, is_prefix, longest_entry, length_of_longest}
 
 -- ---- tests
 
-pub two_ways : (b : Bool) → (b ≡ true) ⊎ (b ≡ false)
-two_ways true = inl refl
-two_ways false = inr refl
-
 same_test : (a b : Bool) → (a ≡ true → b ≡ true) → (b ≡ true → a ≡ true) → a ≡ b
 same_test true true f g = refl
 same_test true false f g = sym (f refl)
 same_test false true f g = g refl
 same_test false false f g = refl
-
-pub left : (a b : Bool) → (a && b) ≡ true → a ≡ true
-left true b h = refl
-left false b h = h
-
-pub right : (a b : Bool) → (a && b) ≡ true → b ≡ true
-right true b h = h
-right false b h = absurd (true≢false (sym h))
-
-both : (a b : Bool) → a ≡ true → b ≡ true → (a && b) ≡ true
-both a b e f = rw (e, f) refl
 
 -- ---- members of a list
 
@@ -41,7 +26,7 @@ later x y xs h = (suc h.0, h.1)
 
 find_filter : {X : Type 0} (p q : X → Bool) (xs : List X) → find p (filter q xs) ≡ find (λ x. q x && p x) xs
 find_filter p q [] = refl
-find_filter p q (x ∷ xs) = elim (two_ways (q x)) [
+find_filter p q (x ∷ xs) = elim (true_or_false (q x)) [
   | inl h ↦ rw (h, find_filter p q xs)
   | inr h ↦ rw (h, find_filter p q xs)
 ]
@@ -56,32 +41,32 @@ find_nothing p (x ∷ xs) none = rw (none x (zero, refl)) (find_nothing p xs (λ
 
 found : {X : Type 0} (p : X → Bool) (xs : List X) (x : X) → find p xs ≡ Some x → IsIn x xs × (p x ≡ true)
 found p [] x h = absurd (let g : None ≡ Some x = h in cc)
-found p (y ∷ ys) x h = elim (two_ways (p y)) [
+found p (y ∷ ys) x h = elim (true_or_false (p y)) [
   | inl t ↦ let f = rw t at h in let same : y ≡ x = cc in ((zero, ap Some same), rw (← same) t)
   | inr t ↦ let f = rw t at h in let rest = found p ys x f in (later x y ys rest.0, rest.1)
 ]
 
 found_none : {X : Type 0} (p : X → Bool) (xs : List X) (x : X) → find p xs ≡ None → IsIn x xs → p x ≡ false
 found_none p [] x h there = absurd (let g : None ≡ Some x = there.1 in cc)
-found_none p (y ∷ ys) x h (zero, at) = elim (two_ways (p y)) [
+found_none p (y ∷ ys) x h (zero, at) = elim (true_or_false (p y)) [
   | inl t ↦ absurd (let f = rw t at h in let g : Some y ≡ None = f in cc)
   | inr t ↦ let same : y ≡ x = cc in rw (← same) t
 ]
-found_none p (y ∷ ys) x h (suc i, at) = elim (two_ways (p y)) [
+found_none p (y ∷ ys) x h (suc i, at) = elim (true_or_false (p y)) [
   | inl t ↦ absurd (let f = rw t at h in let g : Some y ≡ None = f in cc)
   | inr t ↦ let f = rw t at h in found_none p ys x f (i, at)
 ]
 
 all_at : {X : Type 0} (p : X → Bool) (xs : List X) (x : X) → list_all p xs ≡ true → IsIn x xs → p x ≡ true
 all_at p [] x h there = absurd (let g : None ≡ Some x = there.1 in cc)
-all_at p (y ∷ ys) x h (zero, at) = let same : y ≡ x = cc in rw (← same) (left (p y) (list_all p ys) h)
-all_at p (y ∷ ys) x h (suc i, at) = all_at p ys x (right (p y) (list_all p ys) h) (i, at)
+all_at p (y ∷ ys) x h (zero, at) = let same : y ≡ x = cc in rw (← same) (and_first (p y) (list_all p ys) h)
+all_at p (y ∷ ys) x h (suc i, at) = all_at p ys x (and_second (p y) (list_all p ys) h) (i, at)
 
 -- a test of the members that pass another
 all_of_filter : {X : Type 0} (p q : X → Bool) (xs : List X) → ((x : X) → IsIn x xs → q x ≡ true → p x ≡ true) → list_all p (filter q xs) ≡ true
 all_of_filter p q [] each = refl
-all_of_filter p q (x ∷ xs) each = elim (two_ways (q x)) [
-  | inl h ↦ rw h (both (p x) (list_all p (filter q xs)) (each x (zero, refl) h) (all_of_filter p q xs (λ y there. each y (later y x xs there))))
+all_of_filter p q (x ∷ xs) each = elim (true_or_false (q x)) [
+  | inl h ↦ rw h (and_true (p x) (list_all p (filter q xs)) (each x (zero, refl) h) (all_of_filter p q xs (λ y there. each y (later y x xs there))))
   | inr h ↦ rw h (all_of_filter p q xs (λ y there. each y (later y x xs there)))
 ]
 
@@ -91,19 +76,13 @@ filter_at p q (y ∷ ys) x h (zero, at) passes =
     let same : y ≡ x = cc in
     let own : q y ≡ true = rw same passes in
     let f = rw own at h in
-    rw (← same) (left (p y) (list_all p (filter q ys)) f)
-filter_at p q (y ∷ ys) x h (suc i, at) passes = elim (two_ways (q y)) [
-  | inl t ↦ let f = rw t at h in filter_at p q ys x (right (p y) (list_all p (filter q ys)) f) (i, at) passes
+    rw (← same) (and_first (p y) (list_all p (filter q ys)) f)
+filter_at p q (y ∷ ys) x h (suc i, at) passes = elim (true_or_false (q y)) [
+  | inl t ↦ let f = rw t at h in filter_at p q ys x (and_second (p y) (list_all p (filter q ys)) f) (i, at) passes
   | inr t ↦ let f = rw t at h in filter_at p q ys x f (i, at) passes
 ]
 
 -- ---- entries
-
-pub equal_bytes : (a b : List ℕ) → bytes_eq a b ≡ true → a ≡ b
-equal_bytes a b h = (bytes_eq-Decides a b).0 h
-
-same_bytes : (a b : List ℕ) → a ≡ b → bytes_eq a b ≡ true
-same_bytes a b e = (bytes_eq-Decides a b).1 e
 
 length_take : {X : Type 0} (n : ℕ) (xs : List X) → n ≤ length xs → length (take n xs) ≡ n
 length_take zero xs h = refl
@@ -125,10 +104,10 @@ record Begins (digits : List ℕ) (entry : PrefixEntry) : Type 0 where
 begins_facts : (digits : List ℕ) (entry : PrefixEntry) → is_entry entry ≡ true → begins digits entry ≡ true → Begins digits entry
 begins_facts digits entry ok h =
     let front = equal_bytes (take (length entry.prefix) digits) entry.prefix h in
-    let prefix = left (is_prefix entry.prefix) (nat_le entry.length 12) ok in
-    let some = left (are_digits entry.prefix && nat_le 1 (length entry.prefix)) (nat_le (length entry.prefix) 12) prefix in
-    let low = right (are_digits entry.prefix) (nat_le 1 (length entry.prefix)) some in
-    let high = right (are_digits entry.prefix && nat_le 1 (length entry.prefix)) (nat_le (length entry.prefix) 12) prefix in
+    let prefix = and_first (is_prefix entry.prefix) (nat_le entry.length 12) ok in
+    let some = and_first (are_digits entry.prefix && nat_le 1 (length entry.prefix)) (nat_le (length entry.prefix) 12) prefix in
+    let low = and_second (are_digits entry.prefix) (nat_le 1 (length entry.prefix)) some in
+    let high = and_second (are_digits entry.prefix && nat_le 1 (length entry.prefix)) (nat_le (length entry.prefix) 12) prefix in
     record {
       front = front;
       within = let e = ap length front in omega (arith, few_taken (length entry.prefix) digits);
@@ -148,7 +127,7 @@ module _ (entries : List PrefixEntry) (digits : List ℕ) (ok : list_all is_entr
   no_longer : (n : ℕ) → NoneFrom (n + 1) → (x : PrefixEntry) → IsIn x entries → begins digits x ≡ true → length x.prefix ≤ n
   no_longer n none x there h =
       let f = facts x there h in
-      elim (two_ways (nat_le (length x.prefix) n)) [
+      elim (true_or_false (nat_le (length x.prefix) n)) [
         | inl t ↦ grind (arith, nat_tests)
         | inr t ↦
             let longer : n + 1 ≤ length x.prefix = grind (arith, nat_tests) in
@@ -166,8 +145,8 @@ module _ (entries : List PrefixEntry) (digits : List ℕ) (ok : list_all is_entr
       find_filter (is_longest (beginning entries digits)) (begins digits) entries
       ∙ find_same (λ x. begins digits x && is_longest (beginning entries digits) x) (has_prefix (take n digits)) entries (λ x in_list. same_test _ _
       (λ t.
-      let begun = left (begins digits x) (is_longest (beginning entries digits) x) t in
-      let longest = right (begins digits x) (is_longest (beginning entries digits) x) t in
+      let begun = and_first (begins digits x) (is_longest (beginning entries digits) x) t in
+      let longest = and_second (begins digits x) (is_longest (beginning entries digits) x) t in
       let least = filter_at (λ other. nat_le (length other.prefix) (length x.prefix)) (begins digits) entries e longest there.0 starts in
       let low : length e.prefix ≤ length x.prefix = grind (arith, nat_tests) in
       let most = no_longer n none x in_list begun in
@@ -176,7 +155,7 @@ module _ (entries : List PrefixEntry) (digits : List ℕ) (ok : list_all is_entr
       (λ t.
       let own = equal_bytes (take n digits) x.prefix t in
       let exact : length x.prefix ≡ n = sym (ap length own) ∙ length_take n digits within in
-      both (begins digits x) (is_longest (beginning entries digits) x) (rw exact t)
+      and_true (begins digits x) (is_longest (beginning entries digits) x) (rw exact t)
       (all_of_filter (λ other. nat_le (length other.prefix) (length x.prefix)) (begins digits) entries (λ y at begun.
       let most = no_longer n none y at begun in
       let few : length y.prefix ≤ length x.prefix = omega arith in
@@ -187,7 +166,7 @@ module _ (entries : List PrefixEntry) (digits : List ℕ) (ok : list_all is_entr
   unfolding longest_entry
   longest_none none =
       find_filter (is_longest (beginning entries digits)) (begins digits) entries
-      ∙ find_nothing (λ x. begins digits x && is_longest (beginning entries digits) x) entries (λ x there. elim (two_ways (begins digits x)) [
+      ∙ find_nothing (λ x. begins digits x && is_longest (beginning entries digits) x) entries (λ x there. elim (true_or_false (begins digits x)) [
         | inl t ↦
             let f = facts x there t in
             let low : length x.prefix < 13 = let few = f.few in omega arith in
@@ -216,7 +195,7 @@ module _ (entries : List PrefixEntry) (digits : List ℕ) (ok : list_all is_entr
         let e = found_entry in
         let there = found (has_prefix (take n digits)) entries e.0 e.1 in
         let ok = all_at is_entry entries e.0 ok there.0 in
-        let few = right (is_prefix e.0.prefix) (nat_le e.0.length 12) ok in
+        let few = and_second (is_prefix e.0.prefix) (nat_le e.0.length 12) ok in
         let small : e.0.length ≤ 12 = grind (arith, nat_tests) in
         rw e.2 small
 
@@ -227,7 +206,7 @@ module _ (entries : List PrefixEntry) (digits : List ℕ) (ok : list_all is_entr
 pub none_found : (entries : List PrefixEntry) (digits : List ℕ) (n : ℕ) (r : Option ℕ) → 1 ≤ n → r ≡ option_map (λ entry. entry.length) (find (has_prefix (take (n - 1) digits)) entries) → is_some r ≡ false
     → ((k : ℕ) → n ≤ k → k < 13 → k ≤ length digits → find (has_prefix (take k digits)) entries ≡ None)
     → (k : ℕ) → n - 1 ≤ k → k < 13 → k ≤ length digits → find (has_prefix (take k digits)) entries ≡ None
-none_found entries digits n r some h none above k low high within = elim (two_ways (nat_le n k)) [
+none_found entries digits n r some h none above k low high within = elim (true_or_false (nat_le n k)) [
   | inl t ↦ above k (grind (arith, nat_tests)) high within
   | inr t ↦
       let own : n - 1 ≡ k = let under : k < n = grind (arith, nat_tests) in omega arith in

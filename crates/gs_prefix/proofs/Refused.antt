@@ -21,7 +21,7 @@ use Rattle.gs_prefix.specs.Documents.{array_faults, entries_faults, entries_of, 
 use Rattle.gs_prefix.specs.Lengths.{has_prefix, is_entry, is_prefix}
 use Rattle.gs_prefix.specs.Rules.{entry_refusals, refusals, refusals_at}
 use Rattle.gs_prefix.proofs.FirstRefusals.{all_rows, first_behind, first_in_front, nothing_in_front, one_more, split_at, take_all, take_next}
-use Rattle.gs_prefix.proofs.Longest.{left, right, two_ways}
+use Rattle.gs_chars.proofs.TruthsAndLists.{and_first, and_second, true_or_false}
 
 -- ---- one entry
 
@@ -50,11 +50,11 @@ module _ (earlier : List PrefixEntry) (i : ℕ) (e : PrefixEntry) where
 
   pub kept : Ok (tt {0}) ≡ first_or (entry_refusals earlier i e) (tt {0}) → Kept
   unfolding entry_refusals
-  kept h = elim (two_ways (is_prefix e.prefix)) [
+  kept h = elim (true_or_false (is_prefix e.prefix)) [
     | inr p ↦ absurd (let g = rw p at h in let bad : Ok (tt {0}) ≡ Err (BadPrefix i) = g in cc)
-    | inl p ↦ elim (two_ways (nat_lt 12 e.length)) [
+    | inl p ↦ elim (true_or_false (nat_lt 12 e.length)) [
       | inl l ↦ absurd (let g = rw (p, l) at h in let bad : Ok (tt {0}) ≡ Err (BadLength i) = g in cc)
-      | inr l ↦ elim (two_ways (list_any (has_prefix e.prefix) earlier)) [
+      | inr l ↦ elim (true_or_false (list_any (has_prefix e.prefix) earlier)) [
         | inl t ↦ absurd (let g = rw (p, l, t) at h in let bad : Ok (tt {0}) ≡ Err (Twice i) = g in cc)
         | inr t ↦ record { prefix = p; short = grind (arith, nat_tests); fresh = t }
       ]
@@ -68,7 +68,7 @@ module _ (earlier : List PrefixEntry) (i : ℕ) (e : PrefixEntry) where
 
 all_more : (es : List PrefixEntry) (e : PrefixEntry) → list_all is_entry es ≡ true → is_entry e ≡ true → list_all is_entry (es ++ e ∷ []) ≡ true
 all_more [] e h t = rw t refl
-all_more (x ∷ es) e h t = rw (left (is_entry x) (list_all is_entry es) h) (all_more es e (right (is_entry x) (list_all is_entry es) h) t)
+all_more (x ∷ es) e h t = rw (and_first (is_entry x) (list_all is_entry es) h) (all_more es e (and_second (is_entry x) (list_all is_entry es) h) t)
 
 is_kept : (e : PrefixEntry) → is_prefix e.prefix ≡ true → e.length ≤ 12 → is_entry e ≡ true
 is_kept e p short = let l : nat_le e.length 12 ≡ true = grind (arith, nat_tests) in rw (p, l) refl
@@ -164,7 +164,7 @@ is_json bytes d h = let t = is_utf8-from_IsUtf8 bytes h.0 in rw (t, h.1) refl
 pub not_json : (bytes : List ℕ) (fault : JsonFault) → (fault ≡ json.Syntax → IsUtf8 bytes → read_text bytes ≡ None) → (fault ≡ json.Syntax) ⊎ (fault ≡ json.Memory) → OrMemory {X = List PrefixEntry} (Err (of_json fault)) (load_answer bytes)
 unfolding load_answer document_of
 not_json bytes fault none (inr m) = rw m (inl refl)
-not_json bytes fault none (inl s) = elim (two_ways (is_utf8 bytes)) [
+not_json bytes fault none (inl s) = elim (true_or_false (is_utf8 bytes)) [
   | inl t ↦ let e = none s (IsUtf8-from_is_utf8 bytes t) in rw (s, t, e) (inr refl)
   | inr t ↦ rw (s, t) (inr refl)
 ]

@@ -1,6 +1,6 @@
 use Rattle.std.proofs.Common.{arith, ◌≤◌}
 use Rattle.std.proofs.lemmas.Result.{err_from_is_err_and}
-use Rattle.gs_prefix.proofs.FirstRefusals.{read_at}
+use Rattle.gs_chars.proofs.TruthsAndLists.{read_at}
 use Rattle.gs_prefix.proofs.Refused.{all_entries, entry_refused, limit_passed, kept, one_entry_more}
 use Rattle.gs_prefix.proofs.prefix_list.PrefixList.of_entries.Goals as goal
 
