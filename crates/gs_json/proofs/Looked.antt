@@ -1,5 +1,5 @@
 -- What a look-up in a tree finds.
-use Rattle.std.proofs.Common.{◌≡◌, ℕ, ◌<◌, List, [], ◌∷◌, length, get_or, map, Option, Some, None, option_map, Ok, String, Global, Equal, Less, string_bytes, string_cmp, nat_cmp, is_eq, refl, subst, sym, ap, ◌∙◌}
+use Rattle.std.proofs.Common.{◌≡◌, ℕ, ◌<◌, List, [], ◌∷◌, ◌++◌, length, get_or, map, append-nil, Option, Some, None, option_map, Ok, String, Global, Equal, Less, string_bytes, string_cmp, nat_cmp, is_eq, refl, subst, sym, ap, ◌∙◌}
 use Rattle.std.proofs.lemmas.Map.Text.{is_eq-slice_cmp}
 use Rattle.std.proofs.lemmas.Slice.Eq.{bytes_eq-Decides}
 use Rattle.std.proofs.lemmas.Str.{IsUtf8-had}
@@ -89,3 +89,10 @@ pub ascending_keys : (keys : List (String Global)) → IsStrictlySortedBy string
 unfolding IsStrictlySortedBy
 ascending_keys [] h = tt
 ascending_keys (key ∷ keys) h = (ascend_behind key keys h.0, ascending_keys keys h.1)
+
+-- the names of all keys
+pub ascending_names : (names : List (List ℕ)) (left start keys : List (String Global)) → names ++ map string_bytes left ≡ map string_bytes start → left ≡ [] → start ≡ keys → IsStrictlySortedBy string_cmp keys → AscendByBytes names
+ascending_names names left start keys so_far none from ordered =
+    let whole : names ++ [] ≡ map string_bytes start = rw none at so_far in
+    let all : names ≡ map string_bytes keys = sym (append-nil names) ∙ whole ∙ ap (map string_bytes) from in
+    rw all (ascending_keys keys ordered)

@@ -1,6 +1,4 @@
 use Rattle.std.proofs.Common.{◌<◌, ℕ, get_or, sym, ap, ◌∙◌, arith}
-use Rattle.gs_bits.specs.HexText.{hex_of_bits}
-use Rattle.gs_bits.specs.Packed.{bits_of_bytes}
 use Rattle.gs_bits.proofs.HexBits.{encoded}
 use Rattle.gs_bits.proofs.hex_text.encode.Goals as goal
 
