@@ -1,0 +1,4 @@
+pub mod CutLemmas
+pub mod Judged
+pub mod KeyPaths
+pub mod OrderLemmas

@@ -1,0 +1,18 @@
+use Rattle.std.proofs.Common.{map, reverse, sym, ◌∙◌, ap, take, Some}
+use Rattle.gs_dlink.specs.Values.{written_of}
+use Rattle.gs_dlink.proofs.KeyPaths.{key_found, none_left, one_left, one_pair_more, pushed}
+use Rattle.gs_dlink.proofs.path.key_path.Goals as goal
+
+pub returns-in_default : goal.returns-in_default
+returns-in_default c =
+    none_left c.args.table.now c.rows.ensures.kept c.args.at c.args.path.now c.loop-value.front.now (map written_of (reverse c.loop-value.pairs.items)) c.loop-value.invariant c.in_default.ensures
+
+pub returns-in_default-last_slash : goal.returns-in_default-last_slash
+returns-in_default-last_slash c =
+    one_left c.args.table.now c.rows.ensures.kept c.args.at c.args.path.now c.loop-value.front.now (map written_of (reverse c.loop-value.pairs.items)) c.loop-value.invariant c.in-Some.value c.in-Some.ensures c.in_default-last_slash.ensures
+
+pub loop-value-preserved : goal.loop-value-preserved
+loop-value-preserved c =
+    rw (pushed written_of c.loop-value.pairs.items c.push.new.self.items _ c.in_ok-push.ensures.items)
+    (one_pair_more c.args.table.now c.rows.ensures.kept c.args.at c.args.path.now c.loop-value.front.now (map written_of (reverse c.loop-value.pairs.items)) c.loop-value.invariant c.in-Some.value c.in-Some-last_slash.code
+    c.in-Some.ensures c.in-Some-last_slash.ensures (sym c.is_key.ensures ∙ c.if-is_key.false))
