@@ -1,5 +1,5 @@
 -- Texts that are cut at the first or the last byte that passes a test, and the pieces between such bytes.
-use Rattle.std.proofs.Common.{◌≡◌, ℕ, zero, suc, ◌+◌, ◌-◌, ◌<◌, ◌≤◌, ◌||◌, ◌==◌, not, Bool, true, false, cond, List, [], ◌∷◌, ◌++◌, length, get_or, take, drop, Option, Some, None, refl, sym, ap, ◌∙◌, arith, inl, inr, if◌then◌else◌, true≢false, drop-cons, take-append-drop, add-one, append-nil}
+use Rattle.std.proofs.Common.{◌≡◌, ℕ, zero, suc, ◌+◌, ◌-◌, ◌<◌, ◌≤◌, ◌||◌, ◌==◌, not, Bool, true, false, cond, List, [], ◌∷◌, ◌++◌, length, get_or, take, drop, Option, Some, None, refl, sym, ap, ◌∙◌, arith, inl, inr, if◌then◌else◌, true≢false, drop-cons, take-append-drop, add-one, append-nil, append_assoc, length-drop}
 use Rattle.std.specs.List.{after_first, before_first, list_any, position_or_len}
 use Rattle.std.specs.Option.{MatchOption, unwrap_or}
 use Rattle.std.proofs.lemmas.Bool.Decides.{nat_tests}
@@ -7,7 +7,7 @@ use Rattle.std.proofs.lemmas.List.{get_or-drop}
 use Rattle.std.proofs.lemmas.List.Sums.{position_or_len_is}
 use Rattle.memchr.specs.Find.{IsFirstByte, IsLastByte, NoneAfter, Nowhere, Passes}
 use Rattle.gs_chars.proofs.TruthsAndLists.{false_from, true_or_false}
-use Rattle.gs_dlink.specs.Uris.{LastSlash, NoSlash, Piece, is_slash, part_pairs, pieces_behind, query_pairs, query_parts, segments, separates_parts}
+use Rattle.gs_dlink.specs.Uris.{LastSlash, NoSlash, Piece, is_slash, part_pairs, pieces_behind, query_pairs, query_parts, segments, separates_parts, Written}
 
 -- ---- what the searches of `memchr` give
 
@@ -170,3 +170,26 @@ pieces_end at (c ∷ query) h = elim (true_or_false (separates_parts c)) [
 pub parts_end : (at : ℕ) (query : List ℕ) → first_place query ≡ length query → query_pairs at query ≡ part_pairs (record { at = at; text = take (first_place query) query })
 unfolding query_pairs
 parts_end at query h = rw (pieces_end at query h) (append-nil _)
+
+-- ---- the rest of a text
+
+pub take_all : {X : Type 0} (xs : List X) (n : ℕ) → length xs ≤ n → take n xs ≡ xs
+take_all [] zero h = refl
+take_all [] (suc n) h = refl
+take_all (x ∷ xs) zero h = absurd (omega arith)
+take_all (x ∷ xs) (suc n) h = ap (λ ys. x ∷ ys) (take_all xs n (omega arith))
+
+pub rest_taken : {X : Type 0} (n : ℕ) (xs : List X) → take (length xs - n) (drop n xs) ≡ drop n xs
+rest_taken n xs = take_all (drop n xs) (length xs - n) (omega (arith, length-drop n xs))
+
+-- ---- the loop over a query
+
+module _ (all front new : List Written) (at : ℕ) (rest : List ℕ) (end : ℕ) (so_far : front ++ query_pairs at rest ≡ all) (place : end ≡ first_place rest) (part : new ≡ front ++ part_pairs (record { at = at; text = take end rest })) where
+  pub query_ends : end ≡ length rest → new ≡ all
+  query_ends last = part ∙ rw place (ap (λ pairs. front ++ pairs) (sym (parts_end at rest (sym place ∙ last)))) ∙ so_far
+
+  pub query_goes_on : end < length rest → new ++ query_pairs (at + (end + 1)) (drop (end + 1) rest) ≡ all
+  query_goes_on low =
+      let low' : first_place rest < length rest = rw place at low in
+      let e : at + (first_place rest + 1) ≡ at + first_place rest + 1 = omega arith in
+      rw (part, place, e) (append_assoc front (part_pairs (record { at = at; text = take (first_place rest) rest })) _ ∙ ap (λ pairs. front ++ pairs) (sym (parts_step at rest low'))) ∙ so_far

@@ -1,9 +1,8 @@
 -- The answer to a pair, and to pairs, by what was found of them.
-use Rattle.std.proofs.Common.{◌≡◌, ◌⊎◌, ℕ, zero, suc, ◌+◌, ◌<◌, ◌≤◌, not, Bool, true, false, List, [], ◌∷◌, ◌++◌, length, map, take, find, slice_get, get_or, Some, None, refl, sym, ap, ◌∙◌, inl, inr, arith}
+use Rattle.std.proofs.Common.{◌≡◌, ◌≢◌, ◌⊎◌, ℕ, zero, suc, ◌+◌, ◌<◌, ◌≤◌, not, Bool, true, false, List, [], ◌∷◌, ◌++◌, length, map, take, find, slice_get, get_or, Some, None, refl, sym, ap, ◌∙◌, inl, inr, arith}
 use Rattle.std.specs.Prelude.{Result, Ok, Err}
 use Rattle.std.proofs.lemmas.List.{map-append}
 use Rattle.percent_encoding.specs.Percent.{percent_decode}
-use Rattle.gs_chars.proofs.TruthsAndLists.{read_at}
 use Rattle.gs_ai.specs.declared.faults.ElementWhy.TheVariants.{Value, Escape}
 use Rattle.gs_ai.specs.declared.faults.ValueFault.{ValueFault}
 use Rattle.gs_ai.specs.declared.faults.ValueFault.TheVariants.{Unknown}
@@ -12,8 +11,9 @@ use Rattle.gs_ai.specs.declared.row.AiRow.{AiRow}
 use Rattle.gs_ai.specs.Values.{has_code, value_fault}
 use Rattle.gs_dlink.specs.declared.fault.LinkFault.{LinkFault}
 use Rattle.gs_dlink.specs.declared.fault.LinkFault.TheVariants.{Element, Memory}
-use Rattle.gs_dlink.specs.Answers.{OrMemory, then_pairs, written_answer}
+use Rattle.gs_dlink.specs.Answers.{OrMemory, fault_in, then_pairs, written_answer}
 use Rattle.gs_dlink.specs.Uris.{Written}
+use Rattle.gs_dlink.proofs.CutLemmas.{take_all}
 use Rattle.gs_dlink.specs.Values.{are_escapes, by_value, padded, pair_answer, value_of}
 
 module _ (table : List AiRow) (pair : Written) where
@@ -35,10 +35,7 @@ module _ (table : List AiRow) (pair : Written) where
 
 module _ (table : List AiRow) where
   pub answer_append : (xs ys : List Written) (ps : List Pair) → written_answer table xs ≡ Ok ps → (qs : List Pair) → written_answer table ys ≡ Ok qs → written_answer table (xs ++ ys) ≡ Ok (ps ++ qs)
-  answer_append [] ys ps h qs k = let same : [] ≡ ps = ok_same [] ps h in rw (← same) k
-    where
-      ok_same : (a b : List Pair) → Ok {E = LinkFault} a ≡ Ok b → a ≡ b
-      ok_same a b h = cc
+  answer_append [] ys ps h qs k = let same : [] ≡ ps = cc in rw (← same) k
   answer_append (x ∷ xs) ys ps h qs k = by (pair_answer table x) (written_answer table xs) refl refl h (λ os e. answer_append xs ys os e qs k)
     where
       by : (a : Result Pair LinkFault) (b : Result (List Pair) LinkFault) → pair_answer table x ≡ a → written_answer table xs ≡ b → then_pairs a b ≡ Ok ps → ((os : List Pair) → written_answer table xs ≡ Ok os → written_answer table (xs ++ ys) ≡ Ok (os ++ qs)) → then_pairs (pair_answer table x) (written_answer table (xs ++ ys)) ≡ Ok (ps ++ qs)
@@ -66,25 +63,34 @@ module _ (table : List AiRow) where
       let e : suc i + 1 ≡ suc (i + 1) = omega arith in
       (rest.0, ap (λ zs. y ∷ zs) rest.1, rw e (ap (λ zs. y ∷ zs) rest.2))
 
-  module _ {X : Type 0} (f : X → Written) (xs : List X) (i : ℕ) (x : X) (ps : List Pair) (low : i < length xs) (here : x ≡ get_or xs i x) (so_far : written_answer table (map f (take i xs)) ≡ Ok ps) where
-    pub pair_refused : (e : LinkFault) → OrMemory (Err e) (pair_answer table (f x)) → OrMemory (Err e) (written_answer table (map f xs))
+  got : {X : Type 0} (xs : List X) (i : ℕ) (d : X) → i < length xs → slice_get xs i ≡ Some (get_or xs i d)
+  got [] i d low = absurd (omega arith)
+  got (y ∷ xs) zero d low = refl
+  got (y ∷ xs) (suc i) d low = got xs i d (omega arith)
+
+  module _ {X : Type 0} (f : X → Written) (xs : List X) (i : ℕ) (d : X) (ps : List Pair) (low : i < length xs) (so_far : written_answer table (map f (take i xs)) ≡ Ok ps) where
+    pub pair_refused : (e : LinkFault) → OrMemory (Err e) (pair_answer table (f (get_or xs i d))) → OrMemory (Err e) (written_answer table (map f xs))
     pair_refused e (inl m) = let same : e ≡ Memory = cc in inl (ap Err same)
     pair_refused e (inr h) =
-        let split = split_at xs i x (read_at xs i x low here) in
-        inr (sym (ap (λ zs. written_answer table (map f zs)) split.1 ∙ ap (written_answer table) (map-append f (take i xs) (x ∷ split.0)) ∙ answer_refused (map f (take i xs)) (map f split.0) (f x) ps e so_far (sym h)))
+        let split = split_at xs i (get_or xs i d) (got xs i d low) in
+        inr (sym (ap (λ zs. written_answer table (map f zs)) split.1 ∙ ap (written_answer table) (map-append f (take i xs) (get_or xs i d ∷ split.0)) ∙ answer_refused (map f (take i xs)) (map f split.0) (f (get_or xs i d)) ps e so_far (sym h)))
 
-    pub pair_more : (p : Pair) (new : List Pair) → OrMemory (Ok p) (pair_answer table (f x)) → new ≡ ps ++ p ∷ [] → written_answer table (map f (take (i + 1) xs)) ≡ Ok new
+    pub pair_more : (p : Pair) (new : List Pair) → OrMemory (Ok p) (pair_answer table (f (get_or xs i d))) → new ≡ ps ++ p ∷ [] → written_answer table (map f (take (i + 1) xs)) ≡ Ok new
     pair_more p new (inl m) e = absurd (let bad : Ok p ≡ Err Memory = m in cc)
     pair_more p new (inr h) e =
-        let split = split_at xs i x (read_at xs i x low here) in
-        let one : written_answer table (f x ∷ []) ≡ Ok (p ∷ []) = rw (← h) refl in
-        ap (λ zs. written_answer table (map f zs)) split.2 ∙ ap (written_answer table) (map-append f (take i xs) (x ∷ [])) ∙ answer_append (map f (take i xs)) (f x ∷ []) ps so_far (p ∷ []) one ∙ ap Ok (sym e)
-
-take_all : {X : Type 0} (xs : List X) (i : ℕ) → length xs ≤ i → take i xs ≡ xs
-take_all [] zero h = refl
-take_all [] (suc i) h = refl
-take_all (x ∷ xs) zero h = absurd (omega arith)
-take_all (x ∷ xs) (suc i) h = ap (λ ys. x ∷ ys) (take_all xs i (omega arith))
+        let split = split_at xs i (get_or xs i d) (got xs i d low) in
+        let one : written_answer table (f (get_or xs i d) ∷ []) ≡ Ok (p ∷ []) = rw (← h) refl in
+        ap (λ zs. written_answer table (map f zs)) split.2 ∙ ap (written_answer table) (map-append f (take i xs) (get_or xs i d ∷ [])) ∙ answer_append (map f (take i xs)) (f (get_or xs i d) ∷ []) ps so_far (p ∷ []) one ∙ ap Ok (sym e)
 
 pub all_pairs : {X : Type 0} (table : List AiRow) (f : X → Written) (xs : List X) (i : ℕ) (ps : List Pair) → length xs ≤ i → written_answer table (map f (take i xs)) ≡ Ok ps → OrMemory (Ok ps) (written_answer table (map f xs))
 all_pairs table f xs i ps all h = inr (sym (rw (take_all xs i all) at h))
+
+-- ---- the answer of a public call
+
+pub answer_pairs : (answer : Result (List Pair) LinkFault) (ps : List Pair) → OrMemory (Ok ps) answer → answer ≡ Ok ps
+answer_pairs answer ps (inl m) = absurd (let bad : Ok ps ≡ Err Memory = m in cc)
+answer_pairs answer ps (inr h) = sym h
+
+pub answer_fault : (answer : Result (List Pair) LinkFault) (e : LinkFault) → OrMemory (Err e) answer → e ≢ Memory → fault_in answer ≡ Some e
+answer_fault answer e (inl m) other = absurd (other (let same : e ≡ Memory = cc in same))
+answer_fault answer e (inr h) other = rw (← h) refl

@@ -107,7 +107,7 @@ module _ (table : List AiRow) (rules : KeepsRules table) where
   no_odd_path x u d h none = rw (odd x u d h) (no_path u d h none)
 
   abbrev path_if : List Written → Option (List Written)
-  path_if pairs = if is_key_path table pairs then Some pairs else None
+  path_if pairs = path_or table (Some pairs) None
 
   -- what the segments before a key are does not matter
   pub path_from_key : (f u : List Piece) (s : Written) (d : List Written) → paired u ≡ Some (s ∷ d) → is_key s.code ≡ true → list_any is_key (codes_of d) ≡ false → key_path table (f ++ u) ≡ path_if (s ∷ d)
@@ -201,6 +201,7 @@ module _ (table : List AiRow) (rules : KeepsRules table) (at : ℕ) (path front 
       walked.cut ∙ rw (segments_last at front value last, segments_last at (take value front) code before) (append_assoc (segments at (take code (take value front)) ++ c ∷ []) (v ∷ []) walked.behind ∙ append_assoc (segments at (take code (take value front))) (c ∷ []) (v ∷ walked.behind)),
       rw (walked.in_pairs, low) refl)
 
+  -- the pair of a key in front of the others
   pub key_found : (value code : ℕ) → LastSlash front value → LastSlash (take value front) code → is_key_of table (last_pair value code).code ≡ true → key_path table (segments at path) ≡ path_if table rules (last_pair value code ∷ pairs)
   key_found value code last before key =
       let u = two_behind value code last before in
@@ -220,3 +221,10 @@ module _ (table : List AiRow) (rules : KeepsRules table) (at : ℕ) (path front 
 -- one pair more, in front of those so far
 pub pushed : {X : Type 0} (f : X → Written) (old new : List X) (x : X) → new ≡ old ++ x ∷ [] → map f (reverse new) ≡ f x ∷ map f (reverse old)
 pushed f old new x e = rw (e, reverse-append old (x ∷ [])) refl
+
+-- the key path of a key and the pairs behind it
+pub ordered_path : (table : List AiRow) (key : Written) (pairs : List Written) → is_key_of table key.code ≡ true → is_in_order (listed_of table key.code) (codes_of pairs) ≡ true → Some (key ∷ pairs) ≡ path_or table (Some (key ∷ pairs)) None
+ordered_path table key pairs is ordered = rw (is, ordered) refl
+
+pub no_ordered_path : (table : List AiRow) (key : Written) (pairs : List Written) → is_key_of table key.code ≡ true → is_in_order (listed_of table key.code) (codes_of pairs) ≡ false → None ≡ path_or table (Some (key ∷ pairs)) None
+no_ordered_path table key pairs is ordered = rw (is, ordered) refl

@@ -56,7 +56,7 @@ drop_all (x ∷ xs) zero h = absurd (omega arith)
 drop_all (x ∷ xs) (suc n) h = drop_all xs n (omega arith)
 
 pub order_ends : (list : List (List ℕ)) (pairs : List Written) (index next size : ℕ) → Ordered list pairs index next → length list ≤ index → length pairs ≡ size → (next == size) ≡ is_in_order list (codes_of pairs)
-order_ends list pairs index next size ordered all e = rw (← e) (at_end pairs next ordered.within) ∙ sym (ordered.left ∙ rw (drop_all list index all) refl)
+order_ends list pairs index next size ordered all e = ap (λ (n : ℕ). next == n) (sym e) ∙ at_end pairs next ordered.within ∙ sym (ordered.left ∙ rw (drop_all list index all) refl)
 
 -- ---- escapes
 

@@ -1,5 +1,6 @@
-ghost use Rattle.std.specs.Prelude.{◌≡◌, ◌+◌, ◌<◌, ◌^◌, IfOk, MatchOption, map, option_map, length};
-ghost use Rattle.gs_dlink.specs.Paths.{codes_of, is_code_at, is_in_order, key_path, listed_of};
+ghost use Rattle.std.specs.Prelude.{◌≡◌, ◌+◌, ◌<◌, ◌^◌, ◌∷◌, true, IfOk, MatchOption, None, Some, map, option_map, length, reverse};
+ghost use Rattle.gs_ai.specs.Tables.{is_key_of};
+ghost use Rattle.gs_dlink.specs.Paths.{codes_of, is_code_at, is_in_order, key_path, listed_of, path_or};
 ghost use Rattle.gs_dlink.specs.Uris.{LastSlash, NoSlash, segments};
 ghost use Rattle.gs_dlink.specs.Values.{written_of};
 
@@ -49,6 +50,25 @@ fn listed<'a>(table: &'a AiTable, key: &[u8]) -> &'a [Text]
     }
 }
 
+/// The key path of a key and of the pairs behind it, last pair first, where they are one.
+fn with_key<'a>(
+    table: &AiTable,
+    key: WrittenPair<'a>,
+    pairs: Vec<WrittenPair<'a>>,
+) -> Result<Option<Vec<WrittenPair<'a>>>, Memory>
+    requires { is_key_of table.now key.code.now ≡ true }
+    ensures { IfOk result (λ found. option_map (λ path. map written_of path.items) found
+        ≡ path_or table.now (Some (written_of key.entry ∷ map written_of (reverse pairs.entry.items))) None) }
+{
+    let mut path = pairs;
+    path.reverse();
+    if !are_in_order(listed(table, key.code), path.as_slice()) {
+        return Ok(None);
+    }
+    path.insert(0, key)?;
+    Ok(Some(path))
+}
+
 /// The pairs of the key path in which the path ends: the segments are looked at from the end, two at a time, up to the code
 /// of a key.
 pub(crate) fn key_path<'a>(
@@ -76,14 +96,10 @@ pub(crate) fn key_path<'a>(
             code: &before[code + 1..],
             value: &front[value + 1..],
         };
-        pairs.push(pair)?;
         if table.is_key(pair.code) {
-            pairs.reverse();
-            if !are_in_order(listed(table, pair.code), &pairs.as_slice()[1..]) {
-                return Ok(None);
-            }
-            return Ok(Some(pairs));
+            return with_key(table, pair, pairs);
         }
+        pairs.push(pair)?;
         front = &before[..code];
     }
 }

@@ -1,4 +1,4 @@
-ghost use Rattle.std.specs.Prelude.{◌≡◌, ◌+◌, ◌<◌, ◌^◌, ◌++◌, ◌≤◌, OnOk, drop, map, length};
+ghost use Rattle.std.specs.Prelude.{◌≡◌, ◌+◌, ◌^◌, ◌++◌, ◌≤◌, OnOk, drop, map, length};
 ghost use Rattle.gs_dlink.specs.Uris.{part_pairs, query_pairs};
 ghost use Rattle.gs_dlink.specs.Values.{written_of};
 
@@ -35,7 +35,7 @@ pub(crate) fn push_query<'a>(
     at: usize,
     query: &'a [u8],
 ) -> Result<(), Memory>
-    requires { at + length query.now < 2 ^ 63 }
+    requires { at + length query.now ≤ 2 ^ 63 }
     ensures { OnOk result (map written_of pairs.new.items ≡ map written_of pairs.old.items ++ query_pairs at query.now) }
 {
     let mut at = at;
@@ -47,6 +47,6 @@ pub(crate) fn push_query<'a>(
             return Ok(());
         }
         at += end + 1;
-        rest = &rest[end + 1..];
+        rest = behind(rest, end);
     }
 }

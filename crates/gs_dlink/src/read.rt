@@ -1,6 +1,6 @@
 ghost use Rattle.std.specs.Prelude.{◌≡◌, ◌≢◌, ◌+◌, ◌<◌, ◌≤◌, ◌^◌, IfOk, IfErr, IfSome, IsTrue, Some, map, length};
 ghost use Rattle.std.specs.Char.{to_ascii_lowercase};
-ghost use Rattle.gs_dlink.specs.Answers.{IsLink, IsTarget, OrMemory, link_fault, target_answer, target_fault, written_answer};
+ghost use Rattle.gs_dlink.specs.Answers.{IsLink, IsTarget, OrMemory, is_rooted, link_fault, target_answer, target_fault, written_answer};
 ghost use Rattle.gs_dlink.specs.Uris.{authority_end, has_scheme, scheme_end};
 ghost use Rattle.gs_dlink.specs.Values.{written_of};
 
@@ -71,6 +71,16 @@ fn authority_end(text: &[u8]) -> Option<usize>
     if len == 0 { None } else { Some(scheme + len) }
 }
 
+/// Whether the path is empty or begins with a slash.
+fn is_rooted(path: &[u8]) -> bool
+    ensures { result ≡ is_rooted path.now }
+{
+    match path {
+        [first, ..] => *first == b'/',
+        [] => true,
+    }
+}
+
 /// The pairs of a path with its query that stand at a place in the whole text, or the first fault.
 #[tactic(auto, unfolding(crate::specs::Answers::target_answer))]
 fn read_at(
@@ -85,7 +95,7 @@ fn read_at(
     let text = &text[..place_of(text, b'#')];
     let end = place_of(text, b'?');
     let path = &text[..end];
-    if !path.is_empty() && path[0] != b'/' {
+    if !is_rooted(path) {
         return Err(LinkFault::NoKeyPath);
     }
     let Some(mut written) = key_path(alloc, table, at, path)? else {

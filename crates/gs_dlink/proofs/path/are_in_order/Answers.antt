@@ -15,4 +15,4 @@ loop-code-preserved c =
     ]
 
 pub returns : goal.returns
-returns c = order_ends c.args.list.now (map written_of c.args.pairs.now) c.loop-code.code-index c.loop-code.next _ c.loop-code.invariant c.loop-code-test.false (length-map written_of c.args.pairs.now)
+returns c = order_ends c.args.list.now (map written_of c.args.pairs.now) c.loop-code.code-index c.loop-code.next _ c.loop-code.invariant c.loop-code-test.false (length-map c.args.pairs.now written_of)
