@@ -6,7 +6,7 @@ use Rattle.std.proofs.lemmas.Bool.Decides.{nat_tests}
 use Rattle.std.proofs.lemmas.List.{get_or-drop}
 use Rattle.std.proofs.lemmas.List.Sums.{position_or_len_is}
 use Rattle.memchr.specs.Find.{IsFirstByte, IsLastByte, NoneAfter, Nowhere, Passes}
-use Rattle.gs_chars.proofs.TruthsAndLists.{false_from, true_or_false}
+use Rattle.gs_chars.proofs.TruthsAndLists.{false_from, or_second, true_or_false}
 use Rattle.gs_dlink.specs.Uris.{LastSlash, NoSlash, Piece, is_slash, part_pairs, pieces_behind, query_pairs, query_parts, segments, separates_parts, Written}
 
 -- ---- what the searches of `memchr` give
@@ -54,6 +54,13 @@ last_at text k none h = record {
 pub slash_answer : (text : List ℕ) (r : Option ℕ) → IsLastByte is_slash text r → MatchOption r (NoSlash text) (LastSlash text)
 slash_answer text None h = no_slash text h
 slash_answer text (Some k) h = last_at text k h.0 h.1
+
+pub any_append : (test : ℕ → Bool) (a b : List ℕ) → list_any test a ≡ false → list_any test b ≡ false → list_any test (a ++ b) ≡ false
+any_append test [] b f g = g
+any_append test (c ∷ a) b f g = elim (true_or_false (test c)) [
+  | inl t ↦ absurd (let h = rw t at f in let bad : true ≡ false = h in cc)
+  | inr t ↦ let h = rw t at f in rw t (any_append test a b h g)
+]
 
 -- ---- the first byte, one byte at a time
 
@@ -193,3 +200,20 @@ module _ (all front new : List Written) (at : ℕ) (rest : List ℕ) (end : ℕ)
       let low' : first_place rest < length rest = rw place at low in
       let e : at + (first_place rest + 1) ≡ at + first_place rest + 1 = omega arith in
       rw (part, place, e) (append_assoc front (part_pairs (record { at = at; text = take (first_place rest) rest })) _ ∙ ap (λ pairs. front ++ pairs) (sym (parts_step at rest low'))) ∙ so_far
+
+-- ---- what a byte that passes leaves where it is
+
+module _ (test : ℕ → Bool) where
+  pub place_seam : (a b : List ℕ) (s : ℕ) → test s ≡ true → position_or_len test (a ++ s ∷ b) ≡ position_or_len test a
+  place_seam [] b s h = rw h refl
+  place_seam (c ∷ a) b s h = ap (λ n. cond (not (test c)) (1 + n) 0) (place_seam a b s h)
+
+  pub place_within : (a : List ℕ) → position_or_len test a ≤ length a
+  place_within [] = omega arith
+  place_within (c ∷ a) = elim (true_or_false (test c)) [ inl t ↦ rw t (omega arith) | inr t ↦ rw t (omega (arith, place_within a)) ]
+
+  pub any_drop : (a : List ℕ) (n : ℕ) → list_any test a ≡ false → list_any test (drop n a) ≡ false
+  any_drop [] zero h = refl
+  any_drop [] (suc n) h = refl
+  any_drop (c ∷ a) zero h = h
+  any_drop (c ∷ a) (suc n) h = any_drop a n (or_second (test c) (list_any test a) h)
