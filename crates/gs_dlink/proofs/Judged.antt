@@ -1,20 +1,23 @@
 -- The answer to a pair, and to pairs, by what was found of them.
-use Rattle.std.proofs.Common.{◌≡◌, ◌≢◌, ◌⊎◌, ℕ, zero, suc, ◌+◌, ◌<◌, ◌≤◌, not, Bool, true, false, List, [], ◌∷◌, ◌++◌, length, map, take, find, slice_get, get_or, Some, None, refl, sym, ap, ◌∙◌, inl, inr, arith}
+use Rattle.std.proofs.Common.{◌≡◌, ◌≢◌, ◌⊎◌, ℕ, zero, suc, ◌+◌, ◌<◌, ◌≤◌, not, Bool, true, false, List, [], ◌∷◌, ◌++◌, length, map, take, find, slice_get, get_or, Option, Some, None, option_map, All, refl, sym, ap, ◌∙◌, inl, inr, arith}
 use Rattle.std.specs.Prelude.{Result, Ok, Err}
 use Rattle.std.proofs.lemmas.List.{map-append}
+use Rattle.std.proofs.lemmas.List.Elements.{All-cons, All-nil}
 use Rattle.percent_encoding.specs.Percent.{percent_decode}
+use Rattle.gs_chars.proofs.TruthsAndLists.{true_or_false}
 use Rattle.gs_ai.specs.declared.faults.ElementWhy.TheVariants.{Value, Escape}
 use Rattle.gs_ai.specs.declared.faults.ValueFault.{ValueFault}
 use Rattle.gs_ai.specs.declared.faults.ValueFault.TheVariants.{Unknown}
 use Rattle.gs_ai.specs.declared.pair.Pair.{Pair}
 use Rattle.gs_ai.specs.declared.row.AiRow.{AiRow}
 use Rattle.gs_ai.specs.Values.{has_code, value_fault}
+use Rattle.gs_ident.specs.Identities.{IsInOrder}
 use Rattle.gs_dlink.specs.declared.fault.LinkFault.{LinkFault}
 use Rattle.gs_dlink.specs.declared.fault.LinkFault.TheVariants.{Element, Memory}
 use Rattle.gs_dlink.specs.Answers.{OrMemory, fault_in, then_pairs, written_answer}
 use Rattle.gs_dlink.specs.Uris.{Written}
 use Rattle.gs_dlink.proofs.CutLemmas.{take_all}
-use Rattle.gs_dlink.specs.Values.{are_escapes, by_value, padded, pair_answer, value_of}
+use Rattle.gs_dlink.specs.Values.{are_escapes, by_row, by_value, padded, pair_answer, value_of}
 
 module _ (table : List AiRow) (pair : Written) where
   pub unknown : None ≡ find (has_code pair.code) table → Err (Element (record { at = pair.at; why = Value Unknown })) ≡ pair_answer table pair
@@ -94,3 +97,28 @@ answer_pairs answer ps (inr h) = sym h
 pub answer_fault : (answer : Result (List Pair) LinkFault) (e : LinkFault) → OrMemory (Err e) answer → e ≢ Memory → fault_in answer ≡ Some e
 answer_fault answer e (inl m) other = absurd (other (let same : e ≡ Memory = cc in same))
 answer_fault answer e (inr h) other = rw (← h) refl
+
+-- ---- pairs that are read are in order
+
+pub pair_in_order : (table : List AiRow) (w : Written) (p : Pair) → pair_answer table w ≡ Ok p → IsInOrder table p
+unfolding pair_answer
+pair_in_order table w p h = by_found (find (has_code w.code) table) h
+  where
+    by_fault : (value : List ℕ) (o : Option ValueFault) → value_fault table w.code value ≡ o → by_value w value (option_map Value o) ≡ Ok p → IsInOrder table p
+    by_fault value (Some fault) e f = absurd (let bad : Err (Element (record { at = w.at; why = Value fault })) ≡ Ok p = f in cc)
+    by_fault value None e f = let own : record { code = w.code; value = value } ≡ p = cc in record { fits = rw (← own) e }
+    by_found : (o : Option AiRow) → by_row table w o ≡ Ok p → IsInOrder table p
+    by_found None f = absurd (let bad : Err (Element (record { at = w.at; why = Value Unknown })) ≡ Ok p = f in cc)
+    by_found (Some row) f = elim (true_or_false (are_escapes w.value)) [
+      | inl t ↦ let g = rw t at f in by_fault (value_of row w.value) (value_fault table w.code (value_of row w.value)) refl g
+      | inr t ↦ absurd (let g = rw t at f in let bad : Err (Element (record { at = w.at; why = Escape })) ≡ Ok p = g in cc)
+    ]
+
+pub written_in_order : (table : List AiRow) (ws : List Written) (ps : List Pair) → written_answer table ws ≡ Ok ps → All (IsInOrder table) ps
+written_in_order table [] ps h = let same : [] ≡ ps = cc in rw (← same) (All-nil (IsInOrder table))
+written_in_order table (w ∷ ws) ps h = by (pair_answer table w) (written_answer table ws) refl refl h (λ os e. written_in_order table ws os e)
+  where
+    by : (a : Result Pair LinkFault) (b : Result (List Pair) LinkFault) → pair_answer table w ≡ a → written_answer table ws ≡ b → then_pairs a b ≡ Ok ps → ((os : List Pair) → written_answer table ws ≡ Ok os → All (IsInOrder table) os) → All (IsInOrder table) ps
+    by (Err e) b f g h rest = absurd (let bad : Err e ≡ Ok ps = h in cc)
+    by (Ok p) (Err e) f g h rest = absurd (let bad : Err e ≡ Ok ps = h in cc)
+    by (Ok p) (Ok os) f g h rest = let same : p ∷ os ≡ ps = cc in rw (← same) (All-cons (IsInOrder table) p os (pair_in_order table w p f) (rest os g))

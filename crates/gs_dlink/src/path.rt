@@ -11,6 +11,7 @@ use memchr::memrchr;
 use std::alloc::Global;
 
 /// The place of the last slash.
+#[tactic(auto, using(crate::proofs::CutLemmas::slash_answer))]
 fn last_slash(text: &[u8]) -> Option<usize>
     ensures { MatchOption result (NoSlash text.now) (LastSlash text.now) }
 {
@@ -78,7 +79,8 @@ pub(crate) fn key_path<'a>(
     path: &'a [u8],
 ) -> Result<Option<Vec<WrittenPair<'a>>>, Memory>
     requires { at + length path.now < 2 ^ 63 }
-    ensures { IfOk result (λ pairs. option_map (λ found. map written_of found.items) pairs ≡ key_path table.now (segments at path.now)) }
+    ensures { IfOk result (λ pairs. option_map (λ found. map written_of found.items) pairs
+        ≡ key_path table.now (segments at path.now)) }
 {
     let _ = table.rows();
     let mut pairs = Vec::new(alloc);

@@ -17,7 +17,8 @@ pub(crate) fn behind(text: &[u8], place: usize) -> &[u8]
 
 /// Appends the pair of a part of a query, where its name is one of digits.
 fn push_part<'a>(pairs: &mut Vec<WrittenPair<'a>>, at: usize, part: &'a [u8]) -> Result<(), Memory>
-    ensures { OnOk result (map written_of pairs.new.items ≡ map written_of pairs.old.items ++ part_pairs (record { at = at; text = part.now })) }
+    ensures { OnOk result (map written_of pairs.new.items
+        ≡ map written_of pairs.old.items ++ part_pairs (record { at = at; text = part.now })) }
 {
     let name = place_of(part, b'=');
     let code = &part[..name];
@@ -36,7 +37,8 @@ pub(crate) fn push_query<'a>(
     query: &'a [u8],
 ) -> Result<(), Memory>
     requires { at + length query.now ≤ 2 ^ 63 }
-    ensures { OnOk result (map written_of pairs.new.items ≡ map written_of pairs.old.items ++ query_pairs at query.now) }
+    ensures { OnOk result (map written_of pairs.new.items
+        ≡ map written_of pairs.old.items ++ query_pairs at query.now) }
 {
     let mut at = at;
     let mut rest = query;

@@ -1,5 +1,6 @@
-ghost use Rattle.std.specs.Prelude.{◌≡◌, ◌≢◌, ◌+◌, ◌<◌, ◌≤◌, ◌^◌, IfOk, IfErr, IfSome, IsTrue, Some, map, length};
+ghost use Rattle.std.specs.Prelude.{◌≡◌, ◌≢◌, All, ◌+◌, ◌<◌, ◌≤◌, ◌^◌, IfOk, IfErr, IfSome, IsTrue, Some, map, length};
 ghost use Rattle.std.specs.Char.{to_ascii_lowercase};
+ghost use Rattle.gs_ident.specs.Identities.{IsInOrder};
 ghost use Rattle.gs_dlink.specs.Answers.{IsLink, IsTarget, OrMemory, is_rooted, link_fault, target_answer, target_fault, written_answer};
 ghost use Rattle.gs_dlink.specs.Uris.{authority_end, has_scheme, scheme_end};
 ghost use Rattle.gs_dlink.specs.Values.{written_of};
@@ -19,6 +20,7 @@ use std::alloc::Global;
 /// the place of the pair's code in the text. `Memory` may come in place of any answer.
 pub fn read_link(alloc: Global, table: &AiTable, uri: &[u8]) -> Result<Vec<Pair>, LinkFault>
     ensures pairs { IfOk result (λ pairs. IsLink table.now uri.now pairs.items) }
+    ensures in_order { IfOk result (λ pairs. All (IsInOrder table.now) pairs.items) }
     ensures fault { IfErr result (λ e. e ≢ LinkFault.Memory → link_fault table.now uri.now ≡ Some e) }
 {
     let Some(at) = authority_end(uri) else {
@@ -31,7 +33,9 @@ pub fn read_link(alloc: Global, table: &AiTable, uri: &[u8]) -> Result<Vec<Pair>
 /// The same for the target of a request: a path with its query (RFC 9112, section 3.2.1). It never answers `NotHttp`.
 pub fn read_target(alloc: Global, table: &AiTable, target: &[u8]) -> Result<Vec<Pair>, LinkFault>
     ensures pairs { IfOk result (λ pairs. IsTarget table.now target.now pairs.items) }
-    ensures fault { IfErr result (λ e. e ≢ LinkFault.Memory → target_fault table.now target.now ≡ Some e) }
+    ensures in_order { IfOk result (λ pairs. All (IsInOrder table.now) pairs.items) }
+    ensures fault { IfErr result (λ e. e ≢ LinkFault.Memory
+        → target_fault table.now target.now ≡ Some e) }
 {
     let pairs = read_at(alloc, table, 0, target)?;
     Ok(pairs.into_vec())

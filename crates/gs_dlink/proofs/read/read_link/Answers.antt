@@ -3,7 +3,7 @@ use Rattle.std.proofs.lemmas.Result.{err_from_is_err_and}
 use Rattle.gs_dlink.specs.Answers.{fault_in, target_answer}
 use Rattle.gs_dlink.proofs.CutLemmas.{rest_taken}
 use Rattle.gs_dlink.proofs.Judged.{answer_fault, answer_pairs}
-use Rattle.gs_dlink.proofs.Targets.{link_by, no_link}
+use Rattle.gs_dlink.proofs.Targets.{link_by, no_link, target_in_order}
 use Rattle.gs_dlink.proofs.read.read_link.Goals as goal
 
 pub returns-in_default-clause-fault : goal.returns-in_default-clause-fault
@@ -19,3 +19,8 @@ pub returns-clause-pairs : goal.returns-clause-pairs
 returns-clause-pairs c =
     let own = rw (rest_taken c.in-Some.at c.args.uri.now) at c.in_ok-pairs.ensures in
     rw c.into_vec.ensures (link_by c.args.table.now c.args.uri.now c.in-Some.at c.in-Some.ensures.end ∙ answer_pairs (target_answer c.args.table.now c.in-Some.at (drop c.in-Some.at c.args.uri.now)) c.in_ok-pairs.pairs own)
+
+pub returns-clause-in_order : goal.returns-clause-in_order
+returns-clause-in_order c =
+    let own = rw (rest_taken c.in-Some.at c.args.uri.now) at c.in_ok-pairs.ensures in
+    rw c.into_vec.ensures (target_in_order c.args.table.now c.in-Some.at (drop c.in-Some.at c.args.uri.now) c.in_ok-pairs.pairs (answer_pairs (target_answer c.args.table.now c.in-Some.at (drop c.in-Some.at c.args.uri.now)) c.in_ok-pairs.pairs own))

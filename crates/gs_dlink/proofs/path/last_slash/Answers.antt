@@ -1,5 +1,0 @@
-use Rattle.gs_dlink.proofs.CutLemmas.{slash_answer}
-use Rattle.gs_dlink.proofs.path.last_slash.Goals as goal
-
-pub returns : goal.returns
-returns c = slash_answer c.args.text.now c.memrchr.result c.memrchr.ensures
