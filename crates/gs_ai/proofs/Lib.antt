@@ -1,8 +1,9 @@
-pub mod CodeOrder
 pub mod PartLemmas
 pub mod PartTexts
+pub mod PlaceLemmas
 pub mod RowLemmas
 pub mod RuleLemmas
 pub mod Searches
 pub mod StartLemmas
 pub mod TableLemmas
+pub mod ValueLemmas

@@ -1,16 +1,20 @@
-ghost use Rattle.std.specs.Prelude.{◌≡◌, false, None, is_some};
+ghost use Rattle.std.specs.Prelude.{◌≡◌, false, [], None, is_some};
 
 use crate::files::{Files, OpenAnswer};
+use crate::opened_names::OpenedNames;
 use crate::source::ReadAnswer;
+use crate::system::{open_fault, read_answer};
 use std::fs::File;
-use std::io::{ErrorKind, Read};
+use std::io::Read;
 
-/// The files of the system. Each error of an open or a read is counted. Nothing is told of them.
+/// The files of the system. Each error of an open or a read is counted, but for an error of want of memory, which an open
+/// answers by `Memory`. Nothing is told of the files but the names that were opened.
 #[derive(Drop)]
 pub struct HostFiles {
     rt: HostRuntime,
     current: Option<File>,
     faults: u64,
+    opened: OpenedNames,
 }
 
 impl HostFiles {
@@ -18,11 +22,14 @@ impl HostFiles {
     pub fn new(rt: HostRuntime) -> HostFiles
         ensures closed { ⟦<HostFiles as Files>⟧.is_open result ≡ false }
         ensures faults { ⟦<HostFiles as Files>⟧.faults result ≡ 0 }
+        ensures opened { ⟦<HostFiles as Files>⟧.opened result ≡ [] }
     {
+        let opened = OpenedNames::new(rt.alloc());
         HostFiles {
             rt,
             current: None,
             faults: 0,
+            opened,
         }
     }
 }
@@ -36,18 +43,19 @@ impl Files for HostFiles {
 
     ghost faults = { λ s. s.faults };
 
+    ghost opened = { λ s. s.opened };
+
     fn open(&mut self, name: &str) -> OpenAnswer {
         self.current = None;
+        if self.opened.add(name).is_err() {
+            return OpenAnswer::Memory;
+        }
         match File::open(&self.rt, name) {
             Ok(file) => {
                 self.current = Some(file);
                 OpenAnswer::Opened
             }
-            Err(error) if error.kind() == ErrorKind::OutOfMemory => OpenAnswer::Memory,
-            Err(_) => {
-                self.faults = self.faults.saturating_add(1);
-                OpenAnswer::Failed
-            }
+            Err(error) => open_fault(error, &mut self.faults),
         }
     }
 
@@ -55,12 +63,6 @@ impl Files for HostFiles {
         let Some(file) = &mut self.current else {
             unreachable!()
         };
-        match file.read(buf) {
-            Ok(moved) => ReadAnswer::Got(moved),
-            Err(_) => {
-                self.faults = self.faults.saturating_add(1);
-                ReadAnswer::Failed
-            }
-        }
+        read_answer(file.read(buf), &mut self.faults)
     }
 }

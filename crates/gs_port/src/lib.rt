@@ -6,11 +6,13 @@ mod host_files;
 mod mem_files;
 mod mem_sink;
 mod mem_source;
+mod opened_names;
 mod plan;
 mod reading;
 mod sink;
 mod source;
 mod stdio;
+mod system;
 mod transfer;
 mod whole;
 

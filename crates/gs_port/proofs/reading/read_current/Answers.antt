@@ -18,7 +18,8 @@ loop-block-preserved g c =
       read = rw piece (read_further _ _ _ _ _ c.loop-block.invariant.read c.in-Got.ensures.moved);
       current = c.in-Got.ensures.stays_open;
       files = c.in-Got.ensures.files ∙ c.loop-block.invariant.files;
-      counts = omega (arith, c.in-Got.ensures.counts, c.loop-block.invariant.counts);
+      same_names = c.in-Got.ensures.same_names ∙ c.loop-block.invariant.same_names;
+      count = c.in-Got.ensures.count ∙ c.loop-block.invariant.count;
     }
 
 pub returns-in_err-extend_from_slice-in-Got-clause-taken : goal.returns-in_err-extend_from_slice-in-Got-clause-taken

@@ -10,7 +10,8 @@ invariant-loop-block g l = record {
   read : g.F.Files.left l.fn.files ≡ prepend_known l.bytes.items (g.F.Files.left l.files);
   current : g.F.Files.is_open l.files ≡ true;
   files : g.F.Files.files l.files ≡ g.F.Files.files l.fn.files;
-  counts : g.F.Files.faults l.fn.files ≤ g.F.Files.faults l.files;
+  same_names : g.F.Files.opened l.files ≡ g.F.Files.opened l.fn.files;
+  count : g.F.Files.faults l.files ≡ g.F.Files.faults l.fn.files;
 }
 
 abbrev pub decreases-loop-block : goal.decreases-loop-block
