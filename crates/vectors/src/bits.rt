@@ -4,7 +4,7 @@
 //! - `from_hex N TEXT`: the number of bits and the bits, or the fault.
 //! - `take N HEX WIDTH..`: for each width the number of the next bits or `Short`, then how many are left.
 //! - `push_bits N NUMBER WIDTH ..`: `Full` for each number without room, then the bits.
-//! - `get N HEX I`: bit I. `number_at N HEX FROM WIDTH`: the number of these bits.
+//! - `get N HEX I`: bit I.
 
 ghost use Rattle.std.specs.Prelude.{◌≤◌, ◌<◌, ◌^◌, IsTrue, IfOk};
 
@@ -34,7 +34,6 @@ fn answer_of<const N: usize>(alloc: Global, call: &str, args: &[Text]) -> Answer
         "take" => take::<N>(alloc, arg(args, 0)?, behind(args, 1)),
         "push_bits" => push_bits::<N>(alloc, args),
         "get" => get::<N>(alloc, arg(args, 0)?, number(args, 1)?),
-        "number_at" => number_at::<N>(alloc, arg(args, 0)?, number(args, 1)?, number(args, 2)?),
         _ => Err(Refusal::NoCase),
     }
 }
@@ -139,16 +138,4 @@ fn get<const N: usize>(alloc: Global, digits: &[u8], i: u64) -> Answer
         return Err(Refusal::NoCase);
     }
     Ok(format!(in alloc; "{}", bits.get(i as usize))?)
-}
-
-fn number_at<const N: usize>(alloc: Global, digits: &[u8], from: u64, width: u64) -> Answer
-    requires { N ≤ 64 }
-{
-    let bits = buffer::<N>(digits)?;
-    let width = width_of(width)?;
-    let len = bits.len() as u64;
-    if from > len || u64::from(width) > len - from {
-        return Err(Refusal::NoCase);
-    }
-    Ok(format!(in alloc; "{}", bits.number_at(from as usize, width))?)
 }

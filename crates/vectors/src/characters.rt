@@ -5,7 +5,7 @@
 //! - `read_escape TEXT`: the character and the number of bytes, or `None`.
 //! - `write_escape C`: the number of bytes, and the three bytes of the buffer, which held `...` before.
 //! - `rows K K K KEY`: the index of the key, or `None`; `refused` where the keys are no rows.
-//! - `text TEXT`: its bytes. `compare A B`: the order of two texts. `list BYTES`: the items, and those given back.
+//! - `text TEXT`, `copy TEXT`: its bytes. `compare A B`: the order of two texts. `list BYTES`: the items, and those given back.
 
 ghost use Rattle.std.specs.Prelude.{◌≡◌};
 ghost use Rattle.gs_chars.specs.Characters.{are_digits};
@@ -23,6 +23,7 @@ pub fn answer(alloc: Global, call: &str, args: &[Text]) -> Answer {
         "write_escape" => escape_written(alloc, arg(args, 0)?),
         "rows" => rows(alloc, args),
         "text" => Ok(shown(alloc, Text::from_bytes(alloc, arg(args, 0)?)?.as_bytes())?),
+        "copy" => copy(alloc, arg(args, 0)?),
         "compare" => compare(alloc, arg(args, 0)?, arg(args, 1)?),
         "list" => list(alloc, arg(args, 0)?),
         _ => Err(Refusal::NoCase),
@@ -97,6 +98,12 @@ fn rows(alloc: Global, args: &[Text]) -> Answer {
         return Ok(String::from_str(alloc, "refused")?);
     };
     Ok(format!(in alloc; "{:?}", rows.find(key(args, 3)?))?)
+}
+
+fn copy(alloc: Global, bytes: &[u8]) -> Answer {
+    let text = Text::from_bytes(alloc, bytes)?;
+    let copy = text.copy(alloc)?;
+    Ok(shown(alloc, copy.as_bytes())?)
 }
 
 fn compare(alloc: Global, a: &[u8], b: &[u8]) -> Answer {

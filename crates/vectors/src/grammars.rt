@@ -7,10 +7,8 @@
 //! - `read_option HEX ITEM..`: the numbers of the items of one option, or `false`.
 //! - `write_text ITEM.. = VALUE..`: the text, or the fault. `write_bits ITEM.. = VALUE..`: the bits, or the fault.
 
-ghost use Rattle.std.specs.Prelude.{◌≡◌, ◌*◌, All, IfOk, not};
-ghost use Rattle.std.specs.List.{list_all};
-ghost use Rattle.gs_grammar.specs.Items.{is_packed};
-ghost use Rattle.gs_grammar.specs.Levels.{OptionForm};
+ghost use Rattle.std.specs.Prelude.{◌≡◌, IfOk};
+ghost use Rattle.gs_grammar.specs.Levels.{AreOfKind, OptionForm};
 
 use crate::bits::{bits_word, buffer};
 use crate::case::{Answer, Refusal, add, arg, behind, shown, shown_all};
@@ -58,7 +56,7 @@ fn made(alloc: Global, bit_level: bool, words: &[Text]) -> Result<Result<Opt, Op
     ensures { IfOk result (λ made. IfOk made (λ (option : OptionForm). option.bit_level ≡ bit_level)) }
 {
     let items = items_of(alloc, words)?;
-    Ok(Opt::new(bit_level, items))
+    Ok(Opt::new(alloc, bit_level, items))
 }
 
 /// The option of the items, which make one.
@@ -84,7 +82,7 @@ fn option(alloc: Global, level: &[u8], words: &[Text]) -> Answer {
 
 /// The options of the words.
 fn options_of(alloc: Global, bit_level: bool, words: &[Text]) -> Result<Vec<Opt>, Refusal>
-    ensures { IfOk result (λ options. All (λ (option : OptionForm). option.bit_level ≡ bit_level) options.items) }
+    ensures { IfOk result (λ options. AreOfKind bit_level options.items) }
 {
     let mut options = Vec::new(alloc);
     for group in words.split(|word| word.as_bytes() == b"|".as_slice()) {
@@ -123,21 +121,9 @@ fn bits_read(alloc: Global, digits: &[u8], words: &[Text]) -> Answer {
     reading_words(alloc, read_bits(alloc, &level, &bits))
 }
 
-/// Whether no item packs characters.
-fn are_numeric(items: &[Item]) -> bool
-    ensures { result ≡ list_all (λ item. not (is_packed item)) items.now }
-{
-    items
-        .iter()
-        .all(|item| !matches!(item, Item::Ascii7 { .. }))
-}
-
 fn option_read(alloc: Global, digits: &[u8], words: &[Text]) -> Answer {
     let option = option_of(alloc, true, words)?;
     let bits = buffer::<64>(digits)?;
-    if !are_numeric(option.items()) {
-        return Err(Refusal::NoCase);
-    }
     let mut numbers = vec![in alloc; 0u64; option.items().len()]?;
     if !read_option(&option, &bits, numbers.as_mut_slice()) {
         return Ok(String::from_str(alloc, "false")?);

@@ -1,8 +1,8 @@
 //! Calls of gs_ai, by the built-in table of application identifiers unless rows are given.
 //!
 //! - `part TEXT`, `role TEXT`: what is written so, `Other` where it is none.
-//! - `value_ok CODE VALUE`: `Ok`, or the fault.
-//! - `find CODE`, `begins TEXT`: the index of the row, or `None`. `is_key CODE`. `codes`: all codes in ascending order.
+//! - `value_ok CODE VALUE`, `row_value_ok CODE VALUE`, the latter by the row of the code: `Ok`, or the fault.
+//! - `find CODE`, `begins TEXT`: the index of the row, or `None`. `is_key CODE`.
 //! - `predefined CODE`: the length of code and value together by the row of the code, or `None`.
 //! - `row CODE`: its parts, role, qualifiers, whether it is short, and its text for none.
 //! - `copy CODE VALUE`: the pair.
@@ -10,7 +10,7 @@
 //!   behind the role may be left out and SHORT is `short` or empty.
 
 use crate::case::{Answer, Refusal, add, arg, shown, shown_all, text_of};
-use gs_ai::{AiFault, AiRow, AiTable, Pair, Part, Role};
+use gs_ai::{AiFault, AiRow, AiTable, Pair, Part, Role, ValueFault};
 use gs_chars::{List, Text};
 use gs_tables::TableSet;
 use std::alloc::Global;
@@ -22,9 +22,9 @@ pub fn answer(alloc: Global, set: &TableSet, call: &str, args: &[Text]) -> Answe
         "role" => Ok(format!(in alloc; "{:?}", Role::read(arg(args, 0)?))?),
         "copy" => copy(alloc, arg(args, 0)?, arg(args, 1)?),
         "table" => table(alloc, args),
-        "codes" => Ok(shown_all(alloc, set.ais().codes())?),
         "row" => row(alloc, set.ais(), arg(args, 0)?),
         "value_ok" => value_ok(alloc, set.ais(), arg(args, 0)?, arg(args, 1)?),
+        "row_value_ok" => row_value_ok(alloc, set.ais(), arg(args, 0)?, arg(args, 1)?),
         _ => looked_up(alloc, set.ais(), call, arg(args, 0)?),
     }
 }
@@ -42,10 +42,21 @@ fn looked_up(alloc: Global, table: &AiTable, call: &str, text: &[u8]) -> Answer 
     }
 }
 
-fn value_ok(alloc: Global, table: &AiTable, code: &[u8], value: &[u8]) -> Answer {
-    match table.value_ok(code, value) {
+fn judgement(alloc: Global, judged: Result<(), ValueFault>) -> Answer {
+    match judged {
         Ok(()) => Ok(String::from_str(alloc, "Ok")?),
         Err(fault) => Ok(format!(in alloc; "{fault:?}")?),
+    }
+}
+
+fn value_ok(alloc: Global, table: &AiTable, code: &[u8], value: &[u8]) -> Answer {
+    judgement(alloc, table.value_ok(code, value))
+}
+
+fn row_value_ok(alloc: Global, table: &AiTable, code: &[u8], value: &[u8]) -> Answer {
+    match table.find(code) {
+        Some(row) => judgement(alloc, table.row_value_ok(row, value)),
+        None => Err(Refusal::NoCase),
     }
 }
 

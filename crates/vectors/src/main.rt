@@ -21,6 +21,7 @@ mod identifiers;
 mod identities;
 mod item_words;
 mod outside;
+mod prefixes;
 mod tables;
 
 use answering::answers;

@@ -29,7 +29,7 @@ pub fn answer(alloc: Global, call: &str, args: &[Text]) -> Answer {
 }
 
 /// The most bytes that one call moves, at least 1.
-fn cut_of(args: &[Text], i: usize) -> Result<usize, Refusal>
+pub fn cut_of(args: &[Text], i: usize) -> Result<usize, Refusal>
     ensures { IfOk result (λ cut. 0 < cut) }
 {
     let cut = number(args, i)?;
@@ -57,7 +57,8 @@ fn read(alloc: Global, args: &[Text]) -> Answer {
     Ok(answer)
 }
 
-fn sink_of(alloc: Global, args: &[Text]) -> Result<MemSink, Refusal> {
+/// The empty sink of a most number of bytes and of the calls that fail.
+pub fn sink_of(alloc: Global, args: &[Text]) -> Result<MemSink, Refusal> {
     let fails = numbers_of(alloc, arg(args, 1)?)?;
     Ok(MemSink::new(alloc, cut_of(args, 0)?, fails))
 }
@@ -87,22 +88,28 @@ fn written_whole(alloc: Global, args: &[Text]) -> Answer {
     Ok(answer)
 }
 
-/// The files of the words before `/`, and the words behind it.
-fn files_of<'a>(alloc: Global, args: &'a [Text]) -> Result<(MemFiles, &'a [Text]), Refusal> {
-    let fails = numbers_of(alloc, arg(args, 0)?)?;
-    let words = behind(args, 1);
-    let Some(middle) = words
-        .iter()
-        .position(|word| word.as_bytes() == b"/".as_slice())
-    else {
-        return Err(Refusal::NoCase);
-    };
+/// The part of the arguments of a number, of those that `/` divides.
+pub fn section(args: &[Text], number: usize) -> Result<&[Text], Refusal> {
+    for (i, part) in args
+        .split(|word| word.as_bytes() == b"/".as_slice())
+        .enumerate()
+    {
+        if i == number {
+            return Ok(part);
+        }
+    }
+    Err(Refusal::NoCase)
+}
+
+/// The files of the calls that fail and of names and bytes.
+pub fn files_of(alloc: Global, words: &[Text]) -> Result<MemFiles, Refusal> {
+    let fails = numbers_of(alloc, arg(words, 0)?)?;
     let mut files = Vec::new(alloc);
-    for file in words[..middle].chunks(2) {
+    for file in behind(words, 1).chunks(2) {
         let name = String::from_str(alloc, text_of(arg(file, 0)?)?)?;
         files.push((name, arg(file, 1)?.to_vec(alloc)?))?;
     }
-    Ok((MemFiles::new(alloc, files, fails), &words[middle + 1..]))
+    Ok(MemFiles::new(alloc, files, fails))
 }
 
 /// What an open answers, and what a read moves then.
@@ -124,9 +131,9 @@ fn opened(alloc: Global, files: &mut MemFiles, name: &str) -> Answer {
 }
 
 fn open(alloc: Global, args: &[Text]) -> Answer {
-    let (mut files, names) = files_of(alloc, args)?;
+    let mut files = files_of(alloc, section(args, 0)?)?;
     let mut answer = String::new(alloc);
-    for name in names {
+    for name in section(args, 1)? {
         let words = opened(alloc, &mut files, text_of(name.as_bytes())?)?;
         add(&mut answer, words.as_str())?;
     }
@@ -153,9 +160,9 @@ fn file_read(alloc: Global, files: &mut MemFiles, name: &str, max: u64) -> Answe
 }
 
 fn files_read(alloc: Global, args: &[Text]) -> Answer {
-    let (mut files, reads) = files_of(alloc, args)?;
+    let mut files = files_of(alloc, section(args, 0)?)?;
     let mut answer = String::new(alloc);
-    for read in reads.chunks(2) {
+    for read in section(args, 1)?.chunks(2) {
         let name = text_of(arg(read, 0)?)?;
         let words = file_read(alloc, &mut files, name, number(read, 1)?)?;
         add(&mut answer, words.as_str())?;
