@@ -1,5 +1,5 @@
 -- All bytes are the document of some rows, or have a first fault of their form: one, and no other.
-use Rattle.std.proofs.Common.{◌≡◌, ℕ, Bool, true, false, List, [], ◌∷◌, Option, Some, None, slice_get, codes, refl, sym, ap, ◌∙◌, ◌⊎◌, inl, inr}
+use Rattle.std.proofs.Common.{◌≡◌, ℕ, Bool, true, false, List, [], ◌∷◌, Option, Some, None, slice_get, codes, refl, sym, ◌∙◌, ◌⊎◌, inl, inr}
 use Rattle.std.specs.Prelude.{IsUtf8}
 use Rattle.std.specs.Str.{is_utf8}
 use Rattle.std.proofs.lemmas.Str.{IsUtf8-from_is_utf8, is_utf8-from_IsUtf8}

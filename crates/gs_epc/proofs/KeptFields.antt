@@ -1,5 +1,5 @@
 -- The values of the fields of an option, by the items that stand for them.
-use Rattle.std.proofs.Common.{◌≡◌, ℕ, Bool, true, false, List, [], ◌∷◌, length, map, position, Option, Some, None, refl, arith, inl, inr}
+use Rattle.std.proofs.Common.{◌≡◌, ℕ, Bool, true, false, List, [], ◌∷◌, length, position, Option, Some, None, refl, arith, inl, inr}
 use Rattle.gs_chars.proofs.TruthsAndLists.{true_or_false}
 use Rattle.gs_ai.specs.Tables.{is_empty}
 use Rattle.gs_ai.proofs.Searches.{cons_none}

@@ -1,5 +1,5 @@
 -- What the rules of tables keep of an EPC of the set fits its kind.
-use Rattle.std.proofs.Common.{◌≡◌, ℕ, List, [], length, Some, slice_get, get_or, ◌<◌, sym, ◌∙◌}
+use Rattle.std.proofs.Common.{◌≡◌, ℕ, List, length, Some, slice_get, get_or, ◌<◌, sym, ◌∙◌}
 use Rattle.std.proofs.lemmas.Option.{slice_get_within}
 use Rattle.gs_chars.proofs.TruthsAndLists.{read_at}
 use Rattle.gs_document.specs.declared.field.Field.TheVariants.{Gcp, Rest, Serial}
@@ -14,7 +14,7 @@ use Rattle.gs_tables.specs.KeptRules.{KeptOption}
 use Rattle.gs_tables.specs.Tables.{IsShaped, TableRows}
 use Rattle.gs_tables.proofs.KeptSets.{options_kept}
 use Rattle.gs_epc.specs.declared.epc.Epc.{Epc}
-use Rattle.gs_epc.specs.Epcs.{IsOfSet, epc_of, value_of}
+use Rattle.gs_epc.specs.Epcs.{IsOfSet, value_of}
 use Rattle.gs_epc.specs.Kept.{FitKind}
 use Rattle.gs_epc.proofs.KeptFields.{AreHeld}
 use Rattle.gs_epc.proofs.KeptRules.{fits_prefix, fits_room}

@@ -1,5 +1,5 @@
 -- What the rules keep of a table set, by the rows that it is made of.
-use Rattle.std.proofs.Common.{◌≡◌, ℕ, suc, Bool, List, [], ◌∷◌, ◌++◌, length, map, Option, Some, None, slice_get, refl, sym, ap, ◌∙◌, option_map}
+use Rattle.std.proofs.Common.{◌≡◌, ℕ, suc, Bool, List, [], ◌∷◌, ◌++◌, length, map, Some, slice_get, refl, sym, ap, ◌∙◌, option_map}
 use Rattle.std.specs.List.{find}
 use Rattle.std.proofs.lemmas.Option.{slice_get-map}
 use Rattle.gs_chars.proofs.TruthsAndLists.{mapped_some, none_behind}
@@ -18,7 +18,7 @@ use Rattle.gs_grammar.specs.declared.item.Item.{Item}
 use Rattle.gs_grammar.specs.Levels.{OptionForm, item_lists}
 use Rattle.gs_tables.specs.declared.form.KeyForm.{KeyForm}
 use Rattle.gs_tables.specs.Forms.{form_at, key_form}
-use Rattle.gs_tables.specs.KeptRules.{AreKept, KeptKind, KeptOption}
+use Rattle.gs_tables.specs.KeptRules.{AreKept, KeptOption}
 use Rattle.gs_tables.specs.Rules.{has_name}
 use Rattle.gs_tables.specs.Tables.{IsShaped, TableRows, info_of, items_alone, items_there, kind_of, kinds_refusals, level_of, level_refusals, level_rows, limit_refusals, option_form, options_of, row_refusals, set_of}
 use Rattle.gs_tables.proofs.KeptRows.{kind_at, placed, row_at}

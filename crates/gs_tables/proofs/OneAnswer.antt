@@ -1,5 +1,5 @@
 -- All bytes have one answer beside want of memory, and no other.
-use Rattle.std.proofs.Common.{◌≡◌, ◌≢◌, ℕ, ◌==◌, ◌||◌, nat_lt, not, Bool, true, false, List, [], ◌∷◌, ◌++◌, take, map, position, Option, Some, None, slice_get, refl, sym, ap, ◌∙◌, ◌⊎◌, inl, inr, option_map}
+use Rattle.std.proofs.Common.{◌≡◌, ℕ, ◌==◌, ◌||◌, nat_lt, not, Bool, true, false, List, [], ◌∷◌, ◌++◌, take, map, position, Option, Some, None, slice_get, refl, sym, ap, ◌∙◌, ◌⊎◌, inl, inr, option_map}
 use Rattle.std.specs.Prelude.{Result, Ok, Err, option_to_list}
 use Rattle.std.specs.List.{flat_map, list_any, enumerate_from}
 use Rattle.gs_chars.proofs.TruthsAndLists.{or_parts}
@@ -16,7 +16,7 @@ use Rattle.gs_document.specs.declared.fault.LoadFault.TheVariants.{Json, Version
 use Rattle.gs_document.specs.declared.level_name.LevelName.{LevelName}
 use Rattle.gs_document.specs.declared.level_name.LevelName.TheVariants.{Binary, Tag, Pure}
 use Rattle.gs_document.specs.Documents.{is_bits}
-use Rattle.gs_document.specs.Readings.{Holds, IsFormFault}
+use Rattle.gs_document.specs.Readings.{IsFormFault}
 use Rattle.gs_document.proofs.OneReading.{HasReading, not_both, one_fault, one_of_bytes, some_reading}
 use Rattle.gs_grammar.specs.Items.{size_of_all}
 use Rattle.gs_tables.specs.Shapes.{BuiltInAnswer, ByForm, ByRows, HasMemory, LoadAnswer, Shape}
