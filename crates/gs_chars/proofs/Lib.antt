@@ -1,4 +1,5 @@
 pub mod Ascending
 pub mod Sets
-pub mod Spellings
 pub mod SpelledSets
+pub mod Spellings
+pub mod TruthsAndLists

@@ -1,25 +1,31 @@
--- What is spelled is a character of the set of 82.
-use Rattle.std.proofs.Common.{◌≡◌, ℕ, ◌&&◌, ◌⊎◌, not, Bool, true, false, eqb, List, [], ◌∷◌, refl, inl, inr}
+-- Which characters are of the set of 82: digits, and what is spelled.
+use Rattle.std.proofs.Common.{◌≡◌, ℕ, ◌≤◌, not, Bool, true, false, eqb, leb, List, [], ◌∷◌, ◌∙◌, refl, inl, inr, arith}
 use Rattle.std.specs.List.{list_any, list_all}
 use Rattle.std.specs.Prelude.{codes}
-use Rattle.std.proofs.lemmas.Bool.{eqb-true}
-use Rattle.gs_chars.specs.Characters.{is_in_set82}
+use Rattle.std.proofs.lemmas.Bool.{eqb-true, leb-true}
+use Rattle.std.proofs.lemmas.Bool.Decides.{nat_tests}
+use Rattle.gs_chars.specs.Characters.{are_digits, are_in_set82, is_digit, is_in_set82}
 use Rattle.gs_chars.specs.Escapes.{is_escaped, Spells}
+use Rattle.gs_chars.proofs.Sets.{in_ranges, ranges_of_set82}
+use Rattle.gs_chars.proofs.TruthsAndLists.{and_first, and_second, and_true, true_or_false}
 
-true_or_false : (b : Bool) → (b ≡ true) ⊎ (b ≡ false)
-true_or_false true = inl refl
-true_or_false false = inr refl
+in_range : (c : ℕ) → 48 ≤ c → c ≤ 57 → in_ranges c ≡ true
+in_range c low high = grind (arith, nat_tests)
 
-and_first : (a b : Bool) → (a && b) ≡ true → a ≡ true
-and_first true b h = refl
-and_first false b h = absurd (let e : false ≡ true = h in cc)
+-- a digit is one of the 82
+pub digit_in_set82 : (c : ℕ) → is_digit c ≡ true → is_in_set82 c ≡ true
+digit_in_set82 c h =
+    let low : 48 ≤ c = leb-true 48 c (and_first (leb 48 c) (leb c 57) h) in
+    let high : c ≤ 57 = leb-true c 57 (and_second (leb 48 c) (leb c 57) h) in
+    ranges_of_set82 c (omega arith) ∙ in_range c low high
 
-and_second : (a b : Bool) → (a && b) ≡ true → b ≡ true
-and_second true b h = h
-and_second false b h = absurd (let e : false ≡ true = h in cc)
+pub digits_in_set82 : (text : List ℕ) → are_digits text ≡ true → are_in_set82 text ≡ true
+digits_in_set82 [] h = refl
+digits_in_set82 (c ∷ text) h =
+    and_true (is_in_set82 c) (are_in_set82 text) (digit_in_set82 c (and_first (is_digit c) (are_digits text) h)) (digits_in_set82 text (and_second (is_digit c) (are_digits text) h))
 
 -- what holds of each listed number holds of one that is listed
-listed_all : (p : ℕ → Bool) (c : ℕ) (xs : List ℕ) → list_any (λ x. eqb x c) xs ≡ true → list_all p xs ≡ true → p c ≡ true
+pub listed_all : (p : ℕ → Bool) (c : ℕ) (xs : List ℕ) → list_any (λ x. eqb x c) xs ≡ true → list_all p xs ≡ true → p c ≡ true
 listed_all p c [] listed all = absurd (let e : false ≡ true = listed in cc)
 listed_all p c (x ∷ xs) listed all = elim (true_or_false (eqb x c)) as (λ _. p c ≡ true) [
   | inl same ↦ let is : x ≡ c = eqb-true x c same in rw (← is) (and_first (p x) (list_all p xs) all)
@@ -27,7 +33,7 @@ listed_all p c (x ∷ xs) listed all = elim (true_or_false (eqb x c)) as (λ _. 
 ]
 
 -- an escaped character is one of the 82
-escaped_in_set82 : (c : ℕ) → is_escaped c ≡ true → is_in_set82 c ≡ true
+pub escaped_in_set82 : (c : ℕ) → is_escaped c ≡ true → is_in_set82 c ≡ true
 unfolding is_escaped is_in_set82
 escaped_in_set82 c e = listed_all is_in_set82 c (codes "\"%&/<>?") e refl
 

@@ -1,5 +1,5 @@
 -- Files, each a name and its bytes.
-use Rattle.std.specs.Prelude.{◌≡◌, ℕ, List, Option, Some, None, bytes_eq, find, option_map}
+use Rattle.std.specs.Prelude.{◌≡◌, ℕ, List, [], ◌∷◌, ◌++◌, ◌⊎◌, Option, Some, None, bytes_eq, find, option_map}
 
 -- the bytes of the first file with the name
 abbrev pub file_of : List (List ℕ × List ℕ) → List ℕ → Option (List ℕ)
@@ -19,3 +19,11 @@ IsAbsent (Some files) name = file_of files name ≡ None
 abbrev pub IsFile : Option (List (List ℕ × List ℕ)) → List ℕ → List ℕ → Type 0
 IsFile None name bytes = Unit {0}
 IsFile (Some files) name bytes = file_of files name ≡ Some bytes
+
+-- the names that were opened, and then one more
+abbrev pub with_name : List (List ℕ) → List ℕ → List (List ℕ)
+with_name names name = names ++ (name ∷ [])
+
+-- the names that were opened are after as before, or with this name in addition
+abbrev pub MayHaveName : List (List ℕ) → List ℕ → List (List ℕ) → Type 0
+MayHaveName before name after = (after ≡ before) ⊎ (after ≡ with_name before name)

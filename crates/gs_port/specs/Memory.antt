@@ -29,9 +29,11 @@ pub record MemOutput : Type 0 where
   pub plan : Plan
   pub count : ℕ
 
--- files in memory: each a name and its bytes, what is left of the current one, the plan of the calls, the count of faults
+-- files in memory: each a name and its bytes, what is left of the current one, the plan of the calls, the count of faults,
+-- and the names that were opened, in order
 pub record MemFolder : Type 0 where
   pub files : List (List ℕ × List ℕ)
   pub current : Option (List ℕ)
   pub plan : Plan
   pub count : ℕ
+  pub opened : List (List ℕ)

@@ -1,16 +1,19 @@
-ghost use Rattle.std.specs.Prelude.{◌≡◌, false, None, is_some};
+ghost use Rattle.std.specs.Prelude.{◌≡◌, false, [], None, is_some};
 
 use crate::files::{Files, OpenAnswer};
+use crate::opened_names::OpenedNames;
 use crate::source::ReadAnswer;
 use std::fs::File;
 use std::io::{ErrorKind, Read};
 
-/// The files of the system. Each error of an open or a read is counted. Nothing is told of them.
+/// The files of the system. Each error of an open or a read is counted. Nothing is told of them but the names that were
+/// opened.
 #[derive(Drop)]
 pub struct HostFiles {
     rt: HostRuntime,
     current: Option<File>,
     faults: u64,
+    opened: OpenedNames,
 }
 
 impl HostFiles {
@@ -18,11 +21,14 @@ impl HostFiles {
     pub fn new(rt: HostRuntime) -> HostFiles
         ensures closed { ⟦<HostFiles as Files>⟧.is_open result ≡ false }
         ensures faults { ⟦<HostFiles as Files>⟧.faults result ≡ 0 }
+        ensures opened { ⟦<HostFiles as Files>⟧.opened result ≡ [] }
     {
+        let opened = OpenedNames::new(rt.alloc());
         HostFiles {
             rt,
             current: None,
             faults: 0,
+            opened,
         }
     }
 }
@@ -36,8 +42,13 @@ impl Files for HostFiles {
 
     ghost faults = { λ s. s.faults };
 
+    ghost opened = { λ s. s.opened };
+
     fn open(&mut self, name: &str) -> OpenAnswer {
         self.current = None;
+        if self.opened.add(name).is_err() {
+            return OpenAnswer::Memory;
+        }
         match File::open(&self.rt, name) {
             Ok(file) => {
                 self.current = Some(file);

@@ -6,6 +6,7 @@ mod host_files;
 mod mem_files;
 mod mem_sink;
 mod mem_source;
+mod opened_names;
 mod plan;
 mod reading;
 mod sink;

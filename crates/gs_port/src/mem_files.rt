@@ -1,12 +1,13 @@
 ghost use Rattle.std.specs.Prelude.{◌≡◌, ◌<◌, ◌≤◌, ◌↔◌, ◌⊎◌, false, true, [], IfSome, MatchOption, None, Some, is_some, length, min, take};
 ghost use Rattle.gs_port.specs.Contents.{prepend_known};
 ghost use Rattle.gs_port.specs.Counts.{Rises};
-ghost use Rattle.gs_port.specs.Files.{IsAbsent, file_of, told_file};
+ghost use Rattle.gs_port.specs.Files.{IsAbsent, MayHaveName, file_of, told_file, with_name};
 ghost use Rattle.gs_port.specs.Memory.{FailsNow, after_call};
 ghost use Rattle.gs_port.specs.Folder.{bytes_at, told_files};
-ghost use Rattle.gs_port.specs.Answers.{IfGot, OnNotOpened, OnOpenFailed, OnOpened, OnReadFailed};
+ghost use Rattle.gs_port.specs.Answers.{IfGot, OnNotOpened, OnOpenAnswered, OnOpenFailed, OnOpened, OnReadFailed};
 
 use crate::files::{Files, OpenAnswer};
+use crate::opened_names::OpenedNames;
 use crate::plan::CallPlan;
 use crate::source::ReadAnswer;
 use crate::transfer::copy_front;
@@ -27,6 +28,7 @@ pub struct MemFiles {
     current: Option<Place>,
     plan: CallPlan,
     faults: u64,
+    opened: OpenedNames,
 }
 
 impl Model for MemFiles {
@@ -35,7 +37,7 @@ impl Model for MemFiles {
 
     ghost Value = { MemFolder };
 
-    ghost view = { λ a. record { files = told_files a.files.items; current = rest_of (told_files a.files.items) a.current; plan = a.plan; count = a.faults } };
+    ghost view = { λ a. record { files = told_files a.files.items; current = rest_of (told_files a.files.items) a.current; plan = a.plan; count = a.faults; opened = a.opened } };
 
     ghost invariant = { λ a. IsWithin (told_files a.files.items) a.current };
 }
@@ -63,14 +65,15 @@ fn contents_at(files: &[(String, Vec<u8>)], i: usize) -> &[u8]
 impl MemFiles {
     /// The files, each with its name, and none of them open. The calls of either method whose numbers, from 0, are in
     /// `fails` fail, but for an open of a name that is not there.
-    pub fn new(_alloc: Global, files: Vec<(String, Vec<u8>)>, fails: Vec<u64>) -> MemFiles
-        ensures { result ≡ record { files = told_files files.items; current = None; plan = record { fails = fails.items; next = 0 }; count = 0 } }
+    pub fn new(alloc: Global, files: Vec<(String, Vec<u8>)>, fails: Vec<u64>) -> MemFiles
+        ensures { result ≡ record { files = told_files files.items; current = None; plan = record { fails = fails.items; next = 0 }; count = 0; opened = [] } }
     {
         MemFiles {
             files,
             current: None,
             plan: CallPlan::new(fails),
             faults: 0,
+            opened: OpenedNames::new(alloc),
         }
     }
 }
@@ -84,6 +87,8 @@ impl Files for MemFiles {
 
     ghost faults = { λ s. s.count };
 
+    ghost opened = { λ s. s.opened };
+
     fn open(&mut self, name: &str) -> OpenAnswer
         ensures opened { OnOpened result (is_some self.new.current ≡ true) }
         ensures whole { OnOpened result (self.new.current ≡ told_file (Some self.old.files) name.now) }
@@ -93,7 +98,8 @@ impl Files for MemFiles {
         ensures absent { IsAbsent (Some self.old.files) name.now → self.new.count ≡ self.old.count }
         ensures files { Some self.new.files ≡ Some self.old.files }
         ensures counts { self.old.count ≤ self.new.count }
-        ensures enough { result ≡ OpenAnswer.Memory → ⊥ }
+        ensures named { OnOpenAnswered result (self.new.opened ≡ with_name self.old.opened name.now) }
+        ensures no_other { MayHaveName self.old.opened name.now self.new.opened }
         ensures planned { OnOpenFailed result (FailsNow self.old.plan ⊎ IsAbsent (Some self.old.files) name.now) }
         ensures unplanned { OnOpened result (¬ FailsNow self.old.plan) }
         ensures plan { self.new.plan ≡ after_call self.old.plan }
@@ -101,6 +107,9 @@ impl Files for MemFiles {
         let fails = self.plan.next_fails();
         let found = place_of(self.files.as_slice(), name);
         self.current = None;
+        if self.opened.add(name).is_err() {
+            return OpenAnswer::Memory;
+        }
         match found {
             Some(_) if fails => {
                 self.faults = self.faults.saturating_add(1);
@@ -124,6 +133,7 @@ impl Files for MemFiles {
         ensures failed { OnReadFailed result (Rises self.old.count self.new.count) }
         ensures files { Some self.new.files ≡ Some self.old.files }
         ensures stays_open { is_some self.new.current ≡ true }
+        ensures same_names { self.new.opened ≡ self.old.opened }
         ensures counts { self.old.count ≤ self.new.count }
         ensures most { IfGot result (λ n. IfSome self.old.current (λ bytes. n ≡ min (length buf.new) (length bytes))) }
         ensures planned { OnReadFailed result (FailsNow self.old.plan) }

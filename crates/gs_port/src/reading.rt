@@ -1,8 +1,8 @@
 ghost use Rattle.std.specs.Prelude.{◌≡◌, ◌≤◌, ◌+◌, ◌++◌, ◌⊎◌, ℕ, true, List, IfOk, IfSome, length, vec_len};
 ghost use Rattle.gs_port.specs.Contents.{prepend_known};
 ghost use Rattle.gs_port.specs.Counts.{Rises};
-ghost use Rattle.gs_port.specs.Files.{IsAbsent, IsFile, told_file};
-ghost use Rattle.gs_port.specs.Answers.{IfOver, OnFileFailed};
+ghost use Rattle.gs_port.specs.Files.{IsAbsent, IsFile, MayHaveName, told_file, with_name};
+ghost use Rattle.gs_port.specs.Answers.{IfOver, OnFileAnswered, OnFileFailed};
 
 use crate::files::{Files, OpenAnswer};
 use crate::source::ReadAnswer;
@@ -35,7 +35,7 @@ const BLOCK: usize = 65_536;
 
 /// Reads the named file whole, if it has at most `max` bytes. `Over` comes exactly where `max + 1` bytes could be read,
 /// and carries them. `Failed` comes only where the files counted a fault, or where they are told and the named one is
-/// not among them.
+/// not among them. The name is then the last of those that were opened, but that it may be missing after `Memory`.
 pub fn read_file<F: Files>(
     alloc: Global,
     files: &mut F,
@@ -52,6 +52,8 @@ pub fn read_file<F: Files>(
     ensures taken { F.is_open files.new ≡ true → (bytes : List ℕ) × (length bytes ≤ max + 1) × (told_file (F.files files.old) name.now ≡ prepend_known bytes (F.left files.new)) }
     ensures files { F.files files.new ≡ F.files files.old }
     ensures counts { F.faults files.old ≤ F.faults files.new }
+    ensures named { OnFileAnswered result (F.opened files.new ≡ with_name (F.opened files.old) name.now) }
+    ensures no_other { MayHaveName (F.opened files.old) name.now (F.opened files.new) }
 {
     match files.open(name) {
         OpenAnswer::Opened => read_current(alloc, files, max),
@@ -79,6 +81,7 @@ fn read_current<F: Files>(alloc: Global, files: &mut F, max: usize) -> Result<Te
     ensures taken { (bytes : List ℕ) × (length bytes ≤ max + 1) × (F.left files.old ≡ prepend_known bytes (F.left files.new)) }
     ensures files { F.files files.new ≡ F.files files.old }
     ensures counts { F.faults files.old ≤ F.faults files.new }
+    ensures same_names { F.opened files.new ≡ F.opened files.old }
 {
     let mut room = zeros(alloc, BLOCK)?;
     let block = room.as_mut_slice();

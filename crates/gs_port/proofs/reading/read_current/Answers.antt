@@ -18,6 +18,7 @@ loop-block-preserved g c =
       read = rw piece (read_further _ _ _ _ _ c.loop-block.invariant.read c.in-Got.ensures.moved);
       current = c.in-Got.ensures.stays_open;
       files = c.in-Got.ensures.files ∙ c.loop-block.invariant.files;
+      same_names = c.in-Got.ensures.same_names ∙ c.loop-block.invariant.same_names;
       counts = omega (arith, c.in-Got.ensures.counts, c.loop-block.invariant.counts);
     }
 

@@ -10,6 +10,7 @@ invariant-loop-block g l = record {
   read : g.F.Files.left l.fn.files ≡ prepend_known l.bytes.items (g.F.Files.left l.files);
   current : g.F.Files.is_open l.files ≡ true;
   files : g.F.Files.files l.files ≡ g.F.Files.files l.fn.files;
+  same_names : g.F.Files.opened l.files ≡ g.F.Files.opened l.fn.files;
   counts : g.F.Files.faults l.fn.files ≤ g.F.Files.faults l.files;
 }
 
