@@ -9,8 +9,8 @@ use Rattle.gs_grammar.specs.Derivations.{EachWord, one_item}
 use Rattle.gs_grammar.specs.Items.{IsItem, is_bad}
 use Rattle.gs_grammar.specs.Words.{Word}
 use Rattle.gs_grammar.proofs.WordLaws.{all_items}
-use Rattle.gs_tables.specs.declared.field.Field.{Field}
-use Rattle.gs_tables.specs.Items.{FieldItem}
+use Rattle.gs_document.specs.declared.field.Field.{Field}
+use Rattle.gs_document.specs.Items.{FieldItem}
 use Rattle.gs_tables.specs.Rules.{has_room, is_digits, is_field, is_one, items_of_field}
 use Rattle.gs_epc.specs.Epcs.{value_at, value_of}
 use Rattle.gs_epc.specs.Kept.{AreCharacters}

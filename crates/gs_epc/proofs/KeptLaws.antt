@@ -8,17 +8,18 @@ use Rattle.gs_ai.proofs.Searches.{read_at}
 use Rattle.gs_grammar.specs.declared.item.Item.{Item}
 use Rattle.gs_grammar.specs.Derivations.{EachWord}
 use Rattle.gs_grammar.specs.Levels.{item_lists}
-use Rattle.gs_tables.specs.declared.document.Document.{Document}
-use Rattle.gs_tables.specs.declared.document.KindRow.{KindRow}
-use Rattle.gs_tables.specs.declared.field.Field.TheVariants.{Gcp, Rest, Serial}
+use Rattle.gs_document.specs.declared.document.Document.{Document}
+use Rattle.gs_document.specs.declared.document.KindRow.{KindRow}
+use Rattle.gs_document.specs.declared.field.Field.TheVariants.{Gcp, Rest, Serial}
 use Rattle.gs_tables.specs.declared.form.KeyForm.{KeyForm}
-use Rattle.gs_tables.specs.declared.kind.Kind.{Kind}
-use Rattle.gs_tables.specs.declared.level_name.LevelName.{LevelName}
-use Rattle.gs_tables.specs.declared.opt_info.OptInfo.{OptInfo}
+use Rattle.gs_document.specs.declared.kind.Kind.{Kind}
+use Rattle.gs_document.specs.declared.level_name.LevelName.{LevelName}
+use Rattle.gs_document.specs.declared.opt_info.OptInfo.{OptInfo}
 use Rattle.gs_tables.specs.Forms.{form_at, key_form, serial_at, serial_room}
-use Rattle.gs_tables.specs.Items.{FieldItem}
+use Rattle.gs_document.specs.Items.{FieldItem}
 use Rattle.gs_tables.specs.Rules.{has_name}
-use Rattle.gs_tables.specs.Tables.{TableRows, IsShaped, is_bits, items_there, kind_of, level_of, level_rows, row_refusals, set_of}
+use Rattle.gs_document.specs.Documents.{is_bits}
+use Rattle.gs_tables.specs.Tables.{TableRows, IsShaped, items_there, kind_of, level_of, level_rows, row_refusals, set_of}
 use Rattle.gs_tables.specs.Tables.{options_of as rows_of}
 use Rattle.gs_epc.specs.declared.epc.Epc.{Epc}
 use Rattle.gs_epc.specs.Epcs.{IsOfSet, epc_of, value_of}

@@ -13,21 +13,22 @@ use Rattle.gs_grammar.specs.declared.item.Item.{Item}
 use Rattle.gs_grammar.specs.Items.{is_bad, size_of_all}
 use Rattle.gs_grammar.specs.Levels.{OptionForm, item_lists}
 use Rattle.gs_grammar.proofs.Held.{both_of}
-use Rattle.gs_tables.specs.declared.document.Document.{Document}
-use Rattle.gs_tables.specs.declared.document.KindRow.{KindRow}
-use Rattle.gs_tables.specs.declared.document.OptionRow.{OptionRow}
-use Rattle.gs_tables.specs.declared.fault.LimitName.TheVariants.{Size}
-use Rattle.gs_tables.specs.declared.fault.LoadFault.{LoadFault}
-use Rattle.gs_tables.specs.declared.fault.LoadFault.TheVariants.{Ai, BadItem, BadKind, Duplicate, Limit, Mismatch}
-use Rattle.gs_tables.specs.declared.field.Field.TheVariants.{Gcp, Rest, Serial}
+use Rattle.gs_document.specs.declared.document.Document.{Document}
+use Rattle.gs_document.specs.declared.document.KindRow.{KindRow}
+use Rattle.gs_document.specs.declared.document.OptionRow.{OptionRow}
+use Rattle.gs_document.specs.declared.fault.LimitName.TheVariants.{Size}
+use Rattle.gs_document.specs.declared.fault.LoadFault.{LoadFault}
+use Rattle.gs_document.specs.declared.fault.LoadFault.TheVariants.{Ai, BadItem, BadKind, Duplicate, Limit, Mismatch}
+use Rattle.gs_document.specs.declared.field.Field.TheVariants.{Gcp, Rest, Serial}
 use Rattle.gs_tables.specs.declared.form.KeyForm.{KeyForm}
-use Rattle.gs_tables.specs.declared.level_name.LevelName.{LevelName}
-use Rattle.gs_tables.specs.declared.level_name.LevelName.TheVariants.{Binary, Tag, Pure}
-use Rattle.gs_tables.specs.declared.opt_info.OptInfo.{OptInfo}
+use Rattle.gs_document.specs.declared.level_name.LevelName.{LevelName}
+use Rattle.gs_document.specs.declared.level_name.LevelName.TheVariants.{Binary, Tag, Pure}
+use Rattle.gs_document.specs.declared.opt_info.OptInfo.{OptInfo}
 use Rattle.gs_tables.specs.Forms.{form_at, key_form, serial_at, serial_room}
-use Rattle.gs_tables.specs.Items.{FieldItem}
+use Rattle.gs_document.specs.Items.{FieldItem}
 use Rattle.gs_tables.specs.Rules.{are_visible, fits_key, fits_kind, has_key, has_name, is_kind, is_lead, is_new_name, is_serial_of, items_of_field, keeps_form, keeps_gcp, keeps_level, keeps_rest, keeps_serial}
-use Rattle.gs_tables.specs.Tables.{fits, info_of, is_bad_item, is_bits, is_same, items_alone, items_there, kind_refusals, kinds_refusals, level_of, level_refusals, level_rows, limit_refusals, option_form, option_refusals, refuse_if, row_refusals, set_of}
+use Rattle.gs_document.specs.Documents.{is_bits}
+use Rattle.gs_tables.specs.Tables.{fits, info_of, is_bad_item, is_same, items_alone, items_there, kind_refusals, kinds_refusals, level_of, level_refusals, level_rows, limit_refusals, option_form, option_refusals, refuse_if, row_refusals, set_of}
 use Rattle.gs_tables.specs.Tables.{options_of as rows_of}
 use Rattle.gs_tables.proofs.NoRefusals.{row_kept as row_items}
 use Rattle.gs_tables.proofs.RefusalLists.{none_behind, none_in_front}

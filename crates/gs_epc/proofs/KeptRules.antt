@@ -7,10 +7,10 @@ use Rattle.gs_grammar.specs.declared.item.Item.{Item}
 use Rattle.gs_grammar.specs.Items.{is_between}
 use Rattle.gs_grammar.proofs.Held.{both_of}
 use Rattle.gs_grammar.proofs.ItemTests.{between_is}
-use Rattle.gs_tables.specs.declared.field.Field.TheVariants.{Gcp, Rest, Serial}
+use Rattle.gs_document.specs.declared.field.Field.TheVariants.{Gcp, Rest, Serial}
 use Rattle.gs_tables.specs.declared.form.KeyForm.{KeyForm}
 use Rattle.gs_tables.specs.declared.form.KeyForm.TheVariants.{Digits, Characters}
-use Rattle.gs_tables.specs.Items.{FieldItem}
+use Rattle.gs_document.specs.Items.{FieldItem}
 use Rattle.gs_tables.specs.Rules.{has_room, is_digits, is_free, is_gcp, is_one, is_padded, items_of_field, keeps_gcp, keeps_rest, keeps_serial}
 use Rattle.gs_epc.specs.Epcs.{value_of}
 use Rattle.gs_epc.specs.Kept.{FitForm, FitsRoom}

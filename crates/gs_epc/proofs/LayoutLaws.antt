@@ -11,9 +11,9 @@ use Rattle.gs_ident.specs.declared.faults.IdentFault.TheVariants as ident
 use Rattle.gs_ident.specs.Elements.{Elements}
 use Rattle.gs_ident.specs.Identities.{IsInOrder, identity_of_pairs}
 use Rattle.gs_tables.specs.declared.form.KeyForm.{KeyForm}
-use Rattle.gs_tables.specs.declared.kind.Kind.{Kind}
-use Rattle.gs_tables.specs.declared.kind.SerialAt.{SerialAt}
-use Rattle.gs_tables.specs.declared.kind.SerialAt.TheVariants.{Nowhere, Tail, Ai}
+use Rattle.gs_document.specs.declared.kind.Kind.{Kind}
+use Rattle.gs_document.specs.declared.kind.SerialAt.{SerialAt}
+use Rattle.gs_document.specs.declared.kind.SerialAt.TheVariants.{Nowhere, Tail, Ai}
 use Rattle.gs_tables.specs.Forms.{tail_of}
 use Rattle.gs_tables.specs.Rules.{is_characters, is_serial_of}
 use Rattle.gs_epc.specs.Kept.{FitKind}

@@ -21,9 +21,9 @@ use Rattle.gs_ai.proofs.RowLemmas.{and_left, and_right, listed, row_parts}
 use Rattle.gs_ident.specs.Identities.{IsInOrder}
 use Rattle.gs_tables.specs.declared.form.KeyForm.{KeyForm}
 use Rattle.gs_tables.specs.declared.form.KeyForm.TheVariants.{Digits, Characters}
-use Rattle.gs_tables.specs.declared.kind.Kind.{Kind}
-use Rattle.gs_tables.specs.declared.kind.SerialAt.{SerialAt}
-use Rattle.gs_tables.specs.declared.kind.SerialAt.TheVariants.{Nowhere, Tail, Ai}
+use Rattle.gs_document.specs.declared.kind.Kind.{Kind}
+use Rattle.gs_document.specs.declared.kind.SerialAt.{SerialAt}
+use Rattle.gs_document.specs.declared.kind.SerialAt.TheVariants.{Nowhere, Tail, Ai}
 use Rattle.gs_tables.specs.Forms.{characters_of, digits_form, key_form, serial_room, tail_of}
 use Rattle.gs_tables.specs.Rules.{is_characters, is_serial_of}
 use Rattle.gs_epc.specs.Kept.{AreCharacters, FitForm, FitKind, FitsRoom}

@@ -10,13 +10,13 @@ use Rattle.gs_bits.specs.declared.faults.HexFault.TheVariants.{OddDigits, Full}
 use Rattle.gs_grammar.specs.declared.item.Item.{Item}
 use Rattle.gs_grammar.specs.Derivations.{EachWord, OneDerivation}
 use Rattle.gs_grammar.specs.Levels.{item_lists}
-use Rattle.gs_tables.specs.declared.field.Field.TheVariants.{Filter}
-use Rattle.gs_tables.specs.declared.level_name.LevelName.{LevelName}
-use Rattle.gs_tables.specs.declared.level_name.LevelName.TheVariants.{Binary, Tag, Pure}
-use Rattle.gs_tables.specs.declared.opt_info.OptInfo.{OptInfo}
-use Rattle.gs_tables.specs.declared.document.Document.{Document}
-use Rattle.gs_tables.specs.declared.document.KindRow.{KindRow}
-use Rattle.gs_tables.specs.declared.document.OptionRow.{OptionRow}
+use Rattle.gs_document.specs.declared.field.Field.TheVariants.{Filter}
+use Rattle.gs_document.specs.declared.level_name.LevelName.{LevelName}
+use Rattle.gs_document.specs.declared.level_name.LevelName.TheVariants.{Binary, Tag, Pure}
+use Rattle.gs_document.specs.declared.opt_info.OptInfo.{OptInfo}
+use Rattle.gs_document.specs.declared.document.Document.{Document}
+use Rattle.gs_document.specs.declared.document.KindRow.{KindRow}
+use Rattle.gs_document.specs.declared.document.OptionRow.{OptionRow}
 use Rattle.gs_tables.specs.Tables.{IsShaped, TableRows, level_of, level_rows, row_refusals, set_of}
 use Rattle.gs_epc.specs.declared.epc.Epc.{Epc}
 use Rattle.gs_epc.specs.declared.fault.EpcFault.{EpcFault}

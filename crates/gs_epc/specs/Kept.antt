@@ -7,7 +7,7 @@ use Rattle.gs_ai.specs.Tables.{is_key}
 use Rattle.gs_ai.specs.Values.{has_code}
 use Rattle.gs_tables.specs.declared.form.KeyForm.{KeyForm}
 use Rattle.gs_tables.specs.declared.form.KeyForm.TheVariants.{Digits, Characters}
-use Rattle.gs_tables.specs.declared.kind.Kind.{Kind}
+use Rattle.gs_document.specs.declared.kind.Kind.{Kind}
 use Rattle.gs_tables.specs.Forms.{key_form, serial_room}
 use Rattle.gs_tables.specs.Rules.{is_lead, is_serial_of}
 

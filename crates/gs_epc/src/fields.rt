@@ -1,6 +1,6 @@
 ghost use Rattle.std.specs.Prelude.{◌≡◌, IfOk, IfSome, false, position};
 ghost use Rattle.gs_grammar.specs.Words.{decimal_value};
-ghost use Rattle.gs_tables.specs.declared.field.Field.{Field};
+ghost use Rattle.gs_document.specs.declared.field.Field.{Field};
 ghost use Rattle.gs_tables.specs.Rules.{is_field};
 ghost use Rattle.gs_epc.specs.Epcs.{epc_of, filter_of, value_at, value_of};
 ghost use Rattle.gs_epc.specs.Filters.{IsFilter};

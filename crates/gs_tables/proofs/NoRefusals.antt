@@ -10,19 +10,20 @@ use Rattle.gs_ai.specs.Tables.{is_key}
 use Rattle.gs_ai.specs.Values.{has_code}
 use Rattle.gs_grammar.specs.Items.{is_bad, is_between, size_of_all}
 use Rattle.gs_grammar.specs.Levels.{KeepBounds, OptionForm}
-use Rattle.gs_tables.specs.declared.document.KindRow.{KindRow}
-use Rattle.gs_tables.specs.declared.document.OptionRow.{OptionRow}
-use Rattle.gs_tables.specs.declared.field.Field.TheVariants.{Gcp, Rest, Serial}
+use Rattle.gs_document.specs.declared.document.KindRow.{KindRow}
+use Rattle.gs_document.specs.declared.document.OptionRow.{OptionRow}
+use Rattle.gs_document.specs.declared.field.Field.TheVariants.{Gcp, Rest, Serial}
 use Rattle.gs_tables.specs.declared.form.KeyForm.{KeyForm}
 use Rattle.gs_tables.specs.declared.form.KeyForm.TheVariants.{Digits, Characters}
-use Rattle.gs_tables.specs.declared.fault.LimitName.TheVariants.{Size}
-use Rattle.gs_tables.specs.declared.fault.LoadFault.{LoadFault}
-use Rattle.gs_tables.specs.declared.fault.LoadFault.TheVariants.{BadItem, BadKind, Duplicate, Limit, Mismatch}
-use Rattle.gs_tables.specs.declared.level_name.LevelName.{LevelName}
+use Rattle.gs_document.specs.declared.fault.LimitName.TheVariants.{Size}
+use Rattle.gs_document.specs.declared.fault.LoadFault.{LoadFault}
+use Rattle.gs_document.specs.declared.fault.LoadFault.TheVariants.{BadItem, BadKind, Duplicate, Limit, Mismatch}
+use Rattle.gs_document.specs.declared.level_name.LevelName.{LevelName}
 use Rattle.gs_tables.specs.Forms.{form_at, key_form, serial_at, serial_room}
-use Rattle.gs_tables.specs.Items.{FieldItem}
+use Rattle.gs_document.specs.Items.{FieldItem}
 use Rattle.gs_tables.specs.Rules.{are_visible, fits_key, fits_kind, has_key, has_name, is_digits, is_gcp, is_kind, is_lead, is_new_name, is_one, is_serial_of, items_of_field, keeps_form, keeps_gcp, keeps_level, keeps_rest, keeps_serial}
-use Rattle.gs_tables.specs.Tables.{fits, is_bad_item, is_bits, is_same, items_alone, items_there, kind_refusals, kinds_refusals, level_refusals, option_form, option_refusals, refuse_if}
+use Rattle.gs_document.specs.Documents.{is_bits}
+use Rattle.gs_tables.specs.Tables.{fits, is_bad_item, is_same, items_alone, items_there, kind_refusals, kinds_refusals, level_refusals, option_form, option_refusals, refuse_if}
 use Rattle.gs_ai.proofs.RuleLemmas.{none_at}
 use Rattle.gs_ai.proofs.Searches.{cons_none, find_none, position-cons, read_at}
 

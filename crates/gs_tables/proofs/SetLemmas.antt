@@ -3,15 +3,17 @@ use Rattle.std.proofs.Common.{◌≡◌, ℕ, List, [], ◌++◌, map, Some, Non
 use Rattle.std.specs.Prelude.{Result, Ok, Err}
 use Rattle.gs_ai.specs.declared.row.AiRow.{AiRow}
 use Rattle.gs_ai.specs.Tables.{table_faults}
-use Rattle.gs_tables.specs.declared.document.Document.{Document}
-use Rattle.gs_tables.specs.declared.document.KindRow.{KindRow}
-use Rattle.gs_tables.specs.declared.document.OptionRow.{OptionRow}
-use Rattle.gs_tables.specs.declared.fault.LoadFault.{LoadFault}
-use Rattle.gs_tables.specs.declared.fault.LoadFault.TheVariants.{Json, Version, Limit, Ai, BadKind, BadItem, Mismatch, Duplicate, Memory}
-use Rattle.gs_tables.specs.declared.level_name.LevelName.TheVariants.{Binary, Tag, Pure}
+use Rattle.gs_document.specs.declared.document.Document.{Document}
+use Rattle.gs_document.specs.declared.document.KindRow.{KindRow}
+use Rattle.gs_document.specs.declared.document.OptionRow.{OptionRow}
+use Rattle.gs_document.specs.declared.fault.LoadFault.{LoadFault}
+use Rattle.gs_document.specs.declared.fault.LoadFault.TheVariants.{Json, Version, Limit, Ai, BadKind, BadItem, Mismatch, Duplicate, Memory}
+use Rattle.gs_document.specs.declared.level_name.LevelName.TheVariants.{Binary, Tag, Pure}
 use Rattle.gs_tables.specs.Tables.{IsAnswer, IsFirst, TableRows, refuse_if, refusals, kind_of, kinds_refusals, level_of, level_refusals, limit_refusals, row_refusals, set_of}
-use Rattle.gs_tables.specs.Shapes.{Holds, IsFormRefusal, Shape}
-use Rattle.gs_tables.proofs.RefusalLists.{first_of_back, first_of_front, none_behind, none_in_front, none_of_both, refused, refused_behind}
+use Rattle.gs_document.specs.Readings.{Holds, IsFormRefusal}
+use Rattle.gs_tables.specs.Shapes.{Shape}
+use Rattle.gs_document.proofs.FaultLists.{first_of_back, first_of_front, none_behind, none_in_front, none_of_both}
+use Rattle.gs_tables.proofs.RefusalLists.{refused, refused_behind}
 
 -- the refusals of the kinds and of the options
 abbrev pub others : List AiRow → List KindRow → List OptionRow → List OptionRow → List OptionRow → List LoadFault

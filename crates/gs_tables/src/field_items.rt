@@ -2,12 +2,11 @@ ghost use Rattle.std.specs.Prelude.{◌≡◌, ◌&&◌, ◌≤◌, map, option_
 ghost use Rattle.std.specs.List.{flat_map};
 ghost use Rattle.gs_grammar.specs.Items.{size_of_all};
 ghost use Rattle.gs_tables.specs.Founds.{IsFound};
-ghost use Rattle.gs_tables.specs.Items.{FieldItem};
+ghost use Rattle.gs_document.specs.Items.{FieldItem};
 ghost use Rattle.gs_tables.specs.Rules.{has_room, is_digits, is_filter, is_free, items_of_field, keeps_gcp, keeps_level, keeps_rest, keeps_serial, longest_of};
 
-use crate::field::Field;
 use crate::form::KeyForm;
-use crate::level_name::LevelName;
+use gs_document::{Field, LevelName};
 use gs_grammar::Item;
 
 /// What is found of the items of a field.

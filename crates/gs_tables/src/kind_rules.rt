@@ -3,10 +3,10 @@ ghost use Rattle.std.specs.List.{list_any};
 ghost use Rattle.gs_tables.specs.Forms.{serial_at};
 ghost use Rattle.gs_tables.specs.Rules.{are_visible, fits_key, has_key, has_name, is_characters, is_kind, is_lead, is_new_name, is_serial_of};
 
-use crate::document::KindRow;
 use crate::form::KeyForm;
 use crate::forms::{characters_of, key_form, tail_of};
 use gs_ai::{AiRow, AiTable, Role};
+use gs_document::KindRow;
 
 /// Whether each byte is a visible character.
 pub(crate) fn are_visible(text: &[u8]) -> bool

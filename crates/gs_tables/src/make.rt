@@ -3,20 +3,16 @@ ghost use Rattle.gs_ai.specs.Tables.{table_faults};
 ghost use Rattle.std.specs.List.{flat_map};
 ghost use Rattle.gs_grammar.specs.Levels.{KeepBounds};
 ghost use Rattle.gs_tables.specs.Forms.{serial_at};
-ghost use Rattle.gs_tables.specs.Items.{FieldItem};
+ghost use Rattle.gs_document.specs.Items.{FieldItem};
 ghost use Rattle.gs_tables.specs.Rules.{has_name};
-ghost use Rattle.gs_tables.specs.Tables.{IsAnswer, info_of, is_bits, items_alone, kind_of, kinds_refusals, level_of, level_refusals, option_form};
-ghost use Rattle.gs_tables.specs.declared.fault.LoadFault.TheVariants.{Ai};
+ghost use Rattle.gs_document.specs.Documents.{is_bits};
+ghost use Rattle.gs_tables.specs.Tables.{IsAnswer, info_of, items_alone, kind_of, kinds_refusals, level_of, level_refusals, option_form};
+ghost use Rattle.gs_document.specs.declared.fault.LoadFault.TheVariants.{Ai};
 
-use crate::document::{KindRow, OptionRow};
-use crate::fault::LoadFault;
-use crate::field::Field;
-use crate::kind::{Kind, SerialAt};
-use crate::level_name::LevelName;
 use crate::level_table::LevelTable;
-use crate::opt_info::OptInfo;
 use gs_ai::{AiFault, AiRow, AiTable};
 use gs_chars::{List, Memory, Text};
+use gs_document::{Field, Kind, KindRow, LevelName, LoadFault, OptInfo, OptionRow, SerialAt};
 use gs_grammar::{Item, Level, Opt};
 use std::alloc::Global;
 

@@ -5,15 +5,12 @@ ghost use Rattle.std.specs.Option.{option_copied};
 ghost use Rattle.gs_tables.specs.Rules.{fits_kind, has_name, keeps_form};
 ghost use Rattle.gs_tables.specs.Tables.{IsFirst, fits, is_bad_item, is_same, items_alone, items_there, option_refusals};
 
-use crate::document::{KindRow, OptionRow};
-use crate::fault::{LimitName, LoadFault};
-use crate::field::Field;
 use crate::field_items::{keeps_gcp, keeps_level, keeps_rest, keeps_serial, size_within_limit};
 use crate::form::KeyForm;
 use crate::forms::{form_at, serial_room};
 use crate::kind_rules::are_visible;
-use crate::level_name::LevelName;
 use gs_ai::AiTable;
+use gs_document::{Field, KindRow, LevelName, LimitName, LoadFault, OptionRow};
 use gs_grammar::Item;
 
 /// The index of the first item that is not there or breaks a bound of the level.

@@ -2,17 +2,12 @@ ghost use Rattle.std.specs.Prelude.{◌≡◌};
 ghost use Rattle.gs_tables.specs.Tables.{level_rows, IsShaped, IsAnswer, row_refusals, set_of};
 ghost use Rattle.gs_tables.specs.Shapes.{Shape};
 
-use crate::document::Document;
-use crate::fault::LoadFault;
-use crate::kind::Kind;
-use crate::level_name::LevelName;
 use crate::level_table::LevelTable;
 use crate::make::{make_ais, make_kinds, make_level};
-use crate::opt_info::OptInfo;
-use crate::read_document::read_document;
 use crate::rules::{check_limits, check_rows, check_version};
 use gs_ai::AiTable;
 use gs_chars::List;
+use gs_document::{Document, Kind, LevelName, LoadFault, OptInfo, read_document};
 use gs_grammar::Level;
 use std::alloc::Global;
 use std::marker::Model;

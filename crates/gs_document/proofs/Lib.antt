@@ -1,0 +1,3 @@
+pub mod FaultLists
+pub mod FormLemmas
+pub mod Parts
