@@ -1,10 +1,11 @@
--- A text has at most one answer, and one by tables that keep their rules.
+-- A text has at most one meaning and one answer, and one by tables that keep their rules.
 use Rattle.std.proofs.Common.{◌≡◌, ℕ, zero, suc, ◌≤◌, ◌⊎◌, true, List, [], ◌∷◌, Option, Some, None, refl, sym, ◌∙◌, ap, inl, inr, length, take, slice_get, get_or, arith}
 use Rattle.std.specs.Prelude.{◌≢◌, ◌%◌, is_some, Result, Ok, Err}
 use Rattle.std.specs.List.{AllPass}
 use Rattle.std.proofs.lemmas.Bool.{cases_eq}
 use Rattle.std.proofs.lemmas.Bool.Decides.{leb_tells}
 use Rattle.std.proofs.lemmas.List.Elements.{All-cons, All-nil}
+use Rattle.gs_chars.proofs.TruthsAndLists.{same_at}
 use Rattle.gs_chars.specs.Escapes.{hex_value}
 use Rattle.gs_bits.specs.HexText.{FirstBadDigit, bits_of_hex, is_hex_digit}
 use Rattle.gs_bits.specs.declared.faults.HexFault.{HexFault}
@@ -16,9 +17,9 @@ use Rattle.gs_grammar.proofs.DecidedWords.{each_counted}
 use Rattle.gs_grammar.proofs.OneReading.{one_reading, not_two}
 use Rattle.gs_ident.specs.Elements.{Elements}
 use Rattle.gs_ident.specs.Links.{canonical_link}
-use Rattle.gs_tables.specs.declared.level_name.LevelName.{LevelName}
-use Rattle.gs_tables.specs.declared.level_name.LevelName.TheVariants as level
-use Rattle.gs_tables.specs.declared.opt_info.OptInfo.{OptInfo}
+use Rattle.gs_document.specs.declared.level_name.LevelName.{LevelName}
+use Rattle.gs_document.specs.declared.level_name.LevelName.TheVariants as level
+use Rattle.gs_document.specs.declared.opt_info.OptInfo.{OptInfo}
 use Rattle.gs_tables.specs.Tables.{IsShaped, TableRows, level_rows}
 use Rattle.gs_epc.specs.declared.epc.Epc.{Epc}
 use Rattle.gs_epc.specs.declared.fault.EpcFault.{EpcFault}
@@ -28,13 +29,15 @@ use Rattle.gs_epc.specs.Layout.{IsLaidOut, lay}
 use Rattle.gs_epc.specs.Readings.{IsHex, IsHexFault, ReadsAs, ReadsHex, Says}
 use Rattle.gs_epc.proofs.KeptLaws.{fit_kind}
 use Rattle.gs_epc.proofs.ReadingFacts.{hex_answer, of_set, said_of, says}
-use Rattle.tdl.specs.declared.answer.Answer.{Answer}
-use Rattle.tdl.specs.declared.answer.Answer.TheVariants.{Canonical, Refused}
-use Rattle.tdl.specs.declared.answer.Reason.TheVariants.{Long, Epc as NoEpc}
-use Rattle.tdl.specs.declared.command.Form.{Form}
-use Rattle.tdl.specs.declared.command.Form.TheVariants as form
-use Rattle.tdl.specs.Answers.{IsAnswer}
-use Rattle.tdl.specs.Meanings.{Means, ReadsIn}
+use Rattle.gs_translate.specs.declared.form.Form.{Form}
+use Rattle.gs_translate.specs.declared.form.Form.TheVariants as form
+use Rattle.gs_translate.specs.declared.meaning.Meaning.{Meaning}
+use Rattle.gs_translate.specs.declared.reason.Reason.{Reason}
+use Rattle.gs_translate.specs.declared.reason.Reason.TheVariants.{Epc as NoEpc, Long, Memory as NoMemory}
+use Rattle.gs_translate.specs.Answers.{IsAnswer, IsCanonical}
+use Rattle.gs_translate.specs.Meanings.{IsMeaning, IsRead, MeaningOf, Means, MeansEpc, epc_meaning, short, too_long}
+use Rattle.gs_translate.specs.Steps.{HasOne, HasSome}
+use Rattle.gs_translate.proofs.StepLaws.{then_one, then_some}
 
 -- the answer is no want of memory
 abbrev IsTold : Result Epc EpcFault → Type 0
@@ -42,11 +45,6 @@ IsTold (Ok epc) = Unit {0}
 IsTold (Err fault) = fault ≢ Memory
 
 -- ---- at most one answer to the symbols of a level
-
-same_at : {X : Type 0} (xs : List X) (i j : ℕ) (x y : X) → slice_get xs i ≡ Some x → slice_get xs j ≡ Some y → i ≡ j → x ≡ y
-same_at xs i j x y a b e =
-    let c : Some x ≡ Some y = sym a ∙ ap (slice_get xs) e ∙ b in
-    cc
 
 same_epc : (set : TableRows) (level : LevelName) (symbols : List ℕ) (one other : Epc) → Says set level symbols one → Says set level symbols other → one ≡ other
 same_epc set level symbols one other a b =
@@ -114,44 +112,56 @@ same_hex set text one other t u a b = elim (hex_case set text one t a) as (λ _.
   ]
 ]
 
--- ---- at most one answer to a text
-
-same_told : (set : TableRows) (form : Form) (text : List ℕ) (one other : Result Epc EpcFault) → IsTold one → IsTold other → ReadsIn set form text one → ReadsIn set form text other → one ≡ other
-same_told set form.Hex text one other t u a b = same_hex set text one other t u a b
-same_told set form.Tag text one other t u a b = same_read set level.Tag text one other t u a b
-same_told set form.Pure text one other t u a b = same_read set level.Pure text one other t u a b
+-- ---- at most one meaning of a text
 
 same_laid : (set : TableRows) (epc epc' : Epc) (one other : Elements) → epc ≡ epc' → IsLaidOut set epc one → IsLaidOut set epc' other → one ≡ other
 same_laid set epc epc' one other e a b =
     let kind = same_at set.kinds epc.kind epc'.kind a.kind b.kind a.named b.named (ap (λ (x : Epc). x.kind) e) in
     a.laid ∙ ap (λ (x : Epc). lay set.ais a.kind x.prefix x.rest x.serial) e ∙ ap (λ k. lay set.ais k epc'.prefix epc'.rest epc'.serial) kind ∙ sym b.laid
 
-same_elements : (set : TableRows) (form : Form) (text : List ℕ) (one other : Elements) → Means set form text one → Means set form text other → one ≡ other
-same_elements set form text one other m n =
-    let told : Ok m.epc ≡ Ok n.epc = same_told set form text (Ok m.epc) (Ok n.epc) tt tt m.read n.read in
-    let same : m.epc ≡ n.epc = cc in
-    same_laid set m.epc n.epc one other same m.laid n.laid
+-- a reading that means something is told
+means_told : (set : TableRows) (said : Result Epc EpcFault) (answer : Result Meaning Reason) → MeaningOf set said answer → IsTold said
+means_told set (Ok epc) answer m = tt
+means_told set (Err fault) (Err (NoEpc reason)) m = m.1
+means_told set (Err fault) (Err Long) m = absurd m
+means_told set (Err fault) (Err NoMemory) m = absurd m
+means_told set (Err fault) (Ok meaning) m = absurd m
 
-no_meaning : (set : TableRows) (form : Form) (text : List ℕ) (elements : Elements) (fault : EpcFault) → Means set form text elements → fault ≢ Memory → ReadsIn set form text (Err fault) → ⊥
-no_meaning set form text elements fault m t b =
-    let told : Ok m.epc ≡ Err fault = same_told set form text (Ok m.epc) (Err fault) tt t m.read b in
-    cc
+same_meaning : (set : TableRows) (said : Result Epc EpcFault) (one other : Result Meaning Reason) → MeaningOf set said one → MeaningOf set said other → one ≡ other
+same_meaning set (Ok epc) (Ok m) (Ok n) a b =
+    ap Ok (a.is ∙ ap (epc_meaning epc) (same_laid set epc epc a.elements b.elements refl a.laid b.laid) ∙ sym b.is)
+same_meaning set (Ok epc) (Ok m) (Err reason) a b = absurd b
+same_meaning set (Ok epc) (Err reason) other a b = absurd a
+same_meaning set (Err fault) (Err (NoEpc reason)) (Err (NoEpc reason')) a b = ap (λ (f : EpcFault). Err (NoEpc f)) (a.0 ∙ sym b.0)
+same_meaning set (Err fault) (Err (NoEpc reason)) (Err Long) a b = absurd b
+same_meaning set (Err fault) (Err (NoEpc reason)) (Err NoMemory) a b = absurd b
+same_meaning set (Err fault) (Err (NoEpc reason)) (Ok meaning) a b = absurd b
+same_meaning set (Err fault) (Err Long) other a b = absurd a
+same_meaning set (Err fault) (Err NoMemory) other a b = absurd a
+same_meaning set (Err fault) (Ok meaning) other a b = absurd a
 
-same_refusal : (set : TableRows) (form : Form) (text : List ℕ) (fault other : EpcFault) → fault ≢ Memory → other ≢ Memory → ReadsIn set form text (Err fault) → ReadsIn set form text (Err other) → fault ≡ other
-same_refusal set form text fault other t u a b =
-    let told : Err fault ≡ Err other = same_told set form text (Err fault) (Err other) t u a b in
-    cc
+means_one : (set : TableRows) (Reads : Result Epc EpcFault → Type 0) → ((one other : Result Epc EpcFault) → IsTold one → IsTold other → Reads one → Reads other → one ≡ other) → HasOne (MeansEpc set Reads)
+means_one set Reads same one other a b =
+    let said : a.said ≡ b.said = same a.said b.said (means_told set a.said one a.means) (means_told set b.said other b.means) a.read b.read in
+    let means : MeaningOf set a.said other = rw said b.means in
+    same_meaning set a.said one other a.means means
 
-pub at_most_one : (set : TableRows) (form : Form) (text : List ℕ) (one other : Answer) → IsAnswer set form text one → IsAnswer set form text other → one ≡ other
-at_most_one set form text (Canonical link) (Canonical link') a b = ap Canonical (a.3 ∙ ap canonical_link (same_elements set form text a.1 b.1 a.2 b.2) ∙ sym b.3)
-at_most_one set form text (Canonical link) (Refused Long) a b = absurd (let l = a.0 in omega arith)
-at_most_one set form text (Canonical link) (Refused (NoEpc fault)) a b = absurd (no_meaning set form text a.1 fault a.2 b.1 b.2)
-at_most_one set form text (Refused Long) (Canonical link) a b = absurd (let l = b.0 in omega arith)
-at_most_one set form text (Refused Long) (Refused Long) a b = refl
-at_most_one set form text (Refused Long) (Refused (NoEpc fault)) a b = absurd (let l = b.0 in omega arith)
-at_most_one set form text (Refused (NoEpc fault)) (Canonical link) a b = absurd (no_meaning set form text b.1 fault b.2 a.1 a.2)
-at_most_one set form text (Refused (NoEpc fault)) (Refused Long) a b = absurd (let l = a.0 in omega arith)
-at_most_one set form text (Refused (NoEpc fault)) (Refused (NoEpc other)) a b = ap (λ f. Refused (NoEpc f)) (same_refusal set form text fault other a.1 b.1 a.2 b.2)
+one_meaning : (set : TableRows) (form : Form) (text : List ℕ) → HasOne (Means set form text)
+one_meaning set form.Hex text = means_one set (ReadsHex set text) (same_hex set text)
+one_meaning set form.Tag text = means_one set (ReadsAs set level.Tag text) (same_read set level.Tag text)
+one_meaning set form.Pure text = means_one set (ReadsAs set level.Pure text) (same_read set level.Pure text)
+
+pub one_read : (set : TableRows) (form : Form) (text : List ℕ) → HasOne (IsRead set form text)
+one_read set form text one other (too_long more e) (too_long more' e') = e ∙ sym e'
+one_read set form text one other (too_long more e) (short few m) = absurd (omega arith)
+one_read set form text one other (short few m) (too_long more e) = absurd (omega arith)
+one_read set form text one other (short few m) (short few' m') = one_meaning set form text one other m m'
+
+one_canonical : (meaning : Meaning) → HasOne (IsCanonical meaning)
+one_canonical meaning one other a b = a ∙ sym b
+
+pub one_answer : (set : TableRows) (form : Form) (text : List ℕ) → HasOne (IsAnswer set form text)
+one_answer set form text = then_one (IsRead set form text) IsCanonical (one_read set form text) one_canonical
 
 -- ---- an answer to the symbols of a level
 
@@ -219,26 +229,29 @@ told_hex set text shaped = elim (cases_eq (length text % 2) 0) as (λ _. Told se
   ]
 ]
 
--- ---- an answer to a text
+-- ---- a meaning of a text
 
-told_text : (set : TableRows) (form : Form) (text : List ℕ) → IsShaped set → Told set (λ answer. ReadsIn set form text answer)
-told_text set form.Hex text shaped = told_hex set text shaped
-told_text set form.Tag text shaped = told_level set level.Tag text shaped
-told_text set form.Pure text shaped = told_level set level.Pure text shaped
-
-abbrev pub HasAnswer : TableRows → Form → List ℕ → Type 0
-HasAnswer set form text = (answer : Answer) × IsAnswer set form text answer
-
-answer_of : (set : TableRows) (form : Form) (text : List ℕ) → IsShaped set → length text ≤ 2048 → Told set (λ answer. ReadsIn set form text answer) → HasAnswer set form text
-answer_of set form text shaped short (has_fault fault t read) = (Refused (NoEpc fault), (short, t, read))
-answer_of set form text shaped short (says_epc epc read of) =
+means_some : (set : TableRows) (Reads : Result Epc EpcFault → Type 0) → IsShaped set → Told set Reads → HasSome (MeansEpc set Reads)
+means_some set Reads shaped (has_fault fault t read) = (Err (NoEpc fault), record { said = Err fault; read = read; means = (refl, t) })
+means_some set Reads shaped (says_epc epc read of) =
     let kind = fit_kind set epc shaped of in
     let elements = lay set.ais kind.0 epc.prefix epc.rest epc.serial in
-    let means : Means set form text elements = record { epc = epc; read = read; laid = record { kind = kind.0; named = kind.1; laid = refl } } in
-    (Canonical (canonical_link elements), (short, elements, means, refl))
+    let laid : IsLaidOut set epc elements = record { kind = kind.0; named = kind.1; laid = refl } in
+    (Ok (epc_meaning epc elements), record { said = Ok epc; read = read; means = record { elements = elements; laid = laid; is = refl } })
 
-pub some_answer : (set : TableRows) (form : Form) (text : List ℕ) → IsShaped set → HasAnswer set form text
-some_answer set form text shaped = elim (leb_tells (length text) 2048) as (λ _. HasAnswer set form text) [
-  | inl e ↦ answer_of set form text shaped e.1 (told_text set form text shaped)
-  | inr e ↦ (Refused Long, e.1)
+some_meaning : (set : TableRows) (form : Form) (text : List ℕ) → IsShaped set → HasSome (Means set form text)
+some_meaning set form.Hex text shaped = means_some set (ReadsHex set text) shaped (told_hex set text shaped)
+some_meaning set form.Tag text shaped = means_some set (ReadsAs set level.Tag text) shaped (told_level set level.Tag text shaped)
+some_meaning set form.Pure text shaped = means_some set (ReadsAs set level.Pure text) shaped (told_level set level.Pure text shaped)
+
+pub some_read : (set : TableRows) (form : Form) (text : List ℕ) → IsShaped set → HasSome (IsRead set form text)
+some_read set form text shaped = elim (leb_tells (length text) 2048) as (λ _. HasSome (IsRead set form text)) [
+  | inl e ↦ let m = some_meaning set form text shaped in (m.0, short e.1 m.1)
+  | inr e ↦ (Err Long, too_long e.1 refl)
 ]
+
+some_canonical : (meaning : Meaning) → HasSome (IsCanonical meaning)
+some_canonical meaning = (Ok (canonical_link meaning.identity), refl)
+
+pub some_answer : (set : TableRows) (form : Form) (text : List ℕ) → IsShaped set → HasSome (IsAnswer set form text)
+some_answer set form text shaped = then_some (IsRead set form text) IsCanonical (some_read set form text shaped) (λ meaning read. some_canonical meaning)

@@ -1,0 +1,9 @@
+pub mod Names
+pub mod Commands
+pub mod Requests
+pub mod Refusals
+pub mod Loads
+pub mod LineAnswers
+pub mod Works
+pub mod Ran
+pub mod Runs
