@@ -33,3 +33,23 @@ pub enum ValueFault {
     /// The month or the day is out of range.
     Date,
 }
+
+/// What is wrong at a place of an element string or of a link.
+#[derive(Clone, Copy, Debug, PartialEq, Eq)]
+pub enum ElementWhy {
+    /// The value is none of its application identifier.
+    Value(ValueFault),
+    /// A percent sign without two hexadecimal digits.
+    Escape,
+    /// No bracket with a code where one has to stand, or one without its end.
+    Bracket,
+}
+
+/// The place of the element that is not in order, as a number of bytes before it, and what is wrong there.
+#[derive(Clone, Copy, Debug, PartialEq, Eq)]
+pub struct ElementFault {
+    /// The number of bytes before the place.
+    pub at: usize,
+    /// What is wrong there.
+    pub why: ElementWhy,
+}

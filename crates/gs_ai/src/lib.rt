@@ -15,7 +15,7 @@ mod table;
 mod tests;
 mod value;
 
-pub use faults::{AiFault, ValueFault};
+pub use faults::{AiFault, ElementFault, ElementWhy, ValueFault};
 pub use pair::Pair;
 pub use part::{Part, Role};
 pub use row::AiRow;

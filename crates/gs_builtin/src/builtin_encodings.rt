@@ -1,11 +1,11 @@
 ghost use Rattle.std.specs.Prelude.{◌≡◌, ◌∷◌, ◌++◌, [], IfOk, OnOk, replicate};
 ghost use Rattle.gs_builtin.specs.BuiltIn.{asset_encodings, document_encodings, encoding, encodings, identities, identity, item_encodings, zeros};
 
-use crate::encoding::{Encoding, Identity, Partition, RestForm};
 use crate::encoding::RestForm::{Characters, Digits, Number};
+use crate::encoding::{Encoding, Identity, Partition, RestForm};
 use gs_chars::{List, Memory, Text};
-use gs_grammar::Item::{Ascii7, Esc, Fill, Num};
 use gs_grammar::Item;
+use gs_grammar::Item::{Ascii7, Esc, Fill, Num};
 use std::alloc::Global;
 
 /// A row of the partition table for each line: the digits of the prefix, its number, and its bits.

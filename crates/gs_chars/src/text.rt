@@ -39,6 +39,13 @@ impl Text {
         Text { bytes }
     }
 
+    /// A text of the same bytes. The one refusal is want of memory.
+    pub fn copy(&self, alloc: Global) -> Result<Text, Memory>
+        ensures { IfOk result (λ text. text ≡ self.now) }
+    {
+        Text::from_bytes(alloc, self.as_bytes())
+    }
+
     /// The bytes of the text.
     pub fn as_bytes(&self) -> &[u8]
         ensures { result.now ≡ self.now }

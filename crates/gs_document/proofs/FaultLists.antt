@@ -7,27 +7,7 @@ use Rattle.gs_json.specs.Shapes.{first_fault}
 use Rattle.gs_json.specs.declared.fault.JsonFault.{JsonFault}
 use Rattle.gs_json.specs.declared.fault.JsonFault.TheVariants as json
 use Rattle.gs_ai.proofs.RuleLemmas.{first_at, none_more}
-use Rattle.gs_ai.proofs.Searches.{read_at}
-
--- the first of two lists of refusals
-pub first_of_front : {E : Type 0} (a b : List E) (e : E) → slice_get a 0 ≡ Some e → slice_get (a ++ b) 0 ≡ Some e
-first_of_front [] b e h = absurd (let g : None ≡ Some e = h in cc)
-first_of_front (x ∷ a) b e h = h
-
-pub first_of_back : {E : Type 0} (a b : List E) (e : E) → a ≡ [] → slice_get b 0 ≡ Some e → slice_get (a ++ b) 0 ≡ Some e
-first_of_back a b e none h = rw none h
-
-pub none_of_both : {E : Type 0} (a b : List E) → a ≡ [] → b ≡ [] → a ++ b ≡ []
-none_of_both a b none h = rw (none, h) refl
-
--- a list with nothing in it has nothing in its parts
-pub none_in_front : {E : Type 0} (a b : List E) → a ++ b ≡ [] → a ≡ []
-none_in_front [] b h = refl
-none_in_front (x ∷ a) b h = absurd (cc)
-
-pub none_behind : {E : Type 0} (a b : List E) → a ++ b ≡ [] → b ≡ []
-none_behind [] b h = h
-none_behind (x ∷ a) b h = absurd (cc)
+use Rattle.gs_chars.proofs.TruthsAndLists.{first_of_front, read_at}
 
 -- ---- a loop over rows
 

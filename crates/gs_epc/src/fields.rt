@@ -56,7 +56,7 @@ pub(crate) fn epc_of(alloc: Global, info: &OptInfo, values: List<Text>) -> Resul
     let mut values = values.into_vec();
     Ok(Epc {
         kind: info.kind,
-        encoding: Text::from_bytes(alloc, info.encoding.as_bytes())?,
+        encoding: info.encoding.copy(alloc)?,
         filter: filter_of(fields, &values),
         gcp: info.gcp,
         prefix: take_value(alloc, Field::Gcp, fields, &mut values),

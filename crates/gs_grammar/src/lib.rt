@@ -16,8 +16,6 @@ mod read;
 mod reading;
 mod splits;
 mod tally;
-#[cfg(test)]
-mod tests;
 mod unpack;
 mod wide;
 mod words;

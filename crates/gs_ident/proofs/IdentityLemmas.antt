@@ -1,14 +1,15 @@
 -- The identity of pairs, and the identity of its own pairs.
-use Rattle.std.proofs.Common.{◌≡◌, ℕ, suc, ◌+◌, true, false, not, ◌&&◌, List, ◌∷◌, ◌++◌, take, Option, Some, None, Ok, Err, slice_get, bytes_eq, All, refl, sym, ap, ◌∙◌, inl, inr, true≢false, zero-add, subst}
-use Rattle.std.specs.List.{filter_map}
+use Rattle.std.proofs.Common.{◌≡◌, ℕ, suc, ◌+◌, Bool, true, false, not, ◌&&◌, List, ◌∷◌, ◌++◌, take, filter, Option, Some, None, Ok, Err, slice_get, bytes_eq, All, refl, sym, ap, ◌∙◌, inl, inr, true≢false, zero-add, subst}
+use Rattle.std.specs.List.{filter_map, list_any}
 use Rattle.std.proofs.lemmas.List.Elements.{All-filter, filter_passes}
 use Rattle.gs_ai.specs.declared.pair.Pair.{Pair}
 use Rattle.gs_ai.specs.declared.row.AiRow.{AiRow}
-use Rattle.gs_ai.specs.Tables.{is_key_of, ascending_codes}
+use Rattle.gs_ai.specs.Tables.{is_key_of}
 use Rattle.gs_ai.proofs.Searches.{equal_bytes, same_bytes, none_any, get_of_take}
 use Rattle.gs_ident.specs.declared.faults.IdentFault.TheVariants.{Repeat, NoKey, TwoKeys}
 use Rattle.gs_ident.specs.Elements.{Elements, pairs_of}
-use Rattle.gs_ident.specs.Identities.{pair_with, stands_for_none, counted, contradicts, contradiction, first_key, other_key, listed, is_other, other_pair, elements_of, by_contradiction, by_key, by_other_key, identity_of_counted, identity_of_pairs, IsInOrder, IsMadeWith}
+use Rattle.gs_ident.specs.Identities.{pair_with, stands_for_none, counted, contradicts, contradiction, first_key, other_key, listed, is_other, ascending, elements_of, by_contradiction, by_key, by_other_key, identity_of_counted, identity_of_pairs, IsInOrder, IsMadeWith}
+use Rattle.gs_ident.proofs.CodeOrder.{own_ascending, own_by_code, pair_with_filter, place_ascending, same_ascending}
 use Rattle.gs_ident.proofs.PairLemmas.{two_ways, is_contradiction, Each, each_append, each_cons, each_filter_map, each_from_all, all_from_each, found_passes, found_each, found_sharper, not_found, find_nothing, find_by_cases, place_of_code, place_right, place_left, same_filter_map, filter_all, place_absent}
 
 -- ---- the answers
@@ -60,28 +61,28 @@ made_facts table pairs identity e = made_by table pairs identity (contradiction 
 abbrev IsOwn : List Pair → Pair → Type 0
 IsOwn pairs pair = pair_with pairs pair.code ≡ Some pair
 
-own_by_code : (pairs : List Pair) (code : List ℕ) (pair : Pair) → pair_with pairs code ≡ Some pair → IsOwn pairs pair
-own_by_code pairs code pair e =
-    let same = equal_bytes code pair.code (found_passes (λ other. bytes_eq code other.code) pairs pair e) in
-    ap (λ (c : List ℕ). pair_with pairs c) (sym same) ∙ e
-
 own_key : (table : List AiRow) (pairs : List Pair) (key : Pair) → first_key table pairs ≡ Some key → IsOwn pairs key
 own_key table pairs key e =
     let is_key = found_passes (λ pair. is_key_of table pair.code) pairs key e in
     found_sharper (λ pair. bytes_eq key.code pair.code) (λ pair. is_key_of table pair.code) pairs key e (λ pair same. let f = equal_bytes key.code pair.code same in rw (← f) is_key) (same_bytes key.code)
 
-own_other : (codes : List (List ℕ)) (key : Pair) (pairs : List Pair) (code : List ℕ) (pair : Pair) → other_pair codes key pairs code ≡ Some pair → IsOwn pairs pair
-own_other codes key pairs code pair e = elim (two_ways (is_other codes key code)) [
-  | inl h ↦ own_by_code pairs code pair (rw h at e)
-  | inr h ↦ absurd (let f = rw h at e in let g : None ≡ Some pair = f in cc)
+-- the first with its code among the pairs whose codes pass a test
+own_other : (t : List ℕ → Bool) (pairs : List Pair) (pair : Pair) → pair_with (filter (λ p. t p.code) pairs) pair.code ≡ Some pair → IsOwn pairs pair
+own_other t pairs pair e = elim (two_ways (t pair.code)) [
+  | inl h ↦ let f = sym (pair_with_filter t pair.code pairs) ∙ e in rw h at f
+  | inr h ↦ let f = sym (pair_with_filter t pair.code pairs) ∙ e in let g = rw h at f in absurd (let n : None ≡ Some pair = g in cc)
 ]
 
 module _ (table : List AiRow) (pairs : List Pair) (key : Pair) (first : first_key table pairs ≡ Some key) (only : other_key table pairs key ≡ None) where
   abbrev qualified : List Pair
   qualified = filter_map (pair_with pairs) (listed table key)
 
+  -- the code is neither the key's nor listed
+  abbrev other : List ℕ → Bool
+  other code = not (bytes_eq key.code code) && not (list_any (bytes_eq code) (listed table key))
+
   abbrev others : List Pair
-  others = filter_map (other_pair (listed table key) key pairs) (ascending_codes table)
+  others = ascending (filter (is_other (listed table key) key) pairs)
 
   abbrev out : List Pair
   out = key ∷ (qualified ++ others)
@@ -89,7 +90,7 @@ module _ (table : List AiRow) (pairs : List Pair) (key : Pair) (first : first_ke
   pub out_own : Each (IsOwn pairs) out
   out_own = each_cons (IsOwn pairs) key (qualified ++ others) (own_key table pairs key first) (each_append (IsOwn pairs) qualified others
       (each_filter_map (IsOwn pairs) (pair_with pairs) (listed table key) (own_by_code pairs))
-      (each_filter_map (IsOwn pairs) (other_pair (listed table key) key pairs) (ascending_codes table) (own_other (listed table key) key pairs)))
+      (λ j pair at. own_other other pairs pair (own_ascending (filter (is_other (listed table key) key) pairs) j pair at)))
 
   -- what holds of each pair holds of those of the identity
   pub out_each : (P : Pair → Type 0) → Each P pairs → Each P out
@@ -116,20 +117,24 @@ module _ (table : List AiRow) (pairs : List Pair) (key : Pair) (first : first_ke
       let place = place_of_code (pair_with pairs) (listed table key) i code pair at e in
       (suc place.0, place_left qualified others place.0 pair place.1))
 
-  others_again : Each (λ code. other_pair (listed table key) key out code ≡ other_pair (listed table key) key pairs code) (ascending_codes table)
-  others_again i code at = elim (two_ways (is_other (listed table key) key code)) [
+  look_up_again : (code : List ℕ) → pair_with (filter (is_other (listed table key) key) out) code ≡ pair_with (filter (is_other (listed table key) key) pairs) code
+  look_up_again code = pair_with_filter other code out ∙ elim (two_ways (other code)) [
     | inl h ↦ rw h (same_look_up code (λ pair e.
-        let f : other_pair (listed table key) key pairs code ≡ Some pair = rw h e in
-        let place = place_of_code (other_pair (listed table key) key pairs) (ascending_codes table) i code pair at f in
+        let f = sym (pair_with_filter other code pairs) in
+        let g = rw h at f in
+        let place = place_ascending (filter (is_other (listed table key) key) pairs) code pair (sym g ∙ e) in
         let right = place_right qualified others place.0 pair place.1 in
         (suc right.0, right.1)))
     | inr h ↦ rw h refl
-  ]
+  ] ∙ sym (pair_with_filter other code pairs)
+
+  others_again : ascending (filter (is_other (listed table key) key) out) ≡ others
+  others_again = same_ascending (filter (is_other (listed table key) key) out) (filter (is_other (listed table key) key) pairs) look_up_again
 
   elements_again : elements_of table out key ≡ elements_of table pairs key
   unfolding elements_of
   elements_again =
-      rw (same_filter_map (pair_with out) (pair_with pairs) (listed table key) listed_again, same_filter_map (other_pair (listed table key) key out) (other_pair (listed table key) key pairs) (ascending_codes table) others_again) refl
+      rw (same_filter_map (pair_with out) (pair_with pairs) (listed table key) listed_again, others_again) refl
 
   first_again : first_key table out ≡ Some key
   first_again = rw (found_passes (λ pair. is_key_of table pair.code) pairs key first) refl
@@ -163,7 +168,7 @@ module _ (table : List AiRow) (pairs : List Pair) (key : Pair) (first : first_ke
 
 -- ---- the table that an identity was made with
 
-out_is : (table : List AiRow) (pairs : List Pair) (key : Pair) → pairs_of (elements_of table pairs key) ≡ key ∷ (filter_map (pair_with pairs) (listed table key) ++ filter_map (other_pair (listed table key) key pairs) (ascending_codes table))
+out_is : (table : List AiRow) (pairs : List Pair) (key : Pair) → pairs_of (elements_of table pairs key) ≡ key ∷ (filter_map (pair_with pairs) (listed table key) ++ ascending (filter (is_other (listed table key) key) pairs))
 unfolding elements_of
 out_is table pairs key = refl
 

@@ -1,3 +1,4 @@
+pub mod CodeOrder
 pub mod IdentityLemmas
 pub mod LinkLemmas
 pub mod PairLemmas

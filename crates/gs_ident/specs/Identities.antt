@@ -1,12 +1,15 @@
 -- The identity of a list of elements: GS1 Digital Link URI Syntax, section 3 (keys, qualifiers and attributes), and GS1
 -- General Specifications, section 4.14 (elements that stand together). The treatment of repeated elements is this
 -- project's own.
-use Rattle.std.specs.Prelude.{◌≡◌, ℕ, Bool, false, not, ◌&&◌, List, [], All, take, filter, find, Option, Some, None, Result, Ok, Err, bytes_eq, if◌then◌else◌}
+use Rattle.std.specs.Prelude.{◌≡◌, ℕ, Bool, false, not, ◌&&◌, List, [], All, take, map, filter, find, Option, Some, None, Result, Ok, Err, bytes_eq}
+use Rattle.std.specs.Cmp.Lexicographic.{slice_cmp}
+use Rattle.std.specs.FinMap.{from_entries, values}
 use Rattle.std.specs.List.{enumerate_from, filter_map, list_any}
 use Rattle.std.specs.Option.{option_map, option_map_or}
+use Rattle.std.specs.Ordering.{nat_cmp}
 use Rattle.gs_ai.specs.declared.pair.Pair.{Pair}
 use Rattle.gs_ai.specs.declared.row.AiRow.{AiRow}
-use Rattle.gs_ai.specs.Tables.{is_empty, is_key_of, ascending_codes}
+use Rattle.gs_ai.specs.Tables.{is_empty, is_key_of}
 use Rattle.gs_ai.specs.Values.{has_code, value_fault}
 use Rattle.gs_ident.specs.declared.faults.IdentFault.{IdentFault}
 use Rattle.gs_ident.specs.declared.faults.IdentFault.TheVariants.{Repeat, NoKey, TwoKeys}
@@ -46,13 +49,17 @@ other_key table pairs key = find (λ pair. is_key_of table pair.code && not (byt
 abbrev pub listed : List AiRow → Pair → List (List ℕ)
 listed table key = option_map_or (λ row. row.qualifiers) (find (has_code key.code) table) []
 
--- the code is neither the key's nor listed
-abbrev pub is_other : List (List ℕ) → Pair → List ℕ → Bool
-is_other codes key code = not (bytes_eq key.code code) && not (list_any (bytes_eq code) codes)
+-- the pair's code is neither the key's nor listed
+abbrev pub is_other : List (List ℕ) → Pair → Pair → Bool
+is_other codes key pair = not (bytes_eq key.code pair.code) && not (list_any (bytes_eq pair.code) codes)
 
--- the pair of such a code
-abbrev pub other_pair : List (List ℕ) → Pair → List Pair → List ℕ → Option Pair
-other_pair codes key pairs code = if is_other codes key code then pair_with pairs code else None
+-- each pair beside its code
+abbrev pub keyed : List Pair → List (List ℕ × Pair)
+keyed pairs = map (λ pair. (pair.code, pair)) pairs
+
+-- the first pair of each code, in ascending order of the codes: what a finite map from the codes holds
+unfoldable pub ascending : List Pair → List Pair
+ascending pairs = values (from_entries {R = slice_cmp nat_cmp} (keyed pairs))
 
 -- The key, the pairs of the listed codes in the order of the list, and all other pairs in ascending order of their codes:
 -- each code once.
@@ -60,7 +67,7 @@ unfoldable pub elements_of : List AiRow → List Pair → Pair → Elements
 elements_of table pairs key = record {
   key = key;
   qualifiers = filter_map (pair_with pairs) (listed table key);
-  attributes = filter_map (other_pair (listed table key) key pairs) (ascending_codes table);
+  attributes = ascending (filter (is_other (listed table key) key) pairs);
 }
 
 -- the answer where no pair contradicts another

@@ -5,9 +5,8 @@ mod choosing;
 mod faults;
 mod identity;
 mod making;
+mod sorting;
 mod spelling;
-#[cfg(test)]
-mod tests;
 
 pub use faults::IdentFault;
 pub use gs_ai::Pair;

@@ -2,20 +2,14 @@ ghost use Rattle.std.specs.Prelude.{◌≡◌, ◌≢◌, All, Ok, Err, IfOk, If
 ghost use Rattle.gs_ident.specs.Identities.{counted, elements_of, identity_of_counted, identity_of_pairs, listed, IsInOrder, IsMadeWith};
 
 use crate::choosing::{
-    copy_listed, copy_others, find_contradiction, find_key, find_other_key, stands_for_none,
+    copy_listed, find_contradiction, find_key, find_other_key, keep_others, stands_for_none,
 };
 use crate::faults::IdentFault;
 use crate::identity::Identity;
+use crate::sorting::sort_pairs;
 use gs_ai::{AiTable, Pair};
 use gs_chars::{Memory, Text};
 use std::alloc::Global;
-
-/// A copy of the text.
-fn copy_text(alloc: Global, text: &Text) -> Result<Text, Memory>
-    ensures { IfOk result (λ copy. copy ≡ text.now) }
-{
-    Text::from_bytes(alloc, text.as_bytes())
-}
 
 /// The codes that the key's row lists as qualifiers.
 fn listed_codes<'a>(table: &'a AiTable, key: &Pair) -> &'a [Text]
@@ -27,21 +21,22 @@ fn listed_codes<'a>(table: &'a AiTable, key: &Pair) -> &'a [Text]
     }
 }
 
-/// The identity of this key and of the pairs around it.
+/// The identity of this key and of the pairs around it. All pairs but the qualifiers are moved.
 #[tactic(auto, unfolding(crate::specs::Identities::elements_of))]
 fn elements_of(
     alloc: Global,
     table: &AiTable,
-    pairs: &[Pair],
-    key: &Pair,
+    pairs: Vec<Pair>,
+    key: Pair,
 ) -> Result<Identity, Memory>
-    ensures { IfOk result (λ identity. identity ≡ elements_of table.now pairs.now key.now) }
+    ensures { IfOk result (λ identity. identity ≡ elements_of table.now pairs.items key) }
 {
-    let own = key.copy(alloc)?;
-    let listed = listed_codes(table, key);
-    let qualifiers = copy_listed(alloc, pairs, listed)?;
-    let attributes = copy_others(alloc, table, pairs, listed, key)?;
-    Ok(Identity::from_pairs(own, qualifiers, attributes))
+    let listed = listed_codes(table, &key);
+    let qualifiers = copy_listed(alloc, pairs.as_slice(), listed)?;
+    let mut others = pairs;
+    keep_others(&mut others, listed, &key);
+    let attributes = sort_pairs(alloc, others)?;
+    Ok(Identity::from_pairs(key, qualifiers, attributes))
 }
 
 /// Drops the pairs whose value stands for none.
@@ -52,21 +47,22 @@ fn keep_counted(table: &AiTable, pairs: &mut Vec<Pair>)
 }
 
 /// The identity of pairs of which each counts.
-fn make_counted(alloc: Global, table: &AiTable, pairs: &[Pair]) -> Result<Identity, IdentFault>
-    ensures made { IfOk result (λ identity. identity_of_counted table.now pairs.now ≡ Ok identity) }
+fn make_counted(alloc: Global, table: &AiTable, pairs: Vec<Pair>) -> Result<Identity, IdentFault>
+    ensures made { IfOk result (λ identity. identity_of_counted table.now pairs.items ≡ Ok identity) }
     ensures refused { IfErr result (λ fault. fault ≢ IdentFault.Memory
-        → identity_of_counted table.now pairs.now ≡ Err fault) }
+        → identity_of_counted table.now pairs.items ≡ Err fault) }
 {
-    if let Some(pair) = find_contradiction(pairs) {
-        return Err(IdentFault::Repeat(copy_text(alloc, &pair.code)?));
+    if let Some(pair) = find_contradiction(pairs.as_slice()) {
+        return Err(IdentFault::Repeat(pair.code.copy(alloc)?));
     }
-    let Some(key) = find_key(table, pairs) else {
+    let Some(key) = find_key(table, pairs.as_slice()) else {
         return Err(IdentFault::NoKey);
     };
-    if let Some(other) = find_other_key(table, pairs, key) {
-        return Err(IdentFault::TwoKeys(copy_text(alloc, &other.code)?));
+    if let Some(other) = find_other_key(table, pairs.as_slice(), key) {
+        return Err(IdentFault::TwoKeys(other.code.copy(alloc)?));
     }
-    Ok(elements_of(alloc, table, pairs, key)?)
+    let own = key.copy(alloc)?;
+    Ok(elements_of(alloc, table, pairs, own)?)
 }
 
 /// The identity of the pairs. Pairs whose value stands for none are dropped first; equal repeats count once. A refusal is
@@ -81,5 +77,5 @@ pub fn make(alloc: Global, table: &AiTable, pairs: Vec<Pair>) -> Result<Identity
 {
     let mut counted = pairs;
     keep_counted(table, &mut counted);
-    make_counted(alloc, table, counted.as_slice())
+    make_counted(alloc, table, counted)
 }

@@ -1,5 +1,6 @@
 pub mod FoundItems
-pub mod NoRefusals
+pub mod KeptRows
+pub mod KeptSets
 pub mod OptionLemmas
 pub mod RefusalLists
 pub mod SetLemmas

@@ -1,11 +1,11 @@
 -- The first refusal of rows as an answer.
 use Rattle.std.proofs.Common.{◌≡◌, ℕ, true, false, List, [], ◌++◌, take, Some, slice_get, refl}
 use Rattle.std.specs.Prelude.{Result, Ok, Err}
+use Rattle.gs_chars.proofs.TruthsAndLists.{first_of_front}
 use Rattle.gs_ai.specs.declared.row.AiRow.{AiRow}
 use Rattle.gs_document.specs.declared.document.KindRow.{KindRow}
 use Rattle.gs_document.specs.declared.fault.LoadFault.{LoadFault}
 use Rattle.gs_document.specs.declared.fault.LoadFault.TheVariants.{Json, Version, Limit, Ai, BadKind, BadItem, Mismatch, Duplicate, Memory}
-use Rattle.gs_document.proofs.FaultLists.{first_of_front}
 use Rattle.gs_tables.specs.Rules.{is_kind}
 use Rattle.gs_tables.specs.Tables.{IsAnswer, IsFirst, kind_refusals}
 

@@ -1,6 +1,7 @@
 -- The set of rows, and the first of their refusals.
 use Rattle.std.proofs.Common.{◌≡◌, ℕ, List, [], ◌++◌, map, Some, None, slice_get, Bool, true, false, not, ◌==◌, refl, sym, ◌∙◌, inl, inr}
 use Rattle.std.specs.Prelude.{Result, Ok, Err}
+use Rattle.gs_chars.proofs.TruthsAndLists.{first_of_back, first_of_front, none_behind, none_in_front, none_of_both}
 use Rattle.gs_ai.specs.declared.row.AiRow.{AiRow}
 use Rattle.gs_ai.specs.Tables.{table_faults}
 use Rattle.gs_document.specs.declared.document.Document.{Document}
@@ -12,7 +13,6 @@ use Rattle.gs_document.specs.declared.level_name.LevelName.TheVariants.{Binary, 
 use Rattle.gs_tables.specs.Tables.{IsAnswer, IsFirst, TableRows, refuse_if, refusals, kind_of, kinds_refusals, level_of, level_refusals, limit_refusals, row_refusals, set_of}
 use Rattle.gs_document.specs.Readings.{Holds, IsFormRefusal}
 use Rattle.gs_tables.specs.Shapes.{Shape}
-use Rattle.gs_document.proofs.FaultLists.{first_of_back, first_of_front, none_behind, none_in_front, none_of_both}
 use Rattle.gs_tables.proofs.RefusalLists.{refused, refused_behind}
 
 -- the refusals of the kinds and of the options

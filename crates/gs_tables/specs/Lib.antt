@@ -6,4 +6,5 @@ pub mod Forms
 pub mod Rules
 pub mod Founds
 pub mod Tables
+pub mod KeptRules
 pub mod Shapes

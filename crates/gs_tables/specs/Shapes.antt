@@ -1,10 +1,11 @@
--- The shape of a table document: the set that its bytes give, or their first refusal.
+-- The shape of a table document: the set that its bytes give, or their first refusal. The answers of the calls that make sets.
 use Rattle.std.specs.Prelude.{◌⊎◌, ℕ, List, Result, Err}
 use Rattle.gs_document.specs.declared.document.Document.{Document}
 use Rattle.gs_document.specs.declared.fault.LoadFault.{LoadFault}
 use Rattle.gs_document.specs.declared.fault.LoadFault.TheVariants.{Json, Memory}
 use Rattle.gs_document.specs.Readings.{Holds, IsFormFault}
-use Rattle.gs_tables.specs.Tables.{TableRows, IsAnswer, refusals, set_of}
+use Rattle.gs_builtin.specs.BuiltIn.{builtin_document}
+use Rattle.gs_tables.specs.Tables.{TableRows, IsAnswer, refusals, row_refusals, set_of}
 
 -- the answer by the rows of the document that the bytes are
 abbrev pub ByRows : List ℕ → Result TableRows LoadFault → Type 0
@@ -21,3 +22,11 @@ ByForm bytes _ = ⊥
 abbrev pub Shape : List ℕ → Result TableRows LoadFault → Type 0
 Shape bytes (Err Memory) = Unit {0}
 Shape bytes answer = ByForm bytes answer ⊎ ByRows bytes answer
+
+-- the answer of `TableSet::load` to bytes
+abbrev pub LoadAnswer : List ℕ → Result TableRows LoadFault → Type 0
+LoadAnswer bytes answer = Shape bytes answer
+
+-- the answer of `builtin`: the set of the built-in rows, or their first refusal
+abbrev pub BuiltInAnswer : Result TableRows LoadFault → Type 0
+BuiltInAnswer answer = IsAnswer (row_refusals builtin_document) (set_of builtin_document) answer

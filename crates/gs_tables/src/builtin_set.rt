@@ -1,5 +1,4 @@
-ghost use Rattle.gs_builtin.specs.BuiltIn.{builtin_document};
-ghost use Rattle.gs_tables.specs.Tables.{IsAnswer, row_refusals, set_of};
+ghost use Rattle.gs_tables.specs.Shapes.{BuiltInAnswer};
 
 use crate::table_set::TableSet;
 use gs_builtin::builtin_document;
@@ -10,7 +9,7 @@ use std::alloc::Global;
 /// the company prefix from 12 to 6 its binary and its tag option, and for each kind its pure option. They go through the
 /// rules of `TableSet::load`. The answer is its first refusal where one is broken. `Memory` may come in place of any answer.
 pub fn builtin(alloc: Global) -> Result<TableSet, LoadFault>
-    ensures { IsAnswer (row_refusals builtin_document) (set_of builtin_document) result }
+    ensures { BuiltInAnswer result }
 {
     let document = builtin_document(alloc)?;
     TableSet::of_rows(alloc, document)

@@ -6,6 +6,7 @@ mod field_items;
 mod form;
 mod forms;
 mod kind_rules;
+mod laws;
 mod level_table;
 mod make;
 mod option_rules;
@@ -14,7 +15,9 @@ mod table_set;
 
 pub use builtin_set::builtin;
 pub use form::KeyForm;
+pub use forms::are_characters;
 pub use gs_document::{
     Field, ItemFault, Kind, LevelName, LimitName, LoadFault, OptInfo, SerialAt, read_item,
 };
+pub use laws::options_keep_the_rules;
 pub use table_set::TableSet;

@@ -105,7 +105,7 @@ fn make_option(
         unreachable!();
     };
     let (fields, items) = split_items(alloc, row.items)?;
-    let Ok(option) = Opt::new(level.is_bits(), items) else {
+    let Ok(option) = Opt::new(alloc, level.is_bits(), items) else {
         unreachable!();
     };
     let info = OptInfo {

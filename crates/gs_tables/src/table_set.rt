@@ -1,6 +1,6 @@
 ghost use Rattle.std.specs.Prelude.{◌≡◌};
 ghost use Rattle.gs_tables.specs.Tables.{level_rows, IsShaped, IsAnswer, row_refusals, set_of};
-ghost use Rattle.gs_tables.specs.Shapes.{Shape};
+ghost use Rattle.gs_tables.specs.Shapes.{LoadAnswer};
 
 use crate::level_table::LevelTable;
 use crate::make::{make_ais, make_kinds, make_level};
@@ -41,7 +41,7 @@ impl TableSet {
     /// `BadItem` for its first bad item, `Limit(Size)`, `Mismatch` where it does not fit its kind, `Duplicate` for the first
     /// earlier option of the same kind, encoding and prefix length. `Memory` may come in place of any answer.
     pub fn load(alloc: Global, bytes: &[u8]) -> Result<TableSet, LoadFault>
-        ensures { Shape bytes.now result }
+        ensures { LoadAnswer bytes.now result }
     {
         let document = read_document(alloc, bytes)?;
         check_version(&document)?;
