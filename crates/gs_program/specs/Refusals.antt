@@ -1,17 +1,28 @@
--- Refusals of tables, as they are printed.
+-- Refusals of files, as they are printed.
 use Rattle.std.specs.Prelude.{ℕ, ◌&&◌, nat_le, if◌then◌else◌, List, [], ◌∷◌, ◌++◌, map, codes, decimal}
 use Rattle.gs_ai.specs.declared.faults.AiFault.{AiFault}
 use Rattle.gs_ai.specs.declared.faults.AiFault.TheVariants as ai
+use Rattle.gs_document.specs.declared.fault.LimitName.{LimitName}
+use Rattle.gs_document.specs.declared.fault.LimitName.TheVariants.{Ais, Kinds, Options, Items, Size}
+use Rattle.gs_document.specs.declared.fault.LoadFault.{LoadFault}
+use Rattle.gs_document.specs.declared.fault.LoadFault.TheVariants.{Json, Version, Limit, Ai, BadKind, BadItem, Mismatch, Duplicate, Memory}
+use Rattle.gs_document.specs.declared.level_name.LevelName.{LevelName}
+use Rattle.gs_document.specs.declared.level_name.LevelName.TheVariants.{Binary, Tag, Pure}
 use Rattle.gs_json.specs.declared.fault.JsonFault.{JsonFault}
 use Rattle.gs_json.specs.declared.fault.JsonFault.TheVariants as json
-use Rattle.gs_tables.specs.declared.fault.LimitName.{LimitName}
-use Rattle.gs_tables.specs.declared.fault.LimitName.TheVariants.{Ais, Kinds, Options, Items, Size}
-use Rattle.gs_tables.specs.declared.fault.LoadFault.{LoadFault}
-use Rattle.gs_tables.specs.declared.fault.LoadFault.TheVariants.{Json, Version, Limit, Ai, BadKind, BadItem, Mismatch, Duplicate, Memory}
-use Rattle.gs_tables.specs.declared.level_name.LevelName.{LevelName}
-use Rattle.gs_tables.specs.declared.level_name.LevelName.TheVariants.{Binary, Tag, Pure}
-use Rattle.tdl.specs.declared.loading.Refusal.{Refusal}
-use Rattle.tdl.specs.declared.loading.Refusal.TheVariants.{Over, Tables}
+use Rattle.gs_program.specs.declared.file_kind.FileKind.{FileKind}
+use Rattle.gs_program.specs.declared.file_kind.FileKind.TheVariants as kind
+use Rattle.gs_program.specs.declared.refusal.Refusal.{Refusal}
+use Rattle.gs_program.specs.declared.refusal.FileFault.{FileFault}
+use Rattle.gs_program.specs.declared.refusal.FileFault.TheVariants.{Over, Tables}
+
+-- the word that a refusal of a kind of file is printed with
+abbrev pub file_word : FileKind → List ℕ
+file_word kind.Tables = codes "tables"
+
+-- the most bytes of a kind of file
+abbrev pub file_limit : FileKind → ℕ
+file_limit kind.Tables = 1048576
 
 -- a place as it is printed: a question mark for each byte that is no visible character of ISO 646
 abbrev pub shown_byte : ℕ → ℕ
@@ -58,21 +69,23 @@ ai_text (ai.KeyIsQualifier i) = numbered (codes "key-is-qualifier") i
 ai_text (ai.PredefinedLength i) = numbered (codes "predefined") i
 ai_text ai.Memory = codes "memory"
 
-abbrev pub fault_text : LoadFault → List ℕ
-fault_text (Json fault) = codes "json " ++ json_text fault
-fault_text Version = codes "version"
-fault_text (Limit name) = codes "limit " ++ limit_text name
-fault_text (Ai fault) = ai_text fault
-fault_text (BadKind i) = numbered (codes "bad-kind") i
-fault_text (BadItem level i k) = numbered_twice (of_level (codes "bad-item") level) i k
-fault_text (Mismatch level i) = numbered (of_level (codes "mismatch") level) i
-fault_text (Duplicate level j i) = numbered_twice (of_level (codes "duplicate") level) j i
-fault_text Memory = codes "memory"
+-- a fault of tables
+abbrev pub tables_text : LoadFault → List ℕ
+tables_text (Json fault) = codes "json " ++ json_text fault
+tables_text Version = codes "version"
+tables_text (Limit name) = codes "limit " ++ limit_text name
+tables_text (Ai fault) = ai_text fault
+tables_text (BadKind i) = numbered (codes "bad-kind") i
+tables_text (BadItem level i k) = numbered_twice (of_level (codes "bad-item") level) i k
+tables_text (Mismatch level i) = numbered (of_level (codes "mismatch") level) i
+tables_text (Duplicate level j i) = numbered_twice (of_level (codes "duplicate") level) j i
+tables_text Memory = codes "memory"
 
-abbrev pub refusal_text : Refusal → List ℕ
-refusal_text Over = codes "over"
-refusal_text (Tables fault) = fault_text fault
+-- why a file is refused
+abbrev pub fault_text : FileFault → List ℕ
+fault_text Over = codes "over"
+fault_text (Tables fault) = tables_text fault
 
--- the line of a refused tables file
+-- the line of a refused file: `refused WHICH REASON`, and a line feed
 abbrev pub refused_line : Refusal → List ℕ
-refused_line refusal = codes "refused tables " ++ refusal_text refusal ++ 10 ∷ []
+refused_line refusal = codes "refused " ++ file_word refusal.kind ++ 32 ∷ fault_text refusal.fault ++ 10 ∷ []

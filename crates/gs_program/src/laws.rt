@@ -1,21 +1,20 @@
-ghost use Rattle.std.specs.Prelude.{◌≡◌, ℕ, List};
-ghost use Rattle.gs_tables.specs.Tables.{IsShaped, TableRows};
-ghost use Rattle.tdl.specs.declared.answer.Answer.{Answer};
-ghost use Rattle.tdl.specs.declared.command.Form.{Form};
-ghost use Rattle.tdl.specs.declared.status.Status.{Status};
-ghost use Rattle.tdl.specs.Answers.{IsAnswer};
-ghost use Rattle.tdl.specs.Outputs.{AnswersInput};
+ghost use Rattle.std.specs.Prelude.{◌≡◌, ℕ, List, Some};
+ghost use Rattle.gs_translate.specs.Steps.{HasOne, HasSome};
+ghost use Rattle.gs_program.specs.Requests.{Asked, WordsInOrder};
+ghost use Rattle.gs_program.specs.Runs.{AskedRun, DefinedRun};
 
-/// A text has at most one answer, and one where the tables keep their rules.
-pub fn each_text_has_one_answer()
-    ensures at_most_one { (set : TableRows) (form : Form) (text : List ℕ) (one other : Answer) → IsAnswer set form text one → IsAnswer set form text other → one ≡ other }
-    ensures some { (set : TableRows) (form : Form) (text : List ℕ) → IsShaped set → ((answer : Answer) × IsAnswer set form text answer) }
+/// Words ask for one thing at most.
+pub fn words_ask_for_one_thing()
+    ensures { (words : List (List ℕ)) → HasOne (WordsInOrder words) }
 {}
 
-/// The lines of an input have, by such tables, one output and one status, and no other.
-pub fn each_input_has_one_outcome()
-    ensures at_most_one { (set : TableRows) (form : Form) (limit : ℕ) (input output other : List ℕ) (status ending : Status) →
-        AnswersInput (IsAnswer set form) limit input output status → AnswersInput (IsAnswer set form) limit input other ending → (output ≡ other) × (status ≡ ending) }
-    ensures some { (set : TableRows) (form : Form) (limit : ℕ) (input : List ℕ) → IsShaped set →
-        ((output : List ℕ) × ((status : Status) × AnswersInput (IsAnswer set form) limit input output status)) }
+/// What is asked has one outcome, output and status, over files and an input that are told, and no other.
+pub fn each_request_has_one_outcome()
+    ensures at_most_one { (asked : Asked) (files : List (List ℕ × List ℕ)) (input : List ℕ) → HasOne (AskedRun asked (record { files = Some files; input = Some input })) }
+    ensures some { (asked : Asked) (files : List (List ℕ × List ℕ)) (input : List ℕ) → HasSome (AskedRun asked (record { files = Some files; input = Some input })) }
+{}
+
+/// Words have at most one outcome over files and an input that are told.
+pub fn words_have_one_outcome()
+    ensures { (words : List (List ℕ)) (files : List (List ℕ × List ℕ)) (input : List ℕ) → HasOne (DefinedRun words (record { files = Some files; input = Some input })) }
 {}

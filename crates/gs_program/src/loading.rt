@@ -1,83 +1,47 @@
-ghost use Rattle.std.specs.Prelude.{◌≡◌, ◌⊎◌, ◌≤◌, ℕ, List, Option, None, Some};
-ghost use Rattle.gs_port.specs.Counts.{Rises};
-ghost use Rattle.gs_port.specs.Files.{IsAbsent};
-ghost use Rattle.tdl.specs.Commands.{name_of};
-ghost use Rattle.tdl.specs.Unloaded.{IsNamedAbsent, LoadedAs, OnLoadFault, unloaded_of};
+ghost use Rattle.std.specs.Prelude.{◌≡◌, ◌≤◌, []};
+ghost use Rattle.gs_program.specs.Loads.{FilesGive, LoadedBy, OpensFirst};
+ghost use Rattle.gs_program.specs.Requests.{names_in_order, told_files};
 
-use gs_port::{FileFault, Files, read_file};
-use gs_tables::{LoadFault, TableSet, builtin};
+use crate::refusal::Refusal;
+use crate::request::NamedFiles;
+use crate::tables::load_tables;
+use gs_port::Files;
+use gs_tables::TableSet;
 use std::alloc::Global;
 
-/// The most bytes of a tables file.
-const TABLES_LIMIT: usize = 1_048_576;
-
-/// Why tables are refused.
-#[derive(Debug, Drop)]
-pub enum Refusal {
-    /// The file has more than 1,048,576 bytes.
-    Over,
-    /// The tables break a rule.
-    Tables(LoadFault),
+/// What a run has loaded.
+#[derive(Drop)]
+pub struct Loaded {
+    /// The tables.
+    pub tables: TableSet,
 }
 
-/// Why there are no tables.
+/// Why a run has not loaded its files.
 #[derive(Debug, Drop)]
 pub enum Unloaded {
-    /// They are refused.
+    /// A file is refused.
     Refused(Refusal),
-    /// The file is not there, or a fault of it was counted.
+    /// A fault of the files was counted, or a file is not there.
     ReadFault,
-    /// Memory ran out.
+    /// Want of memory.
     Memory,
 }
 
-/// What the answer of a load is for a run, with want of memory as its own.
-fn run_answer(answer: Result<TableSet, LoadFault>) -> Result<TableSet, Unloaded>
-    ensures { result ≡ unloaded_of answer }
-{
-    match answer {
-        Ok(set) => Ok(set),
-        Err(LoadFault::Memory) => Err(Unloaded::Memory),
-        Err(fault) => Err(Unloaded::Refused(Refusal::Tables(fault))),
-    }
-}
-
-/// The tables of the named file: `Over` exactly where it has more than 1,048,576 bytes.
-fn load_file<F: Files>(alloc: Global, files: &mut F, name: &str) -> Result<TableSet, Unloaded>
-    ensures loaded { LoadedAs (F.files files.old) (Some name.now) result }
-    ensures fault { OnLoadFault result (Rises (F.faults files.old) (F.faults files.new) ⊎ IsAbsent (F.files files.old) name.now) }
-    ensures counts { F.faults files.old ≤ F.faults files.new }
-{
-    match read_file(alloc, files, name, TABLES_LIMIT) {
-        Ok(bytes) => run_answer(TableSet::load(alloc, bytes.as_bytes())),
-        Err(FileFault::Over(_)) => Err(Unloaded::Refused(Refusal::Over)),
-        Err(FileFault::Failed) => Err(Unloaded::ReadFault),
-        Err(FileFault::Memory) => Err(Unloaded::Memory),
-    }
-}
-
-/// The built-in tables.
-fn load_own(alloc: Global) -> Result<TableSet, Unloaded>
-    ensures loaded { (files : Option (List (List ℕ × List ℕ))) → LoadedAs files None result }
-    ensures no_fault { OnLoadFault result (⊥) }
-{
-    run_answer(builtin(alloc))
-}
-
-/// The tables of the named file, or the built-in ones where none is named. A `ReadFault` comes only where the files counted
-/// a fault, or where they are told and the named one is not among them.
-pub fn load_tables<F: Files>(
+/// Loads the files in their order, up to the first that is not there, cannot be read or is refused. What is not named is
+/// the built-in tables.
+pub fn load_files<F: Files>(
     alloc: Global,
+    names: NamedFiles<'_>,
     files: &mut F,
-    name: Option<&str>,
-) -> Result<TableSet, Unloaded>
-    ensures loaded { LoadedAs (F.files files.old) (name_of name.entry) result }
-    ensures fault { OnLoadFault result (Rises (F.faults files.old) (F.faults files.new) ⊎ IsNamedAbsent (F.files files.old) (name_of name.entry)) }
+) -> Result<Loaded, Unloaded>
+    ensures loaded { LoadedBy (FilesGive (F.files files.old) (told_files names.entry)) (F.faults files.old) (F.faults files.new) result }
+    ensures opened { OpensFirst (names_in_order (told_files names.entry)) (F.opened files.old) (F.opened files.new) }
+    ensures unopened { names_in_order (told_files names.entry) ≡ [] → files.new ≡ files.old }
+    ensures told { F.files files.new ≡ F.files files.old }
     ensures counts { F.faults files.old ≤ F.faults files.new }
-    ensures unopened { name_of name.entry ≡ None → files.new ≡ files.old }
 {
-    match name {
-        Some(name) => load_file(alloc, files, name),
-        None => load_own(alloc),
+    match load_tables(alloc, names.tables, files) {
+        Ok(tables) => Ok(Loaded { tables }),
+        Err(unloaded) => Err(unloaded),
     }
 }

@@ -1,7 +1,7 @@
-ghost use Rattle.std.specs.Prelude.{◌≡◌, ◌++◌, IfOk, codes};
-ghost use Rattle.tdl.specs.Refusals.{ai_text, fault_text, json_text, level_text, limit_text, numbered, numbered_twice, of_level, refusal_text, refused_line, shown, shown_byte};
+ghost use Rattle.std.specs.Prelude.{◌≡◌, ◌∷◌, ◌++◌, IfOk, OnOk, codes, decimal};
+ghost use Rattle.gs_program.specs.Refusals.{ai_text, fault_text, json_text, level_text, limit_text, numbered, numbered_twice, of_level, refused_line, shown, shown_byte, tables_text};
 
-use crate::loading::Refusal;
+use crate::refusal::{FileFault, Refusal};
 use gs_ai::AiFault;
 use gs_chars::Memory;
 use gs_json::JsonFault;
@@ -15,48 +15,50 @@ fn shown_byte(c: u8) -> u8
     if c >= 33 && c <= 126 { c } else { b'?' }
 }
 
-/// A text, and behind it another.
-pub fn joined(alloc: Global, front: &[u8], back: &[u8]) -> Result<Vec<u8>, Memory>
-    ensures { IfOk result (λ text. text.items ≡ front.now ++ back.now) }
+/// Appends a place as it is printed.
+fn append_place(out: &mut Vec<u8>, place: &[u8]) -> Result<(), Memory>
+    ensures { OnOk result (out.new.items ≡ out.old.items ++ shown place.now) }
 {
-    let mut text = front.to_vec(alloc)?;
-    text.extend_from_slice(back)?;
-    Ok(text)
-}
-
-/// A text, and behind it a place as it is printed.
-fn placed(alloc: Global, front: &[u8], place: &[u8]) -> Result<Vec<u8>, Memory>
-    ensures { IfOk result (λ text. text.items ≡ front.now ++ shown place.now) }
-{
-    let mut text = front.to_vec(alloc)?;
     for c in place {
-        text.push(shown_byte(*c))?;
+        out.push(shown_byte(*c))?;
     }
-    Ok(text)
+    Ok(())
 }
 
-/// A text, and behind it a space and a number.
-fn numbered(alloc: Global, front: &[u8], number: usize) -> Result<Vec<u8>, Memory>
-    ensures { IfOk result (λ text. text.items ≡ numbered front.now number) }
+/// Appends a space and a number.
+fn append_number(alloc: Global, out: &mut Vec<u8>, number: usize) -> Result<(), Memory>
+    ensures { OnOk result (out.new.items ≡ out.old.items ++ 32 ∷ decimal number) }
 {
     let number = format!(in alloc; "{number}")?;
-    let mut text = front.to_vec(alloc)?;
-    text.push(b' ')?;
-    text.extend_from_slice(number.as_bytes())?;
-    Ok(text)
+    out.push(b' ')?;
+    Ok(out.extend_from_slice(number.as_bytes())?)
 }
 
-/// A text, and behind it two numbers, each after a space.
-fn numbered_twice(
+/// Appends a word, and behind it a space and a number.
+fn append_numbered(
     alloc: Global,
-    front: &[u8],
+    out: &mut Vec<u8>,
+    word: &[u8],
+    number: usize,
+) -> Result<(), Memory>
+    ensures { OnOk result (out.new.items ≡ out.old.items ++ numbered word.now number) }
+{
+    out.extend_from_slice(word)?;
+    append_number(alloc, out, number)
+}
+
+/// Appends a word, and behind it two numbers, each after a space.
+fn append_numbered_twice(
+    alloc: Global,
+    out: &mut Vec<u8>,
+    word: &[u8],
     first: usize,
     second: usize,
-) -> Result<Vec<u8>, Memory>
-    ensures { IfOk result (λ text. text.items ≡ numbered_twice front.now first second) }
+) -> Result<(), Memory>
+    ensures { OnOk result (out.new.items ≡ out.old.items ++ numbered_twice word.now first second) }
 {
-    let text = numbered(alloc, front, first)?;
-    numbered(alloc, text.as_slice(), second)
+    append_numbered(alloc, out, word, first)?;
+    append_number(alloc, out, second)
 }
 
 /// The name of a level.
@@ -70,14 +72,13 @@ fn level_text(level: LevelName) -> &'static [u8]
     }
 }
 
-/// A word, and behind it a space and the name of a level.
-fn of_level(alloc: Global, word: &[u8], level: LevelName) -> Result<Vec<u8>, Memory>
-    ensures { IfOk result (λ text. text.items ≡ of_level word.now level) }
+/// Appends a word, and behind it a space and the name of a level.
+fn append_of_level(out: &mut Vec<u8>, word: &[u8], level: LevelName) -> Result<(), Memory>
+    ensures { OnOk result (out.new.items ≡ out.old.items ++ of_level word.now level) }
 {
-    let mut text = word.to_vec(alloc)?;
-    text.push(b' ')?;
-    text.extend_from_slice(level_text(level))?;
-    Ok(text)
+    out.extend_from_slice(word)?;
+    out.push(b' ')?;
+    Ok(out.extend_from_slice(level_text(level))?)
 }
 
 /// The name of a limit.
@@ -93,95 +94,122 @@ fn limit_text(name: LimitName) -> &'static [u8]
     }
 }
 
-/// Why a document has not its form.
-fn json_text(alloc: Global, fault: &JsonFault) -> Result<Vec<u8>, Memory>
-    ensures { IfOk result (λ text. text.items ≡ json_text fault.now) }
+/// Appends a word, and behind it a place as it is printed.
+fn append_placed(out: &mut Vec<u8>, word: &[u8], place: &[u8]) -> Result<(), Memory>
+    ensures { OnOk result (out.new.items ≡ out.old.items ++ (word.now ++ shown place.now)) }
+{
+    out.extend_from_slice(word)?;
+    append_place(out, place)
+}
+
+/// Appends why a document has not its form.
+fn append_json(out: &mut Vec<u8>, fault: &JsonFault) -> Result<(), Memory>
+    ensures { OnOk result (out.new.items ≡ out.old.items ++ json_text fault.now) }
 {
     match fault {
-        JsonFault::Syntax => Ok(b"syntax".to_vec(alloc)?),
-        JsonFault::Lacks(place) => placed(alloc, b"lacks ", place.as_bytes()),
-        JsonFault::Kind(place) => placed(alloc, b"kind ", place.as_bytes()),
-        JsonFault::Unknown(place) => placed(alloc, b"unknown ", place.as_bytes()),
-        JsonFault::Memory => Ok(b"memory".to_vec(alloc)?),
+        JsonFault::Syntax => Ok(out.extend_from_slice(b"syntax")?),
+        JsonFault::Lacks(place) => append_placed(out, b"lacks ", place.as_bytes()),
+        JsonFault::Kind(place) => append_placed(out, b"kind ", place.as_bytes()),
+        JsonFault::Unknown(place) => append_placed(out, b"unknown ", place.as_bytes()),
+        JsonFault::Memory => Ok(out.extend_from_slice(b"memory")?),
     }
 }
 
-/// A fault of the application identifiers.
-fn ai_text(alloc: Global, fault: &AiFault) -> Result<Vec<u8>, Memory>
-    ensures { IfOk result (λ text. text.items ≡ ai_text fault.now) }
+/// Appends a fault of the application identifiers.
+fn append_ai(alloc: Global, out: &mut Vec<u8>, fault: &AiFault) -> Result<(), Memory>
+    ensures { OnOk result (out.new.items ≡ out.old.items ++ ai_text fault.now) }
 {
     match fault {
-        AiFault::BadAi(i) => numbered(alloc, b"ai", *i),
-        AiFault::CodePrefix(j, i) => numbered_twice(alloc, b"code-prefix", *j, *i),
-        AiFault::KeyIsQualifier(i) => numbered(alloc, b"key-is-qualifier", *i),
-        AiFault::PredefinedLength(i) => numbered(alloc, b"predefined", *i),
-        AiFault::Memory => Ok(b"memory".to_vec(alloc)?),
+        AiFault::BadAi(i) => append_numbered(alloc, out, b"ai", *i),
+        AiFault::CodePrefix(j, i) => append_numbered_twice(alloc, out, b"code-prefix", *j, *i),
+        AiFault::KeyIsQualifier(i) => append_numbered(alloc, out, b"key-is-qualifier", *i),
+        AiFault::PredefinedLength(i) => append_numbered(alloc, out, b"predefined", *i),
+        AiFault::Memory => Ok(out.extend_from_slice(b"memory")?),
     }
 }
 
-/// A fault of an option of a level.
-fn option_text(
+/// Appends a fault of an option of a level, with two numbers.
+fn append_option(
     alloc: Global,
+    out: &mut Vec<u8>,
     word: &[u8],
     level: LevelName,
     first: usize,
     second: usize,
-) -> Result<Vec<u8>, Memory>
-    ensures { IfOk result (λ text. text.items ≡ numbered_twice (of_level word.now level) first second) }
+) -> Result<(), Memory>
+    ensures { OnOk result (out.new.items ≡ out.old.items ++ numbered_twice (of_level word.now level) first second) }
 {
-    let text = of_level(alloc, word, level)?;
-    numbered_twice(alloc, text.as_slice(), first, second)
+    append_of_level(out, word, level)?;
+    append_number(alloc, out, first)?;
+    append_number(alloc, out, second)
 }
 
-/// The option of a level that does not fit its kind.
-fn mismatch_text(alloc: Global, level: LevelName, i: usize) -> Result<Vec<u8>, Memory>
-    ensures { IfOk result (λ text. text.items ≡ numbered (of_level (codes "mismatch") level) i) }
+/// Appends the option of a level that does not fit its kind.
+fn append_mismatch(
+    alloc: Global,
+    out: &mut Vec<u8>,
+    level: LevelName,
+    i: usize,
+) -> Result<(), Memory>
+    ensures { OnOk result (out.new.items ≡ out.old.items ++ numbered (of_level (codes "mismatch") level) i) }
 {
-    let text = of_level(alloc, b"mismatch", level)?;
-    numbered(alloc, text.as_slice(), i)
+    append_of_level(out, b"mismatch", level)?;
+    append_number(alloc, out, i)
 }
 
-/// The fault of a document's form.
-fn form_text(alloc: Global, fault: &JsonFault) -> Result<Vec<u8>, Memory>
-    ensures { IfOk result (λ text. text.items ≡ codes "json " ++ json_text fault.now) }
+/// Appends a fault of the form of a document.
+fn append_form(out: &mut Vec<u8>, fault: &JsonFault) -> Result<(), Memory>
+    ensures { OnOk result (out.new.items ≡ out.old.items ++ (codes "json " ++ json_text fault.now)) }
 {
-    let text = json_text(alloc, fault)?;
-    joined(alloc, b"json ", text.as_slice())
+    out.extend_from_slice(b"json ")?;
+    append_json(out, fault)
 }
 
-/// A fault of the tables.
-fn fault_text(alloc: Global, fault: &LoadFault) -> Result<Vec<u8>, Memory>
-    ensures { IfOk result (λ text. text.items ≡ fault_text fault.now) }
+/// Appends a limit that is passed.
+fn append_limit(out: &mut Vec<u8>, name: LimitName) -> Result<(), Memory>
+    ensures { OnOk result (out.new.items ≡ out.old.items ++ (codes "limit " ++ limit_text name)) }
+{
+    out.extend_from_slice(b"limit ")?;
+    Ok(out.extend_from_slice(limit_text(name))?)
+}
+
+/// Appends a fault of tables.
+fn append_tables(alloc: Global, out: &mut Vec<u8>, fault: &LoadFault) -> Result<(), Memory>
+    ensures { OnOk result (out.new.items ≡ out.old.items ++ tables_text fault.now) }
 {
     match fault {
-        LoadFault::Json(fault) => form_text(alloc, fault),
-        LoadFault::Version => Ok(b"version".to_vec(alloc)?),
-        LoadFault::Limit(name) => joined(alloc, b"limit ", limit_text(*name)),
-        LoadFault::Ai(fault) => ai_text(alloc, fault),
-        LoadFault::BadKind(i) => numbered(alloc, b"bad-kind", *i),
-        LoadFault::BadItem(level, i, k) => option_text(alloc, b"bad-item", *level, *i, *k),
-        LoadFault::Mismatch(level, i) => mismatch_text(alloc, *level, *i),
-        LoadFault::Duplicate(level, j, i) => option_text(alloc, b"duplicate", *level, *j, *i),
-        LoadFault::Memory => Ok(b"memory".to_vec(alloc)?),
+        LoadFault::Json(fault) => append_form(out, fault),
+        LoadFault::Version => Ok(out.extend_from_slice(b"version")?),
+        LoadFault::Limit(name) => append_limit(out, *name),
+        LoadFault::Ai(fault) => append_ai(alloc, out, fault),
+        LoadFault::BadKind(i) => append_numbered(alloc, out, b"bad-kind", *i),
+        LoadFault::BadItem(level, i, k) => append_option(alloc, out, b"bad-item", *level, *i, *k),
+        LoadFault::Mismatch(level, i) => append_mismatch(alloc, out, *level, *i),
+        LoadFault::Duplicate(level, j, i) => {
+            append_option(alloc, out, b"duplicate", *level, *j, *i)
+        }
+        LoadFault::Memory => Ok(out.extend_from_slice(b"memory")?),
     }
 }
 
-/// Why tables are refused.
-fn refusal_text(alloc: Global, refusal: &Refusal) -> Result<Vec<u8>, Memory>
-    ensures { IfOk result (λ text. text.items ≡ refusal_text refusal.now) }
+/// Appends why a file is refused.
+fn append_fault(alloc: Global, out: &mut Vec<u8>, fault: &FileFault) -> Result<(), Memory>
+    ensures { OnOk result (out.new.items ≡ out.old.items ++ fault_text fault.now) }
 {
-    match refusal {
-        Refusal::Over => Ok(b"over".to_vec(alloc)?),
-        Refusal::Tables(fault) => fault_text(alloc, fault),
+    match fault {
+        FileFault::Over => Ok(out.extend_from_slice(b"over")?),
+        FileFault::Tables(fault) => append_tables(alloc, out, fault),
     }
 }
 
-/// The line of refused tables: `refused tables REASON`, and a line feed.
+/// The line of a refused file: `refused WHICH REASON`, and a line feed.
 pub fn refused_line(alloc: Global, refusal: &Refusal) -> Result<Vec<u8>, Memory>
     ensures { IfOk result (λ line. line.items ≡ refused_line refusal.now) }
 {
-    let text = refusal_text(alloc, refusal)?;
-    let mut line = joined(alloc, b"refused tables ", text.as_slice())?;
+    let mut line = b"refused ".to_vec(alloc)?;
+    line.extend_from_slice(refusal.kind.word())?;
+    line.push(b' ')?;
+    append_fault(alloc, &mut line, &refusal.fault)?;
     line.push(b'\n')?;
     Ok(line)
 }

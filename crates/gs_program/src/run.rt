@@ -1,41 +1,29 @@
-ghost use Rattle.std.specs.Prelude.{◌≡◌, ◌≢◌, ◌⊎◌, ℕ, ◌<◌, ◌≤◌, ◌++◌, List, [], Some, length, map, string_bytes};
+ghost use Rattle.std.specs.Prelude.{◌≡◌, ◌⊎◌, ℕ, ◌+◌, ◌≤◌, List, [], map, string_bytes};
+ghost use Rattle.gs_lines.specs.Inputs.{IsAtEnd, TakesAtMost, TakesMoreThan};
+ghost use Rattle.gs_lines.specs.Outputs.{Appends};
+ghost use Rattle.gs_lines.specs.Statuses.{OnAnswered, OnCutShort, OnInputLong, OnReadFault, OnRefused, OnUsage, OnWriteFault, OnWritten};
 ghost use Rattle.gs_port.specs.Counts.{Rises};
-ghost use Rattle.tdl.specs.Commands.{AsksForLines, NamesFile, NotInOrder, WordsInOrder, usage_line};
-ghost use Rattle.tdl.specs.Outputs.{Appends};
-ghost use Rattle.tdl.specs.Runs.{DefinedRun, EndedRun, FrontOfRun, IsMissing, UsageWritten, input_limit};
-ghost use Rattle.tdl.specs.Statuses.{OnAnswered, OnCutShort, OnInputLong, OnReadFault, OnUsage, OnWriteFault, OnWritten};
-ghost use Rattle.tdl.specs.declared.command.Command.{Command};
+ghost use Rattle.gs_program.specs.Requests.{AsksForLines, NamesFile, NotInOrder};
+ghost use Rattle.gs_program.specs.Runs.{BeginsRun, DefinedRun, EndedRun, IsMissing, IsRefused, OpensNamed};
+ghost use Rattle.gs_program.specs.Works.{input_limit};
 
-use crate::canon::canonize;
-use crate::checking::check_tables;
-use crate::command::{Command, read_words};
-use crate::status::Status;
-use gs_port::{Files, Sink, Source, Whole, write_whole};
+use crate::arguments::read_words;
+use crate::asking::run_request;
+use gs_lines::{Status, print_line};
+use gs_port::{Files, Sink, Source};
 use std::alloc::Global;
 
 /// What is printed where the words are not in order.
 const USAGE: &[u8] =
     b"usage: tdl canon FORM | translate FROM TO | check | resolve | serve | gen N, then --name value pairs\n";
 
-/// Writes the usage line.
-fn print_usage<K: Sink>(output: &mut K) -> Status
-    ensures written { Appends (K.held output.old) (K.held output.new) (λ out. UsageWritten out result) }
-    ensures fault { OnWriteFault result (Rises (K.faults output.old) (K.faults output.new)) }
-    ensures counts { K.faults output.old ≤ K.faults output.new }
-{
-    match write_whole(output, USAGE) {
-        Whole::Done => Status::Usage,
-        Whole::SinkFault => Status::WriteFault,
-        Whole::Memory => Status::Memory,
-    }
-}
-
 /// Runs the program: does what the words ask for, over these files, this input and this output, and says how it ended.
 ///
 /// `Usage` comes exactly where the words are not in order; the usage line is written then, and nothing is read or opened.
-/// `Refused` comes where a tables file is refused, after the one line that says why. `ReadFault` comes only where the input
-/// or the files counted a fault, or where the files are told and the named one is not there. The other statuses are those of
-/// `answer_lines`, with a limit of 16,777,216 bytes.
+/// `Refused` comes where a file, or the built-in rows, are refused, after the one line that says why; the input is not read.
+/// `ReadFault` comes only where the input or the files counted a fault, or where the files are told and a named one is not
+/// there. `InputLong` comes exactly where more than 16,777,216 bytes were taken from the input. `WriteFault` comes only where
+/// the output counted a fault. After `ReadFault`, `WriteFault` and `Memory` an initial part of the defined output was written.
 pub fn run<F: Files, S: Source, K: Sink>(
     alloc: Global,
     words: &[String],
@@ -44,39 +32,41 @@ pub fn run<F: Files, S: Source, K: Sink>(
     output: &mut K,
 ) -> Status
     // The headline: output and status are the defined ones, whatever count rose on the way.
-    ensures defined { OnWritten result ((bytes : List ℕ) → S.left input.old ≡ Some bytes →
-        Appends (K.held output.old) (K.held output.new) (λ out. DefinedRun (map string_bytes words.now) (F.files files.old) bytes out result)) }
-    ensures read_to_end { AsksForLines (map string_bytes words.now) → OnAnswered result ((rest : List ℕ) → S.left input.new ≡ Some rest → rest ≡ []) }
+    ensures defined { OnWritten result (Appends (K.held output.old) (K.held output.new) (λ out. DefinedRun (map string_bytes words.now)
+        (record { files = F.files files.old; input = S.left input.old }) (record { output = out; status = result }))) }
+    ensures read_to_end { AsksForLines (map string_bytes words.now) → OnAnswered result (IsAtEnd (S.left input.new)) }
 
-    // The words decide whether it is the usage line.
+    // The words decide whether it is the usage line, and the files whether one is refused.
     ensures usage { OnUsage result (NotInOrder (map string_bytes words.now)) }
     ensures not_in_order { NotInOrder (map string_bytes words.now) → OnWritten result (result ≡ Status.Usage) }
+    ensures refused { OnRefused result (IsRefused (map string_bytes words.now) (F.files files.old)) }
 
-    // What a command does not use is as it was.
+    // What a command does not use is as it was, and so is the input where a file is refused.
     ensures unread { (AsksForLines (map string_bytes words.now) → ⊥) → input.new ≡ input.old }
+    ensures unread_refused { OnRefused result (input.new ≡ input.old) }
+    ensures few { TakesAtMost (input_limit + 1) (S.left input.old) (S.left input.new) }
     ensures unopened { ((name : List ℕ) → NamesFile (map string_bytes words.now) name → ⊥) → files.new ≡ files.old }
+    ensures opened { OpensNamed (map string_bytes words.now) (F.opened files.old) (F.opened files.new) }
+    ensures told { F.files files.new ≡ F.files files.old }
 
     // Each cause.
     ensures read_fault { OnReadFault result (Rises (S.faults input.old) (S.faults input.new)
         ⊎ (Rises (F.faults files.old) (F.faults files.new) ⊎ IsMissing (map string_bytes words.now) (F.files files.old))) }
     ensures write_fault { OnWriteFault result (Rises (K.faults output.old) (K.faults output.new)) }
-    ensures input_long { OnInputLong result ((taken rest : List ℕ) →
-        S.left input.old ≡ Some (taken ++ rest) → S.left input.new ≡ Some rest → input_limit < length taken) }
+    ensures input_long { OnInputLong result (TakesMoreThan input_limit (S.left input.old) (S.left input.new)) }
 
     // What was written then.
-    ensures ended { OnReadFault result ((taken rest : List ℕ) → S.left input.old ≡ Some (taken ++ rest) → S.left input.new ≡ Some rest →
-        Appends (K.held output.old) (K.held output.new) (λ out. EndedRun (Rises (F.faults files.old) (F.faults files.new) ⊎ IsMissing (map string_bytes words.now) (F.files files.old))
-        (map string_bytes words.now) (F.files files.old) taken out)) }
-    ensures nothing { (AsksForLines (map string_bytes words.now) → ⊥) → OnReadFault result (Appends (K.held output.old) (K.held output.new) (λ out. out ≡ [])) }
-    ensures front { OnCutShort result ((bytes : List ℕ) → S.left input.old ≡ Some bytes →
-        Appends (K.held output.old) (K.held output.new) (λ out. FrontOfRun (map string_bytes words.now) (F.files files.old) bytes out)) }
+    ensures ended { OnReadFault result ((input.new ≡ input.old × Appends (K.held output.old) (K.held output.new) (λ out. out ≡ []))
+        ⊎ (Rises (S.faults input.old) (S.faults input.new) × Appends (K.held output.old) (K.held output.new)
+        (EndedRun (map string_bytes words.now) (F.files files.old) (S.left input.old) (S.left input.new)))) }
+    ensures begun { OnCutShort result (Appends (K.held output.old) (K.held output.new)
+        (BeginsRun (map string_bytes words.now) (record { files = F.files files.old; input = S.left input.old }))) }
     ensures input_counts { S.faults input.old ≤ S.faults input.new }
     ensures file_counts { F.faults files.old ≤ F.faults files.new }
     ensures output_counts { K.faults output.old ≤ K.faults output.new }
 {
     match read_words(words) {
-        Some(Command::Canon(from, tables)) => canonize(alloc, from, tables, files, input, output),
-        Some(Command::Check(tables)) => check_tables(alloc, tables, files, output),
-        None => print_usage(output),
+        Some(request) => run_request(alloc, request, files, input, output),
+        None => print_line(output, USAGE, Status::Usage),
     }
 }

@@ -1,0 +1,4 @@
+pub mod WordLemmas
+pub mod PairLemmas
+pub mod RequestLemmas
+pub mod LoadLemmas
