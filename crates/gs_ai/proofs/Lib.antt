@@ -1,6 +1,6 @@
-pub mod CodeOrder
 pub mod PartLemmas
 pub mod PartTexts
+pub mod PlaceLemmas
 pub mod RowLemmas
 pub mod RuleLemmas
 pub mod Searches

@@ -1,23 +1,16 @@
 -- What a row in order says of its code and its parts.
-use Rattle.std.proofs.Common.{◌≡◌, ℕ, ◌+◌, ◌*◌, ◌<◌, ◌≤◌, ◌&&◌, ◌-◌, not, take, nat_le, ◌==◌, Bool, true, false, List, [], ◌∷◌, length, arith, IsTrue, refl}
+use Rattle.std.proofs.Common.{◌≡◌, ℕ, ◌+◌, ◌*◌, ◌<◌, ◌≤◌, ◌-◌, not, take, nat_le, Bool, true, List, [], ◌∷◌, length, arith, IsTrue}
 use Rattle.std.specs.List.{list_all}
 use Rattle.std.proofs.lemmas.List.Sums.{sum_by-cons}
 use Rattle.std.proofs.lemmas.Bool.Decides.{nat_tests}
 use Rattle.gs_chars.specs.Characters.{are_digits}
+pub use Rattle.gs_chars.proofs.TruthsAndLists.{and_first as and_left, and_second as and_right, not_empty}
 use Rattle.gs_ai.specs.declared.part.Part.{Part}
 use Rattle.gs_ai.specs.declared.part.Part.TheVariants.{Zero, Num, NumCheck, NumUpTo, Set, SetOpt, Date, Other}
 use Rattle.gs_ai.specs.declared.row.AiRow.{AiRow}
 use Rattle.gs_ai.specs.Parts.{is_part, is_open, greatest_length}
 use Rattle.gs_ai.specs.Values.{greatest_of}
 use Rattle.gs_ai.specs.Tables.{is_row, is_code, are_parts}
-
-pub and_left : (a b : Bool) → (a && b) ≡ true → a ≡ true
-and_left true b h = refl
-and_left false b h = h
-
-pub and_right : (a b : Bool) → (a && b) ≡ true → b ≡ true
-and_right true b h = h
-and_right false b h = absurd (let f : false ≡ true = h in cc)
 
 pub row_code : (row : AiRow) → is_row row ≡ true → is_code row.code ≡ true
 unfolding is_row
@@ -65,6 +58,3 @@ judged parts r some few listed e =
     let least : nat_le 1 (length parts) ≡ true = grind (arith, nat_tests) in
     let most : nat_le (length parts) 3 ≡ true = grind (arith, nat_tests) in
     rw (least, most, listed) e
-
-pub not_empty : {X : Type 0} (xs : List X) → false ≡ (length xs == 0) → 0 < length xs
-not_empty xs h = grind (arith, nat_tests)

@@ -1,17 +1,12 @@
 -- The faults of rows, one after the other.
-use Rattle.std.proofs.Common.{◌≡◌, ℕ, zero, suc, ◌+◌, ◌<◌, ◌||◌, not, Bool, true, false, cond, List, [], ◌∷◌, ◌++◌, length, take, map, filter, position, Some, None, slice_get, get_or, refl, sym, ap, ◌∙◌, arith, ◌⊎◌, inl, inr, true≢false}
+use Rattle.std.proofs.Common.{◌≡◌, ℕ, zero, suc, ◌+◌, ◌<◌, not, Bool, true, false, cond, List, [], ◌∷◌, ◌++◌, length, take, map, filter, position, Some, None, slice_get, get_or, refl, sym, ap, ◌∙◌, arith, ◌⊎◌, inl, inr, true≢false}
 use Rattle.std.specs.List.{flat_map, enumerate_from, list_any, list_all}
 use Rattle.gs_ai.specs.declared.faults.AiFault.{AiFault}
 use Rattle.gs_ai.specs.declared.faults.AiFault.TheVariants.{BadAi, CodePrefix, KeyIsQualifier, PredefinedLength}
 use Rattle.gs_ai.specs.declared.row.AiRow.{AiRow}
 use Rattle.gs_ai.specs.Tables.{is_row, keeps_predefined, begins, clash, is_key_of, is_qualifier_of, fault_if, row_faults, list_faults, table_faults, KeepsRules}
-use Rattle.gs_ai.proofs.Searches.{cons_some, cons_none, get_take, read_at}
-
--- ---- lists with nothing in them
-
-nil_parts : {X : Type 0} (xs ys : List X) → xs ++ ys ≡ [] → (xs ≡ []) × (ys ≡ [])
-nil_parts [] ys e = (refl, e)
-nil_parts (x ∷ xs) ys e = absurd (let f : x ∷ (xs ++ ys) ≡ [] = e in cc)
+use Rattle.gs_ai.proofs.Searches.{cons_some, cons_none}
+use Rattle.gs_chars.proofs.TruthsAndLists.{first_of_front, get_take, nil_parts, or_parts, read_at, true_from_not}
 
 -- ---- the first of the faults of all rows
 
@@ -22,11 +17,7 @@ first_at f n (y ∷ ys) zero x e at none h =
     let same : y ≡ x = cc in
     let here : n + 0 ≡ n = omega arith in
     let h' = rw here at h in
-    rw same (front (f (n, x)) (flat_map f (enumerate_from (n + 1) ys)) e h')
-  where
-    front : {E : Type 0} (a b : List E) (e : E) → slice_get a 0 ≡ Some e → slice_get (a ++ b) 0 ≡ Some e
-    front [] b e h = absurd (let g : None ≡ Some e = h in cc)
-    front (x ∷ a) b e h = h
+    rw same (first_of_front (f (n, x)) (flat_map f (enumerate_from (n + 1) ys)) e h')
 first_at f n (y ∷ ys) (suc i) x e at none h =
     let parts = nil_parts (f (n, y)) (flat_map f (enumerate_from (n + 1) (take i ys))) none in
     let here : n + suc i ≡ n + 1 + i = omega arith in
@@ -112,10 +103,6 @@ fault_if_nil : (b : Bool) (fault : AiFault) → fault_if b fault ≡ [] → b �
 fault_if_nil true fault e = absurd (let f : fault ∷ [] ≡ [] = e in cc)
 fault_if_nil false fault e = refl
 
-not_false : (b : Bool) → not b ≡ false → b ≡ true
-not_false true e = refl
-not_false false e = absurd (let f : true ≡ false = e in cc)
-
 record RowFacts (i : ℕ) (earlier : List AiRow) (row : AiRow) : Type 0 where
   in_order : is_row row ≡ true
   apart : (j : ℕ) (other : AiRow) → slice_get earlier j ≡ Some other → clash other.code row.code ≡ false
@@ -127,16 +114,16 @@ row_facts i earlier row e =
     let outer = nil_parts (fault_if (not (is_row row)) (BadAi i) ++ clashing i earlier row) (fault_if (not (keeps_predefined row)) (PredefinedLength i)) e in
     let inner = nil_parts (fault_if (not (is_row row)) (BadAi i)) (clashing i earlier row) outer.0 in
     record {
-      in_order = not_false _ (fault_if_nil _ _ inner.0);
+      in_order = true_from_not _ (fault_if_nil _ _ inner.0);
       apart = no_clash (λ other. clash other.code row.code) (λ j. CodePrefix j i) 0 earlier inner.1;
-      length_kept = not_false _ (fault_if_nil _ _ outer.1);
+      length_kept = true_from_not _ (fault_if_nil _ _ outer.1);
     }
 
 list_facts : (rows : List AiRow) (i : ℕ) (row : AiRow) → list_faults rows i row ≡ [] → (list_all (is_qualifier_of rows) row.qualifiers ≡ true) × (list_any (is_key_of rows) row.qualifiers ≡ false)
 unfolding list_faults
 list_facts rows i row e =
     let both = nil_parts (fault_if (list_any (is_key_of rows) row.qualifiers) (KeyIsQualifier i)) (fault_if (not (list_all (is_qualifier_of rows) row.qualifiers)) (BadAi i)) e in
-    (not_false _ (fault_if_nil _ _ both.1), fault_if_nil _ _ both.0)
+    (true_from_not _ (fault_if_nil _ _ both.1), fault_if_nil _ _ both.0)
 
 facts_at : (rows : List AiRow) → table_faults rows ≡ [] → (i : ℕ) (row : AiRow) → slice_get rows i ≡ Some row → RowFacts i (take i rows) row
 unfolding table_faults
@@ -153,11 +140,7 @@ lists_at rows e i row at =
 
 clash_sides : (a b : List ℕ) → clash a b ≡ false → (begins a b ≡ false) × (begins b a ≡ false)
 unfolding clash
-clash_sides a b h = sides (begins a b) (begins b a) h
-  where
-    sides : (x y : Bool) → (x || y) ≡ false → (x ≡ false) × (y ≡ false)
-    sides true y h = absurd (let f : true ≡ false = h in cc)
-    sides false y h = (refl, h)
+clash_sides a b h = or_parts (begins a b) (begins b a) h
 
 order : (i j : ℕ) → (i < j) ⊎ ((j < i) ⊎ (i ≡ j))
 order zero zero = inr (inr refl)
@@ -187,13 +170,9 @@ rules_kept rows e = record {
 
 -- ---- the answers of the checks
 
-pub front_first : {E : Type 0} (a b : List E) (e : E) → slice_get a 0 ≡ Some e → slice_get (a ++ b) 0 ≡ Some e
-front_first [] b e h = absurd (let g : None ≡ Some e = h in cc)
-front_first (x ∷ a) b e h = h
-
 pub table_first : (rows : List AiRow) (e : AiFault) → slice_get (flat_map (λ row. row_faults row.0 (take row.0 rows) row.1) (enumerate_from 0 rows)) 0 ≡ Some e → slice_get (table_faults rows) 0 ≡ Some e
 unfolding table_faults
-table_first rows e h = front_first (flat_map (λ row. row_faults row.0 (take row.0 rows) row.1) (enumerate_from 0 rows)) (flat_map (λ row. list_faults rows row.0 row.1) (enumerate_from 0 rows)) e h
+table_first rows e h = first_of_front (flat_map (λ row. row_faults row.0 (take row.0 rows) row.1) (enumerate_from 0 rows)) (flat_map (λ row. list_faults rows row.0 row.1) (enumerate_from 0 rows)) e h
 
 pub table_rest : (rows : List AiRow) → flat_map (λ row. row_faults row.0 (take row.0 rows) row.1) (enumerate_from 0 rows) ≡ [] → table_faults rows ≡ flat_map (λ row. list_faults rows row.0 row.1) (enumerate_from 0 rows)
 unfolding table_faults

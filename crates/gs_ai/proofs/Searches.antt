@@ -1,10 +1,9 @@
 -- Searches of lists: the first place at which a test passes, and equality of bytes.
-use Rattle.std.proofs.Common.{◌≡◌, ℕ, zero, suc, ◌+◌, ◌<◌, Bool, true, false, not, cond, nat_lt, List, [], ◌∷◌, ◌++◌, length, get_or, map, position, find, Option, Some, None, bytes_eq, slice_get, take, refl, sym, ap, ◌∙◌, arith, if◌then◌else◌, option_map, ◌⊎◌, inl, inr}
+use Rattle.std.proofs.Common.{◌≡◌, ℕ, zero, suc, ◌+◌, ◌<◌, Bool, true, false, not, cond, nat_lt, List, [], ◌∷◌, ◌++◌, length, get_or, map, position, find, Option, Some, None, slice_get, refl, sym, ap, ◌∙◌, arith, if◌then◌else◌, option_map, ◌⊎◌, inl, inr}
 use Rattle.std.specs.List.{position_or_len, list_any}
 use Rattle.std.specs.Option.{option_or, IfSome}
 use Rattle.std.proofs.lemmas.Bool.Decides.{nat_tests}
-use Rattle.std.proofs.lemmas.Option.{slice_get_within}
-use Rattle.std.proofs.lemmas.Slice.Eq.{bytes_eq-Decides}
+pub use Rattle.gs_chars.proofs.TruthsAndLists.{equal_bytes, same_bytes, within, get_take, get_of_take, read_at, false_from}
 
 cons_cases : (b : Bool) (n len : ℕ) → cond (nat_lt (cond (not b) (1 + n) 0) (suc len)) (Some (cond (not b) (1 + n) 0)) None ≡ (if b then Some 0 else option_map (λ i. 1 + i) (cond (nat_lt n len) (Some n) None))
 cons_cases true n len = grind (arith, nat_tests)
@@ -37,12 +36,6 @@ position-append p (x ∷ xs) ys =
 pub position-map : {X Y : Type 0} (p : Y → Bool) (f : X → Y) (xs : List X) → position p (map f xs) ≡ position (λ x. p (f x)) xs
 position-map p f [] = refl
 position-map p f (x ∷ xs) = rw (position-cons p (f x) (map f xs), position-cons (λ x. p (f x)) x xs, position-map p f xs)
-
-pub equal_bytes : (a b : List ℕ) → bytes_eq a b ≡ true → a ≡ b
-equal_bytes a b h = (bytes_eq-Decides a b).0 h
-
-pub same_bytes : (a : List ℕ) → bytes_eq a a ≡ true
-same_bytes a = (bytes_eq-Decides a a).1 refl
 
 some_cases : (b : Bool) (r : Option ℕ) (i : ℕ) → (if b then Some 0 else option_map (λ k. 1 + k) r) ≡ Some i → ((b ≡ true) × (i ≡ 0)) ⊎ ((b ≡ false) × ((k : ℕ) × (i ≡ suc k) × (r ≡ Some k)))
 some_cases true r i e = inl (refl, cc)
@@ -101,25 +94,9 @@ pub find_none : {X : Type 0} (p : X → Bool) (xs : List X) → position p xs �
 find_none p [] e = refl
 find_none p (y ∷ ys) e = let h = cons_none p y ys e in rw h.0 (find_none p ys h.1)
 
--- the place is within the list
-pub within : {X : Type 0} (xs : List X) (i : ℕ) (x : X) → slice_get xs i ≡ Some x → i < length xs
-within xs i x e = slice_get_within xs i x e
-
-pub get_take : {X : Type 0} (xs : List X) (i j : ℕ) → j < i → slice_get (take i xs) j ≡ slice_get xs j
-get_take [] zero j h = refl
-get_take [] (suc i) j h = refl
-get_take (x ∷ xs) zero j h = absurd (omega arith)
-get_take (x ∷ xs) (suc i) zero h = refl
-get_take (x ∷ xs) (suc i) (suc j) h = get_take xs i j (omega arith)
-
 pub any-map : {X Y : Type 0} (p : Y → Bool) (f : X → Y) (xs : List X) → list_any p (map f xs) ≡ list_any (λ x. p (f x)) xs
 any-map p f [] = refl
 any-map p f (x ∷ xs) = rw (any-map p f xs)
-
-pub read_at : {X : Type 0} (xs : List X) (i : ℕ) (x : X) → i < length xs → x ≡ get_or xs i x → slice_get xs i ≡ Some x
-read_at [] i x h e = absurd (omega arith)
-read_at (y ∷ ys) zero x h e = ap Some (sym e)
-read_at (y ∷ ys) (suc i) x h e = read_at ys i x (omega arith) e
 
 pub position_within : {X : Type 0} (p : X → Bool) (xs : List X) (i : ℕ) → position p xs ≡ Some i → i < length xs
 position_within p xs i e = let s = position_some p xs i e in within xs i s.0 s.1
@@ -137,17 +114,6 @@ none_any p [] none = refl
 none_any p (x ∷ xs) none =
     let first : p x ≡ false = none 0 x refl in
     rw first (none_any p xs (λ j y at. none (suc j) y at))
-
-pub get_of_take : {X : Type 0} (xs : List X) (i j : ℕ) (x : X) → slice_get (take i xs) j ≡ Some x → (j < i) × (slice_get xs j ≡ Some x)
-get_of_take [] zero j x e = absurd (let g : None ≡ Some x = e in cc)
-get_of_take [] (suc i) j x e = absurd (let g : None ≡ Some x = e in cc)
-get_of_take (y ∷ ys) zero j x e = absurd (let g : None ≡ Some x = e in cc)
-get_of_take (y ∷ ys) (suc i) zero x e = (omega arith, e)
-get_of_take (y ∷ ys) (suc i) (suc j) x e = let h = get_of_take ys i j x e in (let low = h.0 in omega arith, h.1)
-
-pub false_from : (b : Bool) → (b ≡ true → ⊥) → b ≡ false
-false_from true h = absurd (h refl)
-false_from false h = refl
 
 pub find_absent : {X : Type 0} (p : X → Bool) (xs : List X) → ((j : ℕ) (y : X) → slice_get xs j ≡ Some y → p y ≡ false) → find p xs ≡ None
 find_absent p xs none = find_none p xs (position_none p xs none)

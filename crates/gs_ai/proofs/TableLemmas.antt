@@ -1,27 +1,27 @@
 -- What the rules of a table say of its codes.
-use Rattle.std.proofs.Common.{Bool, ◌≡◌, ℕ, ◌<◌, ◌≤◌, true, false, List, length, take, map, position, Option, Some, None, is_some, find, ◌&&◌, ◌||◌, bytes_eq, slice_get, get_or, refl, sym, ap, ◌∙◌, arith, true≢false, zero, suc, [], ◌∷◌, ◌⊎◌, inl, inr}
+use Rattle.std.proofs.Common.{Bool, ◌≡◌, ℕ, ◌<◌, ◌≤◌, true, false, List, length, take, Some, None, find, ◌&&◌, slice_get, get_or, refl, sym, ap, ◌∙◌, arith, zero, suc, [], ◌∷◌, ◌⊎◌, inl, inr}
 use Rattle.std.specs.List.{list_any}
 use Rattle.std.specs.Option.{option_and_then}
-use Rattle.std.proofs.lemmas.List.{take_all, length-take, length-take-le}
+use Rattle.std.proofs.lemmas.List.{take_all}
 use Rattle.gs_ai.specs.declared.row.AiRow.{AiRow}
 use Rattle.gs_ai.specs.Predefined.{predefined_length}
 use Rattle.gs_ai.specs.Values.{has_code}
-use Rattle.gs_ai.specs.Tables.{begins, is_key, is_key_of, is_row, row_at, KeepsRules}
-use Rattle.gs_ai.proofs.Searches.{find_absent, any-map, none_any, get_of_take, false_from, equal_bytes, same_bytes, read_at, position_is, position_none, position_some, passes_none}
-use Rattle.gs_ai.proofs.RowLemmas.{row_code, code_long, code_short}
+use Rattle.gs_ai.specs.Tables.{begins, is_key, is_key_of, is_row, KeepsRules}
+use Rattle.gs_chars.proofs.TruthsAndLists.{or_false, true_or_false}
+use Rattle.gs_ai.proofs.Searches.{find_absent, false_from, equal_bytes, same_bytes, read_at}
 
 -- ---- fronts of a text
 
 take_whole : (xs : List ℕ) → take (length xs) xs ≡ xs
 take_whole xs = take_all (length xs) xs (omega arith)
 
-begun : (front text : List ℕ) → begins front text ≡ true → front ≡ take (length front) text
+pub begun : (front text : List ℕ) → begins front text ≡ true → front ≡ take (length front) text
 begun front text h = equal_bytes front (take (length front) text) h
 
 begins_from : (front text : List ℕ) → front ≡ take (length front) text → begins front text ≡ true
 begins_from front text e = let f = sym e in rw f (same_bytes front)
 
-begins_itself : (front text : List ℕ) → front ≡ text → begins front text ≡ true
+pub begins_itself : (front text : List ℕ) → front ≡ text → begins front text ≡ true
 begins_itself front text e = begins_from front text (rw (← e) (sym (take_whole front)))
 
 either : (m n : ℕ) → (m ≤ n) ⊎ (n ≤ m)
@@ -34,9 +34,6 @@ take_twice zero n xs h = refl
 take_twice (suc m) zero xs h = absurd (omega arith)
 take_twice (suc m) (suc n) [] h = refl
 take_twice (suc m) (suc n) (x ∷ xs) h = ap (λ ys. x ∷ ys) (take_twice m n xs (omega arith))
-
-fits_front : (front text : List ℕ) → front ≡ take (length front) text → length front ≤ length text
-fits_front front text e = let l = ap length e ∙ length-take (length front) text in omega arith
 
 nested : (a b text : List ℕ) → begins a text ≡ true → begins b text ≡ true → length a ≤ length b → begins a b ≡ true
 nested a b text h k le =
@@ -54,44 +51,6 @@ module _ (rows : List AiRow) (rules : KeepsRules rows) where
     | inr le ↦ sym (rules.codes_apart j i b a there at (nested b.code a.code text k h le))
   ]
 
-  pub fresh_code : (i : ℕ) (row : AiRow) → i < length rows → row ≡ get_or rows i row → list_any (bytes_eq row.code) (map (λ r. r.code) (take i rows)) ≡ false
-  fresh_code i row low read =
-      let at = read_at rows i row low read in
-      any-map (bytes_eq row.code) (λ r. r.code) (take i rows) ∙ none_any (λ r. bytes_eq row.code r.code) (take i rows) (λ j other there.
-      let before = get_of_take rows i j other there in
-      false_from (bytes_eq row.code other.code) (λ same.
-      let e = rules.codes_apart i j row other at before.1 (begins_itself row.code other.code (equal_bytes row.code other.code same)) in
-      let less = before.0 in
-      absurd (omega arith)))
-
-  -- the row with the code that is a front of the text
-  pub found_begins : (text : List ℕ) (n : ℕ) (r : Option ℕ) → n ≤ length text → r ≡ position (has_code (take n text)) rows → is_some r ≡ true → r ≡ row_at rows text
-  found_begins text n None le e some = absurd (true≢false (sym some))
-  found_begins text n (Some i) le e some =
-      let found = position_some (has_code (take n text)) rows i (sym e) in
-      let row = found.0 in
-      let code : take n text ≡ row.code = equal_bytes (take n text) row.code found.2 in
-      let long : length row.code ≡ n = rw (← code) (length-take-le n text le) in
-      let front : begins row.code text ≡ true = begins_from row.code text (rw long (sym code)) in
-      sym (position_is (λ r. begins r.code text) rows i row found.1 front (λ j other low there.
-      false_from (begins other.code text) (λ other_front.
-      let e = one_begins text j i other row there found.1 other_front front in
-      absurd (omega arith))))
-
-  -- no code of two to four digits is a front of the text
-  pub none_begins : (text : List ℕ) → ((k : ℕ) → 2 ≤ k → k < 5 → k ≤ length text → position (has_code (take k text)) rows ≡ None) → None ≡ row_at rows text
-  none_begins text none = sym (position_none (λ r. begins r.code text) rows (λ j row there.
-      false_from (begins row.code text) (λ front.
-      let code = begun row.code text front in
-      let ok = row_code row (rules.rows_in_order j row there).0 in
-      let long = code_long row.code ok in
-      let short = code_short row.code ok in
-      let fits : length row.code ≤ length text = fits_front row.code text code in
-      let absent = none (length row.code) long (omega arith) fits in
-      let differs = passes_none (has_code (take (length row.code) text)) rows j row absent there in
-      let same : has_code (take (length row.code) text) row ≡ true = rw (← code) (same_bytes row.code) in
-      true≢false (sym same ∙ differs))))
-
 pub row_kept : (rows : List AiRow) → KeepsRules rows → (i : ℕ) (row : AiRow) → i < length rows → row ≡ get_or rows i row → is_row row ≡ true
 row_kept rows rules i row low read = (rules.rows_in_order i row (read_at rows i row low read)).0
 
@@ -102,19 +61,15 @@ length_read rows i row low read = rw (read_at rows i row low read) refl
 
 not_any : {X : Type 0} (p q : X → Bool) (xs : List X) → find p xs ≡ None → list_any (λ x. p x && q x) xs ≡ false
 not_any p q [] e = refl
-not_any p q (x ∷ xs) e = elim (two_ways (p x)) [
+not_any p q (x ∷ xs) e = elim (true_or_false (p x)) [
   | inl t ↦ absurd (let f = rw t at e in let g : Some x ≡ None = f in cc)
   | inr t ↦ let f = rw t at e in rw t (not_any p q xs f)
 ]
-  where
-    two_ways : (b : Bool) → (b ≡ true) ⊎ (b ≡ false)
-    two_ways true = inl refl
-    two_ways false = inr refl
 
 -- where no row after the first with the code has it too
 only_any : {X : Type 0} (p q : X → Bool) (xs : List X) (x : X) → find p xs ≡ Some x → ((i j : ℕ) (a b : X) → slice_get xs i ≡ Some a → slice_get xs j ≡ Some b → p a ≡ true → p b ≡ true → i ≡ j) → list_any (λ y. p y && q y) xs ≡ q x
 only_any p q [] x e one = absurd (let f : None ≡ Some x = e in cc)
-only_any p q (y ∷ ys) x e one = elim (two_ways (p y)) [
+only_any p q (y ∷ ys) x e one = elim (true_or_false (p y)) [
   | inl t ↦
       let f = rw t at e in
       let same : y ≡ x = cc in
@@ -122,14 +77,6 @@ only_any p q (y ∷ ys) x e one = elim (two_ways (p y)) [
       rw (t, not_any p q ys later, same) (or_false (q x))
   | inr t ↦ let f = rw t at e in rw t (only_any p q ys x f (λ i j a b at there pa pb. let e = one (suc i) (suc j) a b at there pa pb in omega arith))
 ]
-  where
-    two_ways : (b : Bool) → (b ≡ true) ⊎ (b ≡ false)
-    two_ways true = inl refl
-    two_ways false = inr refl
-
-    or_false : (b : Bool) → (b || false) ≡ b
-    or_false true = refl
-    or_false false = refl
 
 module _ (rows : List AiRow) (rules : KeepsRules rows) where
   pub key_by_row : (code : List ℕ) (row : AiRow) → find (has_code code) rows ≡ Some row → is_key_of rows code ≡ is_key row.role

@@ -1,11 +1,9 @@
 -- The rules of a table of application identifiers. Its formats are those of GS1 General Specifications, section 3.2,
 -- its keys and qualifiers those of GS1 Digital Link URI Syntax, section 3. The rules and their order are this project's own.
-use Rattle.std.specs.Prelude.{◌≡◌, ℕ, ◌+◌, ◌-◌, Bool, true, false, not, ◌==◌, ◌&&◌, ◌||◌, nat_le, nat_eq, if◌then◌else◌, List, [], ◌∷◌, ◌++◌, length, take, map, filter, position, Option, Some, is_none, bytes_eq, slice_get, Result, MatchResult}
-use Rattle.std.specs.Cmp.Lexicographic.{slice_cmp}
-use Rattle.std.specs.List.{flat_map, fold, insert, list_all, list_any, enumerate_from, position_or_len, starts_with}
+use Rattle.std.specs.Prelude.{◌≡◌, ℕ, ◌+◌, ◌-◌, ◌*◌, ◌<◌, Bool, true, false, not, ◌==◌, ◌&&◌, ◌||◌, nat_le, nat_eq, if◌then◌else◌, List, [], ◌∷◌, ◌++◌, length, take, map, filter, position, Option, Some, None, is_none, bytes_eq, slice_get, Result, MatchResult}
+use Rattle.std.specs.List.{flat_map, list_all, list_any, enumerate_from, starts_with}
 use Rattle.std.specs.Option.{option_map_or}
-use Rattle.std.specs.Ordering.{is_lt, nat_cmp}
-use Rattle.gs_chars.specs.Characters.{are_digits}
+use Rattle.gs_chars.specs.Characters.{are_digits, is_digit}
 use Rattle.gs_ai.specs.declared.part.Part.{Part}
 use Rattle.gs_ai.specs.declared.part.Part.TheVariants.{NumCheck}
 use Rattle.gs_ai.specs.declared.part.Role.{Role}
@@ -134,10 +132,19 @@ pub record KeepsRules (rows : List AiRow) : Type 0 where
 abbrev pub row_at : List AiRow → List ℕ → Option ℕ
 row_at rows text = position (λ row. begins row.code text) rows
 
--- a code put before the first of the codes that is greater by its bytes
-abbrev pub insert_code : List ℕ → List (List ℕ) → List (List ℕ)
-insert_code code codes = insert codes (position_or_len (λ other. is_lt (slice_cmp nat_cmp code other)) codes) code
+-- the number of the two digits at the front, where two digits are there
+abbrev pub two_digits : List ℕ → Option ℕ
+two_digits (a ∷ b ∷ _) = if is_digit a && is_digit b then Some (10 * (a - 48) + (b - 48)) else None
+two_digits _ = None
 
--- the codes of the rows in ascending order of their bytes
-unfoldable pub ascending_codes : List AiRow → List (List ℕ)
-ascending_codes rows = fold (λ codes row. insert_code row.code codes) [] rows
+-- the row's code begins with the two digits of the number
+abbrev pub starts_at : ℕ → AiRow → Bool
+starts_at start row = option_map_or (λ n. n == start) (two_digits row.code) false
+
+-- the indexes of the rows whose codes begin with the two digits of the number
+abbrev pub places_at : ℕ → List AiRow → List ℕ
+places_at start rows = map (λ place. place.0) (filter (λ place. starts_at start place.1) (enumerate_from 0 rows))
+
+-- For each number of two digits the indexes of the rows whose codes begin with them.
+pub record AreStarts (rows : List AiRow) (starts : List (List ℕ)) : Type 0 where
+  pub lists : (start : ℕ) → start < 100 → slice_get starts start ≡ Some (places_at start rows)

@@ -1,8 +1,6 @@
 //! Application identifiers: the table of their rows, and the values that a row allows.
 #![tactic(auto)]
 
-mod ascending;
-mod codes;
 mod faults;
 mod form;
 mod pair;
@@ -10,9 +8,8 @@ mod part;
 mod predefined;
 mod row;
 mod rules;
+mod starts;
 mod table;
-#[cfg(test)]
-mod tests;
 mod value;
 
 pub use faults::{AiFault, ElementFault, ElementWhy, ValueFault};

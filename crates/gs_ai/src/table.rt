@@ -1,17 +1,16 @@
 ghost use Rattle.std.specs.Prelude.{◌≡◌, ◌≢◌, ◌<◌, ◌≤◌, ℕ, List, [], true, None, Some, OnOk, IfOk, IfErr, IfSome, IfNone, find, length, take, map, position, slice_get};
 ghost use Rattle.std.specs.Option.{option_and_then, option_copied};
 ghost use Rattle.gs_ai.specs.Predefined.{predefined_length};
-ghost use Rattle.gs_ai.specs.Tables.{table_faults, KeepsRules, ascending_codes, begins, is_key_of, is_row, row_at};
+ghost use Rattle.gs_ai.specs.Tables.{table_faults, KeepsRules, begins, is_key_of, is_row, row_at};
 ghost use Rattle.gs_ai.specs.Values.{has_code, value_fault};
 
-use crate::ascending::ascending_codes;
-use crate::codes::Codes;
 use crate::faults::{AiFault, ValueFault};
 use crate::predefined::Predefined;
 use crate::row::AiRow;
 use crate::rules::check_rows;
+use crate::starts::{starts_of, two_digits};
 use crate::value::parts_ok;
-use gs_chars::{List, Memory, Text};
+use gs_chars::List;
 use std::alloc::Global;
 use std::marker::Model;
 
@@ -20,34 +19,20 @@ use std::marker::Model;
 #[derive(Drop)]
 pub struct AiTable {
     rows: List<AiRow>,
-    codes: Codes,
-    ascending: List<Text>,
+    starts: List<List<usize>>,
     predefined: Predefined,
 }
 
 impl Model for AiTable {
-    ghost use Rattle.std.specs.Prelude.{◌≡◌, List, [], map};
+    ghost use Rattle.std.specs.Prelude.{List};
     ghost use Rattle.gs_ai.specs.declared.row.AiRow.{AiRow};
-    ghost use Rattle.gs_ai.specs.Tables.{KeepsRules, ascending_codes};
+    ghost use Rattle.gs_ai.specs.Tables.{KeepsRules, AreStarts};
 
     ghost Value = { List AiRow };
 
     ghost view = { λ a. a.rows };
 
-    ghost invariant = { λ a. KeepsRules a.rows × (a.codes ≡ map (λ row. row.code) a.rows)
-        × (a.ascending ≡ ascending_codes a.rows) };
-}
-
-/// The codes of the rows, in their order.
-fn codes_of(alloc: Global, rows: &[AiRow]) -> Result<Codes, Memory>
-    requires { KeepsRules rows.now }
-    ensures { IfOk result (λ codes. codes ≡ map (λ row. row.code) rows.now) }
-{
-    let mut codes = Codes::new(alloc);
-    for row in rows {
-        codes.push(alloc, row.code.as_bytes())?;
-    }
-    Ok(codes)
+    ghost invariant = { λ a. KeepsRules a.rows × AreStarts a.rows a.starts };
 }
 
 impl AiTable {
@@ -61,16 +46,12 @@ impl AiTable {
     {
         let predefined = Predefined::new();
         check_rows(&predefined, rows.as_slice())?;
-        let Ok(codes) = codes_of(alloc, rows.as_slice()) else {
-            return Err(AiFault::Memory);
-        };
-        let Ok(ascending) = ascending_codes(alloc, rows.as_slice()) else {
+        let Ok(starts) = starts_of(alloc, rows.as_slice()) else {
             return Err(AiFault::Memory);
         };
         Ok(AiTable {
             rows: List::from_vec(rows),
-            codes,
-            ascending: List::from_vec(ascending),
+            starts: List::from_vec(starts),
             predefined,
         })
     }
@@ -83,20 +64,19 @@ impl AiTable {
         self.rows.items()
     }
 
-    /// The codes of the rows, in ascending order of their bytes.
-    pub fn codes(&self) -> &[Text]
-        ensures { result.now ≡ ascending_codes self.now }
-    {
-        self.ascending.items()
-    }
-
     /// The index of the row with this code.
     pub fn find(&self, code: &[u8]) -> Option<usize>
         ensures row { result ≡ position (has_code code.now) self.now }
         ensures within { IfSome result (λ row. row < length self.now) }
         ensures kept { KeepsRules self.now }
     {
-        self.codes.find(code)
+        let rows = self.rows.items();
+        let row = self.begins(code)?;
+        if rows[row].code.as_bytes() == code {
+            Some(row)
+        } else {
+            None
+        }
     }
 
     /// The row with this code.
@@ -112,6 +92,7 @@ impl AiTable {
     pub fn is_key(&self, code: &[u8]) -> bool
         ensures { result ≡ is_key_of self.now code.now }
     {
+        // For the proof alone: the rows keep the rules.
         let _ = &self.rows;
         match self.row_with(code) {
             Some(row) => row.role.is_key(),
@@ -124,13 +105,12 @@ impl AiTable {
         ensures row { result ≡ row_at self.now text.now }
         ensures within { IfSome result (λ row. row < length self.now) }
     {
-        let _ = &self.rows;
-        for n in 2..5 {
-            if n <= text.len() {
-                let found = self.find(&text[..n]);
-                if found.is_some() {
-                    return found;
-                }
+        let rows = self.rows.items();
+        let start = two_digits(text)?;
+        let places = self.starts.items()[start].items();
+        for place in places {
+            if text.starts_with(rows[*place].code.as_bytes()) {
+                return Some(*place);
             }
         }
         None
@@ -165,5 +145,6 @@ pub fn one_code_begins(table: &AiTable)
         → slice_get table.now i ≡ Some a → slice_get table.now j ≡ Some b
         → begins a.code text ≡ true → begins b.code text ≡ true → i ≡ j }
 {
+    // For the proof alone: the rows keep the rules.
     let _ = &table.rows;
 }

@@ -20,7 +20,7 @@ at_beyond i (boolean b) h = refl
 at_beyond i (number n) h = refl
 at_beyond i (string s) h = refl
 at_beyond i (array items) h = item_beyond items i h
-at_beyond i (object members) h = refl
+at_beyond i (object _) h = refl
 
 -- the member of a name, by the members
 pub get_by_members : (name : List ℕ) (d : Data) → option_and_then (get_member name) (as_object d) ≡ get name d
@@ -29,7 +29,7 @@ get_by_members name (boolean b) = refl
 get_by_members name (number n) = refl
 get_by_members name (string s) = refl
 get_by_members name (array items) = refl
-get_by_members name (object members) = refl
+get_by_members name (object _) = refl
 
 -- ---- the items of an array as a list
 
@@ -43,7 +43,7 @@ items_length (boolean b) = refl
 items_length (number n) = refl
 items_length (string s) = refl
 items_length (array items) = listed_length items
-items_length (object members) = refl
+items_length (object _) = refl
 
 listed_at : (items : Items) (i : ℕ) → slice_get (list_of items) i ≡ get_item i items
 listed_at no_items zero = refl
@@ -61,8 +61,8 @@ items_at (number n) (suc i) = refl
 items_at (string s) zero = refl
 items_at (string s) (suc i) = refl
 items_at (array items) i = listed_at items i
-items_at (object members) zero = refl
-items_at (object members) (suc i) = refl
+items_at (object _) zero = refl
+items_at (object _) (suc i) = refl
 
 -- ---- rows that are read one by one
 

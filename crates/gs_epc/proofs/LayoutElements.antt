@@ -5,13 +5,14 @@ use Rattle.gs_ai.specs.declared.pair.Pair.{Pair}
 use Rattle.gs_ai.specs.declared.part.Role.{Role}
 use Rattle.gs_ai.specs.declared.part.Role.TheVariants as role
 use Rattle.gs_ai.specs.declared.row.AiRow.{AiRow}
-use Rattle.gs_ai.specs.Tables.{KeepsRules, are_distinct, ascending_codes, is_empty, is_key, is_key_of, is_row, keeps_role}
+use Rattle.gs_ai.specs.Tables.{KeepsRules, are_distinct, is_empty, is_key, is_key_of, is_row, keeps_role}
 use Rattle.gs_ai.specs.Values.{has_code}
 use Rattle.gs_ai.proofs.RowLemmas.{and_left, and_right}
 use Rattle.gs_ai.proofs.Searches.{equal_bytes, false_from, same_bytes}
 use Rattle.gs_ai.proofs.TableLemmas.{key_by_row}
 use Rattle.gs_ident.specs.Elements.{Elements}
-use Rattle.gs_ident.specs.Identities.{contradiction, elements_of, first_key, identity_of_counted, identity_of_pairs, is_other, listed, other_key, other_pair, pair_with, stands_for_none}
+use Rattle.gs_ident.specs.Identities.{contradiction, elements_of, first_key, identity_of_counted, identity_of_pairs, listed, other_key, pair_with, stands_for_none}
+use Rattle.gs_ident.proofs.CodeOrder.{none_ascending}
 use Rattle.gs_ident.proofs.IdentityLemmas.{made_answer}
 use Rattle.gs_ident.proofs.PairLemmas.{two_ways}
 use Rattle.gs_epc.specs.Layout.{unless_none}
@@ -80,28 +81,6 @@ serial_alone key serial (code ∷ codes) no_key distinct there =
           rw (first, second) (serial_alone key serial codes later (and_right _ _ distinct) there')
     ]
 
--- ---- the pairs of all other codes
-
--- no pair is left for a code that is neither the key's nor listed
-none_left : (codes : List (List ℕ)) (key : Pair) (pairs : List Pair) (all : List (List ℕ)) → ((code : List ℕ) → is_other codes key code ≡ true → pair_with pairs code ≡ None) → filter_map (other_pair codes key pairs) all ≡ []
-none_left codes key pairs [] none = refl
-none_left codes key pairs (code ∷ all) none = elim (two_ways (is_other codes key code)) [
-  | inl other ↦ rw (other, none code other) (none_left codes key pairs all none)
-  | inr own ↦ rw own (none_left codes key pairs all none)
-]
-
--- such a code is not the key's, and not that of a listed serial
-not_of_key : (codes : List (List ℕ)) (key : Pair) (code : List ℕ) → is_other codes key code ≡ true → bytes_eq code key.code ≡ false
-not_of_key codes key code other = other_way key.code code (not_true (bytes_eq key.code code) (and_left (not (bytes_eq key.code code)) (not (list_any (bytes_eq code) codes)) other))
-
-not_of_listed : (codes : List (List ℕ)) (key serial : Pair) (code : List ℕ) → list_any (bytes_eq serial.code) codes ≡ true → is_other codes key code ≡ true → bytes_eq code serial.code ≡ false
-not_of_listed codes key serial code there other =
-    let missing : list_any (bytes_eq code) codes ≡ false = not_true (list_any (bytes_eq code) codes) (and_right (not (bytes_eq key.code code)) (not (list_any (bytes_eq code) codes)) other) in
-    false_from (bytes_eq code serial.code) (λ same.
-    let e = equal_bytes code serial.code same in
-    let there' : list_any (bytes_eq code) codes ≡ true = rw e there in
-    true≢false (sym there' ∙ missing))
-
 -- ---- the identity of a key that is one of the table
 
 -- the pair is that of a key that counts, and its row lists these codes
@@ -119,7 +98,7 @@ module _ (table : List AiRow) (codes : List (List ℕ)) (key : Pair) (is : IsKey
   alone_elements : elements_of table (key ∷ []) key ≡ record { key = key; qualifiers = []; attributes = [] }
   unfolding elements_of
   alone_elements =
-      rw (is.lists, none_of_key key codes key_unlisted, none_left codes key (key ∷ []) (ascending_codes table) (λ code other. rw (not_of_key codes key code other) refl)) refl
+      rw (is.lists, none_of_key key codes key_unlisted, same_bytes key.code, none_ascending) refl
 
   alone_agrees : None ≡ contradiction (key ∷ [])
   unfolding contradiction
@@ -146,7 +125,7 @@ module _ (table : List AiRow) (codes : List (List ℕ)) (key : Pair) (is : IsKey
     both_elements : elements_of table (key ∷ serial ∷ []) key ≡ record { key = key; qualifiers = serial ∷ []; attributes = [] }
     unfolding elements_of
     both_elements =
-        rw (is.lists, serial_alone key serial codes key_unlisted is.distinct there, none_left codes key (key ∷ serial ∷ []) (ascending_codes table) (λ code other. rw (not_of_key codes key code other, not_of_listed codes key serial code there other) refl)) refl
+        rw (is.lists, serial_alone key serial codes key_unlisted is.distinct there, same_bytes key.code, codes_differ, there, none_ascending) refl
 
     both_agree : None ≡ contradiction (key ∷ serial ∷ [])
     unfolding contradiction

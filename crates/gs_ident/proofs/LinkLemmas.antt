@@ -1,5 +1,5 @@
 -- Two identities of one table have one link only where they are one identity.
-use Rattle.std.proofs.Common.{◌≡◌, ℕ, zero, suc, ◌/◌, ◌%◌, ◌<◌, ◌≤◌, ◌==◌, ◌&&◌, ◌||◌, not, nat_lt, Bool, true, false, List, [], ◌∷◌, ◌++◌, Some, None, refl, sym, ap, subst, ◌∙◌, arith, ◌⊎◌, inl, inr, true≢false, append_assoc, ◌↔◌}
+use Rattle.std.proofs.Common.{◌≡◌, ℕ, zero, suc, ◌/◌, ◌%◌, ◌<◌, ◌≤◌, ◌==◌, ◌||◌, not, nat_lt, Bool, true, false, List, [], ◌∷◌, ◌++◌, Some, None, refl, sym, ap, subst, ◌∙◌, arith, ◌⊎◌, inl, inr, true≢false, append_assoc, ◌↔◌}
 use Rattle.std.specs.List.{flat_map, list_all}
 use Rattle.std.proofs.lemmas.List.{append_cancel_left}
 use Rattle.std.proofs.lemmas.Bool.Decides.{nat_tests}
@@ -10,8 +10,8 @@ use Rattle.gs_ai.specs.declared.row.AiRow.{AiRow}
 use Rattle.gs_ai.specs.declared.faults.ValueFault.TheVariants.{Unknown}
 use Rattle.gs_ai.specs.Tables.{is_row, KeepsRules}
 use Rattle.gs_ai.specs.Values.{has_code}
-use Rattle.gs_ai.proofs.Searches.{equal_bytes, false_from}
-use Rattle.gs_ai.proofs.RowLemmas.{row_code, code_digits, and_left, and_right}
+use Rattle.gs_chars.proofs.TruthsAndLists.{and_first, and_second, and_true, equal_bytes, false_from, not_false}
+use Rattle.gs_ai.proofs.RowLemmas.{row_code, code_digits}
 use Rattle.gs_ident.specs.Elements.{Elements, pairs_of}
 use Rattle.gs_ident.specs.Identities.{IsInOrder, IsMadeWith}
 use Rattle.gs_ident.specs.Links.{is_unescaped, escaped_byte, percent_encoded, path_step, query_part, query_of, spelled, canonical_stem, canonical_link}
@@ -30,23 +30,17 @@ abbrev is_cut : List ℕ → Bool
 is_cut [] = true
 is_cut (c ∷ _) = separates c
 
-not_true : (b : Bool) → b ≡ false → not b ≡ true
-not_true b e = rw e refl
-
-both : (a b : Bool) → a ≡ true → b ≡ true → (a && b) ≡ true
-both a b e f = rw (e, f) refl
-
 clash_of : (c : ℕ) → not (separates c) ≡ true → separates c ≡ true → ⊥
 clash_of c h k = true≢false (sym h ∙ ap not k)
 
 cut : (a b x y : List ℕ) → is_free a ≡ true → is_free b ≡ true → is_cut x ≡ true → is_cut y ≡ true → a ++ x ≡ b ++ y → (a ≡ b) × (x ≡ y)
 cut [] [] x y fa fb cx cy e = (refl, e)
-cut [] (d ∷ b) x y fa fb cx cy e = absurd (clash_of d (and_left _ _ fb) (let f = rw e at cx in f))
-cut (c ∷ a) [] x y fa fb cx cy e = absurd (clash_of c (and_left _ _ fa) (let f = rw (← e) at cy in f))
+cut [] (d ∷ b) x y fa fb cx cy e = absurd (clash_of d (and_first _ _ fb) (let f = rw e at cx in f))
+cut (c ∷ a) [] x y fa fb cx cy e = absurd (clash_of c (and_first _ _ fa) (let f = rw (← e) at cy in f))
 cut (c ∷ a) (d ∷ b) x y fa fb cx cy e =
     let head : c ≡ d = cc in
     let tail : a ++ x ≡ b ++ y = cc in
-    let rest = cut a b x y (and_right _ _ fa) (and_right _ _ fb) cx cy tail in
+    let rest = cut a b x y (and_second _ _ fa) (and_second _ _ fb) cx cy tail in
     let same = rest.0 in
     (cc, rest.1)
 
@@ -57,7 +51,7 @@ digit_free c h = grind (arith, nat_tests)
 
 digits_free : (text : List ℕ) → are_digits text ≡ true → is_free text ≡ true
 digits_free [] h = refl
-digits_free (c ∷ text) h = both _ _ (not_true _ (digit_free c (and_left _ _ h))) (digits_free text (and_right _ _ h))
+digits_free (c ∷ text) h = and_true _ _ (not_false _ (digit_free c (and_first _ _ h))) (digits_free text (and_second _ _ h))
 
 four : (c : ℕ) → separates c ≡ true → (c ≡ 47) ⊎ ((c ≡ 63) ⊎ ((c ≡ 38) ⊎ (c ≡ 61)))
 four c h = elim (two_ways (c == 47)) [
@@ -99,13 +93,13 @@ hex_free n = elim (two_ways (nat_lt n 10)) [
 
 byte_free : (c : ℕ) → is_free (escaped_byte c) ≡ true
 byte_free c = elim (two_ways (is_unescaped c)) [
-  | inl h ↦ rw h (both _ _ (not_true _ (unescaped_free c h)) refl)
-  | inr h ↦ rw h (both _ _ (not_true _ (hex_free (c / 16))) (both _ _ (not_true _ (hex_free (c % 16))) refl))
+  | inl h ↦ rw h (and_true _ _ (not_false _ (unescaped_free c h)) refl)
+  | inr h ↦ rw h (and_true _ _ (not_false _ (hex_free (c / 16))) (and_true _ _ (not_false _ (hex_free (c % 16))) refl))
 ]
 
 free_append : (a b : List ℕ) → is_free a ≡ true → is_free b ≡ true → is_free (a ++ b) ≡ true
 free_append [] b fa fb = fb
-free_append (c ∷ a) b fa fb = both _ _ (and_left _ _ fa) (free_append a b (and_right _ _ fa) fb)
+free_append (c ∷ a) b fa fb = and_true _ _ (and_first _ _ fa) (free_append a b (and_second _ _ fa) fb)
 
 encoded_free : (value : List ℕ) → is_free (percent_encoded value) ≡ true
 unfolding percent_encoded

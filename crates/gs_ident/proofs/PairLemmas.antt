@@ -5,14 +5,11 @@ use Rattle.std.specs.Option.{option_to_list}
 use Rattle.std.proofs.lemmas.List.{take_all}
 use Rattle.std.proofs.lemmas.List.Elements.{All-cons, All-head, All-nil, All-tail}
 use Rattle.gs_ai.specs.declared.pair.Pair.{Pair}
-use Rattle.gs_ai.proofs.Searches.{false_from, read_at}
+pub use Rattle.gs_chars.proofs.TruthsAndLists.{true_or_false as two_ways, place_left, place_right}
+use Rattle.gs_chars.proofs.TruthsAndLists.{false_from, read_at}
 use Rattle.gs_ident.specs.Identities.{contradicts, contradiction}
 
 -- ---- the first place at which a test passes
-
-pub two_ways : (b : Bool) → (b ≡ true) ⊎ (b ≡ false)
-two_ways true = inl refl
-two_ways false = inr refl
 
 place_at : {X : Type 0} (p : ℕ × X → Bool) (n : ℕ) (xs : List X) (i : ℕ) (x : X) → slice_get xs i ≡ Some x → find p (enumerate_from n (take i xs)) ≡ None → p (n + i, x) ≡ true → find p (enumerate_from n xs) ≡ Some (n + i, x)
 place_at p n [] i x at none h = absurd (let g : None ≡ Some x = at in cc)
@@ -174,15 +171,6 @@ pub place_of_code : {A X : Type 0} (h : A → Option X) (cs : List A) (i : ℕ) 
 place_of_code h [] i c x at e = absurd (let g : None ≡ Some c = at in cc)
 place_of_code h (d ∷ cs) zero c x at e = let same : d ≡ c = cc in let f : h d ≡ Some x = rw same e in rw f (zero, refl)
 place_of_code h (d ∷ cs) (suc i) c x at e = let rest = place_of_code h cs i c x at e in cons_place (h d) (filter_map h cs) rest.0 x rest.1
-
-pub place_right : {X : Type 0} (xs ys : List X) (j : ℕ) (x : X) → slice_get ys j ≡ Some x → (k : ℕ) × (slice_get (xs ++ ys) k ≡ Some x)
-place_right [] ys j x at = (j, at)
-place_right (y ∷ xs) ys j x at = let rest = place_right xs ys j x at in (suc rest.0, rest.1)
-
-pub place_left : {X : Type 0} (xs ys : List X) (j : ℕ) (x : X) → slice_get xs j ≡ Some x → slice_get (xs ++ ys) j ≡ Some x
-place_left [] ys j x at = absurd (let g : None ≡ Some x = at in cc)
-place_left (y ∷ xs) ys zero x at = at
-place_left (y ∷ xs) ys (suc j) x at = place_left xs ys j x at
 
 pub same_filter_map : {A X : Type 0} (h k : A → Option X) (cs : List A) → Each (λ c. h c ≡ k c) cs → filter_map h cs ≡ filter_map k cs
 same_filter_map h k [] a = refl

@@ -84,5 +84,6 @@ pub fn one_link_each(table: &AiTable)
     ensures { (a b : Elements) → IsMadeWith table.now a → IsMadeWith table.now b
         → (a ≡ b) ↔ (canonical_link a ≡ canonical_link b) }
 {
+    // For the proof alone: the rows of the table keep its rules.
     let _ = table.rows();
 }

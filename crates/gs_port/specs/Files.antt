@@ -1,14 +1,25 @@
 -- Files, each a name and its bytes.
 use Rattle.std.specs.Prelude.{◌≡◌, ℕ, List, [], ◌∷◌, ◌++◌, ◌⊎◌, Option, Some, None, bytes_eq, find, option_map}
+use Rattle.gs_port.specs.Counts.{counted}
 
 -- the bytes of the first file with the name
 abbrev pub file_of : List (List ℕ × List ℕ) → List ℕ → Option (List ℕ)
 file_of files name = option_map (λ file. file.1) (find (λ file. bytes_eq file.0 name) files)
 
+-- the count after a fault of a file, if there is one
+abbrev pub for_file : Option (List ℕ) → ℕ → ℕ
+for_file None count = count
+for_file (Some bytes) count = counted count
+
 -- the bytes of the named file, where the files are told and it is among them
 abbrev pub told_file : Option (List (List ℕ × List ℕ)) → List ℕ → Option (List ℕ)
 told_file None name = None
 told_file (Some files) name = file_of files name
+
+-- the count after a file could not be opened or read: one more, but where the named one is not among files that are told
+abbrev pub counted_if_there : Option (List (List ℕ × List ℕ)) → List ℕ → ℕ → ℕ
+counted_if_there None name count = counted count
+counted_if_there (Some files) name count = for_file (file_of files name) count
 
 -- the files are told, and the named one is not among them
 abbrev pub IsAbsent : Option (List (List ℕ × List ℕ)) → List ℕ → Type 0

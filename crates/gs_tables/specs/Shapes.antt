@@ -1,5 +1,5 @@
 -- The shape of a table document: the set that its bytes give, or their first refusal. The answers of the calls that make sets.
-use Rattle.std.specs.Prelude.{◌⊎◌, ℕ, List, Result, Err}
+use Rattle.std.specs.Prelude.{◌⊎◌, ◌≢◌, ℕ, List, Result, Err}
 use Rattle.gs_document.specs.declared.document.Document.{Document}
 use Rattle.gs_document.specs.declared.fault.LoadFault.{LoadFault}
 use Rattle.gs_document.specs.declared.fault.LoadFault.TheVariants.{Json, Memory}
@@ -30,3 +30,7 @@ LoadAnswer bytes answer = Shape bytes answer
 -- the answer of `builtin`: the set of the built-in rows, or their first refusal
 abbrev pub BuiltInAnswer : Result TableRows LoadFault → Type 0
 BuiltInAnswer answer = IsAnswer (row_refusals builtin_document) (set_of builtin_document) answer
+
+-- the answer is no want of memory
+abbrev pub HasMemory : {X : Type 0} → Result X LoadFault → Type 0
+HasMemory answer = answer ≢ Err Memory

@@ -19,5 +19,5 @@ pub use forms::are_characters;
 pub use gs_document::{
     Field, ItemFault, Kind, LevelName, LimitName, LoadFault, OptInfo, SerialAt, read_item,
 };
-pub use laws::options_keep_the_rules;
+pub use laws::{built_in_rows_have_one_answer, bytes_have_one_answer, options_keep_the_rules};
 pub use table_set::TableSet;

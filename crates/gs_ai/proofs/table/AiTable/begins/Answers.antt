@@ -1,12 +1,48 @@
-use Rattle.std.proofs.Common.{sym, arith}
-use Rattle.gs_ai.proofs.TableLemmas.{found_begins, none_begins}
+use Rattle.std.proofs.Common.{◌∙◌, ap, sym, arith, rules}
+use Rattle.gs_ai.proofs.Searches.{position_within, within}
+use Rattle.gs_ai.specs.declared.row.AiRow.{AiRow}
+use Rattle.gs_ai.proofs.PlaceLemmas.{found_at, no_digits, none_at, one_place_more, place_low, place_read, row_at_place, start_read, start_within}
 use Rattle.gs_ai.proofs.table.AiTable.begins.Goals as goal
 
-pub returns-then-is_some-clause-row : goal.returns-then-is_some-clause-row
-returns-then-is_some-clause-row c =
-    found_begins c.args.self.now c.find-found.ensures.kept c.args.text.now c.loop-n.n c.find-found.result c.if-n-text.true c.find-found.ensures.row (sym c.if-is_some.ensures)
+pub returns-in_err-start-clause-row : goal.returns-in_err-start-clause-row
+returns-in_err-start-clause-row c =
+    let kept = rw c.self.view_is at c.self.invariant.0 in
+    rw c.from_residual.ensures (no_digits c.args.self.now kept c.args.text.now c.in_err-start.ensures.number)
+
+pub bounds-items-start : goal.bounds-items-start
+bounds-items-start c = rw c.items.ensures (start_within c.self.inside.rows c.self.inside.starts c.self.invariant.1 c.in_ok-start.start c.in_ok-start.ensures.small)
+
+pub bounds-rows-place : goal.bounds-rows-place
+bounds-rows-place c =
+    let read = rw c.items.ensures at c.index-items-start.is in
+    let places = c.items-places.ensures ∙ start_read c.self.inside.rows c.self.inside.starts c.self.invariant.1 c.in_ok-start.start c.index-items-start.result c.in_ok-start.ensures.small read in
+    rw c.items-rows.ensures (place_low c.self.inside.rows c.self.invariant.0 c.args.text.now c.in_ok-start.start c.in_ok-start.ensures.number c.items-places.result.now places c.loop-place.place-index _ (place_read c.items-places.result.now c.loop-place.place-index c.loop-place-test.true))
+
+pub offset_bounds-rows-place : goal.offset_bounds-rows-place
+offset_bounds-rows-place c = let low = bounds-rows-place c in search rules
+
+pub returns-then-starts_with-clause-row : goal.returns-then-starts_with-clause-row
+returns-then-starts_with-clause-row c =
+    let kept = rw c.self.view_is at c.self.invariant.0 in
+    let starts = rw c.self.view_is at c.self.invariant.1 in
+    let places = c.items-places.ensures ∙ start_read c.args.self.now c.self.inside.starts starts c.in_ok-start.start c.index-items-start.result c.in_ok-start.ensures.small (rw c.items.ensures at c.index-items-start.is) in
+    let at = row_at_place c.args.self.now kept c.args.text.now c.in_ok-start.start c.in_ok-start.ensures.number c.items-places.result.now places c.loop-place.place-index c.index-rows-place.result c.loop-place-test.true (rw (c.items-rows.ensures, c.self.view_is) at c.index-rows-place.is) in
+    found_at c.args.self.now kept c.args.text.now c.in_ok-start.start c.in_ok-start.ensures.number c.items-places.result.now places _ c.index-rows-place.result at (sym (rw (c.as_bytes.ensures ∙ ap (λ (r : AiRow). r.code) (sym c.index-rows-place.is)) at c.if-starts_with.ensures.value))
+
+pub returns-then-starts_with-clause-within : goal.returns-then-starts_with-clause-within
+returns-then-starts_with-clause-within c = position_within _ c.args.self.now _ (sym (returns-then-starts_with-clause-row c))
+
+pub loop-place-preserved : goal.loop-place-preserved
+loop-place-preserved c =
+    let kept = rw c.self.view_is at c.self.invariant.0 in
+    let starts = rw c.self.view_is at c.self.invariant.1 in
+    let places = c.items-places.ensures ∙ start_read c.args.self.now c.self.inside.starts starts c.in_ok-start.start c.index-items-start.result c.in_ok-start.ensures.small (rw c.items.ensures at c.index-items-start.is) in
+    let at = row_at_place c.args.self.now kept c.args.text.now c.in_ok-start.start c.in_ok-start.ensures.number c.items-places.result.now places c.loop-place.place-index c.index-rows-place.result c.loop-place-test.true (rw (c.items-rows.ensures, c.self.view_is) at c.index-rows-place.is) in
+    one_place_more c.args.self.now c.items-places.result.now c.args.text.now c.loop-place.place-index c.index-rows-place.result c.loop-place-test.true at (sym (rw (c.as_bytes.ensures ∙ ap (λ (r : AiRow). r.code) (sym c.index-rows-place.is)) at c.if-starts_with.ensures.value)) c.loop-place.invariant
 
 pub returns-clause-row : goal.returns-clause-row
 returns-clause-row c =
-    let rules = rw c.self.view_is at c.self.invariant.0 in
-    none_begins c.args.self.now rules c.args.text.now (λ k low high fits. c.loop-n.invariant k low (omega arith) fits)
+    let kept = rw c.self.view_is at c.self.invariant.0 in
+    let starts = rw c.self.view_is at c.self.invariant.1 in
+    let places = c.items-places.ensures ∙ start_read c.args.self.now c.self.inside.starts starts c.in_ok-start.start c.index-items-start.result c.in_ok-start.ensures.small (rw c.items.ensures at c.index-items-start.is) in
+    none_at c.args.self.now kept c.args.text.now c.in_ok-start.start c.in_ok-start.ensures.number c.items-places.result.now places (λ k i row at there. c.loop-place.invariant k i row (let low = within c.items-places.result.now k i at in omega (arith, c.loop-place-test.false)) at there)

@@ -1,7 +1,8 @@
-use Rattle.std.proofs.Common.{◌≡◌, ◌<◌, ◌≤◌, ℕ, length, take, position, None}
-use Rattle.gs_ai.specs.Values.{has_code}
+use Rattle.std.proofs.Common.{◌≡◌, ◌<◌, ℕ, Some, false, slice_get}
+use Rattle.gs_ai.specs.declared.row.AiRow.{AiRow}
+use Rattle.gs_ai.specs.Tables.{begins}
 use Rattle.gs_ai.proofs.table.AiTable.begins.Given as goal
 
--- no front so far is a code
-abbrev pub invariant-loop-n : goal.invariant-loop-n
-invariant-loop-n l = (k : ℕ) → 2 ≤ k → k < l.n → k ≤ length l.text → position (has_code (take k l.text)) l.self ≡ None
+-- no code of the places so far begins the text
+abbrev pub invariant-loop-place : goal.invariant-loop-place
+invariant-loop-place l = (k i : ℕ) (row : AiRow) → k < l.place-index → slice_get l.places k ≡ Some i → slice_get l.self i ≡ Some row → begins row.code l.text ≡ false

@@ -1,4 +1,4 @@
-use Rattle.std.proofs.Common.{◌≡◌, sym, ◌∙◌}
+use Rattle.std.proofs.Common.{sym, ◌∙◌}
 use Rattle.gs_ai.proofs.TableLemmas.{key_by_row, no_key}
 use Rattle.gs_ai.proofs.table.AiTable.is_key.Goals as goal
 
