@@ -4,6 +4,7 @@ use Rattle.std.specs.Prelude.{if◌then◌else◌}
 use Rattle.std.proofs.lemmas.Bool.Decides.{nat_tests}
 use Rattle.std.proofs.lemmas.List.{take_all, take-append-le}
 use Rattle.std.proofs.Math.Seq.{take-append-add}
+use Rattle.gs_chars.proofs.TruthsAndLists.{true_or_false}
 use Rattle.gs_port.specs.Contents.{prepend_known, append_known, append_nothing, append_twice}
 use Rattle.gs_lines.specs.declared.answering.Answering.{Answering}
 use Rattle.gs_lines.specs.declared.answering.Answering.TheVariants as answering
@@ -91,10 +92,6 @@ part_long limit gathered rest many =
 record FirstLines (first all : List (List ℕ)) : Type 0 where
   others : List (List ℕ)
   joined : all ≡ first ++ others
-
-true_or_false : (b : Bool) → (b ≡ true) ⊎ (b ≡ false)
-true_or_false true = inl refl
-true_or_false false = inr refl
 
 ended_first : (gathered more : List ℕ) → FirstLines (lines_of (ended_lines gathered)) (lines_of (ended_lines (gathered ++ more)))
 ended_first gathered more =

@@ -1,7 +1,9 @@
 -- Answers that are found in steps have one answer where each step has one.
 use Rattle.std.proofs.Common.{◌≡◌, refl, sym, ◌∙◌}
 use Rattle.std.specs.Prelude.{Result, Ok, Err}
-use Rattle.gs_translate.specs.Steps.{HasOne, HasSome, Then, goes_on, refuses}
+use Rattle.gs_translate.specs.declared.reason.Reason.{Reason}
+use Rattle.gs_translate.specs.declared.reason.Reason.TheVariants.{Epc, Long, Memory}
+use Rattle.gs_translate.specs.Steps.{HasOne, HasSome, Then, UnlessMemory, goes_on, refuses}
 
 pub then_one : {A B E : Type 0} (First : Result A E → Type 0) (Next : A → Result B E → Type 0) → HasOne First → ((a : A) → HasOne (Next a)) → HasOne (Then First Next)
 then_one First Next first next one other (refuses fault f e) (refuses fault' f' e') =
@@ -24,3 +26,10 @@ then_some_from First Next (Err fault) f next = (Err fault, refuses fault f refl)
 
 pub then_some : {A B E : Type 0} (First : Result A E → Type 0) (Next : A → Result B E → Type 0) → HasSome First → ((a : A) → First (Ok a) → HasSome (Next a)) → HasSome (Then First Next)
 then_some First Next first next = then_some_from First Next first.0 first.1 next
+
+-- a fact about an answer that is no want of memory
+pub told_answer : {X : Type 0} (answer : Result X Reason) (fact : Type 0) → (answer ≡ Err Memory → ⊥) → UnlessMemory answer fact → fact
+told_answer (Ok x) fact told f = f
+told_answer (Err Long) fact told f = f
+told_answer (Err (Epc fault)) fact told f = f
+told_answer (Err Memory) fact told f = absurd (told refl)
