@@ -6,3 +6,4 @@ pub mod RuleLemmas
 pub mod Searches
 pub mod StartLemmas
 pub mod TableLemmas
+pub mod ValueLemmas

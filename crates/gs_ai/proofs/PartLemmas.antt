@@ -6,7 +6,7 @@ use Rattle.gs_ai.specs.Parts.{greatest_length, is_of_part}
 use Rattle.gs_ai.specs.Values.{wrong_character, fitting}
 use Rattle.gs_ai.proofs.Searches.{position-append, position-map}
 
-abbrev wrong_in : Part → List ℕ → Option ℕ
+abbrev pub wrong_in : Part → List ℕ → Option ℕ
 wrong_in p piece = position (λ c. not (is_of_part p c)) piece
 
 length_fit : (p : Part) (piece : List ℕ) → length (map (is_of_part p) piece) ≡ length piece

@@ -5,10 +5,10 @@ use Rattle.std.specs.Option.{option_and_then}
 use Rattle.std.proofs.lemmas.List.{take_all}
 use Rattle.gs_ai.specs.declared.row.AiRow.{AiRow}
 use Rattle.gs_ai.specs.Predefined.{predefined_length}
-use Rattle.gs_ai.specs.Values.{has_code}
+use Rattle.gs_ai.specs.Values.{has_code, parts_fault, row_fault}
 use Rattle.gs_ai.specs.Tables.{begins, is_key, is_key_of, is_row, KeepsRules}
 use Rattle.gs_chars.proofs.TruthsAndLists.{or_false, true_or_false}
-use Rattle.gs_ai.proofs.Searches.{find_absent, false_from, equal_bytes, same_bytes, read_at}
+use Rattle.gs_ai.proofs.Searches.{find_absent, find_at_place, false_from, equal_bytes, position_is, same_bytes, read_at}
 
 -- ---- fronts of a text
 
@@ -56,6 +56,16 @@ row_kept rows rules i row low read = (rules.rows_in_order i row (read_at rows i 
 
 pub length_read : (rows : List AiRow) (i : ℕ) (row : AiRow) → i < length rows → row ≡ get_or rows i row → predefined_length row.code ≡ option_and_then (λ r. predefined_length r.code) (slice_get rows i)
 length_read rows i row low read = rw (read_at rows i row low read) refl
+
+-- the first fault of a value by the parts of the row
+pub fault_by_row : (rows : List AiRow) → KeepsRules rows → (i : ℕ) (row : AiRow) (value : List ℕ) → i < length rows → row ≡ get_or rows i row → row_fault rows i value ≡ parts_fault row.parts value
+fault_by_row rows rules i row value low read =
+    let at = read_at rows i row low read in
+    let own : has_code row.code row ≡ true = same_bytes row.code in
+    let place = position_is (has_code row.code) rows i row at own (λ j other less there. false_from (has_code row.code other) (λ same.
+    let e = rules.codes_apart j i other row there at (begins_itself other.code row.code (sym (equal_bytes row.code other.code same))) in
+    absurd (omega arith))) in
+    rw (at, find_at_place (has_code row.code) rows i row place at) refl
 
 -- ---- roles by the row of a code
 

@@ -1,8 +1,8 @@
 -- Faults of the value of an application identifier: GS1 General Specifications, sections 3.2 (formats), 7.9 (check
 -- digits) and 7.12 (dates).
-use Rattle.std.specs.Prelude.{ℕ, ◌+◌, ◌-◌, ◌*◌, Bool, true, not, ◌==◌, ◌&&◌, nat_le, if◌then◌else◌, List, [], ◌∷◌, length, take, drop, map, sum_by, position, Option, Some, None, bytes_eq, slice_index}
+use Rattle.std.specs.Prelude.{ℕ, ◌+◌, ◌-◌, ◌*◌, Bool, true, not, ◌==◌, ◌&&◌, nat_le, if◌then◌else◌, List, [], ◌∷◌, length, take, drop, map, sum_by, position, Option, Some, None, bytes_eq, slice_get, slice_index}
 use Rattle.std.specs.List.{flat_map, list_all, find}
-use Rattle.std.specs.Option.{option_map, option_or, option_map_or}
+use Rattle.std.specs.Option.{option_and_then, option_map, option_or, option_map_or}
 use Rattle.gs_chars.specs.Characters.{are_digits}
 use Rattle.gs_chars.specs.CheckDigits.{check_digit_of}
 use Rattle.gs_ai.specs.declared.part.Part.{Part}
@@ -76,3 +76,7 @@ has_code code row = bytes_eq code row.code
 abbrev pub value_fault : List AiRow → List ℕ → List ℕ → Option ValueFault
 value_fault table code value =
     option_map_or (λ row. parts_fault row.parts value) (find (has_code code) table) (Some Unknown)
+
+-- nothing, or the first fault of a value of the code of the row with this index
+abbrev pub row_fault : List AiRow → ℕ → List ℕ → Option ValueFault
+row_fault table row value = option_and_then (λ r. value_fault table r.code value) (slice_get table row)

@@ -2,7 +2,7 @@ ghost use Rattle.std.specs.Prelude.{◌≡◌, ◌≢◌, ◌<◌, ◌≤◌, �
 ghost use Rattle.std.specs.Option.{option_and_then, option_copied};
 ghost use Rattle.gs_ai.specs.Predefined.{predefined_length};
 ghost use Rattle.gs_ai.specs.Tables.{table_faults, KeepsRules, begins, is_key_of, is_row, row_at};
-ghost use Rattle.gs_ai.specs.Values.{has_code, value_fault};
+ghost use Rattle.gs_ai.specs.Values.{has_code, row_fault, value_fault};
 
 use crate::faults::{AiFault, ValueFault};
 use crate::predefined::Predefined;
@@ -124,6 +124,17 @@ impl AiTable {
     {
         self.predefined
             .length_of(self.rows.items()[row].code.as_bytes())
+    }
+
+    /// Whether the value is one of the row's application identifier, and the first fault if it is not: `Length`, `Char`,
+    /// `Check`, `Date`, in this order.
+    pub fn row_value_ok(&self, row: usize, value: &[u8]) -> Result<(), ValueFault>
+        requires { row < length self.now }
+        ensures ok { OnOk result (row_fault self.now row value.now ≡ None) }
+        ensures fault { IfErr result (λ e. row_fault self.now row value.now ≡ Some e) }
+    {
+        let row = &self.rows.items()[row];
+        parts_ok(row.parts.items(), value)
     }
 
     /// Whether the value is one of the application identifier with this code, and the first fault if it is not: `Unknown`,

@@ -46,7 +46,8 @@ fn push_encoding(
     serial: Option<Item>,
     after: Option<Item>,
 ) -> Result<(), Memory>
-    ensures { OnOk result (rows.new.items ≡ rows.old.items ++ encoding name.now kind.now header width rest serial after ∷ []) }
+    ensures { OnOk result (rows.new.items ≡ rows.old.items
+        ++ encoding name.now kind.now header width rest serial after ∷ []) }
 {
     let row = Encoding {
         name: Text::from_bytes(alloc, name)?,

@@ -98,7 +98,7 @@ fn copy_of(alloc: Global, item: &Item) -> Result<Item, Memory>
     ensures { IfOk result (λ copy. copy ≡ item.now) }
 {
     Ok(match item {
-        Item::Lit(text) => Item::Lit(Text::from_bytes(alloc, text.as_bytes())?),
+        Item::Lit(text) => Item::Lit(text.copy(alloc)?),
         Item::Pad { n } => Item::Pad { n: *n },
         Item::Int { max } => Item::Int { max: *max },
         Item::Esc { lo, hi } => Item::Esc { lo: *lo, hi: *hi },

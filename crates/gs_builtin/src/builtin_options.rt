@@ -18,7 +18,8 @@ fn push(
     partition: Partition,
     items: List<Option<FieldItem>>,
 ) -> Result<(), Memory>
-    ensures { OnOk result (rows.new.items ≡ rows.old.items ++ (record { kind = kind.now; encoding = encoding.now; gcp = partition.digits; items = items }) ∷ []) }
+    ensures { OnOk result (rows.new.items ≡ rows.old.items
+        ++ (record { kind = kind.now; encoding = encoding.now; gcp = partition.digits; items = items }) ∷ []) }
 {
     let row = OptionRow {
         kind: Text::from_bytes(alloc, kind)?,

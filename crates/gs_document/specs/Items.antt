@@ -1,6 +1,6 @@
 -- The items of an option as a table document writes them: an array that begins with the item's name. This project's own.
-use Rattle.std.specs.Prelude.{ℕ, ◌==◌, ◌^◌, nat_lt, Bool, true, false, if◌then◌else◌, List, map, codes, Option, Some, None, option_map, option_and_then, Result, Ok, Err, ◌≡◌, ◌-◌, ◌||◌}
-use Rattle.std.specs.List.{list_all}
+use Rattle.std.specs.Prelude.{ℕ, ◌==◌, ◌^◌, nat_lt, Bool, true, false, if◌then◌else◌, List, map, codes, Option, Some, None, option_map, option_and_then, option_to_list, Result, Ok, Err, ◌≡◌, ◌-◌, ◌||◌}
+use Rattle.std.specs.List.{flat_map, list_all}
 use Rattle.std.specs.Str.{bytes_eq}
 use Rattle.serde_json.specs.Data.{Data}
 use Rattle.serde_json.specs.Find.{as_number, as_str, as_u64, at}
@@ -56,6 +56,16 @@ short_arg i d = option_and_then (held 16) (number_arg i d)
 -- an item, and the field that its value stands for
 abbrev pub FieldItem : Type 0
 FieldItem = Option Field × Item
+
+-- the items that are there; the items without their fields, and their fields
+abbrev pub present : List (Option FieldItem) → List FieldItem
+present entries = flat_map option_to_list entries
+
+abbrev pub alone : List FieldItem → List Item
+alone items = map (λ (i : FieldItem). i.1) items
+
+abbrev pub fields_of : List FieldItem → List (Option Field)
+fields_of items = map (λ (i : FieldItem). i.0) items
 
 -- an array of this many parts
 abbrev pub sized : ℕ → Data → Option FieldItem → Option FieldItem

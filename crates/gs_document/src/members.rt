@@ -15,8 +15,10 @@ pub(crate) fn member_of<'a>(
     node: &Node<'a>,
     name: &str,
 ) -> Result<Option<Node<'a>>, Memory>
-    ensures part { IfOk result (λ member. option_map (λ part. view part.tree) member ≡ get name.now (view node.now.tree)) }
-    ensures place { IfOk result (λ member. IfSome member (λ part. part.place ≡ member_place node.now.place name.now)) }
+    ensures part { IfOk result (λ member. option_map (λ part. view part.tree) member
+        ≡ get name.now (view node.now.tree)) }
+    ensures place { IfOk result (λ member. IfSome member (λ part. part.place
+        ≡ member_place node.now.place name.now)) }
 {
     match node.maybe(alloc, name) {
         Ok(member) => Ok(member),

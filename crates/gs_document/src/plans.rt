@@ -13,7 +13,8 @@ fn push(
     required: bool,
     sort: Sort,
 ) -> Result<(), Memory>
-    ensures { OnOk result (plan.new.items ≡ plan.old.items ++ (record { name = name.now; required = required; sort = sort }) ∷ []) }
+    ensures { OnOk result (plan.new.items
+        ≡ plan.old.items ++ (record { name = name.now; required = required; sort = sort }) ∷ []) }
 {
     let name = Text::from_bytes(alloc, name)?;
     plan.push(Entry {

@@ -105,7 +105,8 @@ fn judge_rows(alloc: Global, root: &Node<'_>, name: &str, plan: &[Entry]) -> Res
 
 /// The first fault of the rows of an array, row by row.
 fn judge_items(alloc: Global, array: &Node<'_>, plan: &[Entry]) -> Result<(), JsonFault>
-    ensures { OrMemory result (first_fault (row_faults array.now.place plan.now (items_in (view array.now.tree)))) }
+    ensures { OrMemory result
+        (first_fault (row_faults array.now.place plan.now (items_in (view array.now.tree)))) }
 {
     let count = count_of(alloc, array)?;
     for i in 0..count {

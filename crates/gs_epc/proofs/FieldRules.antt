@@ -1,5 +1,5 @@
 -- What the rules of tables keep of the filter of an option: its value is one digit.
-use Rattle.std.proofs.Common.{◌≡◌, ℕ, ◌&&◌, ◌==◌, ◌≤◌, not, true, false, List, [], ◌∷◌, map, Some, None, decimal, refl, ◌∙◌, arith}
+use Rattle.std.proofs.Common.{◌≡◌, ℕ, ◌&&◌, ◌==◌, ◌≤◌, not, Bool, true, false, List, [], ◌∷◌, map, Some, None, decimal, refl, ◌∙◌, arith}
 use Rattle.std.specs.Prelude.{IfSome, ◌%◌}
 use Rattle.std.specs.List.{list_all}
 use Rattle.std.proofs.lemmas.Bool.Decides.{nat_tests}

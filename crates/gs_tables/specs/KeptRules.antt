@@ -1,5 +1,5 @@
 -- What the rules keep of a table set: the keys of its kinds, and the options of its levels. After TDT 2.0, sections 3 and 4.
-use Rattle.std.specs.Prelude.{◌≡◌, ℕ, true, List, map, Some, slice_get}
+use Rattle.std.specs.Prelude.{◌≡◌, ℕ, true, List, Some, slice_get}
 use Rattle.std.specs.List.{find}
 use Rattle.gs_ai.specs.declared.row.AiRow.{AiRow}
 use Rattle.gs_ai.specs.Tables.{is_key}
@@ -9,7 +9,7 @@ use Rattle.gs_document.specs.declared.kind.Kind.{Kind}
 use Rattle.gs_document.specs.declared.level_name.LevelName.{LevelName}
 use Rattle.gs_document.specs.declared.opt_info.OptInfo.{OptInfo}
 use Rattle.gs_document.specs.Documents.{is_bits}
-use Rattle.gs_document.specs.Items.{FieldItem}
+use Rattle.gs_document.specs.Items.{FieldItem, alone, fields_of}
 use Rattle.gs_grammar.specs.declared.item.Item.{Item}
 use Rattle.gs_grammar.specs.Levels.{KeepBounds, item_lists}
 use Rattle.gs_tables.specs.declared.form.KeyForm.{KeyForm}
@@ -35,8 +35,8 @@ pub record KeptOption (set : TableRows) (level : LevelName) (items : List Item) 
   pub of_kind : KeptKind set.ais kind
   pub bounds : KeepBounds (is_bits level) items
   pub parts : List FieldItem
-  pub items_are : items ≡ map (λ (i : FieldItem). i.1) parts
-  pub fields_are : info.fields ≡ map (λ (i : FieldItem). i.0) parts
+  pub items_are : items ≡ alone parts
+  pub fields_are : info.fields ≡ fields_of parts
   pub visible : are_visible info.encoding ≡ true
   pub of_level : keeps_level level info.encoding parts ≡ true
   pub gcp : keeps_gcp of_kind.form kind.lead info.gcp (items_of_field Gcp parts) ≡ true

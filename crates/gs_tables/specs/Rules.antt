@@ -20,7 +20,7 @@ use Rattle.gs_document.specs.declared.kind.SerialAt.TheVariants.{Nowhere, Tail, 
 use Rattle.gs_document.specs.declared.level_name.LevelName.{LevelName}
 use Rattle.gs_document.specs.declared.level_name.LevelName.TheVariants.{Binary, Tag, Pure}
 use Rattle.gs_tables.specs.Forms.{key_form, form_at, tail_of, characters_of, serial_at, serial_room}
-use Rattle.gs_document.specs.Items.{FieldItem}
+use Rattle.gs_document.specs.Items.{FieldItem, alone}
 
 -- bytes that are visible characters of ISO 646
 abbrev pub are_visible : List ℕ → Bool
@@ -140,7 +140,7 @@ keeps_serial (Some most) items = is_one (has_room most) items
 
 -- what an option of a level must keep beside its kind: the name of an encoding, a filter value and whole words of 16 bits
 unfoldable pub keeps_level : LevelName → List ℕ → List FieldItem → Bool
-keeps_level Binary encoding items = not (is_empty encoding) && is_one is_filter (items_of_field Filter items) && (size_of_all (map (λ (i : FieldItem). i.1) items) % 16 == 0)
+keeps_level Binary encoding items = not (is_empty encoding) && is_one is_filter (items_of_field Filter items) && (size_of_all (alone items) % 16 == 0)
 keeps_level Tag encoding items = not (is_empty encoding) && is_one is_filter (items_of_field Filter items)
 keeps_level Pure encoding items = is_empty encoding && is_empty (items_of_field Filter items)
 

@@ -22,7 +22,7 @@ use Rattle.gs_tables.specs.declared.level_table.LevelTable.{LevelTable}
 use Rattle.gs_document.specs.declared.opt_info.OptInfo.{OptInfo}
 use Rattle.gs_tables.specs.Forms.{serial_at}
 use Rattle.gs_document.specs.Documents.{is_bits}
-use Rattle.gs_document.specs.Items.{FieldItem}
+use Rattle.gs_document.specs.Items.{FieldItem, alone, fields_of, present}
 use Rattle.gs_tables.specs.Rules.{is_kind, fits_kind, has_name}
 
 -- ---- table sets
@@ -55,10 +55,10 @@ options_of Pure document = document.pure
 
 -- the items that are there, with their fields
 abbrev pub items_there : OptionRow → List FieldItem
-items_there row = flat_map option_to_list row.items
+items_there row = present row.items
 
 abbrev pub items_alone : OptionRow → List Item
-items_alone row = map (λ (i : FieldItem). i.1) (items_there row)
+items_alone row = alone (items_there row)
 
 -- ---- refusals
 
@@ -141,7 +141,7 @@ info_of kinds row = record {
   kind = unwrap_or (position (has_name row.kind) kinds) 0;
   encoding = row.encoding;
   gcp = row.gcp;
-  fields = map (λ (i : FieldItem). i.0) (items_there row);
+  fields = fields_of (items_there row);
 }
 
 abbrev pub level_of : List KindRow → LevelName → List OptionRow → LevelTable

@@ -7,9 +7,10 @@ ghost use Rattle.gs_tables.specs.Tables.{IsShaped, TableRows, level_rows};
 
 /// All bytes have one answer of `TableSet::load` beside want of memory, and no other.
 pub fn bytes_have_one_answer()
-    ensures some { (bytes : List ℕ) → ((answer : Result TableRows LoadFault) × HasMemory answer × LoadAnswer bytes answer) }
-    ensures at_most_one { (bytes : List ℕ) (one other : Result TableRows LoadFault) → LoadAnswer bytes one → LoadAnswer bytes other
-        → HasMemory one → HasMemory other → one ≡ other }
+    ensures some { (bytes : List ℕ) →
+        ((answer : Result TableRows LoadFault) × HasMemory answer × LoadAnswer bytes answer) }
+    ensures at_most_one { (bytes : List ℕ) (one other : Result TableRows LoadFault) → LoadAnswer bytes one
+        → LoadAnswer bytes other → HasMemory one → HasMemory other → one ≡ other }
 {}
 
 /// `builtin` has one answer beside want of memory, and no other.

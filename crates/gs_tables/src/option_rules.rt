@@ -10,11 +10,10 @@ use crate::form::KeyForm;
 use crate::forms::{form_at, serial_room};
 use crate::kind_rules::are_visible;
 use gs_ai::AiTable;
-use gs_document::{Field, KindRow, LevelName, LimitName, LoadFault, OptionRow};
-use gs_grammar::Item;
+use gs_document::{FieldItem, KindRow, LevelName, LimitName, LoadFault, OptionRow};
 
 /// The index of the first item that is not there or breaks a bound of the level.
-fn first_bad(bits: bool, items: &[Option<(Option<Field>, Item)>]) -> Option<usize>
+fn first_bad(bits: bool, items: &[Option<FieldItem>]) -> Option<usize>
     ensures { result ≡ position (is_bad_item bits) items.now }
 {
     items.iter().position(|item| match item {

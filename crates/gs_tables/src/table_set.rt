@@ -98,6 +98,7 @@ impl TableSet {
         ensures rows { result.now ≡ (level_rows name self.now).level }
         ensures shaped { IsShaped self.now }
     {
+        // the proof alone reads it: what holds of the set
         let _ = &self.kinds;
         &self.table(name).level
     }
@@ -107,6 +108,7 @@ impl TableSet {
         ensures rows { result.now ≡ (level_rows name self.now).info }
         ensures shaped { IsShaped self.now }
     {
+        // the proof alone reads it: what holds of the set
         let _ = &self.kinds;
         self.table(name).info.items()
     }

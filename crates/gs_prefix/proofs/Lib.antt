@@ -1,0 +1,5 @@
+pub mod FirstRefusals
+pub mod Found
+pub mod Longest
+pub mod Parts
+pub mod Refused

@@ -1,0 +1,180 @@
+-- The refusals of entries and of documents.
+use Rattle.std.proofs.Common.{◌≡◌, ◌⊎◌, ℕ, ◌+◌, ◌<◌, ◌≤◌, nat_lt, nat_le, true, false, List, [], ◌∷◌, ◌++◌, length, take, map, Some, None, slice_get, refl, sym, ap, ◌∙◌, arith, inl, inr}
+use Rattle.std.specs.Prelude.{Result, Ok, Err}
+use Rattle.std.specs.List.{flat_map, enumerate_from, list_all, list_any}
+use Rattle.std.specs.Str.{IsUtf8, is_utf8}
+use Rattle.std.proofs.lemmas.Bool.Decides.{nat_tests}
+use Rattle.std.proofs.lemmas.List.{map-append}
+use Rattle.std.proofs.lemmas.Str.{IsUtf8-from_is_utf8, is_utf8-from_IsUtf8}
+use Rattle.serde_json.specs.Data.{Data}
+use Rattle.serde_json.specs.Find.{as_object}
+use Rattle.serde_json.specs.Read.{read as read_text}
+use Rattle.gs_json.specs.Places.{item_place}
+use Rattle.gs_json.specs.Shapes.{members_faults}
+use Rattle.gs_json.specs.declared.fault.JsonFault.{JsonFault}
+use Rattle.gs_json.specs.declared.fault.JsonFault.TheVariants as json
+use Rattle.gs_prefix.specs.declared.entry.PrefixEntry.{PrefixEntry}
+use Rattle.gs_prefix.specs.declared.fault.PrefixFault.{PrefixFault}
+use Rattle.gs_prefix.specs.declared.fault.PrefixFault.TheVariants.{Json, BadPrefix, BadLength, Twice, Limit}
+use Rattle.gs_prefix.specs.Answers.{OrMemory, document_answer, document_of, first_or, load_answer, of_json}
+use Rattle.gs_prefix.specs.Documents.{array_faults, entries_faults, entries_of, entry_plan, form_faults, list_plan, version_faults}
+use Rattle.gs_prefix.specs.Lengths.{has_prefix, is_entry, is_prefix}
+use Rattle.gs_prefix.specs.Rules.{entry_refusals, refusals, refusals_at}
+use Rattle.gs_prefix.proofs.FirstRefusals.{all_rows, first_behind, first_in_front, nothing_in_front, one_more, split_at, take_all, take_next}
+use Rattle.gs_chars.proofs.TruthsAndLists.{and_first, and_second, true_or_false}
+
+-- ---- one entry
+
+module _ (earlier : List PrefixEntry) (i : ℕ) (e : PrefixEntry) where
+  pub bad_prefix : is_prefix e.prefix ≡ false → Err (BadPrefix i) ≡ first_or (entry_refusals earlier i e) (tt {0})
+  unfolding entry_refusals
+  bad_prefix h = rw h refl
+
+  pub bad_length : is_prefix e.prefix ≡ true → 12 < e.length → Err (BadLength i) ≡ first_or (entry_refusals earlier i e) (tt {0})
+  unfolding entry_refusals
+  bad_length h long = let l : nat_lt 12 e.length ≡ true = grind (arith, nat_tests) in rw (h, l) refl
+
+  pub twice : is_prefix e.prefix ≡ true → e.length ≤ 12 → list_any (has_prefix e.prefix) earlier ≡ true → Err (Twice i) ≡ first_or (entry_refusals earlier i e) (tt {0})
+  unfolding entry_refusals
+  twice h short t = let l : nat_lt 12 e.length ≡ false = grind (arith, nat_tests) in rw (h, l, t) refl
+
+  pub in_order : is_prefix e.prefix ≡ true → e.length ≤ 12 → list_any (has_prefix e.prefix) earlier ≡ false → Ok (tt {0}) ≡ first_or (entry_refusals earlier i e) (tt {0})
+  unfolding entry_refusals
+  in_order h short t = let l : nat_lt 12 e.length ≡ false = grind (arith, nat_tests) in rw (h, l, t) refl
+
+  -- what no refusal says
+  pub record Kept : Type 0 where
+    pub prefix : is_prefix e.prefix ≡ true
+    pub short : e.length ≤ 12
+    pub fresh : list_any (has_prefix e.prefix) earlier ≡ false
+
+  pub kept : Ok (tt {0}) ≡ first_or (entry_refusals earlier i e) (tt {0}) → Kept
+  unfolding entry_refusals
+  kept h = elim (true_or_false (is_prefix e.prefix)) [
+    | inr p ↦ absurd (let g = rw p at h in let bad : Ok (tt {0}) ≡ Err (BadPrefix i) = g in cc)
+    | inl p ↦ elim (true_or_false (nat_lt 12 e.length)) [
+      | inl l ↦ absurd (let g = rw (p, l) at h in let bad : Ok (tt {0}) ≡ Err (BadLength i) = g in cc)
+      | inr l ↦ elim (true_or_false (list_any (has_prefix e.prefix) earlier)) [
+        | inl t ↦ absurd (let g = rw (p, l, t) at h in let bad : Ok (tt {0}) ≡ Err (Twice i) = g in cc)
+        | inr t ↦ record { prefix = p; short = grind (arith, nat_tests); fresh = t }
+      ]
+    ]
+  ]
+
+  nothing : Ok (tt {0}) ≡ first_or (entry_refusals earlier i e) (tt {0}) → entry_refusals earlier i e ≡ []
+  nothing h = nothing_in_front (entry_refusals earlier i e) (tt {0}) (tt {0}) (inr h)
+
+-- ---- the entries of a list
+
+all_more : (es : List PrefixEntry) (e : PrefixEntry) → list_all is_entry es ≡ true → is_entry e ≡ true → list_all is_entry (es ++ e ∷ []) ≡ true
+all_more [] e h t = rw t refl
+all_more (x ∷ es) e h t = rw (and_first (is_entry x) (list_all is_entry es) h) (all_more es e (and_second (is_entry x) (list_all is_entry es) h) t)
+
+is_kept : (e : PrefixEntry) → is_prefix e.prefix ≡ true → e.length ≤ 12 → is_entry e ≡ true
+is_kept e p short = let l : nat_le e.length 12 ≡ true = grind (arith, nat_tests) in rw (p, l) refl
+
+pub limit_passed : (es : List PrefixEntry) → 65536 < length es → OrMemory {X = List PrefixEntry} (Err Limit) (first_or (refusals es) es)
+unfolding refusals
+limit_passed es h = let l : nat_lt 65536 (length es) ≡ true = grind (arith, nat_tests) in rw l (inr refl)
+
+-- what is known of the entries before an index
+pub record SoFar (entries index : List PrefixEntry) (i : ℕ) : Type 0 where
+  pub held : index ≡ take i entries
+  pub in_order : list_all is_entry index ≡ true
+  pub none : flat_map (refusals_at entries) (enumerate_from 0 (take i entries)) ≡ []
+
+within_limit : (es : List PrefixEntry) → length es ≤ 65536 → refusals es ≡ flat_map (refusals_at es) (enumerate_from 0 es)
+unfolding refusals
+within_limit es h = let l : nat_lt 65536 (length es) ≡ false = grind (arith, nat_tests) in rw l refl
+
+pub entry_refused : (entries index : List PrefixEntry) (i : ℕ) (x : PrefixEntry) (e : PrefixFault) → length entries ≤ 65536 → SoFar entries index i → slice_get entries i ≡ Some x → Err e ≡ first_or (entry_refusals index i x) (tt {0}) → OrMemory {X = List PrefixEntry} (Err e) (first_or (refusals entries) entries)
+entry_refused entries index i x e few so_far at h =
+    let own = rw so_far.held at h in
+    let split = split_at (refusals_at entries) entries i x at so_far.none in
+    rw (within_limit entries few, split.1) (first_in_front (refusals_at entries (i, x)) split.0 (tt {0}) entries e (inr own))
+
+pub one_entry_more : (entries index new : List PrefixEntry) (i : ℕ) (x : PrefixEntry) → SoFar entries index i → slice_get entries i ≡ Some x → Ok (tt {0}) ≡ first_or (entry_refusals index i x) (tt {0}) → new ≡ index ++ x ∷ [] → SoFar entries new (i + 1)
+one_entry_more entries index new i x so_far at h e =
+    let k = kept index i x h in
+    record {
+      held = e ∙ rw so_far.held (sym (take_next entries i x at));
+      in_order = rw e (all_more index x so_far.in_order (is_kept x k.prefix k.short));
+      none = one_more (refusals_at entries) entries i x at so_far.none (nothing (take i entries) i x (rw so_far.held at h));
+    }
+
+pub all_entries : (entries index : List PrefixEntry) (i : ℕ) → length entries ≤ 65536 → length entries ≤ i → SoFar entries index i → OrMemory {X = List PrefixEntry} (Ok index) (first_or (refusals entries) entries)
+all_entries entries index i few all so_far =
+    let whole : index ≡ entries = so_far.held ∙ take_all entries i all in
+    let none : refusals entries ≡ [] = within_limit entries few ∙ all_rows (refusals_at entries) entries i all so_far.none in
+    rw none (inr (ap Ok whole))
+
+-- ---- the form of a document
+
+module _ (place : List ℕ) (items : List Data) where
+  abbrev faults_at : ℕ × Data → List JsonFault
+  faults_at row = members_faults (item_place place row.0) entry_plan (as_object row.1)
+
+  pub item_refused : (i : ℕ) (x : Data) (e : PrefixFault) → slice_get items i ≡ Some x → array_faults place (take i items) ≡ [] → OrMemory {X = Unit {0}} (Err e) (first_or (map Json (faults_at (i, x))) (tt {0})) → OrMemory {X = Unit {0}} (Err e) (first_or (map Json (array_faults place items)) (tt {0}))
+  unfolding array_faults
+  item_refused i x e at none h =
+      let split = split_at faults_at items i x at none in
+      rw (split.1, map-append) (first_in_front (map Json (faults_at (i, x))) (map Json split.0) (tt {0}) (tt {0}) e h)
+
+  no_json : (faults : List JsonFault) → map Json faults ≡ [] → faults ≡ []
+  no_json [] h = refl
+  no_json (f ∷ faults) h = absurd (let g : Json f ∷ map Json faults ≡ [] = h in cc)
+
+  pub one_item_more : (i : ℕ) (x : Data) (z : Unit {0}) → slice_get items i ≡ Some x → array_faults place (take i items) ≡ [] → OrMemory {X = Unit {0}} (Ok z) (first_or (map Json (faults_at (i, x))) (tt {0})) → array_faults place (take (i + 1) items) ≡ []
+  unfolding array_faults
+  one_item_more i x z at none h = one_more faults_at items i x at none (no_json (faults_at (i, x)) (nothing_in_front (map Json (faults_at (i, x))) (tt {0}) z h))
+
+  pub all_items : (i : ℕ) → length items ≤ i → array_faults place (take i items) ≡ [] → OrMemory {X = Unit {0}} (Ok (tt {0})) (first_or (map Json (array_faults place items)) (tt {0}))
+  unfolding array_faults
+  all_items i all none = rw (all_rows faults_at items i all none) (inr refl)
+
+joined : (a b : List JsonFault) → map Json (a ++ b) ≡ map Json a ++ map Json b
+joined a b = map-append Json a b
+
+module _ (d : Data) where
+  abbrev object_faults : List JsonFault
+  object_faults = members_faults [] list_plan (as_object d)
+
+  pub object_refused : (e : PrefixFault) → OrMemory {X = Unit {0}} (Err e) (first_or (map Json object_faults) (tt {0})) → OrMemory {X = Unit {0}} (Err e) (first_or (map Json (form_faults d)) (tt {0}))
+  unfolding form_faults
+  object_refused e h = rw (joined object_faults (version_faults d ++ entries_faults d)) (first_in_front (map Json object_faults) (map Json (version_faults d ++ entries_faults d)) (tt {0}) (tt {0}) e h)
+
+  pub version_refused : (e : PrefixFault) (y : Unit {0}) → OrMemory {X = Unit {0}} (Ok y) (first_or (map Json object_faults) (tt {0})) → OrMemory {X = Unit {0}} (Err e) (first_or (map Json (version_faults d)) (tt {0})) → OrMemory {X = Unit {0}} (Err e) (first_or (map Json (form_faults d)) (tt {0}))
+  unfolding form_faults
+  version_refused e y none h =
+      rw (joined object_faults (version_faults d ++ entries_faults d), joined (version_faults d) (entries_faults d)) (first_behind (map Json object_faults) (map Json (version_faults d) ++ map Json (entries_faults d)) (tt {0}) y (tt {0}) (Err e) none
+      (first_in_front (map Json (version_faults d)) (map Json (entries_faults d)) (tt {0}) (tt {0}) e h))
+
+  pub entries_judged : (answer : Result (Unit {0}) PrefixFault) (y z : Unit {0}) → OrMemory {X = Unit {0}} (Ok y) (first_or (map Json object_faults) (tt {0})) → OrMemory {X = Unit {0}} (Ok z) (first_or (map Json (version_faults d)) (tt {0})) → OrMemory answer (first_or (map Json (entries_faults d)) (tt {0})) → OrMemory answer (first_or (map Json (form_faults d)) (tt {0}))
+  unfolding form_faults
+  entries_judged answer y z none same h =
+      rw (joined object_faults (version_faults d ++ entries_faults d), joined (version_faults d) (entries_faults d)) (first_behind (map Json object_faults) (map Json (version_faults d) ++ map Json (entries_faults d)) (tt {0}) y (tt {0}) answer none
+      (first_behind (map Json (version_faults d)) (map Json (entries_faults d)) (tt {0}) z (tt {0}) answer same h))
+
+-- ---- the answer to bytes
+
+is_json : (bytes : List ℕ) (d : Data) → IsUtf8 bytes × (read_text bytes ≡ Some d) → load_answer bytes ≡ document_answer d
+unfolding load_answer document_of
+is_json bytes d h = let t = is_utf8-from_IsUtf8 bytes h.0 in rw (t, h.1) refl
+
+pub not_json : (bytes : List ℕ) (fault : JsonFault) → (fault ≡ json.Syntax → IsUtf8 bytes → read_text bytes ≡ None) → (fault ≡ json.Syntax) ⊎ (fault ≡ json.Memory) → OrMemory {X = List PrefixEntry} (Err (of_json fault)) (load_answer bytes)
+unfolding load_answer document_of
+not_json bytes fault none (inr m) = rw m (inl refl)
+not_json bytes fault none (inl s) = elim (true_or_false (is_utf8 bytes)) [
+  | inl t ↦ let e = none s (IsUtf8-from_is_utf8 bytes t) in rw (s, t, e) (inr refl)
+  | inr t ↦ rw (s, t) (inr refl)
+]
+
+pub form_refused : (bytes : List ℕ) (d : Data) (e : PrefixFault) → IsUtf8 bytes × (read_text bytes ≡ Some d) → OrMemory {X = Unit {0}} (Err e) (first_or (map Json (form_faults d)) (tt {0})) → OrMemory {X = List PrefixEntry} (Err e) (load_answer bytes)
+unfolding document_answer
+form_refused bytes d e is h = rw (is_json bytes d is) (first_in_front (map Json (form_faults d)) (refusals (entries_of d)) (tt {0}) (entries_of d) e h)
+
+pub entries_answer : (bytes : List ℕ) (d : Data) (entries : List PrefixEntry) (z : Unit {0}) (answer : Result (List PrefixEntry) PrefixFault) → IsUtf8 bytes × (read_text bytes ≡ Some d) → OrMemory {X = Unit {0}} (Ok z) (first_or (map Json (form_faults d)) (tt {0})) → entries ≡ entries_of d → OrMemory answer (first_or (refusals entries) entries) → OrMemory answer (load_answer bytes)
+unfolding document_answer
+entries_answer bytes d entries z answer is none e h =
+    let own = rw e at h in
+    rw (is_json bytes d is) (first_behind (map Json (form_faults d)) (refusals (entries_of d)) (tt {0}) z (entries_of d) answer none own)

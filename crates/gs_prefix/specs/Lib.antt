@@ -1,0 +1,4 @@
+pub mod Lengths
+pub mod Rules
+pub mod Documents
+pub mod Answers

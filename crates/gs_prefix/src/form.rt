@@ -1,0 +1,114 @@
+ghost use Rattle.std.specs.Prelude.{◌≡◌, [], map, IfOk};
+ghost use Rattle.serde_json.specs.View.{view};
+ghost use Rattle.gs_json.specs.Shapes.{shape_faults};
+ghost use Rattle.gs_prefix.specs.Answers.{OrMemory, first_or, of_json};
+ghost use Rattle.gs_prefix.specs.Documents.{array_faults, entries_faults, entry_plan, form_faults, items_in, list_plan, must, version_faults};
+ghost use Rattle.gs_prefix.specs.declared.fault.PrefixFault.TheVariants.{Json};
+
+use crate::fault::PrefixFault;
+use crate::members::{count_of, member_of, number_in};
+use gs_chars::{Memory, Text};
+use gs_json::{Entry, JsonFault, Node, Sort};
+use std::alloc::Global;
+
+/// A member that an object must have.
+fn must(alloc: Global, name: &[u8], sort: Sort) -> Result<Entry, Memory>
+    ensures { IfOk result (λ entry. entry ≡ must name.now sort) }
+{
+    let name = Text::from_bytes(alloc, name)?;
+    Ok(Entry {
+        name,
+        required: true,
+        sort,
+    })
+}
+
+/// The members of the document.
+fn list_plan(alloc: Global) -> Result<Vec<Entry>, Memory>
+    ensures { IfOk result (λ plan. plan.items ≡ list_plan) }
+{
+    let mut plan = Vec::new(alloc);
+    plan.push(must(alloc, b"version", Sort::Number)?)?;
+    plan.push(must(alloc, b"prefixes", Sort::Array)?)?;
+    Ok(plan)
+}
+
+/// The members of an entry.
+fn entry_plan(alloc: Global) -> Result<Vec<Entry>, Memory>
+    ensures { IfOk result (λ plan. plan.items ≡ entry_plan) }
+{
+    let mut plan = Vec::new(alloc);
+    plan.push(must(alloc, b"prefix", Sort::Text)?)?;
+    plan.push(must(alloc, b"length", Sort::Number)?)?;
+    Ok(plan)
+}
+
+/// A fault of JSON, with want of memory as its own.
+pub(crate) fn of_json(fault: JsonFault) -> PrefixFault
+    ensures { result ≡ of_json fault }
+{
+    match fault {
+        JsonFault::Memory => PrefixFault::Memory,
+        other => PrefixFault::Json(other),
+    }
+}
+
+/// The first fault of an object by its plan.
+fn judge_object(alloc: Global, object: &Node<'_>, plan: &[Entry]) -> Result<(), PrefixFault>
+    ensures { OrMemory result (first_or (map Json (shape_faults object.now plan.now)) tt) }
+{
+    match object.shaped(alloc, plan) {
+        Ok(()) => Ok(()),
+        Err(fault) => Err(of_json(fault)),
+    }
+}
+
+/// Refuses a document of another version.
+fn judge_version(alloc: Global, root: &Node<'_>) -> Result<(), PrefixFault>
+    ensures { OrMemory result (first_or (map Json (version_faults (view root.now.tree))) tt) }
+{
+    if number_in(alloc, root, "version")? == 1 {
+        return Ok(());
+    }
+    let place = Text::from_bytes(alloc, b"/version")?;
+    Err(PrefixFault::Json(JsonFault::Kind(place)))
+}
+
+/// The first fault of the entries of an array, entry by entry.
+#[tactic(auto, unfolding(crate::specs::Documents::array_faults))]
+fn judge_items(alloc: Global, array: &Node<'_>) -> Result<(), PrefixFault>
+    ensures { OrMemory result (first_or (map Json (array_faults array.now.place (items_in (view array.now.tree)))) tt) }
+{
+    let plan = entry_plan(alloc)?;
+    let count = count_of(alloc, array)?;
+    for i in 0..count {
+        let Ok(entry) = array.item(alloc, i) else {
+            return Err(PrefixFault::Memory);
+        };
+        judge_object(alloc, &entry, plan.as_slice())?;
+    }
+    Ok(())
+}
+
+/// The first fault of the entries of a document, entry by entry.
+#[tactic(auto, unfolding(crate::specs::Documents::array_faults, crate::specs::Documents::entries_faults))]
+fn judge_entries(alloc: Global, root: &Node<'_>) -> Result<(), PrefixFault>
+    requires { root.now.place ≡ [] }
+    ensures { OrMemory result (first_or (map Json (entries_faults (view root.now.tree))) tt) }
+{
+    match member_of(alloc, root, "prefixes")? {
+        Some(array) => judge_items(alloc, &array),
+        None => Ok(()),
+    }
+}
+
+/// The first fault of the form of a document: of its object, then of its version, then of its entries.
+pub(crate) fn judge_form(alloc: Global, root: &Node<'_>) -> Result<(), PrefixFault>
+    requires { root.now.place ≡ [] }
+    ensures { OrMemory result (first_or (map Json (form_faults (view root.now.tree))) tt) }
+{
+    let plan = list_plan(alloc)?;
+    judge_object(alloc, root, plan.as_slice())?;
+    judge_version(alloc, root)?;
+    judge_entries(alloc, root)
+}

@@ -1,0 +1,59 @@
+ghost use Rattle.std.specs.Prelude.{◌≡◌, false, [], ◌∷◌, ◌++◌, IfOk, length, find};
+ghost use Rattle.std.specs.List.{list_any};
+ghost use Rattle.std.specs.Option.{option_map};
+ghost use Rattle.gs_prefix.specs.Lengths.{has_prefix};
+
+use gs_chars::Memory;
+use indexmap::IndexMap;
+use std::alloc::Global;
+use std::marker::Model;
+
+/// Entries whose prefixes differ, in the order of insertion and found by their prefixes.
+#[derive(Drop)]
+pub struct Index {
+    lengths: IndexMap<Vec<u8>, u8>,
+}
+
+impl Model for Index {
+    ghost use Rattle.std.specs.Prelude.{List, map};
+    ghost use Rattle.gs_prefix.specs.declared.entry.PrefixEntry.{PrefixEntry};
+
+    ghost Value = { List PrefixEntry };
+
+    ghost view = { λ a. map (λ entry. record { prefix = entry.0.items; length = entry.1 }) a.lengths.entries };
+}
+
+impl Index {
+    /// No entry. It takes no memory.
+    pub fn new(alloc: Global) -> Index
+        ensures { result ≡ [] }
+    {
+        Index {
+            lengths: IndexMap::new(alloc),
+        }
+    }
+
+    /// The number of entries.
+    pub fn len(&self) -> usize
+        ensures { result ≡ length self.now }
+    {
+        self.lengths.len()
+    }
+
+    /// Adds an entry, whose prefix is not there yet.
+    pub fn push(&mut self, alloc: Global, prefix: &[u8], length: u8) -> Result<(), Memory>
+        requires { list_any (has_prefix prefix.now) self.old ≡ false }
+        ensures { IfOk result (λ _. self.new ≡ self.old ++ (record { prefix = prefix.now; length = length }) ∷ []) }
+    {
+        self.lengths
+            .insert(Vec::from_slice(alloc, prefix)?, length)?;
+        Ok(())
+    }
+
+    /// The length of the entry of a prefix.
+    pub fn length_of(&self, prefix: &[u8]) -> Option<u8>
+        ensures { result ≡ option_map (λ entry. entry.length) (find (has_prefix prefix.now) self.now) }
+    {
+        self.lengths.get(prefix).copied()
+    }
+}

@@ -1,0 +1,115 @@
+ghost use Rattle.std.specs.Prelude.{◌≡◌, ◌≤◌, [], IfSome, length};
+ghost use Rattle.gs_prefix.specs.Answers.{OrMemory, first_or, load_answer};
+ghost use Rattle.gs_prefix.specs.Lengths.{length_of_longest, prefix_length};
+ghost use Rattle.gs_prefix.specs.Rules.{refusals};
+
+use crate::entry::PrefixEntry;
+use crate::fault::PrefixFault;
+use crate::form::{judge_form, of_json};
+use crate::index::Index;
+use crate::read::read_entries;
+use crate::rules::check_entry;
+use gs_json::Doc;
+use std::alloc::Global;
+use std::marker::Model;
+
+/// The most entries that a list has.
+const LIMIT: usize = 65_536;
+
+/// A list of company prefix lengths, which contracts see as its entries in the order of the document. Each prefix is 1 to 12
+/// digits, each length is at most 12.
+#[derive(Drop)]
+pub struct PrefixList {
+    entries: Index,
+}
+
+impl Model for PrefixList {
+    ghost use Rattle.std.specs.Prelude.{◌≡◌, List, true};
+    ghost use Rattle.std.specs.List.{list_all};
+    ghost use Rattle.gs_prefix.specs.declared.entry.PrefixEntry.{PrefixEntry};
+    ghost use Rattle.gs_prefix.specs.Lengths.{is_entry};
+
+    ghost Value = { List PrefixEntry };
+
+    ghost view = { λ a. a.entries };
+
+    ghost invariant = { λ a. list_all is_entry a.entries ≡ true };
+}
+
+impl PrefixList {
+    /// The list of no entry, which gives no length. It takes no memory.
+    pub fn empty(alloc: Global) -> PrefixList
+        ensures { result ≡ [] }
+    {
+        PrefixList {
+            entries: Index::new(alloc),
+        }
+    }
+
+    /// The list that a document in JSON gives: an object with exactly `version`, the number 1, and `prefixes`, an array of
+    /// objects with exactly `prefix`, a text, and `length`, a number. Of the refusals the first in this order is the answer.
+    /// `Json`: the bytes are no JSON text; the document, its version or an entry has not this form. `Limit`: more than
+    /// 65,536 entries. Then entry by entry `BadPrefix`, `BadLength`, `Twice`. `Memory` may come in place of any answer.
+    pub fn load(alloc: Global, bytes: &[u8]) -> Result<PrefixList, PrefixFault>
+        ensures { OrMemory result (load_answer bytes.now) }
+    {
+        let doc = match Doc::parse(alloc, bytes) {
+            Ok(doc) => doc,
+            Err(fault) => return Err(of_json(fault)),
+        };
+        let root = doc.root(alloc);
+        judge_form(alloc, &root)?;
+        let entries = read_entries(alloc, &root)?;
+        PrefixList::of_entries(alloc, entries.as_slice())
+    }
+
+    /// The list of the entries, or their first refusal.
+    fn of_entries(alloc: Global, entries: &[PrefixEntry]) -> Result<PrefixList, PrefixFault>
+        ensures { OrMemory result (first_or (refusals entries.now) entries.now) }
+    {
+        if entries.len() > LIMIT {
+            return Err(PrefixFault::Limit);
+        }
+        let mut index = Index::new(alloc);
+        for (i, entry) in entries.iter().enumerate() {
+            check_entry(&index, i, entry)?;
+            index.push(alloc, entry.prefix.as_bytes(), entry.length as u8)?;
+        }
+        Ok(PrefixList { entries: index })
+    }
+
+    /// The number of entries.
+    pub fn len(&self) -> usize
+        ensures { result ≡ length self.now }
+    {
+        self.entries.len()
+    }
+
+    /// How many digits the company prefix has with which the digits begin: the length of the longest entry that is a prefix
+    /// of the digits. `None` comes exactly where no entry is one, or the length of the longest is 0. It takes no memory, and
+    /// looks into the list at most twelve times.
+    #[tactic(auto, unfolding(crate::specs::Lengths::prefix_length))]
+    pub fn length_of(&self, digits: &[u8]) -> Option<u8>
+        ensures length { result ≡ prefix_length self.now digits.now }
+        ensures range { IfSome result (λ n. (1 ≤ n) × (n ≤ 12)) }
+    {
+        let length = self.longest(digits)?;
+        if length == 0 { None } else { Some(length) }
+    }
+
+    /// The length of the longest entry that is a prefix of the digits.
+    fn longest(&self, digits: &[u8]) -> Option<u8>
+        ensures length { result ≡ length_of_longest self.now digits.now }
+        ensures range { IfSome result (λ n. n ≤ 12) }
+    {
+        for n in (1..13).rev() {
+            if n <= digits.len() {
+                let length = self.entries.length_of(&digits[..n]);
+                if length.is_some() {
+                    return length;
+                }
+            }
+        }
+        None
+    }
+}

@@ -1,0 +1,42 @@
+ghost use Rattle.std.specs.Prelude.{◌≡◌};
+ghost use Rattle.gs_chars.specs.Characters.{are_digits};
+ghost use Rattle.gs_prefix.specs.Answers.{first_or};
+ghost use Rattle.gs_prefix.specs.Lengths.{is_prefix};
+ghost use Rattle.gs_prefix.specs.Rules.{entry_refusals};
+
+use crate::entry::PrefixEntry;
+use crate::fault::PrefixFault;
+use crate::index::Index;
+
+/// The most digits that a company prefix has.
+const GREATEST_LENGTH: u64 = 12;
+
+/// Whether each byte is a digit.
+fn are_digits(text: &[u8]) -> bool
+    ensures { result ≡ are_digits text.now }
+{
+    text.iter().all(|c| c.is_ascii_digit())
+}
+
+/// Whether a text is 1 to 12 digits.
+fn is_prefix(text: &[u8]) -> bool
+    ensures { result ≡ is_prefix text.now }
+{
+    are_digits(text) && 1 <= text.len() && text.len() <= 12
+}
+
+/// The first rule that an entry breaks, beside the earlier entries.
+pub(crate) fn check_entry(earlier: &Index, i: usize, entry: &PrefixEntry) -> Result<(), PrefixFault>
+    ensures { result ≡ first_or (entry_refusals earlier.now i entry.now) tt }
+{
+    let prefix = entry.prefix.as_bytes();
+    if !is_prefix(prefix) {
+        Err(PrefixFault::BadPrefix(i))
+    } else if entry.length > GREATEST_LENGTH {
+        Err(PrefixFault::BadLength(i))
+    } else if earlier.length_of(prefix).is_some() {
+        Err(PrefixFault::Twice(i))
+    } else {
+        Ok(())
+    }
+}
