@@ -95,7 +95,7 @@ before_some b [] = record { line = b ∷ []; others = []; are = refl }
 before_some b (line ∷ lines) = record { line = b ∷ line; others = lines; are = refl }
 
 some_line : (b : ℕ) (bytes : List ℕ) → SomeLine (lines_of (b ∷ bytes))
-some_line b bytes = elim (true_or_parts (eqb b 10)) as (λ _. SomeLine (lines_of (b ∷ bytes))) [
+some_line b bytes = elim (true_or_false (eqb b 10)) as (λ _. SomeLine (lines_of (b ∷ bytes))) [
   | inl e ↦ record { line = []; others = lines_of bytes; are = rw e refl }
   | inr e ↦ rw e (before_some b (lines_of bytes))
 ]
@@ -110,7 +110,7 @@ ended_some [] some = absurd (let e : false ≡ true = some in cc)
 ended_some (b ∷ bytes) some = rw some (some_line b (ended_lines bytes))
 
 ended_step : (x : ℕ) (xs b : List ℕ) → has_feed (x ∷ xs) ≡ true → lines_of (ended_lines xs ++ b) ≡ lines_of (ended_lines xs) ++ lines_of b → lines_of (x ∷ (ended_lines xs ++ b)) ≡ lines_of (x ∷ ended_lines xs) ++ lines_of b
-ended_step x xs b some e = elim (true_or_parts (eqb x 10)) as (λ _. lines_of (x ∷ (ended_lines xs ++ b)) ≡ lines_of (x ∷ ended_lines xs) ++ lines_of b) [
+ended_step x xs b some e = elim (true_or_false (eqb x 10)) as (λ _. lines_of (x ∷ (ended_lines xs ++ b)) ≡ lines_of (x ∷ ended_lines xs) ++ lines_of b) [
   | inl feed ↦ rw feed (ap (λ (ls : List (List ℕ)). [] ∷ ls) e)
   | inr other ↦
       let later : has_feed xs ≡ true = rw other at some in
@@ -120,7 +120,7 @@ ended_step x xs b some e = elim (true_or_parts (eqb x 10)) as (λ _. lines_of (x
 -- bytes behind ended lines are lines of their own
 pub lines_of-ended : (a b : List ℕ) → lines_of (ended_lines a ++ b) ≡ lines_of (ended_lines a) ++ lines_of b
 lines_of-ended [] b = refl
-lines_of-ended (x ∷ xs) b = elim (true_or_parts (has_feed (x ∷ xs))) as (λ _. lines_of (ended_lines (x ∷ xs) ++ b) ≡ lines_of (ended_lines (x ∷ xs)) ++ lines_of b) [
+lines_of-ended (x ∷ xs) b = elim (true_or_false (has_feed (x ∷ xs))) as (λ _. lines_of (ended_lines (x ∷ xs) ++ b) ≡ lines_of (ended_lines (x ∷ xs)) ++ lines_of b) [
   | inl some ↦ rw some (ended_step x xs b some (lines_of-ended xs b))
   | inr none ↦ rw none refl
 ]
@@ -135,7 +135,7 @@ begins_more x front whole b = record { rest = b.rest; joined = ap (λ (w : List 
 
 has_feed-append : (a b : List ℕ) → has_feed a ≡ true → has_feed (a ++ b) ≡ true
 has_feed-append [] b some = absurd (let e : false ≡ true = some in cc)
-has_feed-append (x ∷ a) b some = elim (true_or_parts (eqb x 10)) as (λ _. has_feed (x ∷ (a ++ b)) ≡ true) [
+has_feed-append (x ∷ a) b some = elim (true_or_false (eqb x 10)) as (λ _. has_feed (x ∷ (a ++ b)) ≡ true) [
   | inl feed ↦ rw feed refl
   | inr other ↦ let later : has_feed a ≡ true = rw other at some in rw (other, has_feed-append a b later) refl
 ]
@@ -143,7 +143,7 @@ has_feed-append (x ∷ a) b some = elim (true_or_parts (eqb x 10)) as (λ _. has
 -- what is added behind bytes leaves their ended lines in front
 pub ended_lines-append : (a b : List ℕ) → Begins (ended_lines a) (ended_lines (a ++ b))
 ended_lines-append [] b = record { rest = ended_lines b; joined = refl }
-ended_lines-append (x ∷ a) b = elim (true_or_parts (has_feed (x ∷ a))) as (λ _. Begins (ended_lines (x ∷ a)) (ended_lines (x ∷ (a ++ b)))) [
+ended_lines-append (x ∷ a) b = elim (true_or_false (has_feed (x ∷ a))) as (λ _. Begins (ended_lines (x ∷ a)) (ended_lines (x ∷ (a ++ b)))) [
   | inl some ↦
       let all : has_feed (x ∷ (a ++ b)) ≡ true = has_feed-append (x ∷ a) b some in
       rw (some, all) (begins_more x (ended_lines a) (ended_lines (a ++ b)) (ended_lines-append a b))
@@ -153,7 +153,7 @@ ended_lines-append (x ∷ a) b = elim (true_or_parts (has_feed (x ∷ a))) as (�
 -- bytes are their ended lines and a rest
 pub ended_lines-front : (a : List ℕ) → Begins (ended_lines a) a
 ended_lines-front [] = record { rest = []; joined = refl }
-ended_lines-front (x ∷ a) = elim (true_or_parts (has_feed (x ∷ a))) as (λ _. Begins (ended_lines (x ∷ a)) (x ∷ a)) [
+ended_lines-front (x ∷ a) = elim (true_or_false (has_feed (x ∷ a))) as (λ _. Begins (ended_lines (x ∷ a)) (x ∷ a)) [
   | inl some ↦ rw some (begins_more x (ended_lines a) a (ended_lines-front a))
   | inr none ↦ rw none (record { rest = x ∷ a; joined = refl })
 ]

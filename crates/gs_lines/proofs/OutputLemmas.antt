@@ -4,6 +4,7 @@ use Rattle.std.specs.List.{list_any}
 use Rattle.std.proofs.lemmas.List.{take_all}
 use Rattle.std.proofs.lemmas.List.Folds.{list_any-append}
 use Rattle.std.proofs.lemmas.List.Concat.{flat_map-append}
+use Rattle.gs_chars.proofs.TruthsAndLists.{or_false}
 use Rattle.gs_lines.specs.Lines.{lines_of, text_of}
 use Rattle.gs_lines.specs.Outputs.{AddsAnswer, AnswersEach, LineAnswer, no_line, one_line, printed, is_refused, printed_lines, AnswersAll, AnswersFront, BeginsAnswers}
 
@@ -32,10 +33,6 @@ front_join bytes mid rest a b c first second x y = record {
   told = ap (λ r. r || second) x.told ∙ ap (λ r. list_any is_refused x.answers || r) y.told ∙ sym (list_any-append is_refused x.answers y.answers);
 }
 
-or_false : (b : Bool) → b ≡ (b || false)
-or_false true = refl
-or_false false = refl
-
 -- one line was done
 pub front_line : {Is : List ℕ → LineAnswer → Type 0} (rest behind line before now : List ℕ) (answer : LineAnswer) → lines_of rest ≡ line ∷ lines_of behind → Is (text_of line) answer → now ≡ before ++ printed answer → AnswersFront Is rest behind before now (is_refused answer)
 front_line rest behind line before now answer split is written = record {
@@ -44,7 +41,7 @@ front_line rest behind line before now answer split is written = record {
   split = split;
   each = one_line line answer [] [] is no_line;
   written = written ∙ ap (λ w. before ++ w) (sym (append-nil (printed answer)));
-  told = or_false (is_refused answer);
+  told = sym (or_false (is_refused answer));
 }
 
 -- one line more was done

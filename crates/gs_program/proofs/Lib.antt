@@ -7,3 +7,5 @@ pub mod RanLemmas
 pub mod LineLemmas
 pub mod AskedLemmas
 pub mod RunLemmas
+pub mod DecidedWords
+pub mod RunLaws

@@ -217,8 +217,8 @@ told_bits set text hex (says_epc epc read of) = says_epc epc (hex, read) of
 told_bits set text hex (has_fault fault t read) = has_fault fault t (hex_answer set text (bits_of_hex text) (Err fault) hex refl read)
 
 told_digits : (set : TableRows) (text : List ℕ) → IsShaped set → length text % 2 ≡ 0 → length text ≤ 128 → AreTold text → Told set (λ answer. ReadsHex set text answer)
-told_digits set text shaped even short (inl all) = told_bits set text (record { even = even; short = short; digits = all }) (told_level set level.Binary (bits_of_hex text) shaped)
-told_digits set text shaped even short (inr bad) = has_fault (Hex (BadDigit bad.0)) (λ e. cc) (even, short, bad.1)
+told_digits set text shaped even few (inl all) = told_bits set text (record { even = even; short = few; digits = all }) (told_level set level.Binary (bits_of_hex text) shaped)
+told_digits set text shaped even few (inr bad) = has_fault (Hex (BadDigit bad.0)) (λ e. cc) (even, few, bad.1)
 
 told_hex : (set : TableRows) (text : List ℕ) → IsShaped set → Told set (λ answer. ReadsHex set text answer)
 told_hex set text shaped = elim (cases_eq (length text % 2) 0) as (λ _. Told set (λ answer. ReadsHex set text answer)) [

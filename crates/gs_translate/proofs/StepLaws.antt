@@ -33,3 +33,16 @@ told_answer (Ok x) fact told f = f
 told_answer (Err Long) fact told f = f
 told_answer (Err (Epc fault)) fact told f = f
 told_answer (Err Memory) fact told f = absurd (told refl)
+
+-- a fact about an answer follows from another
+pub unless_map : {X A B : Type 0} (answer : Result X Reason) → (A → B) → UnlessMemory answer A → UnlessMemory answer B
+unless_map (Ok x) f a = f a
+unless_map (Err Long) f a = f a
+unless_map (Err (Epc fault)) f a = f a
+unless_map (Err Memory) f a = tt
+
+-- a fact about a refusal, as the answer of a later step
+pub unless_refused : (X Y : Type 0) {A B : Type 0} (reason : Reason) → (A → B) → UnlessMemory {X = X} (Err reason) A → UnlessMemory {X = Y} (Err reason) B
+unless_refused X Y Long f a = f a
+unless_refused X Y (Epc fault) f a = f a
+unless_refused X Y Memory f a = tt
