@@ -53,14 +53,14 @@ begins_nothing asked world = let o = asked_some asked world in record { outcome 
 -- ---- a command ran
 
 never_refused : (s : Status) (fact : Type 0) → s ≢ status.Refused → OnRefused s fact
-never_refused status.Done fact no = tt
-never_refused status.SomeRefused fact no = tt
-never_refused status.Usage fact no = tt
-never_refused status.Refused fact no = absurd (no refl)
-never_refused status.ReadFault fact no = tt
-never_refused status.WriteFault fact no = tt
-never_refused status.InputLong fact no = tt
-never_refused status.Memory fact no = tt
+never_refused status.Done fact un = tt
+never_refused status.SomeRefused fact un = tt
+never_refused status.Usage fact un = tt
+never_refused status.Refused fact un = absurd (un refl)
+never_refused status.ReadFault fact un = tt
+never_refused status.WriteFault fact un = tt
+never_refused status.InputLong fact un = tt
+never_refused status.Memory fact un = tt
 
 begins_asked : (asked : Asked) (world : World) (loaded : Loaded) (output : List ℕ) → FilesGive world.files asked.files (Ok loaded) → BeginsOne (CommandRun asked.command loaded world.input) output → BeginsOne (AskedRun asked world) output
 begins_asked asked world loaded output gives b = record { outcome = b.outcome; is = ran loaded gives b.is; begins = b.begins }
@@ -84,21 +84,21 @@ asked_of_command asked world before now left loaded outcome gives counts r = rec
 pub refusal_of_command : (s : Status) (fact : Type 0) (command : Command) (loaded : Loaded) (before now : Moment) (output : List ℕ) → Ran command loaded before now (record { output = output; status = s }) → OnRefused s fact
 refusal_of_command s fact command loaded before now output r = never_refused s fact r.no_refusal
 
-when_both : {A B : Type 0} (s : Status) → OnReadFault s A → OnReadFault s B → OnReadFault s (A × B)
-when_both status.Done a b = tt
-when_both status.SomeRefused a b = tt
-when_both status.Usage a b = tt
-when_both status.Refused a b = tt
-when_both status.ReadFault a b = (a, b)
-when_both status.WriteFault a b = tt
-when_both status.InputLong a b = tt
-when_both status.Memory a b = tt
+when_both : (A B : Type 0) (s : Status) → OnReadFault s A → OnReadFault s B → OnReadFault s (A × B)
+when_both A B status.Done a b = tt
+when_both A B status.SomeRefused a b = tt
+when_both A B status.Usage a b = tt
+when_both A B status.Refused a b = tt
+when_both A B status.ReadFault a b = (a, b)
+when_both A B status.WriteFault a b = tt
+when_both A B status.InputLong a b = tt
+when_both A B status.Memory a b = tt
 
 -- after a fault of the input the lines that had ended were answered
 pub ended_of_command : (nothing : Type 0) (asked : Asked) (world : World) (before now : Moment) (held holds : Option (List ℕ)) (loaded : Loaded) (s : Status) → FilesGive world.files asked.files (Ok loaded) → before.input ≡ world.input → Appends held holds (λ out. Ran asked.command loaded before now (record { output = out; status = s })) → OnReadFault s (nothing ⊎ (Rises before.input_faults now.input_faults × Appends held holds (AskedEnded asked world.files world.input now.input)))
 ended_of_command nothing asked world before now held holds loaded s gives same a =
     when_map (is_read_fault s) (λ both. inr (both.0, (a.0, a.1, rw (← same) (record { loaded = loaded; loads = gives; ended = both.1 }))))
-    (when_both s a.2.read_fault a.2.ended)
+    (when_both _ _ s a.2.read_fault a.2.ended)
 
 -- ---- a file is refused
 

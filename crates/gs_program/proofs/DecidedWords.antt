@@ -9,7 +9,7 @@ use Rattle.gs_program.specs.declared.command.Command.{Command}
 use Rattle.gs_program.specs.declared.command.Command.TheVariants.{Canon, Check}
 use Rattle.gs_program.specs.declared.name.NameRow.{NameRow}
 use Rattle.gs_program.specs.Commands.{form_word, names_of}
-use Rattle.gs_program.specs.Names.{AreOfRows, has_required, look_up, takes}
+use Rattle.gs_program.specs.Names.{AreOfRows, ArePairs, has_required, look_up, takes}
 use Rattle.gs_program.specs.Requests.{Asked, Asks, AsksForCanon, NotInOrder, WordsInOrder, named_files}
 use Rattle.gs_program.proofs.PairLemmas.{not_behind, not_once, not_taken, of_no_word, of_one_word, one_more, same_pairs}
 use Rattle.gs_program.proofs.RequestLemmas.{asks_for_canon, asks_for_check, asks_of_form, canon_of_form, no_form, no_word, order_of_canon, order_of_check, other_form, other_word}
@@ -44,12 +44,12 @@ abbrev ArePairsOf : List NameRow → List (List ℕ) → Type 0
 ArePairsOf rows words = Decided (λ (pairs : List (List ℕ × List ℕ)). AreOfRows rows words pairs)
 
 -- what is found is found in all lists of pairs that the words are, since they are one list
-found_in_all : (rows : List NameRow) (name : List ℕ) (words : List (List ℕ)) (pairs : List (List ℕ × List ℕ)) → AreOfRows rows words pairs → (others : List (List ℕ × List ℕ)) → _ → look_up name pairs ≡ look_up name others
+found_in_all : (rows : List NameRow) (name : List ℕ) (words : List (List ℕ)) (pairs : List (List ℕ × List ℕ)) → AreOfRows rows words pairs → (others : List (List ℕ × List ℕ)) → ArePairs words others → look_up name pairs ≡ look_up name others
 found_in_all rows name words pairs of others are = ap (look_up name) (same_pairs words pairs others of.are are)
 
 first_pair : (rows : List NameRow) (n v : List ℕ) (words : List (List ℕ)) (behind : HasSome (λ (pairs : List (List ℕ × List ℕ)). AreOfRows rows words pairs)) → ArePairsOf rows (n ∷ v ∷ words)
 first_pair rows n v words behind = elim (true_or_false (takes rows n v)) as (λ _. ArePairsOf rows (n ∷ v ∷ words)) [
-  | inr no ↦ inr (λ pairs. not_taken rows n v words pairs no)
+  | inr none ↦ inr (λ pairs. not_taken rows n v words pairs none)
   | inl first ↦ elim (true_or_false (is_none (look_up n behind.0))) as (λ _. ArePairsOf rows (n ∷ v ∷ words)) [
     | inl once ↦ inl (one_more rows n v words (look_up n behind.0) behind first once (found_in_all rows n words behind.0 behind.1))
     | inr twice ↦ inr (λ pairs. not_once rows n v words pairs (look_up n behind.0) twice (found_in_all rows n words behind.0 behind.1))
@@ -67,16 +67,16 @@ pairs_or_none rows (n ∷ v ∷ words) = elim (pairs_or_none rows words) as (λ 
 -- ---- what is asked
 
 lacks : (command : Command) (words : List (List ℕ)) (pairs : List (List ℕ × List ℕ)) → AreOfRows (names_of command) words pairs → has_required (names_of command) pairs ≡ false → (asked : Asked) → Asks command words asked → ⊥
-lacks command words pairs of no asked a =
+lacks command words pairs of lacking asked a =
     let same = same_pairs words pairs a.pairs of.are a.of_rows.are in
-    let yes = a.required in
-    let f : false ≡ true = sym no ∙ ap (has_required (names_of command)) same ∙ yes in
+    let has = a.required in
+    let f : false ≡ true = sym lacking ∙ ap (has_required (names_of command)) same ∙ has in
     cc
 
 asks_of_pairs : (command : Command) (words : List (List ℕ)) → HasSome (λ (pairs : List (List ℕ × List ℕ)). AreOfRows (names_of command) words pairs) → Decided (Asks command words)
 asks_of_pairs command words pairs = elim (true_or_false (has_required (names_of command) pairs.0)) as (λ _. Decided (Asks command words)) [
-  | inl yes ↦ inl (record { command = command; files = named_files pairs.0 }, record { pairs = pairs.0; of_rows = pairs.1; required = yes; is = refl })
-  | inr no ↦ inr (lacks command words pairs.0 pairs.1 no)
+  | inl all ↦ inl (record { command = command; files = named_files pairs.0 }, record { pairs = pairs.0; of_rows = pairs.1; required = all; is = refl })
+  | inr none ↦ inr (lacks command words pairs.0 pairs.1 none)
 ]
 
 asks_or_not : (command : Command) (words : List (List ℕ)) → Decided (Asks command words)
@@ -87,7 +87,7 @@ asks_or_not command words = elim (pairs_or_none (names_of command) words) as (λ
 
 canon_of_words : (form : Form) (word : List ℕ) (words : List (List ℕ)) → word ≡ form_word form → Decided (Asks (Canon form) words) → Decided (AsksForCanon (word ∷ words))
 canon_of_words form word words e (inl a) = inl (a.0, canon_of_form form word words a.0 e a.1)
-canon_of_words form word words e (inr no) = inr (λ asked c. no asked (asks_of_form form word words asked e c))
+canon_of_words form word words e (inr none) = inr (λ asked c. none asked (asks_of_form form word words asked e c))
 
 canon_or_not : (words : List (List ℕ)) → Decided (AsksForCanon words)
 canon_or_not [] = inr (λ asked. no_form [] asked refl)
@@ -98,11 +98,11 @@ canon_or_not (word ∷ words) = elim (form_or_none word) as (λ _. Decided (Asks
 
 order_by_canon : (words : List (List ℕ)) → Decided (AsksForCanon words) → Decided (WordsInOrder (codes "canon" ∷ words))
 order_by_canon words (inl a) = inl (a.0, order_of_canon words a.0 a.1)
-order_by_canon words (inr no) = inr (λ asked o. no asked (asks_for_canon words asked o))
+order_by_canon words (inr none) = inr (λ asked o. none asked (asks_for_canon words asked o))
 
 order_by_check : (words : List (List ℕ)) → Decided (Asks Check words) → Decided (WordsInOrder (codes "check" ∷ words))
 order_by_check words (inl a) = inl (a.0, order_of_check words a.0 a.1)
-order_by_check words (inr no) = inr (λ asked o. no asked (asks_for_check words asked o))
+order_by_check words (inr none) = inr (λ asked o. none asked (asks_for_check words asked o))
 
 pub order_or_not : (words : List (List ℕ)) → Decided (WordsInOrder words)
 order_or_not [] = inr no_word

@@ -1,9 +1,12 @@
 -- Words that are pairs, and the look-up of a name in them.
 use Rattle.std.proofs.Common.{◌≡◌, ℕ, ◌<◌, ◌&&◌, ◌||◌, Bool, true, false, List, [], ◌∷◌, Option, Some, None, length, take, get_or, refl, sym, ◌∙◌, ap, arith}
-use Rattle.std.specs.Prelude.{bytes_eq, not, is_some, is_none}
+use Rattle.std.specs.Prelude.{bytes_eq, is_none, is_some, map, not, ◌==◌}
+use Rattle.std.specs.Borrow.{Bor}
+use Rattle.std.proofs.lemmas.Bool.{eqb-true}
 use Rattle.std.specs.List.{list_all, list_any}
 use Rattle.gs_chars.proofs.TruthsAndLists.{false_from}
 use Rattle.gs_program.specs.declared.name.NameRow.{NameRow}
+use Rattle.gs_program.specs.Requests.{told_name}
 use Rattle.gs_program.specs.Names.{AreOfRows, ArePairs, AreTaken, look_up, no_pair, none_taken, one_pair, one_taken, takes}
 
 -- fewer than two words are no pair
@@ -69,6 +72,16 @@ pub one_more : (rows : List NameRow) (n v : List ℕ) (words : List (List ℕ)) 
 one_more rows n v words found behind first e h =
     let once : look_up n behind.0 ≡ None = sym (h behind.0 behind.1.are) ∙ none_is found e in
     ((n, v) ∷ behind.0, record { are = one_pair n v words behind.0 behind.1.are; taken = one_taken n v behind.0 first once behind.1.taken })
+
+-- no word is no pair, and is taken
+pub of_empty : {S : Type 0} (bytes : S → List ℕ) (rows : List NameRow) (words : List S) → true ≡ (length words == 0) → (pairs : List (List ℕ × List ℕ)) × AreOfRows rows (map bytes words) pairs
+of_empty bytes rows [] e = ([], of_no_word rows)
+of_empty bytes rows (x ∷ words) e = absurd (let n : length (x ∷ words) ≡ 0 = eqb-true (length (x ∷ words)) 0 (sym e) in omega arith)
+
+-- no value was found
+pub told_none : (o : Option (Bor (List ℕ))) (none : Bool) → is_some o ≡ not none → none ≡ true → is_none (told_name o) ≡ true
+told_none None none e h = refl
+told_none (Some name) none e h = absurd (let f : true ≡ false = e ∙ ap not h in cc)
 
 -- ---- one request
 

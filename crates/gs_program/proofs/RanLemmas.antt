@@ -64,13 +64,13 @@ takes_nothing most input = ([], omega arith, sym (prepend_nothing input))
 
 -- the facts of a command that leaves the input and prints one line, by its status
 ran_by : (command : Command) (loaded : Loaded) (before now : Moment) (output : List ℕ) (s : Status) → OnWritten s (CommandRun command loaded before.input (record { output = output; status = s })) → OnCutShort s (BeginsOne (CommandRun command loaded before.input) output) → is_read_fault s ≡ false → OnWriteFault s (Rises before.output_faults now.output_faults) → answers_lines command ≡ false → OnInputLong s (TakesMoreThan input_limit before.input now.input) → before.input ≡ now.input → before.input_faults ≡ now.input_faults → before.output_faults ≤ now.output_faults → s ≢ status.Usage → s ≢ status.Refused → Ran command loaded before now (record { output = output; status = s })
-ran_by command loaded before now output s written begun no write lines long same inputs outputs usage refusal = record {
+ran_by command loaded before now output s written begun unfaulted write lines long same inputs outputs usage refusal = record {
   written = written;
   begun = begun;
-  read_fault = rw no tt;
-  ended = rw no tt;
+  read_fault = rw unfaulted tt;
+  ended = rw unfaulted tt;
   write_fault = write;
-  to_end = when_always (is_answered s) (λ yes. absurd (let e : false ≡ true = sym lines ∙ yes in cc));
+  to_end = when_always (is_answered s) (λ does. absurd (let e : false ≡ true = sym lines ∙ does in cc));
   long = long;
   few = rw same (takes_nothing (input_limit + 1) now.input);
   input_counts = omega arith;

@@ -1,5 +1,5 @@
 -- Each clause of a run, by what was done of what the words ask for.
-use Rattle.std.proofs.Common.{◌≡◌, ◌≢◌, ◌⊎◌, inl, inr, ℕ, ◌+◌, ◌≤◌, true, false, List, [], ◌∷◌, Option, refl, sym, ◌∙◌, ap, arith}
+use Rattle.std.proofs.Common.{◌≡◌, ◌≢◌, ◌⊎◌, inl, inr, ℕ, ◌+◌, ◌≤◌, Bool, true, false, List, [], ◌∷◌, Option, refl, sym, ◌∙◌, ap, arith}
 use Rattle.std.specs.Prelude.{Result, Ok, Err, option_to_list, None, Some}
 use Rattle.gs_lines.specs.declared.status.Status.{Status}
 use Rattle.gs_lines.specs.declared.status.Status.TheVariants as status
@@ -39,14 +39,14 @@ pub to_end_of : (words : List (List ℕ)) (asked : Asked) (left : Option (List �
 to_end_of words asked left s order end lines = when_map (is_answered s) (λ e. e (same_lines words asked order lines)) end
 
 never_usage : (s : Status) (fact : Type 0) → s ≢ status.Usage → OnUsage s fact
-never_usage status.Done fact no = tt
-never_usage status.SomeRefused fact no = tt
-never_usage status.Usage fact no = absurd (no refl)
-never_usage status.Refused fact no = tt
-never_usage status.ReadFault fact no = tt
-never_usage status.WriteFault fact no = tt
-never_usage status.InputLong fact no = tt
-never_usage status.Memory fact no = tt
+never_usage status.Done fact un = tt
+never_usage status.SomeRefused fact un = tt
+never_usage status.Usage fact un = absurd (un refl)
+never_usage status.Refused fact un = tt
+never_usage status.ReadFault fact un = tt
+never_usage status.WriteFault fact un = tt
+never_usage status.InputLong fact un = tt
+never_usage status.Memory fact un = tt
 
 pub usage_of : (fact : Type 0) (asked : Asked) (world : World) (before now : Counts) (left : Option (List ℕ)) (output : List ℕ) (s : Status) → AskedRan asked world before now left (record { output = output; status = s }) → OnUsage s fact
 usage_of fact asked world before now left output s r = never_usage s fact r.no_usage
@@ -71,22 +71,22 @@ ended_of nothing rises words asked files old left held holds s order e = when_ma
 
 -- a command that does not answer lines
 not_lines : (command : Command) → (answers_lines command ≡ true → ⊥) → answers_lines command ≡ false
-not_lines command no = by (answers_lines command) no
+not_lines command none = by (answers_lines command) none
   where
-    by : (b : _) → (b ≡ true → ⊥) → b ≡ false
+    by : (b : Bool) → (b ≡ true → ⊥) → b ≡ false
     by true f = absurd (f refl)
     by false f = refl
 
 pub unread_of : (words : List (List ℕ)) (asked : Asked) → WordsInOrder words asked → (AsksForLines words → ⊥) → answers_lines asked.command ≡ false
-unread_of words asked order no = not_lines asked.command (λ lines. no (record { asked = asked; order = order; lines = lines }))
+unread_of words asked order none = not_lines asked.command (λ lines. none (record { asked = asked; order = order; lines = lines }))
 
 -- no file is named
 no_names : (tables : Option (List ℕ)) → ((name : List ℕ) → option_to_list tables ≡ name ∷ [] → ⊥) → option_to_list tables ≡ []
-no_names None no = refl
-no_names (Some name) no = absurd (no name refl)
+no_names None none = refl
+no_names (Some name) none = absurd (none name refl)
 
 pub unopened_of : (words : List (List ℕ)) (asked : Asked) → WordsInOrder words asked → ((name : List ℕ) → NamesFile words name → ⊥) → names_in_order asked.files ≡ []
-unopened_of words asked order no = no_names asked.files.tables (λ name same. no name (record { asked = asked; order = order; files = same }))
+unopened_of words asked order none = no_names asked.files.tables (λ name same. none name (record { asked = asked; order = order; files = same }))
 
 -- ---- the usage line
 

@@ -1,5 +1,6 @@
 -- Words of a command line, one by one.
-use Rattle.std.proofs.Common.{◌≡◌, ℕ, List, [], ◌∷◌, length, get_or, map, refl, sym, ap, arith, ◌<◌, ◌≤◌, ◌-◌, drop, take}
+use Rattle.std.specs.Prelude.{IfNone, IfSome}
+use Rattle.std.proofs.Common.{◌≡◌, ℕ, List, [], ◌∷◌, Option, None, Some, length, get_or, map, refl, sym, ap, arith, ◌<◌, ◌≤◌, ◌-◌, drop, take}
 use Rattle.std.proofs.lemmas.List.{take_all}
 
 -- the first word, and the others
@@ -21,3 +22,12 @@ first_words bytes (x ∷ y ∷ words) first second a b n e f p q =
     let count : length (x ∷ y ∷ words) - 2 ≡ length words = omega arith in
     let whole : take (length words) words ≡ words = take_all (length words) words (omega arith) in
     rw (one, two, count, whole) refl
+
+-- a fact where nothing is answered, and one about what is answered, follow from others
+pub if_none_map : {X A B : Type 0} (o : Option X) → (A → B) → IfNone o A → IfNone o B
+if_none_map None f a = f a
+if_none_map (Some x) f a = tt
+
+pub if_some_map : {X : Type 0} {A B : X → Type 0} (o : Option X) → ((x : X) → A x → B x) → IfSome o A → IfSome o B
+if_some_map None f a = tt
+if_some_map (Some x) f a = f x a

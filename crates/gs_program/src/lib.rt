@@ -16,8 +16,8 @@ mod pairs;
 mod refusal;
 mod refusals;
 mod request;
-mod run;
+mod running;
 mod tables;
 
 pub use gs_lines::Status;
-pub use run::run;
+pub use running::run;
