@@ -21,9 +21,12 @@ mod grammars;
 mod identifiers;
 mod identities;
 mod item_words;
+mod lines;
 mod outside;
 mod prefixes;
+mod runs;
 mod tables;
+mod translations;
 
 use answering::answers;
 use gs_chars::Memory;
