@@ -28,5 +28,5 @@ pub(crate) fn encode(alloc: Global, bytes: &[u8]) -> Result<Text, Memory>
     ensures { IfOk result (λ text. text ≡ hex_of_bits (bits_of_bytes bytes.now)) }
 {
     let digits = hex::encode_upper(alloc, bytes)?;
-    Text::from_bytes(alloc, digits.as_bytes())
+    Ok(Text::from_vec(digits.into_bytes()))
 }

@@ -12,6 +12,3 @@ pub use bit_buf::BitBuf;
 pub use cursor::Cursor;
 pub use faults::{Full, HexFault, Short};
 pub use laws::{bits_of_their_number, number_of_its_bits};
-
-#[cfg(test)]
-mod tests;

@@ -1,5 +1,5 @@
 -- Check digits: GS1 General Specifications, section 7.9.
-use Rattle.std.specs.Prelude.{ℕ, ◌+◌, ◌-◌, ◌*◌, ◌%◌, ◌==◌, if◌then◌else◌, List, [], ◌∷◌, length}
+use Rattle.std.specs.Prelude.{◌≡◌, ℕ, ◌+◌, ◌-◌, ◌*◌, ◌%◌, ◌==◌, if◌then◌else◌, List, [], ◌∷◌, length}
 
 -- the weight of a digit that has this many digits between it and the check digit
 abbrev pub weight_of : ℕ → ℕ
@@ -13,3 +13,7 @@ weighted_sum (digit ∷ digits) = weight_of (length digits) * (digit - 48) + wei
 -- the byte of the digit that brings the weighted sum to a multiple of 10
 abbrev pub check_digit_of : List ℕ → ℕ
 check_digit_of digits = 48 + (10 - weighted_sum digits % 10) % 10
+
+-- the weighted sum and the value of a check digit, which is a byte, are a multiple of 10
+abbrev pub IsCheckedBy : List ℕ → ℕ → Type 0
+IsCheckedBy digits check = (weighted_sum digits + (check - 48)) % 10 ≡ 0

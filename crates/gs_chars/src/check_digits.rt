@@ -1,6 +1,6 @@
-ghost use Rattle.std.specs.Prelude.{◌≡◌, ◌<◌, ◌≤◌, IsTrue, length};
-ghost use Rattle.gs_chars.specs.Characters.{are_digits};
-ghost use Rattle.gs_chars.specs.CheckDigits.{check_digit_of};
+ghost use Rattle.std.specs.Prelude.{◌≡◌, ℕ, ◌<◌, ◌≤◌, IsTrue, List, length};
+ghost use Rattle.gs_chars.specs.Characters.{are_digits, is_digit};
+ghost use Rattle.gs_chars.specs.CheckDigits.{IsCheckedBy, check_digit_of};
 
 /// The byte of the check digit of 1 to 18 digits: it brings their sum, weighted by 3, 1, 3, 1 and so on from the last
 /// digit towards the first, to a multiple of 10 (GS1 General Specifications, section 7.9).
@@ -18,3 +18,11 @@ pub fn check_digit(digits: &[u8]) -> u8
     }
     b'0' + ((10 - sum % 10) % 10) as u8
 }
+
+/// The check digit of whatever digits is a digit that brings their weighted sum to a multiple of 10, and no other digit
+/// does.
+pub fn check_digit_completes_the_sum()
+    ensures digit { (digits : List ℕ) → IsTrue (is_digit (check_digit_of digits)) }
+    ensures completes { (digits : List ℕ) → IsCheckedBy digits (check_digit_of digits) }
+    ensures alone { (digits : List ℕ) (check : ℕ) → IsTrue (is_digit check) → IsCheckedBy digits check → check ≡ check_digit_of digits }
+{}

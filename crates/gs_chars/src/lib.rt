@@ -10,7 +10,7 @@ mod rows;
 mod text;
 
 pub use char_set::CharSet;
-pub use check_digits::check_digit;
+pub use check_digits::{check_digit, check_digit_completes_the_sum};
 pub use escapes::{
     no_spelling_begins_another, read_escape, write_escape, written_spelling_is_read,
 };
@@ -18,6 +18,3 @@ pub use list::List;
 pub use memory::Memory;
 pub use rows::Rows;
 pub use text::Text;
-
-#[cfg(test)]
-mod tests;

@@ -1,6 +1,6 @@
 -- The values of the fields of an option, by the items that stand for them.
-use Rattle.std.proofs.Common.{◌≡◌, ℕ, Bool, true, false, List, [], ◌∷◌, length, map, position, Option, Some, None, refl, arith, inl, inr}
-use Rattle.std.proofs.lemmas.Bool.{cases_Bool}
+use Rattle.std.proofs.Common.{◌≡◌, ℕ, Bool, true, false, List, [], ◌∷◌, length, position, Option, Some, None, refl, arith, inl, inr}
+use Rattle.gs_chars.proofs.TruthsAndLists.{true_or_false}
 use Rattle.gs_ai.specs.Tables.{is_empty}
 use Rattle.gs_ai.proofs.Searches.{cons_none}
 use Rattle.gs_chars.specs.Characters.{are_digits}
@@ -9,24 +9,17 @@ use Rattle.gs_grammar.specs.Derivations.{EachWord, one_item}
 use Rattle.gs_grammar.specs.Items.{IsItem, is_bad}
 use Rattle.gs_grammar.specs.Words.{Word}
 use Rattle.gs_grammar.proofs.WordLaws.{all_items}
-use Rattle.gs_tables.specs.declared.field.Field.{Field}
-use Rattle.gs_tables.specs.Items.{FieldItem}
+use Rattle.gs_document.specs.declared.field.Field.{Field}
+use Rattle.gs_document.specs.Items.{FieldItem, alone, fields_of}
 use Rattle.gs_tables.specs.Rules.{has_room, is_digits, is_field, is_one, items_of_field}
 use Rattle.gs_epc.specs.Epcs.{value_at, value_of}
 use Rattle.gs_epc.specs.Kept.{AreCharacters}
 use Rattle.gs_epc.proofs.KeptItems.{characters_of_word, digits_of_word}
 
--- the fields of items, and the items alone
-abbrev pub fields_in : List FieldItem → List (Option Field)
-fields_in items = map (λ (i : FieldItem). i.0) items
-
-abbrev pub items_in : List FieldItem → List Item
-items_in items = map (λ (i : FieldItem). i.1) items
-
 -- the values are held by items of which none is bad
 pub record AreHeld (bits : Bool) (items : List FieldItem) (values words : List (List ℕ)) : Type 0 where
-  pub each : EachWord (items_in items) values words
-  pub good : position (is_bad bits) (items_in items) ≡ None
+  pub each : EachWord (alone items) values words
+  pub good : position (is_bad bits) (alone items) ≡ None
 
 -- the value of a field is a word's value of an item
 record IsValueOf (field : Field) (item : Item) (fields : List (Option Field)) (values : List (List ℕ)) : Type 0 where
@@ -38,21 +31,21 @@ record IsValueOf (field : Field) (item : Item) (fields : List (Option Field)) (v
 
 -- ---- no item, and one item
 
-no_value : (field : Field) (items : List FieldItem) (values : List (List ℕ)) → items_of_field field items ≡ [] → value_at field (fields_in items) values ≡ None
+no_value : (field : Field) (items : List FieldItem) (values : List (List ℕ)) → items_of_field field items ≡ [] → value_at field (fields_of items) values ≡ None
 no_value field [] values h = refl
 no_value field (i ∷ items) [] h = refl
-no_value field (i ∷ items) (value ∷ values) h = elim (cases_Bool (is_field field i.0)) as (λ _. value_at field (i.0 ∷ fields_in items) (value ∷ values) ≡ None) [
+no_value field (i ∷ items) (value ∷ values) h = elim (true_or_false (is_field field i.0)) as (λ _. value_at field (i.0 ∷ fields_of items) (value ∷ values) ≡ None) [
   | inl e ↦ absurd (let f : i.1 ∷ items_of_field field items ≡ [] = rw e at h in cc)
   | inr e ↦ rw e (no_value field items values (rw e at h))
 ]
 
-one_value : (bits : Bool) (field : Field) (items : List FieldItem) (values words : List (List ℕ)) (item : Item) → EachWord (items_in items) values words → position (is_bad bits) (items_in items) ≡ None → items_of_field field items ≡ item ∷ [] → IsValueOf field item (fields_in items) values
+one_value : (bits : Bool) (field : Field) (items : List FieldItem) (values words : List (List ℕ)) (item : Item) → EachWord (alone items) values words → position (is_bad bits) (alone items) ≡ None → items_of_field field items ≡ item ∷ [] → IsValueOf field item (fields_of items) values
 one_value bits field [] values words item each good h = absurd (let f : [] ≡ item ∷ [] = h in cc)
-one_value bits field (i ∷ items) values words item (one_item x value w others rest more word each) good h = elim (cases_Bool (is_field field i.0)) as (λ _. IsValueOf field item (i.0 ∷ fields_in items) (value ∷ rest)) [
+one_value bits field (i ∷ items) values words item (one_item x value w others rest more word each) good h = elim (true_or_false (is_field field i.0)) as (λ _. IsValueOf field item (i.0 ∷ fields_of items) (value ∷ rest)) [
   | inl e ↦ let f : i.1 ∷ items_of_field field items ≡ item ∷ [] = rw e at h in
       let same : i.1 ≡ item = cc in
-      record { value = value; w = w; at = rw e refl; word = rw same at word; good = rw same at (all_items bits (i.1 ∷ items_in items) good 0 i.1 (omega arith)) }
-  | inr e ↦ let r = one_value bits field items rest more item each (cons_none (is_bad bits) i.1 (items_in items) good).1 (rw e at h) in
+      record { value = value; w = w; at = rw e refl; word = rw same at word; good = rw same at (all_items bits (i.1 ∷ alone items) good 0 i.1 (omega arith)) }
+  | inr e ↦ let r = one_value bits field items rest more item each (cons_none (is_bad bits) i.1 (alone items) good).1 (rw e at h) in
       record { value = r.value; w = r.w; at = rw e r.at; word = r.word; good = r.good }
 ]
 
@@ -64,7 +57,7 @@ the_one test (item ∷ other ∷ items) h = absurd (let f : false ≡ true = h i
 -- ---- the value of a field
 
 -- the field has no item
-pub nothing_of : (field : Field) (items : List FieldItem) (values : List (List ℕ)) → is_empty (items_of_field field items) ≡ true → value_of field (fields_in items) values ≡ []
+pub nothing_of : (field : Field) (items : List FieldItem) (values : List (List ℕ)) → is_empty (items_of_field field items) ≡ true → value_of field (fields_of items) values ≡ []
 nothing_of field items values h = rw (no_value field items values (empty (items_of_field field items) h)) refl
   where
     empty : {X : Type 0} (xs : List X) → is_empty xs ≡ true → xs ≡ []
@@ -72,14 +65,14 @@ nothing_of field items values h = rw (no_value field items values (empty (items_
     empty (x ∷ xs) h = absurd (let f : false ≡ true = h in cc)
 
 -- the field has one item, of so many digits
-pub digits_of : (bits : Bool) (field : Field) (items : List FieldItem) (values words : List (List ℕ)) (n : ℕ) → AreHeld bits items values words → is_one (is_digits n) (items_of_field field items) ≡ true → (length (value_of field (fields_in items) values) ≡ n) × (are_digits (value_of field (fields_in items) values) ≡ true)
+pub digits_of : (bits : Bool) (field : Field) (items : List FieldItem) (values words : List (List ℕ)) (n : ℕ) → AreHeld bits items values words → is_one (is_digits n) (items_of_field field items) ≡ true → (length (value_of field (fields_of items) values) ≡ n) × (are_digits (value_of field (fields_of items) values) ≡ true)
 digits_of bits field items values words n held h =
     let one = the_one (is_digits n) (items_of_field field items) h in
     let r = one_value bits field items values words one.0 held.each held.good one.1 in
     rw r.at (digits_of_word n one.0 r.value r.w one.2 r.word)
 
 -- the field has one item, with room
-pub characters_of : (bits : Bool) (field : Field) (items : List FieldItem) (values words : List (List ℕ)) (most : ℕ) → AreHeld bits items values words → is_one (has_room most) (items_of_field field items) ≡ true → AreCharacters most (value_of field (fields_in items) values)
+pub characters_of : (bits : Bool) (field : Field) (items : List FieldItem) (values words : List (List ℕ)) (most : ℕ) → AreHeld bits items values words → is_one (has_room most) (items_of_field field items) ≡ true → AreCharacters most (value_of field (fields_of items) values)
 characters_of bits field items values words most held h =
     let one = the_one (has_room most) (items_of_field field items) h in
     let r = one_value bits field items values words one.0 held.each held.good one.1 in

@@ -1,84 +1,38 @@
 -- What the rules of tables keep of an EPC of the set fits its kind.
-use Rattle.std.proofs.Common.{◌≡◌, ℕ, Bool, List, [], length, map, Some, slice_get, get_or, ◌<◌, refl, sym, ap, ◌∙◌, option_map}
-use Rattle.std.specs.List.{find}
-use Rattle.std.proofs.lemmas.Option.{slice_get-map, slice_get_within}
-use Rattle.gs_ai.specs.declared.row.AiRow.{AiRow}
-use Rattle.gs_ai.specs.Values.{has_code}
-use Rattle.gs_ai.proofs.Searches.{read_at}
+use Rattle.std.proofs.Common.{◌≡◌, ℕ, List, length, Some, slice_get, get_or, ◌<◌, sym, ◌∙◌}
+use Rattle.std.proofs.lemmas.Option.{slice_get_within}
+use Rattle.gs_chars.proofs.TruthsAndLists.{read_at}
+use Rattle.gs_document.specs.declared.field.Field.TheVariants.{Gcp, Rest, Serial}
+use Rattle.gs_document.specs.declared.kind.Kind.{Kind}
+use Rattle.gs_document.specs.declared.level_name.LevelName.{LevelName}
+use Rattle.gs_document.specs.declared.opt_info.OptInfo.{OptInfo}
+use Rattle.gs_document.specs.Documents.{is_bits}
 use Rattle.gs_grammar.specs.declared.item.Item.{Item}
 use Rattle.gs_grammar.specs.Derivations.{EachWord}
-use Rattle.gs_grammar.specs.Levels.{item_lists}
-use Rattle.gs_tables.specs.declared.document.Document.{Document}
-use Rattle.gs_tables.specs.declared.document.KindRow.{KindRow}
-use Rattle.gs_tables.specs.declared.field.Field.TheVariants.{Gcp, Rest, Serial}
-use Rattle.gs_tables.specs.declared.form.KeyForm.{KeyForm}
-use Rattle.gs_tables.specs.declared.kind.Kind.{Kind}
-use Rattle.gs_tables.specs.declared.level_name.LevelName.{LevelName}
-use Rattle.gs_tables.specs.declared.opt_info.OptInfo.{OptInfo}
-use Rattle.gs_tables.specs.Forms.{form_at, key_form, serial_at, serial_room}
-use Rattle.gs_tables.specs.Items.{FieldItem}
-use Rattle.gs_tables.specs.Rules.{has_name}
-use Rattle.gs_tables.specs.Tables.{TableRows, IsShaped, is_bits, items_there, kind_of, level_of, level_rows, row_refusals, set_of}
-use Rattle.gs_tables.specs.Tables.{options_of as rows_of}
+use Rattle.gs_tables.specs.Forms.{serial_room}
+use Rattle.gs_tables.specs.KeptRules.{KeptOption}
+use Rattle.gs_tables.specs.Tables.{IsShaped, TableRows}
+use Rattle.gs_tables.proofs.KeptSets.{options_kept}
 use Rattle.gs_epc.specs.declared.epc.Epc.{Epc}
-use Rattle.gs_epc.specs.Epcs.{IsOfSet, epc_of, value_of}
+use Rattle.gs_epc.specs.Epcs.{IsOfSet, value_of}
 use Rattle.gs_epc.specs.Kept.{FitKind}
-use Rattle.gs_epc.proofs.KeptFields.{AreHeld, fields_in}
-use Rattle.gs_epc.proofs.KeptRows.{FitsRow, IsKindRow, good_at, kind_at, level_at, level_made, no_refusals, placed, row_at}
+use Rattle.gs_epc.proofs.KeptFields.{AreHeld}
 use Rattle.gs_epc.proofs.KeptRules.{fits_prefix, fits_room}
 
--- the form that an option is tested by is that of the kind's key
-same_form : (ais : List AiRow) (kind : KindRow) (row : AiRow) (form other : KeyForm) → find (has_code kind.key) ais ≡ Some row → key_form row.parts ≡ Some form → form_at ais kind.key ≡ Some other → other ≡ form
-same_form ais kind row form other found formed at =
-    let here : form_at ais kind.key ≡ key_form row.parts = rw found refl in
-    let same : Some other ≡ Some form = sym at ∙ here ∙ formed in
-    cc
-
--- what values of a row's items say fits the row's kind
-fits_values : (ais : List AiRow) (kind : KindRow) (n : ℕ) (bits : Bool) (items : List FieldItem) (values words : List (List ℕ)) (form : KeyForm) → IsKindRow ais kind → form_at ais kind.key ≡ Some form → FitsRow ais kind n items form → AreHeld bits items values words
-    → FitKind ais (kind_of kind) (value_of Gcp (fields_in items) values) (value_of Rest (fields_in items) values) (value_of Serial (fields_in items) values)
-fits_values ais kind n bits items values words form rules at row held =
-    let same = same_form ais kind rules.row rules.form form rules.found rules.formed at in
-    let fit = fits_prefix form kind.lead n bits items values words held row.gcp row.rest in
-    let room = fits_room (serial_room ais form (serial_at kind.serial)) bits items values words held row.serial in
-    record {
-      row = rules.row;
-      form = form;
-      found = rules.found;
-      is_key = rules.key;
-      formed = rw same rules.formed;
-      lead = rw same rules.lead;
-      serial_rule = rw same rules.serial;
-      prefix_least = fit.prefix_least;
-      prefix_most = fit.prefix_most;
-      fits = fit.fits;
-      room = room;
-    }
-
--- an EPC says what fits its kind
-abbrev HasKind : TableRows → Epc → Type 0
-HasKind set epc = (kind : Kind) × (slice_get set.kinds epc.kind ≡ Some kind) × FitKind set.ais kind epc.prefix epc.rest epc.serial
-
-kind_of_values : (document : Document) (level : LevelName) (option : ℕ) (items : List Item) (info : OptInfo) (values words : List (List ℕ)) → row_refusals document ≡ [] → slice_get (item_lists (level_of document.kinds level (rows_of level document)).level.options) option ≡ Some items → slice_get (level_of document.kinds level (rows_of level document)).info option ≡ Some info → EachWord items values words
-    → HasKind (set_of document) (epc_of info values)
-kind_of_values document level option items info values words none of_level said held =
-    let kept = no_refusals document level none in
-    let here = level_at document.kinds (is_bits level) (rows_of level document) option items info of_level said in
-    let row = row_at document.ais document.kinds level (rows_of level document) option here.row kept.1 here.at in
-    let place = placed (has_name here.row.kind) document.kinds row.kind row.named in
-    let rules = kind_at document.ais document.kinds place.0 row.kind kept.0 place.2 in
-    let are_held : AreHeld (is_bits level) (items_there here.row) values words = record { each = rw here.items_are at held; good = good_at document.ais document.kinds level (rows_of level document) option here.row kept.1 here.at } in
-    let fit = fits_values document.ais row.kind here.row.gcp (is_bits level) (items_there here.row) values words row.form rules row.formed row.fits are_held in
-    let at : slice_get (map kind_of document.kinds) place.0 ≡ Some (kind_of row.kind) = slice_get-map kind_of document.kinds place.0 ∙ ap (option_map kind_of) place.2 in
-    rw (here.info_is, place.1) (kind_of row.kind, at, fit)
+-- what values of an option's items say fits the kind of the option
+fits_values : (set : TableRows) (level : LevelName) (items : List Item) (info : OptInfo) (values words : List (List ℕ)) (kept : KeptOption set level items info) → EachWord items values words
+    → FitKind set.ais kept.kind (value_of Gcp info.fields values) (value_of Rest info.fields values) (value_of Serial info.fields values)
+fits_values set level items info values words kept held =
+    let are_held : AreHeld (is_bits level) kept.parts values words = record { each = rw kept.items_are at held; good = rw kept.items_are at kept.bounds.none_bad } in
+    let fit = fits_prefix kept.of_kind.form kept.kind.lead info.gcp (is_bits level) kept.parts values words are_held kept.gcp kept.rest in
+    let room = fits_room (serial_room set.ais kept.of_kind.form kept.kind.serial) (is_bits level) kept.parts values words are_held kept.serial in
+    rw kept.fields_are (record { of_kind = kept.of_kind; prefix_least = fit.prefix_least; prefix_most = fit.prefix_most; fits = fit.fits; room = room })
 
 -- what the rules of tables keep of an EPC of the set fits its kind
 pub fit_kind : (set : TableRows) (epc : Epc) → IsShaped set → IsOfSet set epc → (kind : Kind) × (slice_get set.kinds epc.kind ≡ Some kind) × FitKind set.ais kind epc.prefix epc.rest epc.serial
 fit_kind set epc shaped of_set =
-    let made = ap (level_rows of_set.level) shaped.made ∙ level_made shaped.document of_set.level in
-    let of_level = rw made at of_set.of_level in
-    let said = rw made at of_set.said in
-    rw (shaped.made, of_set.fields) (kind_of_values shaped.document of_set.level of_set.option of_set.items of_set.info of_set.values of_set.words shaped.in_order of_level said of_set.held)
+    let kept = options_kept set of_set.level shaped of_set.option of_set.items of_set.info of_set.of_level of_set.said in
+    rw of_set.fields (kept.kind, kept.named, fits_values set of_set.level of_set.items of_set.info of_set.values of_set.words kept of_set.held)
 
 -- the kind has its place
 pub kind_within : (set : TableRows) (epc : Epc) (kinds : List Kind) → kinds ≡ set.kinds → IsShaped set → IsOfSet set epc → epc.kind < length kinds

@@ -5,16 +5,16 @@ use Rattle.gs_ai.specs.Tables.{is_empty}
 use Rattle.gs_chars.specs.Characters.{are_digits}
 use Rattle.gs_grammar.specs.declared.item.Item.{Item}
 use Rattle.gs_grammar.specs.Items.{is_between}
-use Rattle.gs_grammar.proofs.Held.{both_of}
+use Rattle.gs_chars.proofs.TruthsAndLists.{and_parts}
 use Rattle.gs_grammar.proofs.ItemTests.{between_is}
-use Rattle.gs_tables.specs.declared.field.Field.TheVariants.{Gcp, Rest, Serial}
+use Rattle.gs_document.specs.declared.field.Field.TheVariants.{Gcp, Rest, Serial}
 use Rattle.gs_tables.specs.declared.form.KeyForm.{KeyForm}
 use Rattle.gs_tables.specs.declared.form.KeyForm.TheVariants.{Digits, Characters}
-use Rattle.gs_tables.specs.Items.{FieldItem}
+use Rattle.gs_document.specs.Items.{FieldItem, fields_of}
 use Rattle.gs_tables.specs.Rules.{has_room, is_digits, is_free, is_gcp, is_one, is_padded, items_of_field, keeps_gcp, keeps_rest, keeps_serial}
 use Rattle.gs_epc.specs.Epcs.{value_of}
 use Rattle.gs_epc.specs.Kept.{FitForm, FitsRoom}
-use Rattle.gs_epc.proofs.KeptFields.{AreHeld, characters_of, digits_of, fields_in, nothing_of}
+use Rattle.gs_epc.proofs.KeptFields.{AreHeld, characters_of, digits_of, nothing_of}
 
 -- ---- the prefix
 
@@ -26,13 +26,13 @@ record IsPrefix (form : KeyForm) (lead n : ℕ) (prefix : List ℕ) : Type 0 whe
   digits : are_digits prefix ≡ true
 
 gcp_bounds : (form : KeyForm) (lead n : ℕ) → is_gcp form lead n ≡ true → (1 ≤ n) × (n ≤ 12)
-gcp_bounds (Digits digits _) lead n h = between_is 1 12 n (both_of (is_between 1 12 n) (nat_le n (digits - lead)) h).0
+gcp_bounds (Digits digits _) lead n h = between_is 1 12 n (and_parts (is_between 1 12 n) (nat_le n (digits - lead)) h).0
 gcp_bounds (Characters _) lead n h = between_is 1 12 n h
 
-prefix_kept : (bits : Bool) (form : KeyForm) (lead n : ℕ) (items : List FieldItem) (values words : List (List ℕ)) → AreHeld bits items values words → keeps_gcp form lead n (items_of_field Gcp items) ≡ true → IsPrefix form lead n (value_of Gcp (fields_in items) values)
+prefix_kept : (bits : Bool) (form : KeyForm) (lead n : ℕ) (items : List FieldItem) (values words : List (List ℕ)) → AreHeld bits items values words → keeps_gcp form lead n (items_of_field Gcp items) ≡ true → IsPrefix form lead n (value_of Gcp (fields_of items) values)
 unfolding keeps_gcp
 prefix_kept bits form lead n items values words held h =
-    let parts = both_of (is_gcp form lead n) (is_one (is_digits n) (items_of_field Gcp items)) h in
+    let parts = and_parts (is_gcp form lead n) (is_one (is_digits n) (items_of_field Gcp items)) h in
     let bounds = gcp_bounds form lead n parts.0 in
     let value = digits_of bits Gcp items values words n held parts.1 in
     record { length_kept = parts.0; least = bounds.0; most = bounds.1; count = value.0; digits = value.1 }
@@ -40,10 +40,10 @@ prefix_kept bits form lead n items values words held h =
 -- ---- the rest
 
 digits_left : (bits : Bool) (digits n : ℕ) (items : List FieldItem) (values words : List (List ℕ)) → AreHeld bits items values words → (if digits - n == 0 then is_empty (items_of_field Rest items) else is_one (is_digits (digits - n)) (items_of_field Rest items)) ≡ true
-    → (length (value_of Rest (fields_in items) values) ≡ digits - n) × (are_digits (value_of Rest (fields_in items) values) ≡ true)
+    → (length (value_of Rest (fields_of items) values) ≡ digits - n) × (are_digits (value_of Rest (fields_of items) values) ≡ true)
 digits_left bits digits n items values words held h = by (digits - n == 0) refl
   where
-    by : (b : Bool) → (digits - n == 0) ≡ b → (length (value_of Rest (fields_in items) values) ≡ digits - n) × (are_digits (value_of Rest (fields_in items) values) ≡ true)
+    by : (b : Bool) → (digits - n == 0) ≡ b → (length (value_of Rest (fields_of items) values) ≡ digits - n) × (are_digits (value_of Rest (fields_of items) values) ≡ true)
     by true e =
         let none = nothing_of Rest items values (rw e at h) in
         let zero : digits - n ≡ 0 = grind (arith, nat_tests) in
@@ -52,13 +52,13 @@ digits_left bits digits n items values words held h = by (digits - n == 0) refl
 
 only_room : (most : ℕ) (items : List Item) → is_one (is_free most) items ≡ true → is_one (has_room most) items ≡ true
 only_room most [] h = h
-only_room most (item ∷ []) h = (both_of (not (is_padded item)) (has_room most item) h).1
+only_room most (item ∷ []) h = (and_parts (not (is_padded item)) (has_room most item) h).1
 only_room most (item ∷ other ∷ items) h = h
 
-fits_form : (form : KeyForm) (lead n : ℕ) (bits : Bool) (items : List FieldItem) (values words : List (List ℕ)) → AreHeld bits items values words → IsPrefix form lead n (value_of Gcp (fields_in items) values) → keeps_rest form n (items_of_field Rest items) ≡ true → FitForm form lead (value_of Gcp (fields_in items) values) (value_of Rest (fields_in items) values)
+fits_form : (form : KeyForm) (lead n : ℕ) (bits : Bool) (items : List FieldItem) (values words : List (List ℕ)) → AreHeld bits items values words → IsPrefix form lead n (value_of Gcp (fields_of items) values) → keeps_rest form n (items_of_field Rest items) ≡ true → FitForm form lead (value_of Gcp (fields_of items) values) (value_of Rest (fields_of items) values)
 unfolding keeps_rest
 fits_form (Digits digits _) lead n bits items values words held prefix h =
-    let room : n ≤ digits - lead = let t = (both_of (is_between 1 12 n) (nat_le n (digits - lead)) prefix.length_kept).1 in grind (arith, nat_tests) in
+    let room : n ≤ digits - lead = let t = (and_parts (is_between 1 12 n) (nat_le n (digits - lead)) prefix.length_kept).1 in grind (arith, nat_tests) in
     let count = prefix.count in
     let rest = digits_left bits digits n items values words held h in
     (omega arith, rest.0 ∙ ap (λ k. digits - k) (sym count), prefix.digits, rest.1)
@@ -72,7 +72,7 @@ pub record FitPrefix (form : KeyForm) (lead : ℕ) (prefix rest : List ℕ) : Ty
   pub prefix_most : length prefix ≤ 12
   pub fits : FitForm form lead prefix rest
 
-pub fits_prefix : (form : KeyForm) (lead n : ℕ) (bits : Bool) (items : List FieldItem) (values words : List (List ℕ)) → AreHeld bits items values words → keeps_gcp form lead n (items_of_field Gcp items) ≡ true → keeps_rest form n (items_of_field Rest items) ≡ true → FitPrefix form lead (value_of Gcp (fields_in items) values) (value_of Rest (fields_in items) values)
+pub fits_prefix : (form : KeyForm) (lead n : ℕ) (bits : Bool) (items : List FieldItem) (values words : List (List ℕ)) → AreHeld bits items values words → keeps_gcp form lead n (items_of_field Gcp items) ≡ true → keeps_rest form n (items_of_field Rest items) ≡ true → FitPrefix form lead (value_of Gcp (fields_of items) values) (value_of Rest (fields_of items) values)
 fits_prefix form lead n bits items values words held gcp rest =
     let prefix = prefix_kept bits form lead n items values words held gcp in
     let least = prefix.least in
@@ -82,7 +82,7 @@ fits_prefix form lead n bits items values words held gcp rest =
 
 -- ---- the serial
 
-pub fits_room : (room : Option ℕ) (bits : Bool) (items : List FieldItem) (values words : List (List ℕ)) → AreHeld bits items values words → keeps_serial room (items_of_field Serial items) ≡ true → FitsRoom room (value_of Serial (fields_in items) values)
+pub fits_room : (room : Option ℕ) (bits : Bool) (items : List FieldItem) (values words : List (List ℕ)) → AreHeld bits items values words → keeps_serial room (items_of_field Serial items) ≡ true → FitsRoom room (value_of Serial (fields_of items) values)
 unfolding keeps_serial
 fits_room None bits items values words held h = nothing_of Serial items values h
 fits_room (Some most) bits items values words held h = characters_of bits Serial items values words most held h

@@ -14,7 +14,7 @@ use Rattle.gs_ident.specs.Elements.{Elements}
 use Rattle.gs_ident.specs.Identities.{contradiction, elements_of, first_key, identity_of_counted, identity_of_pairs, listed, other_key, pair_with, stands_for_none}
 use Rattle.gs_ident.proofs.CodeOrder.{none_ascending}
 use Rattle.gs_ident.proofs.IdentityLemmas.{made_answer}
-use Rattle.gs_ident.proofs.PairLemmas.{two_ways}
+use Rattle.gs_chars.proofs.TruthsAndLists.{true_or_false}
 use Rattle.gs_epc.specs.Layout.{unless_none}
 
 -- ---- codes in a list
@@ -69,7 +69,7 @@ serial_alone key serial [] no_key distinct there = absurd (let e : false ≡ tru
 serial_alone key serial (code ∷ codes) no_key distinct there =
     let first = other_way key.code code (or_left (bytes_eq key.code code) (list_any (bytes_eq key.code) codes) no_key) in
     let later = or_right (bytes_eq key.code code) (list_any (bytes_eq key.code) codes) no_key in
-    elim (two_ways (bytes_eq serial.code code)) [
+    elim (true_or_false (bytes_eq serial.code code)) [
       | inl same ↦
           let e = equal_bytes serial.code code same in
           let once : list_any (bytes_eq serial.code) codes ≡ false = rw e (not_true (list_any (bytes_eq code) codes) (and_left _ _ distinct)) in
@@ -141,7 +141,7 @@ module _ (table : List AiRow) (codes : List (List ℕ)) (key : Pair) (is : IsKey
     both = made_answer table (key ∷ serial ∷ []) key both_agree both_first both_only ∙ ap (λ (e : Elements). Ok e) both_elements
 
     pub both_made : identity_of_pairs table (key ∷ serial ∷ []) ≡ Ok (record { key = key; qualifiers = unless_none table serial; attributes = [] })
-    both_made = elim (two_ways (stands_for_none table serial)) [
+    both_made = elim (true_or_false (stands_for_none table serial)) [
       | inl none ↦ rw (is.counts, none) alone
       | inr some ↦ rw (is.counts, some) both
     ]
@@ -153,7 +153,7 @@ module _ (table : List AiRow) (codes : List (List ℕ)) (key : Pair) (is : IsKey
 
 pub found_place : {X : Type 0} (p : X → Bool) (xs : List X) (x : X) → find p xs ≡ Some x → (i : ℕ) × (slice_get xs i ≡ Some x)
 found_place p [] x e = absurd (let f : None ≡ Some x = e in cc)
-found_place p (y ∷ xs) x e = elim (two_ways (p y)) [
+found_place p (y ∷ xs) x e = elim (true_or_false (p y)) [
   | inl passes ↦ (0, rw passes at e)
   | inr fails ↦ let rest = found_place p xs x (rw fails at e) in (suc rest.0, rest.1)
 ]

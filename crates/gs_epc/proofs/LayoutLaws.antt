@@ -11,9 +11,9 @@ use Rattle.gs_ident.specs.declared.faults.IdentFault.TheVariants as ident
 use Rattle.gs_ident.specs.Elements.{Elements}
 use Rattle.gs_ident.specs.Identities.{IsInOrder, identity_of_pairs}
 use Rattle.gs_tables.specs.declared.form.KeyForm.{KeyForm}
-use Rattle.gs_tables.specs.declared.kind.Kind.{Kind}
-use Rattle.gs_tables.specs.declared.kind.SerialAt.{SerialAt}
-use Rattle.gs_tables.specs.declared.kind.SerialAt.TheVariants.{Nowhere, Tail, Ai}
+use Rattle.gs_document.specs.declared.kind.Kind.{Kind}
+use Rattle.gs_document.specs.declared.kind.SerialAt.{SerialAt}
+use Rattle.gs_document.specs.declared.kind.SerialAt.TheVariants.{Nowhere, Tail, Ai}
 use Rattle.gs_tables.specs.Forms.{tail_of}
 use Rattle.gs_tables.specs.Rules.{is_characters, is_serial_of}
 use Rattle.gs_epc.specs.Kept.{FitKind}
@@ -32,14 +32,14 @@ by_serial ais row form (Ai code) key serial is rule =
 module _ (ais : List AiRow) (kind : Kind) (prefix rest serial : List ℕ) (fit : FitKind ais kind prefix rest serial) (rules : KeepsRules ais) where
   pub laid_in_order : All (IsInOrder ais) (key_pair ais kind prefix rest serial ∷ serial_pairs kind.serial serial)
   laid_in_order =
-      let place = found_place (has_code kind.key) ais fit.row fit.found in
-      let in_order : is_row fit.row ≡ true = (rules.rows_in_order place.0 fit.row place.1).0 in
+      let place = found_place (has_code kind.key) ais fit.of_kind.row fit.of_kind.found in
+      let in_order : is_row fit.of_kind.row ≡ true = (rules.rows_in_order place.0 fit.of_kind.row place.1).0 in
       pairs_in_order ais kind prefix rest serial fit in_order
 
   pub laid_identity : identity_of_pairs ais (key_pair ais kind prefix rest serial ∷ serial_pairs kind.serial serial) ≡ Ok (lay ais kind prefix rest serial)
   laid_identity =
       let key = key_pair ais kind prefix rest serial in
-      by_serial ais fit.row fit.form kind.serial key serial (is_key_pair ais fit.row key rules fit.found fit.is_key) fit.serial_rule
+      by_serial ais fit.of_kind.row fit.of_kind.form kind.serial key serial (is_key_pair ais fit.of_kind.row key rules fit.of_kind.found fit.of_kind.key) fit.of_kind.serial
 
 -- ---- the answers of `make`
 

@@ -21,9 +21,9 @@ use Rattle.gs_ai.proofs.RowLemmas.{and_left, and_right, listed, row_parts}
 use Rattle.gs_ident.specs.Identities.{IsInOrder}
 use Rattle.gs_tables.specs.declared.form.KeyForm.{KeyForm}
 use Rattle.gs_tables.specs.declared.form.KeyForm.TheVariants.{Digits, Characters}
-use Rattle.gs_tables.specs.declared.kind.Kind.{Kind}
-use Rattle.gs_tables.specs.declared.kind.SerialAt.{SerialAt}
-use Rattle.gs_tables.specs.declared.kind.SerialAt.TheVariants.{Nowhere, Tail, Ai}
+use Rattle.gs_document.specs.declared.kind.Kind.{Kind}
+use Rattle.gs_document.specs.declared.kind.SerialAt.{SerialAt}
+use Rattle.gs_document.specs.declared.kind.SerialAt.TheVariants.{Nowhere, Tail, Ai}
 use Rattle.gs_tables.specs.Forms.{characters_of, digits_form, key_form, serial_room, tail_of}
 use Rattle.gs_tables.specs.Rules.{is_characters, is_serial_of}
 use Rattle.gs_epc.specs.Kept.{AreCharacters, FitForm, FitKind, FitsRoom}
@@ -152,19 +152,19 @@ serial_in_order ais row form (Ai code) serial rule room =
 -- ---- what fits a kind
 
 -- the value of the key is one of its row's
-pub value_in_order : (ais : List AiRow) (kind : Kind) (prefix rest serial : List ℕ) (fit : FitKind ais kind prefix rest serial) → is_row fit.row ≡ true
+pub value_in_order : (ais : List AiRow) (kind : Kind) (prefix rest serial : List ℕ) (fit : FitKind ais kind prefix rest serial) → is_row fit.of_kind.row ≡ true
     → value_fault ais kind.key (key_value (parts_at ais kind.key) kind prefix rest serial) ≡ None
 value_in_order ais kind prefix rest serial fit in_order =
-    let parts = fit.row.parts in
-    let tail = tail_fits ais fit.row fit.form kind.serial serial fit.serial_rule fit.room in
-    let kept = key_kept parts fit.form kind prefix rest serial fit.formed (listed parts (row_parts fit.row in_order)) fit.prefix_least fit.fits tail in
-    rw fit.found (no_fault parts (key_value parts kind prefix rest serial) kept)
+    let parts = fit.of_kind.row.parts in
+    let tail = tail_fits ais fit.of_kind.row fit.of_kind.form kind.serial serial fit.of_kind.serial fit.room in
+    let kept = key_kept parts fit.of_kind.form kind prefix rest serial fit.of_kind.formed (listed parts (row_parts fit.of_kind.row in_order)) fit.prefix_least fit.fits tail in
+    rw fit.of_kind.found (no_fault parts (key_value parts kind prefix rest serial) kept)
 
 -- the key with its value, and the serial where it has an element of its own
-pub pairs_in_order : (ais : List AiRow) (kind : Kind) (prefix rest serial : List ℕ) (fit : FitKind ais kind prefix rest serial) → is_row fit.row ≡ true → All (IsInOrder ais) (key_pair ais kind prefix rest serial ∷ serial_pairs kind.serial serial)
+pub pairs_in_order : (ais : List AiRow) (kind : Kind) (prefix rest serial : List ℕ) (fit : FitKind ais kind prefix rest serial) → is_row fit.of_kind.row ≡ true → All (IsInOrder ais) (key_pair ais kind prefix rest serial ∷ serial_pairs kind.serial serial)
 pairs_in_order ais kind prefix rest serial fit in_order =
     All-cons (IsInOrder ais) (key_pair ais kind prefix rest serial) (serial_pairs kind.serial serial) (record { fits = value_in_order ais kind prefix rest serial fit in_order })
-    (serial_in_order ais fit.row fit.form kind.serial serial fit.serial_rule fit.room)
+    (serial_in_order ais fit.of_kind.row fit.of_kind.form kind.serial serial fit.of_kind.serial fit.room)
 
 -- ---- digits that a check digit can follow
 
@@ -197,7 +197,7 @@ by_parts parts form lead prefix rest formed digits are some fits = by_digits par
 pub are_key_digits : (ais : List AiRow) (kind : Kind) (prefix rest serial : List ℕ) (fit : FitKind ais kind prefix rest serial) (row : AiRow) → Some row ≡ find (has_code kind.key) ais → is_row row ≡ true
     → is_some (characters_of row.parts) ≡ false → AreKeyDigits kind.lead prefix rest
 are_key_digits ais kind prefix rest serial fit row found in_order digits =
-    let both : Some row ≡ Some fit.row = found ∙ fit.found in
-    let same : row ≡ fit.row = cc in
-    let formed : key_form row.parts ≡ Some fit.form = rw same fit.formed in
-    by_parts row.parts fit.form kind.lead prefix rest formed digits (listed row.parts (row_parts row in_order)) fit.prefix_least fit.fits
+    let both : Some row ≡ Some fit.of_kind.row = found ∙ fit.of_kind.found in
+    let same : row ≡ fit.of_kind.row = cc in
+    let formed : key_form row.parts ≡ Some fit.of_kind.form = rw same fit.of_kind.formed in
+    by_parts row.parts fit.of_kind.form kind.lead prefix rest formed digits (listed row.parts (row_parts row in_order)) fit.prefix_least fit.fits

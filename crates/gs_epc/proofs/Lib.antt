@@ -3,7 +3,6 @@ pub mod FieldRules
 pub mod KeptFields
 pub mod KeptItems
 pub mod KeptLaws
-pub mod KeptRows
 pub mod KeptRules
 pub mod LayoutElements
 pub mod LayoutLaws

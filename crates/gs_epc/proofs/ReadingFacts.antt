@@ -1,23 +1,22 @@
 -- What an option of a set says by the values of a derivation.
-use Rattle.std.proofs.Common.{◌≡◌, ℕ, suc, ◌*◌, ◌<◌, List, [], ◌∷◌, length, Some, slice_get, get_or, refl, ap, arith}
+use Rattle.std.proofs.Common.{◌≡◌, ℕ, ◌*◌, ◌<◌, List, length, Some, slice_get, get_or, refl, ap, ◌∙◌, arith}
+use Rattle.std.proofs.lemmas.List.{length-map}
 use Rattle.std.specs.Prelude.{◌%◌, ◌↔◌, IfSome, IsOk, Result, Ok, Err}
 use Rattle.std.specs.List.{AllPass}
 use Rattle.std.proofs.lemmas.Option.{slice_get_within}
-use Rattle.gs_ai.proofs.Searches.{read_at}
+use Rattle.gs_chars.proofs.TruthsAndLists.{read_at}
 use Rattle.gs_bits.specs.HexText.{bits_of_hex, is_hex_digit}
 use Rattle.gs_bits.specs.declared.faults.HexFault.{HexFault}
 use Rattle.gs_bits.specs.declared.faults.HexFault.TheVariants.{OddDigits, Full}
 use Rattle.gs_grammar.specs.declared.item.Item.{Item}
 use Rattle.gs_grammar.specs.Derivations.{EachWord, OneDerivation}
-use Rattle.gs_grammar.specs.Levels.{item_lists}
-use Rattle.gs_tables.specs.declared.field.Field.TheVariants.{Filter}
-use Rattle.gs_tables.specs.declared.level_name.LevelName.{LevelName}
-use Rattle.gs_tables.specs.declared.level_name.LevelName.TheVariants.{Binary, Tag, Pure}
-use Rattle.gs_tables.specs.declared.opt_info.OptInfo.{OptInfo}
-use Rattle.gs_tables.specs.declared.document.Document.{Document}
-use Rattle.gs_tables.specs.declared.document.KindRow.{KindRow}
-use Rattle.gs_tables.specs.declared.document.OptionRow.{OptionRow}
-use Rattle.gs_tables.specs.Tables.{IsShaped, TableRows, level_of, level_rows, row_refusals, set_of}
+use Rattle.gs_grammar.specs.Levels.{OptionForm}
+use Rattle.gs_document.specs.declared.field.Field.TheVariants.{Filter}
+use Rattle.gs_document.specs.declared.level_name.LevelName.{LevelName}
+use Rattle.gs_document.specs.declared.level_name.LevelName.TheVariants.{Binary}
+use Rattle.gs_document.specs.declared.opt_info.OptInfo.{OptInfo}
+use Rattle.gs_tables.specs.Tables.{IsShaped, TableRows, level_rows}
+use Rattle.gs_tables.proofs.KeptSets.{as_many_said, options_kept}
 use Rattle.gs_epc.specs.declared.epc.Epc.{Epc}
 use Rattle.gs_epc.specs.declared.fault.EpcFault.{EpcFault}
 use Rattle.gs_epc.specs.declared.fault.EpcFault.TheVariants.{Hex, NoReading, Two, Memory}
@@ -36,17 +35,8 @@ pub record IsSaid (set : TableRows) (level : LevelName) (option : ℕ) (values :
 
 -- ---- an option and what is said of it
 
-as_many_rows : (kinds : List KindRow) (level : LevelName) (rows : List OptionRow) → length (item_lists (level_of kinds level rows).level.options) ≡ length (level_of kinds level rows).info
-as_many_rows kinds level [] = refl
-as_many_rows kinds level (row ∷ rows) = ap suc (as_many_rows kinds level rows)
-
-as_many_made : (document : Document) (level : LevelName) → length (options_of level (set_of document)) ≡ length (level_rows level (set_of document)).info
-as_many_made document Binary = as_many_rows document.kinds Binary document.binary
-as_many_made document Tag = as_many_rows document.kinds Tag document.tag
-as_many_made document Pure = as_many_rows document.kinds Pure document.pure
-
 as_many : (set : TableRows) (level : LevelName) → IsShaped set → length (options_of level set) ≡ length (level_rows level set).info
-as_many set level shaped = rw shaped.made (as_many_made shaped.document level)
+as_many set level shaped = length-map (level_rows level set).level.options (λ (option : OptionForm). option.items) ∙ as_many_said set level shaped
 
 -- something is said of the option of a derivation
 option_low : (set : TableRows) (level : LevelName) (symbols : List ℕ) (option : ℕ) (values : List (List ℕ)) (infos : List OptInfo) → IsShaped set → OneDerivation (options_of level set) symbols option values → infos ≡ (level_rows level set).info → option < length infos
@@ -72,13 +62,9 @@ said_of set level symbols option values infos info shaped one rows read =
 
 -- ---- its filter
 
-filter_made : (document : Document) (level : LevelName) (option : ℕ) (values : List (List ℕ)) (info : OptInfo) → row_refusals document ≡ [] → IsSaid (set_of document) level option values info → IfSome (value_at Filter info.fields values) IsFilter
-filter_made document Binary option values info none h = filter_kept document Binary option h.items info values h.words none h.of_level h.said h.held
-filter_made document Tag option values info none h = filter_kept document Tag option h.items info values h.words none h.of_level h.said h.held
-filter_made document Pure option values info none h = filter_kept document Pure option h.items info values h.words none h.of_level h.said h.held
-
 pub filter_of_said : (set : TableRows) (level : LevelName) (option : ℕ) (values : List (List ℕ)) (info : OptInfo) → IsShaped set → IsSaid set level option values info → IfSome (value_at Filter info.fields values) IsFilter
-filter_of_said set level option values info shaped h = filter_made shaped.document level option values info shaped.in_order (rw shaped.made at h)
+filter_of_said set level option values info shaped h =
+    filter_kept set level h.items info values h.words (options_kept set level shaped option h.items info h.of_level h.said) h.held
 
 -- ---- what it says
 

@@ -1,15 +1,12 @@
 -- What the rules of tables keep of an EPC of the set: its fields have the lengths and characters of the key of its kind.
-use Rattle.std.specs.Prelude.{◌≡◌, ◌≤◌, ◌-◌, ℕ, true, List, [], length, Option, Some, None, IsTrue}
-use Rattle.std.specs.List.{find}
+use Rattle.std.specs.Prelude.{◌≡◌, ◌≤◌, ◌-◌, ℕ, List, [], length, Option, Some, None, IsTrue}
 use Rattle.gs_chars.specs.Characters.{are_digits, are_in_set82}
 use Rattle.gs_ai.specs.declared.row.AiRow.{AiRow}
-use Rattle.gs_ai.specs.Tables.{is_key}
-use Rattle.gs_ai.specs.Values.{has_code}
+use Rattle.gs_document.specs.declared.kind.Kind.{Kind}
 use Rattle.gs_tables.specs.declared.form.KeyForm.{KeyForm}
 use Rattle.gs_tables.specs.declared.form.KeyForm.TheVariants.{Digits, Characters}
-use Rattle.gs_tables.specs.declared.kind.Kind.{Kind}
-use Rattle.gs_tables.specs.Forms.{key_form, serial_room}
-use Rattle.gs_tables.specs.Rules.{is_lead, is_serial_of}
+use Rattle.gs_tables.specs.Forms.{serial_room}
+use Rattle.gs_tables.specs.KeptRules.{KeptKind}
 
 -- at least one and at most so many characters of the set of 82
 pub record AreCharacters (most : ℕ) (text : List ℕ) : Type 0 where
@@ -28,16 +25,10 @@ abbrev pub FitsRoom : Option ℕ → List ℕ → Type 0
 FitsRoom None serial = serial ≡ []
 FitsRoom (Some most) serial = AreCharacters most serial
 
--- Prefix, rest and serial fit the kind, whose key is a row of the table.
+-- Prefix, rest and serial fit the kind, which keeps the rules.
 pub record FitKind (ais : List AiRow) (kind : Kind) (prefix rest serial : List ℕ) : Type 0 where
-  pub row : AiRow
-  pub form : KeyForm
-  pub found : find (has_code kind.key) ais ≡ Some row
-  pub is_key : is_key row.role ≡ true
-  pub formed : key_form row.parts ≡ Some form
-  pub lead : is_lead form kind.lead ≡ true
-  pub serial_rule : is_serial_of ais row form kind.serial ≡ true
+  pub of_kind : KeptKind ais kind
   pub prefix_least : 1 ≤ length prefix
   pub prefix_most : length prefix ≤ 12
-  pub fits : FitForm form kind.lead prefix rest
-  pub room : FitsRoom (serial_room ais form kind.serial) serial
+  pub fits : FitForm of_kind.form kind.lead prefix rest
+  pub room : FitsRoom (serial_room ais of_kind.form kind.serial) serial

@@ -1,6 +1,6 @@
 ghost use Rattle.std.specs.Prelude.{◌≡◌, IfOk, IfSome, false, position};
 ghost use Rattle.gs_grammar.specs.Words.{decimal_value};
-ghost use Rattle.gs_tables.specs.declared.field.Field.{Field};
+ghost use Rattle.gs_document.specs.declared.field.Field.{Field};
 ghost use Rattle.gs_tables.specs.Rules.{is_field};
 ghost use Rattle.gs_epc.specs.Epcs.{epc_of, filter_of, value_at, value_of};
 ghost use Rattle.gs_epc.specs.Filters.{IsFilter};
@@ -56,7 +56,7 @@ pub(crate) fn epc_of(alloc: Global, info: &OptInfo, values: List<Text>) -> Resul
     let mut values = values.into_vec();
     Ok(Epc {
         kind: info.kind,
-        encoding: Text::from_bytes(alloc, info.encoding.as_bytes())?,
+        encoding: info.encoding.copy(alloc)?,
         filter: filter_of(fields, &values),
         gcp: info.gcp,
         prefix: take_value(alloc, Field::Gcp, fields, &mut values),

@@ -1,6 +1,5 @@
-ghost use Rattle.std.specs.Prelude.{◌≡◌, ◌≤◌, ◌∷◌, ◌++◌, IfOk, is_some, length};
+ghost use Rattle.std.specs.Prelude.{◌≡◌, ◌≤◌, ◌∷◌, ◌++◌, IfOk, length};
 ghost use Rattle.gs_ident.specs.Identities.{IsMadeWith};
-ghost use Rattle.gs_tables.specs.Forms.{characters_of};
 ghost use Rattle.gs_epc.specs.Epcs.{IsOfSet};
 ghost use Rattle.gs_epc.specs.Kept.{FitKind};
 ghost use Rattle.gs_epc.specs.Layout.{AreKeyDigits, IsLaidOut, key_digits, key_value, lay, parts_at, serial_pairs, tail_of_key, with_check, zero_in_front};
@@ -10,15 +9,8 @@ use crate::kept::kind_of;
 use gs_ai::{AiTable, Pair, Part};
 use gs_chars::{Memory, Text, check_digit};
 use gs_ident::{IdentFault, Identity, make};
-use gs_tables::{Kind, SerialAt, TableSet};
+use gs_tables::{Kind, SerialAt, TableSet, are_characters};
 use std::alloc::Global;
-
-/// A copy of the text.
-fn copy_text(alloc: Global, text: &Text) -> Result<Text, Memory>
-    ensures { IfOk result (λ copy. copy ≡ text.now) }
-{
-    Text::from_bytes(alloc, text.as_bytes())
-}
 
 /// The zero in front of the key, where its parts begin with one.
 fn zero_in_front(parts: &[Part]) -> &'static [u8]
@@ -97,13 +89,6 @@ fn characters_value(alloc: Global, prefix: &[u8], rest: &[u8]) -> Result<Text, M
     Ok(Text::from_vec(value))
 }
 
-/// Whether the parts are characters alone.
-fn are_characters(parts: &[Part]) -> bool
-    ensures { result ≡ is_some (characters_of parts.now) }
-{
-    matches!(parts, [Part::Set(_)])
-}
-
 /// The value of the key, by the parts of its row.
 fn key_value(alloc: Global, ais: &AiTable, kind: &Kind, epc: &Epc) -> Result<Text, Memory>
     requires { FitKind ais.now kind.now epc.now.prefix epc.now.rest epc.now.serial }
@@ -129,8 +114,8 @@ fn pairs_of(alloc: Global, key: Pair, at: &SerialAt, serial: &Text) -> Result<Ve
     match at {
         SerialAt::Ai(code) => {
             pairs.push(Pair {
-                code: copy_text(alloc, code)?,
-                value: copy_text(alloc, serial)?,
+                code: code.copy(alloc)?,
+                value: serial.copy(alloc)?,
             })?;
             Ok(pairs)
         }
@@ -160,9 +145,10 @@ pub(crate) fn lay_out(
         epc.now.prefix epc.now.rest epc.now.serial) }
     ensures with_table { IfOk result (IsMadeWith ais.now) }
 {
+    // the proof alone reads it: the rows keep the rules of application identifiers
     let _ = ais.rows();
     let key = Pair {
-        code: copy_text(alloc, &kind.key)?,
+        code: kind.key.copy(alloc)?,
         value: key_value(alloc, ais, kind, epc)?,
     };
     let pairs = pairs_of(alloc, key, &kind.serial, &epc.serial)?;

@@ -1,20 +1,18 @@
 -- Derivations by the items of an option, one item after the other.
-use Rattle.std.proofs.Common.{◌≡◌, ℕ, ◌<◌, ◌≤◌, ◌+◌, ◌⊎◌, ◌↔◌, min, Bool, true, false, IsTrue, nat_eq, All, map, set, get_or, not, None, List, [], ◌∷◌, ◌++◌, length, take, drop, refl, sym, ◌∙◌, ap, subst, inl, inr, arith}
+use Rattle.std.proofs.Common.{◌≡◌, ℕ, ◌<◌, ◌≤◌, ◌+◌, ◌⊎◌, ◌↔◌, min, Bool, true, false, IsTrue, nat_eq, All, set, List, [], ◌∷◌, ◌++◌, length, take, drop, refl, sym, ◌∙◌, ap, subst, inl, inr, arith}
 use Rattle.std.specs.List.{concat}
-use Rattle.std.proofs.lemmas.List.{take-append-drop, take_at, drop_at, length-take-le, length-append, append-nil, append_assoc, nil_from_length, map-append, take_more_set}
+use Rattle.std.proofs.lemmas.List.{take-append-drop, take_at, drop_at, length-take-le, length-append, append-nil, append_assoc, nil_from_length, take_more_set}
 use Rattle.std.proofs.lemmas.List.Elements.{All-head, All-tail}
 use Rattle.std.proofs.lemmas.Bool.{cases_eq}
 use Rattle.std.proofs.lemmas.Bool.Decides.{nat_tests}
 use Rattle.gs_grammar.specs.declared.item.Item.{Item}
 use Rattle.gs_grammar.specs.declared.found.Found.{Found}
 use Rattle.gs_grammar.specs.declared.found.Found.TheVariants.{Never, Once, Twice}
-use Rattle.std.specs.List.{AllPass, position}
-use Rattle.gs_grammar.specs.declared.item.Item.TheVariants.{Lit, Pad, Int, Esc, NumPad, Num, Ascii7, Fill}
-use Rattle.gs_grammar.specs.Items.{IsItem, is_bad, is_in_bounds, is_numeric, is_packed, size_of, shortest_of}
-use Rattle.gs_grammar.specs.Words.{Word, IsWord, decimal_value}
-use Rattle.gs_grammar.proofs.WordLaws.{word_length, none_bad}
-use Rattle.gs_grammar.specs.Derivations.{EachWord, no_item, one_item, Derives}
-use Rattle.gs_grammar.specs.Searches.{OneWay, TwoWays, IsDerived, Finds, AtCut, OneCut, TwoCuts, FindsBefore, HasValues, HasNumbers, joined_found, once_where}
+use Rattle.gs_grammar.specs.Items.{IsItem, size_of, shortest_of}
+use Rattle.gs_grammar.specs.Words.{Word, IsWord, number_of_word}
+use Rattle.gs_grammar.proofs.WordLaws.{word_length}
+use Rattle.gs_grammar.specs.Derivations.{EachWord, no_item, one_item, Derives, IsDerived, HasValues, HasNumbers, numbers_of_words, OneWay, TwoWays}
+use Rattle.gs_grammar.specs.Searches.{Finds, AtCut, OneCut, TwoCuts, FindsBefore, joined_found, once_where}
 
 -- one word more in front
 pub derives_cons : (item : Item) (items : List Item) (value first rest : List ℕ) (values words : List (List ℕ)) → Word item value first → Derives items rest values words → Derives (item ∷ items) (first ++ rest) (value ∷ values) (first ∷ words)
@@ -316,51 +314,35 @@ gathers_end items w left rest values g h =
 
 -- the numbers so far, where the items to come derive the rest
 pub record Tallies (items : List Item) (w : List ℕ) (left : List Item) (rest : List ℕ) (numbers : List ℕ) : Type 0 where
-  pub values : List (List ℕ)
-  pub gathers : Gathers items w left rest values
-  pub numbers_are : numbers ≡ map decimal_value values
+  pub back : (values words : List (List ℕ)) → Derives left rest values words → HasNumbers items w (numbers ++ numbers_of_words left words)
+  pub derived : IsDerived left rest
 
 pub tallies_start : (items : List Item) (w : List ℕ) → IsDerived items w → Tallies items w items w []
-tallies_start items w d = record { values = []; gathers = gathers_start items w d; numbers_are = refl }
+tallies_start items w d = record { back = λ vs ws e. record { values = vs; words = ws; derives = e; numbers_are = refl }; derived = d }
 
-pub tallies_step : (items : List Item) (w : List ℕ) (left : List Item) (rest : List ℕ) (numbers : List ℕ) (item : Item) (others : List Item) (cut number : ℕ) → Tallies items w left rest numbers → left ≡ item ∷ others → AtCut item others rest cut → ((value : List ℕ) × (Word item value (take cut rest) × (number ≡ decimal_value value))) → Tallies items w others (drop cut rest) (numbers ++ number ∷ [])
-tallies_step items w left rest numbers item others cut number t s split v =
-    let more = map-append decimal_value t.values (v.0 ∷ []) in
+pub tallies_step : (items : List Item) (w : List ℕ) (left : List Item) (rest : List ℕ) (numbers : List ℕ) (item : Item) (others : List Item) (cut number : ℕ) → Tallies items w left rest numbers → left ≡ item ∷ others → AtCut item others rest cut → number ≡ number_of_word item (take cut rest) → Tallies items w others (drop cut rest) (numbers ++ number ∷ [])
+tallies_step items w left rest numbers item others cut number t s split n =
     record {
-      values = t.values ++ v.0 ∷ [];
-      gathers = gathers_step items w left rest t.values item others cut v.0 t.gathers s split v.1.0;
-      numbers_are = rw (more, ← v.1.1, ← t.numbers_are) refl;
+      back = λ vs ws e.
+          let d = derives_cons item others split.value (take cut rest) (drop cut rest) vs ws split.word e in
+          let whole : Derives (item ∷ others) rest (split.value ∷ vs) (take cut rest ∷ ws) = rw take-append-drop at d in
+          let more : HasNumbers items w (numbers ++ numbers_of_words left (take cut rest ∷ ws)) = t.back (split.value ∷ vs) (take cut rest ∷ ws) (rw s whole) in
+          let here : HasNumbers items w (numbers ++ numbers_of_words (item ∷ others) (take cut rest ∷ ws)) = rw s at more in
+          rw (append_assoc, n) here;
+      derived = record { values = split.values; words = split.words; derives = split.rest };
     }
 
 pub tallies_end : (items : List Item) (w : List ℕ) (left : List Item) (rest : List ℕ) (numbers : List ℕ) → Tallies items w left rest numbers → length left ≡ 0 → HasNumbers items w numbers
-tallies_end items w left rest numbers t h = record { values = t.values; has = gathers_end items w left rest t.values t.gathers h; numbers_are = t.numbers_are }
+tallies_end items w left rest numbers t h =
+    let nil : left ≡ [] = nil_from_length left h in
+    let r = t.back t.derived.values t.derived.words t.derived.derives in
+    let e : HasNumbers items w (numbers ++ numbers_of_words [] t.derived.words) = rw nil at r in
+    rw append-nil at e
 
 pub found_derived : (items : List Item) (w : List ℕ) (found : Found) → (found ≡ Never → ⊥) → Finds items w found → IsDerived items w
 found_derived items w Never n h = absurd (n refl)
 found_derived items w Once n h = record { values = h.values; words = h.words; derives = h.derives }
 found_derived items w Twice n h = first_ways items w h
-
-pub first_numeric : (items : List Item) (item : Item) (others : List Item) → items ≡ item ∷ others → AllPass is_numeric items → is_numeric item ≡ true
-first_numeric items item others e h = All-head (λ i. is_numeric i ≡ true) item others (rw e at h)
-
-pub other_numeric : (items : List Item) (item : Item) (others : List Item) → items ≡ item ∷ others → AllPass is_numeric items → AllPass is_numeric others
-other_numeric items item others e h = All-tail (λ i. is_numeric i ≡ true) item others (rw e at h)
-
--- the items of a bit level that pack no characters are numeric
-numeric_item : (item : Item) → is_in_bounds true item ≡ true → not (is_packed item) ≡ true → is_numeric item ≡ true
-numeric_item (Lit literal) h p = refl
-numeric_item (Pad n) h p = let f : false ≡ true = h in cc
-numeric_item (Int most) h p = let f : false ≡ true = h in cc
-numeric_item (Esc lo hi) h p = let f : false ≡ true = h in cc
-numeric_item (NumPad bits n) h p = refl
-numeric_item (Num bits most) h p = refl
-numeric_item (Ascii7 lo hi bits) h p = p
-numeric_item (Fill a b) h p = refl
-
-pub all_numeric : (bit_level : Bool) (items : List Item) → bit_level ≡ true → position (is_bad bit_level) items ≡ None → AllPass (λ item. not (is_packed item)) items → AllPass is_numeric items
-all_numeric bit_level items e h p k d l =
-    let b : is_in_bounds true (get_or items k d) ≡ true = rw e at (none_bad bit_level items h k d l) in
-    numeric_item (get_or items k d) b (p k d l)
 
 pub tally_take : (out : List ℕ) (number n : ℕ) → number < length out → take (number + 1) (set out number n) ≡ take number out ++ n ∷ []
 tally_take out number n l = take_more_set out number n l

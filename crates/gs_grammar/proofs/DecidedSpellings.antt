@@ -5,6 +5,7 @@ use Rattle.std.proofs.lemmas.Bool.Decides.{nat_tests}
 use Rattle.std.proofs.lemmas.Slice.Eq.{bytes_eq-Decides}
 use Rattle.std.proofs.lemmas.List.{length-drop, length-take-le}
 use Rattle.gs_chars.specs.Escapes.{is_plain, is_escaped, hex_value, BeginsWithSpelling}
+use Rattle.gs_chars.proofs.TruthsAndLists.{true_or_not}
 use Rattle.gs_chars.proofs.Spellings.{unspelled, character_of}
 use Rattle.gs_grammar.specs.Words.{SpellsEach, SpellsMany}
 use Rattle.gs_grammar.proofs.Spelled.{spelling_bounds, Counts, counts_start, counts_step, counts_end, counts_none}
@@ -16,10 +17,6 @@ told false fact d = inr (λ h. let f : false ≡ true = d.1 h in cc)
 
 pub same_list : (w v : List ℕ) → (w ≡ v) ⊎ (w ≡ v → ⊥)
 same_list w v = told (bytes_eq w v) (w ≡ v) (bytes_eq-Decides w v)
-
-is_bool : (b : Bool) → (b ≡ true) ⊎ (b ≡ true → ⊥)
-is_bool true = inl refl
-is_bool false = inr (λ h. let f : false ≡ true = h in cc)
 
 -- the spelling at the front of a list, where it has one
 record Front (w : List ℕ) : Type 0 where
@@ -66,7 +63,7 @@ no_escaped x h l a b more p e f n = unspelled (x ∷ h ∷ l ∷ more) p (λ c s
 escape_front : (x h l : ℕ) (more : List ℕ) (high low : Option ℕ) → is_plain x ≡ false → x ≡ 37 → hex_value h ≡ high → hex_value l ≡ low → Front (x ∷ h ∷ l ∷ more) ⊎ HasNoFront (x ∷ h ∷ l ∷ more)
 escape_front x h l more None low p q e f = inr (no_high x h l more p e)
 escape_front x h l more (Some a) None p q e f = inr (no_low x h l more p f)
-escape_front x h l more (Some a) (Some b) p q e f = elim (is_bool (is_escaped (16 * a + b))) as (λ _. Front (x ∷ h ∷ l ∷ more) ⊎ HasNoFront (x ∷ h ∷ l ∷ more)) [
+escape_front x h l more (Some a) (Some b) p q e f = elim (true_or_not (is_escaped (16 * a + b))) as (λ _. Front (x ∷ h ∷ l ∷ more) ⊎ HasNoFront (x ∷ h ∷ l ∷ more)) [
   | inl k ↦ inl (subst (λ (y : ℕ). Front (y ∷ h ∷ l ∷ more)) (sym q) (front_of_escape h l a b more e f k))
   | inr n ↦ inr (no_escaped x h l a b more p e f n)
 ]

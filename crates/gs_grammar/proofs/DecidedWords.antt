@@ -12,7 +12,7 @@ use Rattle.gs_grammar.specs.Items.{is_between}
 use Rattle.gs_grammar.specs.Words.{IsWord, IsNumeral, WritesNumber, IsPacked, PacksMany}
 use Rattle.gs_grammar.specs.Numerals.{HasCode, NoCode}
 use Rattle.gs_grammar.proofs.Packs.{writes_length, writes_bits, written_number, unwritten_no_code, zero_no_code, has_code, code_length, PackCounts, pack_counts_start, pack_counts_step, pack_counts_end, pack_counts_none, pack_counts_bad}
-use Rattle.gs_grammar.proofs.ItemTests.{pad_word, esc_word, numpad_word, num_word, ascii_word}
+use Rattle.gs_grammar.proofs.ItemTests.{pad_test, esc_test, numpad_test, num_test, ascii_test}
 use Rattle.gs_grammar.proofs.DecidedSpellings.{told, same_list, spelled_decided}
 use Rattle.gs_grammar.specs.Counts.{Counted}
 use Rattle.gs_grammar.proofs.Counting.{IsDecided, count_level}
@@ -30,7 +30,7 @@ lit_decided literal w = elim (same_list w literal) as (λ _. IsToldWord (Lit lit
 ]
 
 pad_decided : (n : ℕ) (w : List ℕ) → IsToldWord (Pad n) w
-pad_decided n w = told (nat_eq (length w) n && are_digits w) (IsWord (Pad n) w) (pad_word (Pad n) n w (nat_eq (length w) n && are_digits w) refl refl)
+pad_decided n w = told (nat_eq (length w) n && are_digits w) (IsWord (Pad n) w) (pad_test (Pad n) n w (nat_eq (length w) n && are_digits w) refl refl)
 
 -- the list is the decimal text of a number up to the greatest, or of none
 abbrev IsSomeNumeral : ℕ → List ℕ → Type 0
@@ -63,7 +63,7 @@ int_decided greatest w = elim (numeral_decided greatest w) as (λ _. IsToldWord 
 
 esc_decided : (lo hi : ℕ) (w : List ℕ) → IsToldWord (Esc lo hi) w
 esc_decided lo hi w = elim (spelled_decided w) as (λ _. IsToldWord (Esc lo hi) w) [
-  | inl s ↦ told (is_between lo hi s.n) (IsWord (Esc lo hi) w) (esc_word lo hi s.n w (is_between lo hi s.n) s.many refl)
+  | inl s ↦ told (is_between lo hi s.n) (IsWord (Esc lo hi) w) (esc_test (Esc lo hi) lo hi s.n w (is_between lo hi s.n) refl s.many refl)
   | inr none ↦ inr (λ h. none h.0 h.1.1)
 ]
 
@@ -93,13 +93,13 @@ number_decided bits w = elim (cases_eq (length w) bits) as (λ _. IsSomeNumber b
 
 numpad_decided : (bits n : ℕ) (w : List ℕ) → IsToldWord (NumPad bits n) w
 numpad_decided bits n w = elim (number_decided bits w) as (λ _. IsToldWord (NumPad bits n) w) [
-  | inl k ↦ told (ltb k.0 (10 ^ n)) (IsWord (NumPad bits n) w) (numpad_word (NumPad bits n) bits n k.0 w (ltb k.0 (10 ^ n)) refl k.1 (Decides-ltb k.0 (10 ^ n)))
+  | inl k ↦ told (ltb k.0 (10 ^ n)) (IsWord (NumPad bits n) w) (numpad_test (NumPad bits n) bits n k.0 w (ltb k.0 (10 ^ n)) refl k.1 (Decides-ltb k.0 (10 ^ n)))
   | inr none ↦ inr (λ h. none _ h.1.2)
 ]
 
 num_decided : (bits greatest : ℕ) (w : List ℕ) → IsToldWord (Num bits greatest) w
 num_decided bits greatest w = elim (number_decided bits w) as (λ _. IsToldWord (Num bits greatest) w) [
-  | inl k ↦ told (leb k.0 greatest) (IsWord (Num bits greatest) w) (num_word (Num bits greatest) bits greatest k.0 w refl k.1)
+  | inl k ↦ told (leb k.0 greatest) (IsWord (Num bits greatest) w) (num_test (Num bits greatest) bits greatest k.0 w refl k.1)
   | inr none ↦ inr (λ h. none h.1.0 h.1.1.1)
 ]
 
@@ -151,7 +151,7 @@ packed_from (suc fuel) w rest n h k = elim (code_decided rest) as (λ _. IsToldP
 
 ascii_width_decided : (lo hi : ℕ) (w : List ℕ) → IsToldWord (Ascii7 lo hi (length w)) w
 ascii_width_decided lo hi w = elim (packed_from (length w) w w 0 (omega arith) (pack_counts_start w)) as (λ _. IsToldWord (Ascii7 lo hi (length w)) w) [
-  | inl p ↦ told (is_between lo hi p.n) (IsWord (Ascii7 lo hi (length w)) w) (ascii_word (Ascii7 lo hi (length w)) lo hi (length w) p.n w (is_between lo hi p.n) refl refl p.many refl)
+  | inl p ↦ told (is_between lo hi p.n) (IsWord (Ascii7 lo hi (length w)) w) (ascii_test (Ascii7 lo hi (length w)) lo hi (length w) p.n w (is_between lo hi p.n) refl refl p.many refl)
   | inr none ↦ inr (λ h. none h.0 h.1.1)
 ]
 

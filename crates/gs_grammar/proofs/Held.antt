@@ -1,13 +1,15 @@
 -- Which values items hold: those for which there is no reason against are those that have a word.
-use Rattle.std.proofs.Common.{◌≡◌, ◌↔◌, ℕ, ◌<◌, ◌≤◌, ◌+◌, ◌-◌, ◌*◌, ◌^◌, ◌&&◌, ◌||◌, Bool, true, false, not, List, [], ◌∷◌, ◌++◌, length, suc, Some, None, Result, Ok, Err, IsOk, MatchResult, refl, sym, ◌∙◌, ap, subst, arith, leb, eqb, decimal, inl, inr, replicate, length-append}
-use Rattle.std.specs.List.{list_all, list_any, flat_map}
+use Rattle.std.proofs.Common.{◌≡◌, ◌↔◌, ℕ, ◌<◌, ◌≤◌, ◌+◌, ◌-◌, ◌*◌, ◌^◌, ◌&&◌, ◌||◌, Bool, true, false, not, List, [], ◌∷◌, ◌++◌, length, suc, Some, None, Result, Ok, Err, IsOk, MatchResult, refl, sym, ◌∙◌, ap, arith, leb, eqb, decimal, inr, replicate, length-append}
+use Rattle.std.specs.List.{flat_map}
 use Rattle.std.proofs.lemmas.Bool.{leb-true}
-use Rattle.std.proofs.lemmas.Bool.Decides.{nat_tests, eqb_tells}
+use Rattle.std.proofs.lemmas.Bool.Decides.{nat_tests}
 use Rattle.std.proofs.lemmas.List.{nil_from_length, take_at, length-replicate}
 use Rattle.std.proofs.lemmas.Fmt.{decimal_nonempty}
 use Rattle.gs_chars.specs.Characters.{are_digits, are_in_set82, is_in_set82}
-use Rattle.gs_chars.specs.Escapes.{Spells, written_spelling, is_escaped}
+use Rattle.gs_chars.specs.Escapes.{Spells, written_spelling}
+use Rattle.gs_chars.proofs.SpelledSets.{spelled_in_set82}
 use Rattle.gs_chars.proofs.Spellings.{written_is_read}
+use Rattle.gs_chars.proofs.TruthsAndLists.{and_parts, or_parts, not_true, true_from_not, false_from}
 use Rattle.gs_bits.specs.Bits.{bits_of}
 use Rattle.gs_bits.specs.BitLaws.{length-bits_of}
 use Rattle.gs_grammar.specs.declared.item.Item.{Item}
@@ -19,23 +21,6 @@ use Rattle.gs_grammar.specs.Words.{Word, SpellsEach, no_more, one_more, decimal_
 use Rattle.gs_grammar.specs.Writing.{first_reason, has_leading_zero, why_not}
 use Rattle.gs_grammar.proofs.Numbers.{numeral_is, value_decimal, digits_of_decimal, leading_zero}
 use Rattle.gs_grammar.proofs.ItemTests.{between_is, is_between_of}
-
-pub both_of : (a b : Bool) → (a && b) ≡ true → (a ≡ true) × (b ≡ true)
-both_of true true h = (refl, refl)
-both_of true false h = let f : false ≡ true = h in cc
-both_of false b h = let f : false ≡ true = h in cc
-
-neither_of : (a b : Bool) → (a || b) ≡ false → (a ≡ false) × (b ≡ false)
-neither_of true b h = let f : true ≡ false = h in cc
-neither_of false b h = (refl, h)
-
-not_false : (a : Bool) → not a ≡ false → a ≡ true
-not_false true h = refl
-not_false false h = let f : true ≡ false = h in cc
-
-is_false : (a : Bool) → (a ≡ true → ⊥) → a ≡ false
-is_false true h = absurd (h refl)
-is_false false h = refl
 
 -- no reason fits
 record NoReason (a b c d : Bool) : Type 0 where
@@ -58,32 +43,15 @@ reason_none a b c d e f g h = rw (e, f, g, h) refl
 pub spelled_written : (value : List ℕ) → are_in_set82 value ≡ true → SpellsEach value (flat_map written_spelling value)
 spelled_written [] h = no_more
 spelled_written (c ∷ value) h =
-    let b = both_of (is_in_set82 c) (are_in_set82 value) h in
+    let b = and_parts (is_in_set82 c) (are_in_set82 value) h in
     let front = (written_is_read c [] b.0).spelled in
     let spells : Spells c (written_spelling c) = rw (take_at (written_spelling c) [] (length (written_spelling c)) refl) at front in
     one_more c value (written_spelling c) (flat_map written_spelling value) spells (spelled_written value b.1)
 
-member_passes : (p : ℕ → Bool) (xs : List ℕ) (c : ℕ) → list_all p xs ≡ true → list_any (λ x. eqb x c) xs ≡ true → p c ≡ true
-member_passes p [] c h k = let f : false ≡ true = k in cc
-member_passes p (x ∷ xs) c h k =
-    let b = both_of (p x) (list_all p xs) h in
-    elim (eqb_tells x c) as (λ _. p c ≡ true) [
-      | inl e ↦ subst (λ (y : ℕ). p y ≡ true) e.1 b.0
-      | inr e ↦ member_passes p xs c b.1 (rw e.0 at k)
-    ]
-
-escaped_in_set : (c : ℕ) → is_escaped c ≡ true → is_in_set82 c ≡ true
-unfolding is_escaped is_in_set82
-escaped_in_set c h = member_passes is_in_set82 (34 ∷ 37 ∷ 38 ∷ 47 ∷ 60 ∷ 62 ∷ 63 ∷ []) c refl h
-
-spelled_in_set : (c : ℕ) (spelling : List ℕ) → Spells c spelling → is_in_set82 c ≡ true
-spelled_in_set c spelling (inl p) = (both_of (is_in_set82 c) (not (is_escaped c)) p.0).0
-spelled_in_set c spelling (inr p) = escaped_in_set c p.0
-
 pub spelled_set : (value w : List ℕ) → SpellsEach value w → are_in_set82 value ≡ true
 spelled_set value w no_more = refl
 spelled_set value w (one_more c v spelling rest p t) =
-    let first = spelled_in_set c spelling p in
+    let first = spelled_in_set82 c spelling p in
     let others = spelled_set v rest t in
     rw (first, others) refl
 
@@ -103,16 +71,16 @@ length_packed value padding =
     omega arith
 
 empty_of : (value : List ℕ) → not (eqb (length value) 0) ≡ false → value ≡ []
-empty_of value h = nil_from_length value (let e = not_false (eqb (length value) 0) h in grind (arith, nat_tests))
+empty_of value h = nil_from_length value (let e = true_from_not (eqb (length value) 0) h in grind (arith, nat_tests))
 
 count_of : (value : List ℕ) (n : ℕ) → not (eqb (length value) n) ≡ false → length value ≡ n
-count_of value n h = let e = not_false (eqb (length value) n) h in grind (arith, nat_tests)
+count_of value n h = let e = true_from_not (eqb (length value) n) h in grind (arith, nat_tests)
 
 numeral_text : (value : List ℕ) (greatest : ℕ) → greatest < 2 ^ 64 → NoReason (not (are_digits value)) (eqb (length value) 0) (has_leading_zero value) (leb (suc greatest) (decimal_value value)) → (decimal_value value ≤ greatest) × (value ≡ decimal (decimal_value value))
 numeral_text value greatest g r =
     let l = r.large in
     let small : decimal_value value ≤ greatest = grind (arith, nat_tests) in
-    (small, numeral_is value (decimal_value value) (eqb (length value) 0) (has_leading_zero value) refl r.size refl r.zero (not_false (are_digits value) r.char) refl (omega arith))
+    (small, numeral_is value (decimal_value value) (eqb (length value) 0) (has_leading_zero value) refl r.size refl r.zero (true_from_not (are_digits value) r.char) refl (omega arith))
 
 -- a value with no reason against it has its written word
 pub held_word : (item : Item) (value : List ℕ) → greatest_of item < 2 ^ 64 → why_not item value ≡ None → Word item value (written_word item value)
@@ -121,37 +89,34 @@ held_word (Lit literal) value i h =
     (empty_of value r.size, refl)
 held_word (Pad n) value i h =
     let r = no_reason (not (are_digits value)) (not (eqb (length value) n)) false false h in
-    (count_of value n r.size, not_false (are_digits value) r.char, refl)
+    (count_of value n r.size, true_from_not (are_digits value) r.char, refl)
 held_word (Int greatest) value i h =
     let r = no_reason (not (are_digits value)) (eqb (length value) 0) (has_leading_zero value) (leb (suc greatest) (decimal_value value)) h in
     let t = numeral_text value greatest i r in
     ((decimal_value value, record { small = t.0; text = t.1 }), refl)
 held_word (Esc lo hi) value i h =
     let r = no_reason (not (are_in_set82 value)) (not (is_between lo hi (length value))) false false h in
-    let b = between_is lo hi (length value) (not_false (is_between lo hi (length value)) r.size) in
-    (record { least = b.0; most = b.1 }, spelled_written value (not_false (are_in_set82 value) r.char))
+    let b = between_is lo hi (length value) (true_from_not (is_between lo hi (length value)) r.size) in
+    (record { least = b.0; most = b.1 }, spelled_written value (true_from_not (are_in_set82 value) r.char))
 held_word (NumPad bits n) value i h =
     let r = no_reason (not (are_digits value)) (not (eqb (length value) n)) false (leb (2 ^ bits) (decimal_value value)) h in
     let l = r.large in
-    (count_of value n r.size, not_false (are_digits value) r.char, record { fits = grind (arith, nat_tests); written = refl })
+    (count_of value n r.size, true_from_not (are_digits value) r.char, record { fits = grind (arith, nat_tests); written = refl })
 held_word (Num bits greatest) value i h =
     let r = no_reason (not (are_digits value)) (eqb (length value) 0) (has_leading_zero value) (leb (suc greatest) (decimal_value value) || leb (2 ^ bits) (decimal_value value)) h in
-    let l = neither_of (leb (suc greatest) (decimal_value value)) (leb (2 ^ bits) (decimal_value value)) r.large in
+    let l = or_parts (leb (suc greatest) (decimal_value value)) (leb (2 ^ bits) (decimal_value value)) r.large in
     let room = l.1 in
     let t = numeral_text value greatest i (record { char = r.char; size = r.size; zero = r.zero; large = l.0 }) in
     (decimal_value value, (record { small = t.0; text = t.1 }, record { fits = grind (arith, nat_tests); written = refl }))
 held_word (Ascii7 lo hi bits) value i h =
     let r = no_reason (not (are_in_set82 value)) (not (is_between lo hi (length value) && leb (7 * length value) bits)) false false h in
-    let s = both_of (is_between lo hi (length value)) (leb (7 * length value) bits) (not_false (is_between lo hi (length value) && leb (7 * length value) bits) r.size) in
+    let s = and_parts (is_between lo hi (length value)) (leb (7 * length value) bits) (true_from_not (is_between lo hi (length value) && leb (7 * length value) bits) r.size) in
     let b = between_is lo hi (length value) s.0 in
     let room = leb-true (7 * length value) bits s.1 in
-    (record { least = b.0; most = b.1 }, record { characters = not_false (are_in_set82 value) r.char; padding = bits - 7 * length value; packed = refl }, let l = length_packed value (bits - 7 * length value) in omega arith)
+    (record { least = b.0; most = b.1 }, record { characters = true_from_not (are_in_set82 value) r.char; padding = bits - 7 * length value; packed = refl }, let l = length_packed value (bits - 7 * length value) in omega arith)
 held_word (Fill a b) value i h =
     let r = no_reason false (not (eqb (length value) 0)) false false h in
     (empty_of value r.size, inr refl)
-
-not_true : (a : Bool) → a ≡ true → not a ≡ false
-not_true a h = rw h refl
 
 count_is : (value : List ℕ) (n : ℕ) → length value ≡ n → not (eqb (length value) n) ≡ false
 count_is value n h = not_true (eqb (length value) n) (grind (arith, nat_tests))
@@ -164,9 +129,9 @@ numeral_reasons value number large small e f =
     let v : decimal_value value ≡ number = ap decimal_value e ∙ value_decimal number small in
     reason_none (not (are_digits value)) (eqb (length value) 0) (has_leading_zero value) large
     (not_true (are_digits value) digits)
-    (is_false (eqb (length value) 0) (λ t. let z : length value ≡ 0 = grind (arith, nat_tests) in omega arith))
-    (is_false (has_leading_zero value) (λ t. leading_zero value (has_leading_zero value) refl t number small e))
-    (is_false large (f v))
+    (false_from (eqb (length value) 0) (λ t. let z : length value ≡ 0 = grind (arith, nat_tests) in omega arith))
+    (false_from (has_leading_zero value) (λ t. leading_zero value (has_leading_zero value) refl t number small e))
+    (false_from large (f v))
 
 above_or_full : (number greatest bits value : ℕ) → number ≤ greatest → number < 2 ^ bits → value ≡ number → (leb (suc greatest) value || leb (2 ^ bits) value) ≡ true → ⊥
 above_or_full number greatest bits value s f e t = grind (arith, nat_tests)
@@ -182,7 +147,7 @@ word_held (Esc lo hi) value w i h =
     reason_none (not (are_in_set82 value)) (not (is_between lo hi (length value))) false false (not_true (are_in_set82 value) (spelled_set value w h.1)) (not_true (is_between lo hi (length value)) (is_between_of lo hi (length value) h.0.least h.0.most)) refl refl
 word_held (NumPad bits n) value w i h =
     reason_none (not (are_digits value)) (not (eqb (length value) n)) false (leb (2 ^ bits) (decimal_value value)) (not_true (are_digits value) h.1) (count_is value n h.0) refl
-    (is_false (leb (2 ^ bits) (decimal_value value)) (λ t. let m = leb-true (2 ^ bits) (decimal_value value) t in let f = h.2.fits in omega arith))
+    (false_from (leb (2 ^ bits) (decimal_value value)) (λ t. let m = leb-true (2 ^ bits) (decimal_value value) t in let f = h.2.fits in omega arith))
 word_held (Num bits greatest) value w i h =
     let s = h.1.0.small in
     numeral_reasons value h.0 (leb (suc greatest) (decimal_value value) || leb (2 ^ bits) (decimal_value value)) (omega arith) h.1.0.text (above_or_full h.0 greatest bits (decimal_value value) s h.1.1.fits)

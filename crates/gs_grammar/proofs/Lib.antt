@@ -1,6 +1,7 @@
 pub mod Spelled
 pub mod Numbers
 pub mod WordLaws
+pub mod ItemWords
 pub mod ItemTests
 pub mod Cuts
 pub mod Options

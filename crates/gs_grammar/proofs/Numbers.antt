@@ -5,14 +5,31 @@ use Rattle.std.proofs.lemmas.Bool.{cases_eq}
 use Rattle.std.proofs.lemmas.Bool.Decides.{nat_tests, leb_tells}
 use Rattle.std.proofs.lemmas.List.{drop_more}
 use Rattle.std.proofs.lemmas.List.Folds.{list_all-append}
-use Rattle.std.proofs.lemmas.Str.Parse.{IsNumeralModel, numerals_by_fold, digits_value_short}
+use Rattle.std.proofs.lemmas.Str.Parse.{IsNumeralModel, numerals_by_weight, digits_value_short}
 use Rattle.std.proofs.lemmas.Fmt.{digits_value-decimal, digits_decimal, decimal-digits_value, length-decimal-le, decimal_nonempty, first_decimal, decimal_digit}
 use Rattle.gs_chars.specs.Characters.{are_digits, is_digit}
-use Rattle.gs_grammar.specs.Words.{value_after, decimal_value}
+use Rattle.gs_grammar.specs.Words.{decimal_value}
 use Rattle.gs_grammar.specs.Numerals.{IsPadded}
 
 pub own : IsNumeralModel (λ ds. are_digits ds ≡ true) decimal_value
-own = numerals_by_fold _ (search rules) value_after (search rules)
+own = numerals_by_weight _ (search rules) decimal_value (search rules)
+
+-- the number that decimal digits write behind another number
+abbrev pub value_after : ℕ → List ℕ → ℕ
+value_after number [] = number
+value_after number (digit ∷ digits) = value_after (10 * number + (digit - 48)) digits
+
+-- digits behind a number count as much as they do alone
+after_is : (number : ℕ) (digits : List ℕ) → value_after number digits ≡ number * 10 ^ length digits + decimal_value digits
+after_is number [] = omega arith
+after_is number (digit ∷ digits) =
+    let r = after_is (10 * number + (digit - 48)) digits in
+    let power : 10 ^ suc (length digits) ≡ 10 * 10 ^ length digits = pow-succ' 10 (length digits) in
+    let front : (10 * number + (digit - 48)) * 10 ^ length digits ≡ number * 10 ^ suc (length digits) + (digit - 48) * 10 ^ length digits = rw power (omega arith) in
+    r ∙ omega (arith, front)
+
+pub after_zero : (digits : List ℕ) → value_after 0 digits ≡ decimal_value digits
+after_zero digits = after_is 0 digits ∙ omega arith
 
 -- the decimal text of a number writes it
 pub value_decimal : (number : ℕ) → number < 2 ^ 64 → decimal_value (decimal number) ≡ number
@@ -101,7 +118,7 @@ same_after m n (x ∷ xs) (y ∷ ys) l a b e =
     (omega arith, cc)
 
 pub same_digits : (xs ys : List ℕ) → length xs ≡ length ys → are_digits xs ≡ true → are_digits ys ≡ true → decimal_value xs ≡ decimal_value ys → xs ≡ ys
-same_digits xs ys l a b e = (same_after 0 0 xs ys l a b e).1
+same_digits xs ys l a b e = (same_after 0 0 xs ys l a b (after_zero xs ∙ e ∙ sym (after_zero ys))).1
 
 pub value_below : (ds : List ℕ) (n : ℕ) → are_digits ds ≡ true → length ds ≡ n → decimal_value ds < 10 ^ n
 value_below ds n d l = digits_value_short own ds n d (omega arith)
@@ -132,6 +149,8 @@ pads_step n number place digit digits p e =
           rw (split, d, one) refl;
       value =
           let push = value_push 0 digits (48 + digit) in
+          let all = after_zero (digits ++ (48 + digit) ∷ []) in
+          let front = after_zero digits in
           let power : 10 ^ suc place ≡ 10 ^ place * 10 = pow-suc 10 place in
           let quotient : number / 10 ^ place / 10 ≡ number / 10 ^ suc place = rw power (div-div-eq-div-mul number (10 ^ place) 10) in
           let v = p.value in

@@ -1,21 +1,16 @@
 -- The only derivation of a list of symbols: its option and its values, and that there are not two.
-use Rattle.std.proofs.Common.{◌≡◌, ℕ, List, Some, refl, sym, ◌∙◌}
-use Rattle.std.specs.List.{slice_get}
+use Rattle.std.proofs.Common.{◌≡◌, ℕ, List, refl, sym, ◌∙◌}
+use Rattle.gs_chars.proofs.TruthsAndLists.{same_at}
 use Rattle.gs_grammar.specs.declared.item.Item.{Item}
 use Rattle.gs_grammar.specs.Derivations.{EachWord, no_item, one_item, OneDerivation, TwoDerivations}
 use Rattle.gs_grammar.proofs.WordLaws.{word_fixes_value}
 
 -- the words of items fix their values
-each_fixes : (items : List Item) (values values' words : List (List ℕ)) → EachWord items values words → EachWord items values' words → values ≡ values'
+pub each_fixes : (items : List Item) (values values' words : List (List ℕ)) → EachWord items values words → EachWord items values' words → values ≡ values'
 each_fixes items values values' words no_item no_item = refl
 each_fixes items values values' words (one_item item value w others rest words' h t) (one_item _ value' _ _ rest' _ h' t') =
     let first = word_fixes_value item value value' w h h' in
     let tail = each_fixes others rest rest' words' t t' in
-    cc
-
-same_items : (level : List (List Item)) (k k' : ℕ) (items items' : List Item) → slice_get level k ≡ Some items → slice_get level k' ≡ Some items' → k' ≡ k → items' ≡ items
-same_items level k k' items items' a b e =
-    let c : slice_get level k ≡ Some items' = rw e at b in
     cc
 
 same_values : (items items' : List Item) (values values' words words' : List (List ℕ)) → items' ≡ items → words' ≡ words → EachWord items values words → EachWord items' values' words' → values ≡ values'
@@ -29,7 +24,7 @@ one_reading level w option option' values values' one other =
     let d = one.derivation in
     let e = other.derivation in
     let s = one.only e in
-    let items = same_items level d.option e.option d.items e.items d.of_level e.of_level s.option in
+    let items = same_at level e.option d.option e.items d.items e.of_level d.of_level s.option in
     let same = same_values d.items e.items d.values e.values d.words e.words items s.words d.derives.each e.derives.each in
     (sym one.of_option ∙ sym s.option ∙ other.of_option, sym one.of_values ∙ same ∙ other.of_values)
 

@@ -4,19 +4,15 @@ use Rattle.std.specs.List.{slice_get}
 use Rattle.std.specs.Option.{option_map}
 use Rattle.std.proofs.lemmas.List.{length-map, map-append, take_more, take_all, length-take-le, take-append-drop}
 use Rattle.std.proofs.lemmas.Option.{slice_get_within, slice_get-map, slice_get-get_or}
+use Rattle.gs_chars.proofs.TruthsAndLists.{place_left}
 use Rattle.gs_grammar.specs.declared.item.Item.{Item}
 use Rattle.gs_grammar.specs.declared.found.Found.{Found}
 use Rattle.gs_grammar.specs.declared.found.Found.TheVariants.{Never, Once, Twice}
 use Rattle.gs_grammar.specs.declared.found.FoundOption.{FoundOption}
 use Rattle.gs_grammar.specs.declared.found.FoundOption.TheVariants.{NoOption, OneOption, TwoReadings}
-use Rattle.gs_grammar.specs.Derivations.{Derives, Derivation, AreSame, OneDerivation, TwoDerivations}
-use Rattle.gs_grammar.specs.Searches.{IsDerived, HasValues, Finds, FindsInLevel, joined_option}
+use Rattle.gs_grammar.specs.Derivations.{Derives, IsDerived, HasValues, Derivation, AreSame, OneDerivation, TwoDerivations}
+use Rattle.gs_grammar.specs.Searches.{Finds, FindsInLevel, joined_option}
 use Rattle.gs_grammar.specs.Levels.{OptionForm, item_lists}
-
-get_front : (xs ys : List (List Item)) (x : List Item) (k : ℕ) → slice_get xs k ≡ Some x → slice_get (xs ++ ys) k ≡ Some x
-get_front [] ys x k h = let f : None ≡ Some x = h in cc
-get_front (z ∷ xs) ys x zero h = h
-get_front (z ∷ xs) ys x (suc k) h = get_front xs ys x k h
 
 get_last : (xs : List (List Item)) (y : List Item) → slice_get (xs ++ y ∷ []) (length xs) ≡ Some y
 get_last [] y = refl
@@ -37,7 +33,7 @@ get_cases (z ∷ xs) y x (suc k) h = elim (get_cases xs y x k h) as (λ _. (slic
 
 -- a derivation of the options before is one of all
 abbrev lifted : (level more : List (List Item)) (w : List ℕ) → Derivation level w → Derivation (level ++ more) w
-lifted level more w d = record { option = d.option; items = d.items; values = d.values; words = d.words; of_level = get_front level more d.items d.option d.of_level; derives = d.derives }
+lifted level more w d = record { option = d.option; items = d.items; values = d.values; words = d.words; of_level = place_left level more d.option d.items d.of_level; derives = d.derives }
 
 abbrev last_derivation : (level : List (List Item)) (items : List Item) (w : List ℕ) (values words : List (List ℕ)) → Derives items w values words → Derivation (level ++ items ∷ []) w
 last_derivation level items w values words d = record { option = length level; items = items; values = values; words = words; of_level = get_last level items; derives = d }

@@ -7,6 +7,7 @@ use Rattle.std.proofs.lemmas.Bool.Decides.{eqb_tells}
 use Rattle.std.proofs.lemmas.List.{take_more, take_more_set, take_at, drop_at, take-append-drop, append_assoc, length-drop, length-replicate, append-nil, take_all}
 use Rattle.std.proofs.lemmas.List.Elements.{All-append, All-get_or, All-cons, All-nil, All-head, All-tail, All-take, All-replicate}
 use Rattle.gs_chars.specs.Characters.{is_in_set82, are_in_set82, set82}
+use Rattle.gs_chars.proofs.TruthsAndLists.{and_parts}
 use Rattle.gs_bits.specs.Bits.{AreBits, number_of, bits_of}
 use Rattle.gs_bits.specs.BitLaws.{length-bits_of, AreBits-bits_of, number_of-bits_of, number_of-append, number_of-below, bits_of-number_of}
 use Rattle.gs_grammar.specs.Words.{WritesNumber, IsPacked, PacksMany}
@@ -60,16 +61,11 @@ number_end bits w i number l e h =
 
 -- codes of 7 bits
 
-both_of : (a b : Bool) → (a && b) ≡ true → (a ≡ true) × (b ≡ true)
-both_of true true h = (refl, refl)
-both_of true false h = let f : false ≡ true = h in cc
-both_of false b h = let f : false ≡ true = h in cc
-
 within_set : (xs : List ℕ) (c : ℕ) → list_all (λ x. leb 1 x && leb x 127) xs ≡ true → list_any (λ x. eqb x c) xs ≡ true → (0 < c) × (c < 128)
 within_set [] c h k = let f : false ≡ true = k in cc
 within_set (x ∷ xs) c h k =
-    let b = both_of (leb 1 x && leb x 127) (list_all (λ x. leb 1 x && leb x 127) xs) h in
-    let l = both_of (leb 1 x) (leb x 127) b.0 in
+    let b = and_parts (leb 1 x && leb x 127) (list_all (λ x. leb 1 x && leb x 127) xs) h in
+    let l = and_parts (leb 1 x) (leb x 127) b.0 in
     let low = leb-true 1 x l.0 in
     let high = leb-true x 127 l.1 in
     elim (eqb_tells x c) as (λ _. (0 < c) × (c < 128)) [
@@ -120,7 +116,7 @@ pub record PackGoesOn (u : List ℕ) (c : ℕ) (rest : List ℕ) : Type 0 where
 pub unpack : (u w rest : List ℕ) (c : ℕ) → IsPacked u w → 0 < c → c < 128 → w ≡ bits_of 7 c ++ rest → PackGoesOn u c rest
 unpack [] w rest c p h k e = absurd (zeros_no_code p.padding c rest h k (sym p.packed ∙ e))
 unpack (d ∷ v) w rest c p h k e =
-    let b = both_of (is_in_set82 d) (are_in_set82 v) p.characters in
+    let b = and_parts (is_in_set82 d) (are_in_set82 v) p.characters in
     let s = set82_bounds d b.0 in
     let whole : bits_of 7 d ++ (flat_map (bits_of 7) v ++ replicate p.padding 0) ≡ bits_of 7 c ++ rest = sym (split_front d p.padding v) ∙ sym p.packed ∙ e in
     let same = same_code d c (flat_map (bits_of 7) v ++ replicate p.padding 0) rest s.1 k whole in
@@ -140,7 +136,7 @@ pack_cons c v rest h p =
 first_code : (u w : List ℕ) → IsPacked u w → NoCode w → u ≡ []
 first_code [] w p none = refl
 first_code (d ∷ v) w p none =
-    let b = both_of (is_in_set82 d) (are_in_set82 v) p.characters in
+    let b = and_parts (is_in_set82 d) (are_in_set82 v) p.characters in
     let s = set82_bounds d b.0 in
     absurd (none d (flat_map (bits_of 7) v ++ replicate p.padding 0) s.0 s.1 (p.packed ∙ split_front d p.padding v))
 
@@ -153,11 +149,11 @@ packed_nil w p =
 pub packed_fixes : (u v w : List ℕ) → IsPacked u w → IsPacked v w → u ≡ v
 packed_fixes [] [] w p q = refl
 packed_fixes [] (d ∷ v) w p q =
-    let b = both_of (is_in_set82 d) (are_in_set82 v) q.characters in
+    let b = and_parts (is_in_set82 d) (are_in_set82 v) q.characters in
     let s = set82_bounds d b.0 in
     absurd (zeros_no_code p.padding d (flat_map (bits_of 7) v ++ replicate q.padding 0) s.0 s.1 (sym p.packed ∙ q.packed ∙ split_front d q.padding v))
 packed_fixes (c ∷ u) v w p q =
-    let b = both_of (is_in_set82 c) (are_in_set82 u) p.characters in
+    let b = and_parts (is_in_set82 c) (are_in_set82 u) p.characters in
     let s = set82_bounds c b.0 in
     let rest : List ℕ = flat_map (bits_of 7) u ++ replicate p.padding 0 in
     let g = unpack v w rest c q s.0 s.1 (p.packed ∙ split_front c p.padding u) in
@@ -268,7 +264,7 @@ pack_collects_end w rest out k none =
 zeros_are : (w : List ℕ) → list_all (λ b. eqb b 0) w ≡ true → w ≡ replicate (length w) 0
 zeros_are [] h = refl
 zeros_are (x ∷ w) h =
-    let b = both_of (eqb x 0) (list_all (λ b. eqb b 0) w) h in
+    let b = and_parts (eqb x 0) (list_all (λ b. eqb b 0) w) h in
     elim (eqb_tells x 0) as (λ _. x ∷ w ≡ replicate (length (x ∷ w)) 0) [
       | inl e ↦ let same = e.1 in let tail = zeros_are w b.1 in cc
       | inr e ↦ absurd (let f : false ≡ true = sym e.0 ∙ b.0 in cc)

@@ -1,11 +1,12 @@
 -- The words of items: their lengths, and the one value of each.
-use Rattle.std.proofs.Common.{◌≡◌, ℕ, ◌<◌, ◌≤◌, ◌^◌, ◌||◌, Bool, true, false, IsTrue, List, length, get_or, suc, All, None, refl, sym, ◌∙◌, ap, arith, inl, inr, decimal}
+use Rattle.std.proofs.Common.{◌≡◌, ℕ, ◌<◌, ◌≤◌, ◌^◌, Bool, true, false, IsTrue, List, length, get_or, suc, All, None, refl, sym, ◌∙◌, ap, arith, inl, inr, decimal}
 use Rattle.std.specs.List.{position, position_or_len}
 use Rattle.std.proofs.Math.Pow.{pow_mono}
 use Rattle.std.proofs.lemmas.List.{length-replicate}
 use Rattle.std.proofs.lemmas.List.Sums.{fails_before_first}
 use Rattle.std.proofs.lemmas.Bool.Decides.{nat_tests, leb_tells}
 use Rattle.std.proofs.lemmas.Fmt.{decimal_nonempty}
+use Rattle.gs_chars.proofs.TruthsAndLists.{or_true}
 use Rattle.gs_grammar.specs.declared.item.Item.{Item}
 use Rattle.gs_grammar.specs.declared.item.Item.TheVariants.{Lit, Pad, Int, Esc, NumPad, Num, Ascii7, Fill}
 use Rattle.gs_grammar.specs.Items.{is_in_bounds, is_bad, IsItem, greatest_of, size_of, shortest_of}
@@ -25,10 +26,6 @@ word_fixes_value (NumPad bits n) value value' w h k =
 word_fixes_value (Num bits greatest) value value' w h k = h.1.0.text ∙ ap decimal (writes_one bits h.0 k.0 w h.1.1 k.1.1) ∙ sym k.1.0.text
 word_fixes_value (Ascii7 lo hi bits) value value' w h k = packed_fixes value value' w h.1 k.1
 word_fixes_value (Fill a b) value value' w h k = h.0 ∙ sym k.0
-
-or_true : (a b : Bool) → b ≡ true → (a || b) ≡ true
-or_true true b h = refl
-or_true false b h = h
 
 -- an item that is on a level is an item
 pub of_level : (bit_level : Bool) (item : Item) → is_in_bounds bit_level item ≡ true → IsItem item

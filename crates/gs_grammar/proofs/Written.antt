@@ -1,12 +1,12 @@
 -- What is written of the values of an option, word by word.
-use Rattle.std.proofs.Common.{◌≡◌, ℕ, ◌<◌, ◌≤◌, ◌+◌, ◌-◌, ◌*◌, ◌^◌, suc, Bool, true, List, [], ◌∷◌, ◌++◌, length, get_or, take, drop, replicate, Some, None, Result, Ok, Err, IsErr, OnOk, ◌↔◌, refl, sym, ◌∙◌, ap, subst, arith, All, inl, inr, length-append}
+use Rattle.std.proofs.Common.{◌≡◌, ℕ, ◌<◌, ◌≤◌, ◌+◌, ◌-◌, ◌*◌, ◌^◌, suc, Bool, true, List, [], ◌∷◌, ◌++◌, length, get_or, drop, replicate, Some, None, refl, sym, ◌∙◌, ap, subst, arith, All, inl, inr, length-append}
 use Rattle.std.specs.List.{AllPass, flat_map, list_all, position, slice_get}
 use Rattle.std.proofs.Math.Pow.{pow_mono}
 use Rattle.std.proofs.lemmas.Bool.{cases_eq, ltb-true}
-use Rattle.std.proofs.lemmas.List.{drop_more, drop_all, append_assoc, append-nil, length-drop, length-replicate, length-take-le, take_more}
+use Rattle.std.proofs.lemmas.List.{drop_more, drop_all, append_assoc, append-nil, length-drop, length-replicate}
 use Rattle.std.proofs.lemmas.List.Elements.{All-cons, All-nil, All-head, All-tail}
-use Rattle.std.proofs.lemmas.Option.{slice_get-get_or}
 use Rattle.gs_chars.specs.Characters.{are_in_set82, is_in_set82}
+use Rattle.gs_chars.proofs.TruthsAndLists.{and_parts, read_at}
 use Rattle.gs_bits.specs.Bits.{AreBits, bits_of, number_of}
 use Rattle.gs_bits.specs.BitLaws.{bits_of-number_of}
 use Rattle.gs_grammar.specs.declared.item.Item.{Item}
@@ -16,9 +16,11 @@ use Rattle.gs_grammar.specs.Items.{is_bad, is_between, is_in_bounds, is_symbol, 
 use Rattle.gs_grammar.specs.Words.{decimal_value, written_word}
 use Rattle.gs_grammar.specs.Derivations.{EachWord, no_item, one_item, Derives, Derivation, OneDerivation}
 use Rattle.gs_grammar.specs.Writing.{why_not, written, written_words, AreHeldBefore, AreHeld, IsFirstRefusal}
-use Rattle.gs_grammar.proofs.Held.{held_word, packed_length, both_of}
+use Rattle.gs_grammar.proofs.OneReading.{each_fixes}
+use Rattle.gs_grammar.proofs.Held.{held_word, packed_length}
 use Rattle.gs_grammar.proofs.Packs.{set82_bounds}
-use Rattle.gs_grammar.proofs.WordLaws.{word_fixes_value, none_bad, of_level, word_length, greatest_small, numpad_bounds, num_bounds}
+use Rattle.gs_grammar.proofs.WordLaws.{none_bad, of_level, word_length, greatest_small, numpad_bounds, num_bounds}
+use Rattle.gs_grammar.proofs.ItemTests.{IsBits}
 use Rattle.gs_grammar.proofs.Numbers.{value_decimal}
 
 -- one more piece of a text
@@ -64,17 +66,11 @@ zeros_end t all count place l e =
 
 -- items that hold their values, one by one
 
-item_at : (items : List Item) (k : ℕ) (item : Item) → k < length items → item ≡ get_or items k item → slice_get items k ≡ Some item
-item_at items k item l e = slice_get-get_or items k item l ∙ ap Some (sym e)
-
-value_at : (values : List (List ℕ)) (k : ℕ) (value : List ℕ) → k < length values → value ≡ get_or values k value → slice_get values k ≡ Some value
-value_at values k value l e = slice_get-get_or values k value l ∙ ap Some (sym e)
-
 pub held_step : (items : List Item) (values : List (List ℕ)) (k : ℕ) (item : Item) (value : List ℕ) → AreHeldBefore items values k → k < length items → k < length values → item ≡ get_or items k item → value ≡ get_or values k value → why_not item value ≡ None → AreHeldBefore items values (k + 1)
 held_step items values k item value h l m e f n j other v b p q = elim (cases_eq j k) as (λ _. why_not other v ≡ None) [
   | inl s ↦
-      let i : Some other ≡ Some item = sym (rw s at p) ∙ item_at items k item l e in
-      let w : Some v ≡ Some value = sym (rw s at q) ∙ value_at values k value m f in
+      let i : Some other ≡ Some item = sym (rw s at p) ∙ read_at items k item l e in
+      let w : Some v ≡ Some value = sym (rw s at q) ∙ read_at values k value m f in
       let same : other ≡ item = cc in
       let equal : v ≡ value = cc in
       rw (same, equal) n
@@ -82,10 +78,10 @@ held_step items values k item value h l m e f n j other v b p q = elim (cases_eq
 ]
 
 pub refused_at : (items : List Item) (values : List (List ℕ)) (k : ℕ) (item : Item) (value : List ℕ) (why : Why) → AreHeldBefore items values k → k < length items → k < length values → item ≡ get_or items k item → value ≡ get_or values k value → why_not item value ≡ Some why → IsFirstRefusal items values k why
-refused_at items values k item value why h l m e f r = record { item = item; value = value; item_at = item_at items k item l e; value_at = value_at values k value m f; reason = r; before = h }
+refused_at items values k item value why h l m e f r = record { item = item; value = value; item_at = read_at items k item l e; value_at = read_at values k value m f; reason = r; before = h }
 
 pub held_at : (items : List Item) (values : List (List ℕ)) (k : ℕ) (item : Item) (value : List ℕ) → AreHeld items values → k < length items → k < length values → item ≡ get_or items k item → value ≡ get_or values k value → why_not item value ≡ None
-held_at items values k item value h l m e f = h k item value l (item_at items k item l e) (value_at values k value m f)
+held_at items values k item value h l m e f = h k item value l (read_at items k item l e) (read_at values k value m f)
 
 pub held_all : (items : List Item) (values : List (List ℕ)) (k : ℕ) → AreHeldBefore items values k → length items ≤ k → AreHeld items values
 held_all items values k h l j item value b p q = h j item value (omega arith) p q
@@ -137,13 +133,13 @@ written_derives (item ∷ items) (value ∷ values) i l h =
 set_codes : (value : List ℕ) → are_in_set82 value ≡ true → All (λ c. c < 128) value
 set_codes [] h = All-nil (λ c. c < 128)
 set_codes (c ∷ value) h =
-    let b = both_of (is_in_set82 c) (are_in_set82 value) h in
+    let b = and_parts (is_in_set82 c) (are_in_set82 value) h in
     All-cons (λ c. c < 128) c value (set82_bounds c b.0).1 (set_codes value b.1)
 
 bits_all : (symbols : List ℕ) → list_all (is_symbol true) symbols ≡ true → AreBits symbols
 bits_all [] h = All-nil (λ b. b < 2)
 bits_all (b ∷ symbols) h =
-    let p = both_of (is_symbol true b) (list_all (is_symbol true) symbols) h in
+    let p = and_parts (is_symbol true b) (list_all (is_symbol true) symbols) h in
     All-cons (λ b. b < 2) b symbols (ltb-true b 2 p.0) (bits_all symbols p.1)
 
 -- what a bit item says of a value that it holds
@@ -151,27 +147,38 @@ bits_all (b ∷ symbols) h =
 pub lit_bits : (item : Item) (literal : List ℕ) → item ≡ Lit literal → is_in_bounds true item ≡ true → AreBits literal
 lit_bits item literal i b =
     let k : is_in_bounds true (Lit literal) ≡ true = rw i at b in
-    bits_all literal (both_of (is_between 1 64 (length literal)) (list_all (is_symbol true) literal) k).1
+    bits_all literal (and_parts (is_between 1 64 (length literal)) (list_all (is_symbol true) literal) k).1
 
-pub numpad_held : (item : Item) (bits n : ℕ) (value : List ℕ) → item ≡ NumPad bits n → is_in_bounds true item ≡ true → why_not item value ≡ None → (bits ≤ 64) × (decimal_value value < 2 ^ bits)
-numpad_held item bits n value i b h =
-    let k = rw i at b in
-    let g = of_level true (NumPad bits n) k in
-    let w = held_word (NumPad bits n) value (greatest_small (NumPad bits n) g) (rw i at h) in
-    let m = numpad_bounds bits n g in
-    (m.1, w.2.fits)
+numpad_held : (bits n : ℕ) (value : List ℕ) → is_in_bounds true (NumPad bits n) ≡ true → why_not (NumPad bits n) value ≡ None → (bits ≤ 64) × (decimal_value value < 2 ^ bits)
+numpad_held bits n value b h =
+    let g = of_level true (NumPad bits n) b in
+    let w = held_word (NumPad bits n) value (greatest_small (NumPad bits n) g) h in
+    ((numpad_bounds bits n g).1, w.2.fits)
 
-pub num_held : (item : Item) (bits greatest : ℕ) (value : List ℕ) → item ≡ Num bits greatest → is_in_bounds true item ≡ true → why_not item value ≡ None → (bits ≤ 64) × (decimal_value value < 2 ^ bits)
-num_held item bits greatest value i b h =
-    let k = rw i at b in
-    let g = of_level true (Num bits greatest) k in
-    let w = held_word (Num bits greatest) value (greatest_small (Num bits greatest) g) (rw i at h) in
+num_held : (bits greatest : ℕ) (value : List ℕ) → is_in_bounds true (Num bits greatest) ≡ true → why_not (Num bits greatest) value ≡ None → (bits ≤ 64) × (decimal_value value < 2 ^ bits)
+num_held bits greatest value b h =
+    let g = of_level true (Num bits greatest) b in
+    let w = held_word (Num bits greatest) value (greatest_small (Num bits greatest) g) h in
     let m = num_bounds bits greatest g in
     let most = m.1 in
     let power : 2 ^ bits ≤ 2 ^ 64 = pow_mono most in
     let fits = w.1.1.fits in
     let value_is : decimal_value value ≡ w.0 = ap decimal_value w.1.0.text ∙ value_decimal w.0 (omega arith) in
     (m.1, omega arith)
+
+-- a number in bits that an item holds has room in them
+pub bits_held : (item : Item) (bits : ℕ) (value : List ℕ) → IsBits item bits → is_in_bounds true item ≡ true → why_not item value ≡ None → (bits ≤ 64) × (decimal_value value < 2 ^ bits)
+bits_held item bits value (inl i) b h = numpad_held bits i.0 value (rw i.1 at b) (rw i.1 at h)
+bits_held item bits value (inr i) b h = num_held bits i.0 value (rw i.1 at b) (rw i.1 at h)
+
+-- of either kind the written word is the number of the value in these bits
+pub bits_written : (item : Item) (bits : ℕ) (value : List ℕ) → IsBits item bits → written_word item value ≡ bits_of bits (decimal_value value)
+bits_written item bits value (inl i) = ap (λ (x : Item). written_word x value) i.1
+bits_written item bits value (inr i) = ap (λ (x : Item). written_word x value) i.1
+
+pub bits_size : (item : Item) (bits : ℕ) → IsBits item bits → size_of item ≡ bits
+bits_size item bits (inl i) = ap size_of i.1
+bits_size item bits (inr i) = ap size_of i.1
 
 pub ascii_held : (item : Item) (lo hi bits : ℕ) (value : List ℕ) → item ≡ Ascii7 lo hi bits → is_in_bounds true item ≡ true → why_not item value ≡ None → All (λ c. c < 128) value × (7 * length value ≤ bits)
 ascii_held item lo hi bits value i b h =
@@ -184,21 +191,13 @@ ascii_held item lo hi bits value i b h =
     let whole : length (flat_map (bits_of 7) value ++ replicate {A = ℕ} (bits - 7 * length value) 0) ≡ bits = l in
     (set_codes value w.1.characters, omega arith)
 
-pub written_room : (items : List Item) (values : List (List ℕ)) → All IsItem items → length values ≡ length items → AreHeld items values → length (written items values) ≤ size_of_all items
-written_room [] [] i l h = omega arith
-written_room [] (value ∷ values) i l h = absurd (omega arith)
-written_room (item ∷ items) [] i l h = absurd (omega arith)
-written_room (item ∷ items) (value ∷ values) i l h =
-    let rest = written_room items values (All-tail IsItem item items i) (omega arith) (shift item items value values h) in
-    let g = All-head IsItem item items i in
-    let first = (word_length item value (written_word item value) g (held_word item value (greatest_small item g) (h 0 item value (omega arith) refl refl))).1 in
-    let a = length-append (written_word item value) (written items values) in
-    omega arith
-
 -- room for the words to come
 
-pub characters_room : (t first value : List ℕ) (i : ℕ) → i < length value → t ++ flat_map (bits_of 7) (drop i value) ≡ first ++ flat_map (bits_of 7) value → length first + 7 * length value ≤ 512 → length t + 7 ≤ 512
-characters_room t first value i l e r =
+pub room_of : (size out used total : ℕ) → out + size ≤ total → used ≤ size → out + used ≤ total
+room_of size out used total r u = omega arith
+
+pub characters_room : (t first value : List ℕ) (i total : ℕ) → i < length value → t ++ flat_map (bits_of 7) (drop i value) ≡ first ++ flat_map (bits_of 7) value → length first + 7 * length value ≤ total → length t + 7 ≤ total
+characters_room t first value i total l e r =
     let a = length-append t (flat_map (bits_of 7) (drop i value)) in
     let b = length-append first (flat_map (bits_of 7) value) in
     let p = packed_length (drop i value) in
@@ -207,28 +206,31 @@ characters_room t first value i l e r =
     let m = ap length e in
     omega arith
 
-pub symbols_room : (t first symbols : List ℕ) (i : ℕ) → i < length symbols → t ++ drop i symbols ≡ first ++ symbols → length first + length symbols ≤ 512 → length t + 1 ≤ 512
-symbols_room t first symbols i l e r =
+pub symbols_room : (t first symbols : List ℕ) (i total : ℕ) → i < length symbols → t ++ drop i symbols ≡ first ++ symbols → length first + length symbols ≤ total → length t + 1 ≤ total
+symbols_room t first symbols i total l e r =
     let a = length-append t (drop i symbols) in
     let b = length-append first symbols in
     let d = length-drop i symbols in
     let m = ap length e in
     omega arith
 
-pub zeros_room : (t first : List ℕ) (count place : ℕ) → place < count → t ++ replicate (count - place) 0 ≡ first ++ replicate count 0 → length first + count ≤ 512 → length t + 1 ≤ 512
-zeros_room t first count place l e r =
+pub zeros_room : (t first : List ℕ) (count place total : ℕ) → place < count → t ++ replicate (count - place) 0 ≡ first ++ replicate count 0 → length first + count ≤ total → length t + 1 ≤ total
+zeros_room t first count place total l e r =
     let a : length (t ++ replicate {A = ℕ} (count - place) 0) ≡ length t + (count - place) = length-append t (replicate {A = ℕ} (count - place) 0) ∙ ap (λ (n : ℕ). length t + n) (length-replicate {A = ℕ} (count - place) 0) in
     let b : length (first ++ replicate {A = ℕ} count 0) ≡ length first + count = length-append first (replicate {A = ℕ} count 0) ∙ ap (λ (n : ℕ). length first + n) (length-replicate {A = ℕ} count 0) in
     let m = ap length e in
     omega arith
 
-pub ascii_room : (item : Item) (lo hi bits width : ℕ) (value out new : List ℕ) → item ≡ Ascii7 lo hi bits → width ≡ bits → length out + size_of item ≤ 512 → new ≡ out ++ flat_map (bits_of 7) value → 7 * length value ≤ bits → length new + (width - 7 * length value) ≤ 512
-ascii_room item lo hi bits width value out new i w r e f =
+pub ascii_room : (item : Item) (lo hi bits width total : ℕ) (value out new : List ℕ) → item ≡ Ascii7 lo hi bits → width ≡ bits → length out + size_of item ≤ total → new ≡ out ++ flat_map (bits_of 7) value → 7 * length value ≤ bits → length new + (width - 7 * length value) ≤ total
+ascii_room item lo hi bits width total value out new i w r e f =
     let size : size_of item ≡ bits = ap size_of i in
     let m = ap length e in
     let a = length-append out (flat_map (bits_of 7) value) in
     let p = packed_length value in
     omega arith
+
+pub room_now : (items : List Item) (k : ℕ) (item : Item) (out total : ℕ) → k < length items → item ≡ get_or items k item → out + size_of_all (drop k items) ≤ total → out + size_of item ≤ total
+room_now items k item out total l e r = let s = sizes_step items k item l e in omega arith
 
 pub room_step : (items : List Item) (k : ℕ) (item : Item) (value out : List ℕ) (total : ℕ) → k < length items → item ≡ get_or items k item → is_in_bounds true item ≡ true → why_not item value ≡ None → length out + size_of_all (drop k items) ≤ total → length (out ++ written_word item value) + size_of_all (drop (k + 1) items) ≤ total
 room_step items k item value out total l e b h r =
@@ -243,31 +245,6 @@ all_bounds bit_level items e h k d l = rw e at (none_bad bit_level items h k d l
 pub bound_at : (items : List Item) (k : ℕ) (item : Item) → AllPass (is_in_bounds true) items → k < length items → item ≡ get_or items k item → is_in_bounds true item ≡ true
 bound_at items k item h l e = subst (λ (x : Item). is_in_bounds true x ≡ true) (sym e) (h k item l)
 
--- a bit that has room is appended
-pushed : {E : Type 0} (r : Result (Unit {0}) E) (old new bits : List ℕ) (most : ℕ) → (IsErr r ↔ (most < length old + 1)) → OnOk r (new ≡ old ++ bits) → length old + 1 ≤ most → new ≡ old ++ bits
-pushed (Ok u) old new bits most e a r = a
-pushed (Err x) old new bits most e a r = absurd (let f = e.0 refl in omega arith)
-
-pub bit_step : {E : Type 0} (r : Result (Unit {0}) E) (items : List Item) (values : List (List ℕ)) (word first old new : List ℕ) (place bit most : ℕ) → place < length word → word ≡ written items values → All IsItem items → length values ≡ length items → AreHeld items values → length first + size_of_all items ≤ most → bit ≡ get_or word place 0 → bit < 2 → old ≡ first ++ take place word → (IsErr r ↔ (most < length old + 1)) → OnOk r (new ≡ old ++ bits_of 1 bit) → new ≡ first ++ take (place + 1) word
-bit_step r items values word first old new place bit most l w i n h room b two o e a =
-    let fits = written_room items values i n h in
-    let size = ap length w in
-    let t = length-take-le place word (omega arith) in
-    let s = length-append first (take place word) in
-    let m = ap length o in
-    let p = pushed r old new (bits_of 1 bit) most e a (omega arith) in
-    let one = one_bit bit two in
-    let more : take (place + 1) word ≡ take place word ++ bit ∷ [] = take_more word place 0 l ∙ ap (λ (x : ℕ). take place word ++ x ∷ []) (sym b) in
-    p ∙ ap (λ bs. old ++ bs) one ∙ ap (λ front. front ++ bit ∷ []) o ∙ append_assoc first (take place word) (bit ∷ []) ∙ ap (λ rest. first ++ rest) (sym more)
-
--- the values of one list of words are the same
-same_values : (items : List Item) (values others words : List (List ℕ)) → EachWord items values words → EachWord items others words → values ≡ others
-same_values items values others words no_item no_item = refl
-same_values items values others words (one_item item value w items' values' words' h t) (one_item item'' value'' w'' items'' values'' words'' k u) =
-    let first : value ≡ value'' = word_fixes_value item value value'' w h k in
-    let rest : values' ≡ values'' = same_values items' values' values'' words' t u in
-    cc
-
 pub written_read : (level : List (List Item)) (option other : ℕ) (items : List Item) (values given : List (List ℕ)) → slice_get level option ≡ Some items → All IsItem items → length values ≡ length items → AreHeld items values → OneDerivation level (written items values) other given → (other ≡ option) × (given ≡ values)
 written_read level option other items values given at i l h one =
     let mine : Derivation level (written items values) = record { option = option; items = items; values = values; words = written_words items values; of_level = at; derives = written_derives items values i l h } in
@@ -277,5 +254,5 @@ written_read level option other items values given at i l h one =
     let its : one.derivation.items ≡ items = cc in
     let each : EachWord items one.derivation.values one.derivation.words = rw its at one.derivation.derives.each in
     let all : EachWord items one.derivation.values (written_words items values) = rw (← same.words) at each in
-    let values_are = same_values items one.derivation.values values (written_words items values) all mine.derives.each in
+    let values_are = each_fixes items one.derivation.values values (written_words items values) all mine.derives.each in
     (sym one.of_option ∙ place, sym one.of_values ∙ values_are)

@@ -2,7 +2,7 @@
 use Rattle.std.specs.Prelude.{◌≡◌, ℕ, List, [], ◌∷◌, Some}
 use Rattle.std.specs.List.{concat, slice_get}
 use Rattle.gs_grammar.specs.declared.item.Item.{Item}
-use Rattle.gs_grammar.specs.Words.{Word}
+use Rattle.gs_grammar.specs.Words.{Word, number_of_word}
 
 -- each item has one word, with its value
 pub data EachWord : List Item → List (List ℕ) → List (List ℕ) → Type 0 where
@@ -13,6 +13,46 @@ pub data EachWord : List Item → List (List ℕ) → List (List ℕ) → Type 0
 pub record Derives (items : List Item) (w : List ℕ) (values words : List (List ℕ)) : Type 0 where
   pub each : EachWord items values words
   pub joined : concat words ≡ w
+
+-- the items derive the list
+pub record IsDerived (items : List Item) (w : List ℕ) : Type 0 where
+  pub values : List (List ℕ)
+  pub words : List (List ℕ)
+  pub derives : Derives items w values words
+
+-- the items derive the list, with these values
+pub record HasValues (items : List Item) (w : List ℕ) (values : List (List ℕ)) : Type 0 where
+  pub words : List (List ℕ)
+  pub derives : Derives items w values words
+
+-- the numbers of the words, one for each item
+abbrev pub numbers_of_words : List Item → List (List ℕ) → List ℕ
+numbers_of_words (item ∷ items) (w ∷ words) = number_of_word item w ∷ numbers_of_words items words
+numbers_of_words _ _ = []
+
+-- the items derive the list by words of these numbers
+pub record HasNumbers (items : List Item) (w numbers : List ℕ) : Type 0 where
+  pub values : List (List ℕ)
+  pub words : List (List ℕ)
+  pub derives : Derives items w values words
+  pub numbers_are : numbers ≡ numbers_of_words items words
+
+-- the items derive the list in one way alone
+pub record OneWay (items : List Item) (w : List ℕ) : Type 0 where
+  pub values : List (List ℕ)
+  pub words : List (List ℕ)
+  pub derives : Derives items w values words
+  pub only : (values' words' : List (List ℕ)) → Derives items w values' words' → words' ≡ words
+
+-- the items derive the list by two different lists of words
+pub record TwoWays (items : List Item) (w : List ℕ) : Type 0 where
+  pub values : List (List ℕ)
+  pub words : List (List ℕ)
+  pub derives : Derives items w values words
+  pub values' : List (List ℕ)
+  pub words' : List (List ℕ)
+  pub derives' : Derives items w values' words'
+  pub differ : words ≡ words' → ⊥
 
 -- a derivation of the list in the level: the number of an option, and one word of each of its items, which joined are the
 -- list; and the values of the words

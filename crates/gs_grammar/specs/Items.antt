@@ -34,14 +34,9 @@ IsItem item = IsTrue (is_in_bounds true item || is_in_bounds false item)
 
 -- the greatest number of an item `Int` or `Num`, and 0 of any other
 abbrev pub greatest_of : Item → ℕ
-greatest_of (Lit literal) = 0
-greatest_of (Pad n) = 0
 greatest_of (Int most) = most
-greatest_of (Esc lo hi) = 0
-greatest_of (NumPad bits n) = 0
 greatest_of (Num bits most) = most
-greatest_of (Ascii7 lo hi bits) = 0
-greatest_of (Fill a b) = 0
+greatest_of _ = 0
 
 -- the most symbols that a word of the item has
 abbrev pub size_of : Item → ℕ
@@ -54,40 +49,14 @@ size_of (Num bits most) = bits
 size_of (Ascii7 lo hi bits) = bits
 size_of (Fill a b) = b
 
--- the fewest symbols that a word of the item has
+-- the fewest symbols that a word of the item has: as many as the most, where all words have one length
 abbrev pub shortest_of : Item → ℕ
-shortest_of (Lit literal) = length literal
-shortest_of (Pad n) = n
 shortest_of (Int most) = 1
 shortest_of (Esc lo hi) = lo
-shortest_of (NumPad bits n) = bits
-shortest_of (Num bits most) = bits
-shortest_of (Ascii7 lo hi bits) = bits
 shortest_of (Fill a b) = a
+shortest_of item = size_of item
 
 -- the sizes of the items of an option, added up
 abbrev pub size_of_all : List Item → ℕ
 size_of_all [] = 0
 size_of_all (item ∷ items) = size_of item + size_of_all items
-
--- an item whose value is packed characters
-abbrev pub is_packed : Item → Bool
-is_packed (Lit literal) = false
-is_packed (Pad n) = false
-is_packed (Int most) = false
-is_packed (Esc lo hi) = false
-is_packed (NumPad bits n) = false
-is_packed (Num bits most) = false
-is_packed (Ascii7 lo hi bits) = true
-is_packed (Fill a b) = false
-
--- an item of a bit level whose value is empty or writes a number
-abbrev pub is_numeric : Item → Bool
-is_numeric (Lit literal) = true
-is_numeric (Pad n) = false
-is_numeric (Int most) = false
-is_numeric (Esc lo hi) = false
-is_numeric (NumPad bits n) = true
-is_numeric (Num bits most) = true
-is_numeric (Ascii7 lo hi bits) = false
-is_numeric (Fill a b) = true

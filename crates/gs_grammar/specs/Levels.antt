@@ -1,5 +1,5 @@
 -- What contracts see of an option and of a level.
-use Rattle.std.specs.Prelude.{◌≡◌, ◌<◌, ◌≤◌, Bool, ℕ, List, map, Some, None, position}
+use Rattle.std.specs.Prelude.{◌≡◌, ◌<◌, ◌≤◌, Bool, ℕ, List, All, map, Some, None, position}
 use Rattle.gs_grammar.specs.declared.item.Item.{Item}
 use Rattle.gs_grammar.specs.declared.fault.OptFault.{OptFault}
 use Rattle.gs_grammar.specs.declared.fault.OptFault.TheVariants.{BadItem, Size}
@@ -14,6 +14,10 @@ pub record OptionForm : Type 0 where
 pub record LevelForm : Type 0 where
   pub bit_level : Bool
   pub options : List OptionForm
+
+-- each option is of this kind: its symbols are bits, or they are not
+abbrev pub AreOfKind : Bool → List OptionForm → Type 0
+AreOfKind bit_level options = All (λ (option : OptionForm). option.bit_level ≡ bit_level) options
 
 -- the items of each option
 abbrev pub item_lists : List OptionForm → List (List Item)

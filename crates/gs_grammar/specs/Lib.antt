@@ -1,8 +1,10 @@
 pub mod Items
 pub mod Words
+pub mod Languages
 pub mod Numerals
 pub mod Levels
 pub mod Derivations
+pub mod Ambiguity
 pub mod Readings
 pub mod Counts
 pub mod Searches

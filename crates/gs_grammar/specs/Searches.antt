@@ -1,46 +1,12 @@
--- What the search for splits finds, over one option and over the options of a level.
-use Rattle.std.specs.Prelude.{◌≡◌, ℕ, Bool, true, false, ◌≤◌, ◌<◌, List, take, drop, length, map}
+-- What the search for splits finds, over one option and over the options of a level. These definitions are the search's own.
+use Rattle.std.specs.Prelude.{◌≡◌, ℕ, Bool, true, false, ◌≤◌, ◌<◌, List, take, drop, length}
 use Rattle.gs_grammar.specs.declared.item.Item.{Item}
 use Rattle.gs_grammar.specs.declared.found.Found.{Found}
 use Rattle.gs_grammar.specs.declared.found.Found.TheVariants.{Never, Once, Twice}
 use Rattle.gs_grammar.specs.declared.found.FoundOption.{FoundOption}
 use Rattle.gs_grammar.specs.declared.found.FoundOption.TheVariants.{NoOption, OneOption, TwoReadings}
-use Rattle.gs_grammar.specs.Words.{Word, decimal_value}
-use Rattle.gs_grammar.specs.Derivations.{Derives, Derivation, OneDerivation, TwoDerivations}
-
--- the items derive the list in one way alone
-pub record OneWay (items : List Item) (w : List ℕ) : Type 0 where
-  pub values : List (List ℕ)
-  pub words : List (List ℕ)
-  pub derives : Derives items w values words
-  pub only : (values' words' : List (List ℕ)) → Derives items w values' words' → words' ≡ words
-
--- the items derive the list by two different lists of words
-pub record TwoWays (items : List Item) (w : List ℕ) : Type 0 where
-  pub values : List (List ℕ)
-  pub words : List (List ℕ)
-  pub derives : Derives items w values words
-  pub values' : List (List ℕ)
-  pub words' : List (List ℕ)
-  pub derives' : Derives items w values' words'
-  pub differ : words ≡ words' → ⊥
-
--- the items derive the list
-pub record IsDerived (items : List Item) (w : List ℕ) : Type 0 where
-  pub values : List (List ℕ)
-  pub words : List (List ℕ)
-  pub derives : Derives items w values words
-
--- the items derive the list, with these values
-pub record HasValues (items : List Item) (w : List ℕ) (values : List (List ℕ)) : Type 0 where
-  pub words : List (List ℕ)
-  pub derives : Derives items w values words
-
--- the items derive the list, with values that write these numbers, an empty value the number 0
-pub record HasNumbers (items : List Item) (w numbers : List ℕ) : Type 0 where
-  pub values : List (List ℕ)
-  pub has : HasValues items w values
-  pub numbers_are : numbers ≡ map decimal_value values
+use Rattle.gs_grammar.specs.Words.{Word}
+use Rattle.gs_grammar.specs.Derivations.{Derives, IsDerived, OneWay, TwoWays, Derivation, OneDerivation, TwoDerivations}
 
 -- in how many ways the items derive the list
 abbrev pub Finds : List Item → List ℕ → Found → Type 0

@@ -2,18 +2,14 @@
 use Rattle.std.specs.Prelude.{◌≡◌, ℕ, ◌+◌, ◌-◌, ◌*◌, ◌^◌, ◌<◌, ◌≤◌, ◌⊎◌, List, [], ◌∷◌, ◌++◌, length, IsTrue, flat_map, decimal, replicate}
 use Rattle.gs_chars.specs.Characters.{are_digits, are_in_set82}
 use Rattle.gs_chars.specs.Escapes.{Spells, written_spelling}
-use Rattle.gs_bits.specs.Bits.{bits_of}
+use Rattle.gs_bits.specs.Bits.{bits_of, number_of}
 use Rattle.gs_grammar.specs.declared.item.Item.{Item}
 use Rattle.gs_grammar.specs.declared.item.Item.TheVariants.{Lit, Pad, Int, Esc, NumPad, Num, Ascii7, Fill}
 
--- the number that decimal digits write behind another number
-abbrev pub value_after : ℕ → List ℕ → ℕ
-value_after number [] = number
-value_after number (digit ∷ digits) = value_after (10 * number + (digit - 48)) digits
-
--- the number that decimal digits write, and 0 where there are none
+-- the number that decimal digits write, and 0 where there are none: each counts 10 to the number of digits behind it
 abbrev pub decimal_value : List ℕ → ℕ
-decimal_value digits = value_after 0 digits
+decimal_value [] = 0
+decimal_value (digit ∷ digits) = (digit - 48) * 10 ^ length digits + decimal_value digits
 
 -- the value has from lo to hi characters
 pub record HasLength (lo hi : ℕ) (value : List ℕ) : Type 0 where
@@ -79,10 +75,15 @@ IsWord item w = (value : List ℕ) × Word item value w
 -- the one word of the value that is written: its escapes have upper-case letters, and of two widths it has the second
 abbrev pub written_word : Item → List ℕ → List ℕ
 written_word (Lit literal) value = literal
-written_word (Pad n) value = value
-written_word (Int greatest) value = value
 written_word (Esc lo hi) value = flat_map written_spelling value
 written_word (NumPad bits n) value = bits_of bits (decimal_value value)
 written_word (Num bits greatest) value = bits_of bits (decimal_value value)
 written_word (Ascii7 lo hi bits) value = flat_map (bits_of 7) value ++ replicate (bits - 7 * length value) 0
 written_word (Fill a b) value = replicate b 0
+written_word _ value = value
+
+-- the number that the whole of a word writes: its bits, where the item is a number in bits, and 0 of any other item
+abbrev pub number_of_word : Item → List ℕ → ℕ
+number_of_word (NumPad bits n) w = number_of w
+number_of_word (Num bits greatest) w = number_of w
+number_of_word _ w = 0

@@ -3,7 +3,7 @@ use Rattle.std.specs.Prelude.{◌≡◌, ℕ, ◌^◌, ◌<◌, ◌==◌, ◌*�
 use Rattle.std.specs.List.{concat}
 use Rattle.gs_chars.specs.Characters.{are_digits, are_in_set82}
 use Rattle.gs_grammar.specs.declared.item.Item.{Item}
-use Rattle.gs_grammar.specs.declared.item.Item.TheVariants.{Lit, Pad, Int, Esc, NumPad, Num, Ascii7, Fill}
+use Rattle.gs_grammar.specs.declared.item.Item.TheVariants.{Pad, Int, Esc, NumPad, Num, Ascii7}
 use Rattle.gs_grammar.specs.declared.fault.Why.{Why}
 use Rattle.gs_grammar.specs.declared.fault.Why.TheVariants.{Char, Length, Zero, Large}
 use Rattle.gs_grammar.specs.declared.fault.WriteFault.{WriteFault}
@@ -25,16 +25,16 @@ abbrev pub has_leading_zero : List ℕ → Bool
 has_leading_zero value = nat_lt 1 (length value) && (slice_index value 0 == 48)
 
 -- Why an item has no word for the value: the first reason that fits, or none. A number is large where it is above the
--- greatest or has no room in the bits; characters that packed have no room are too many.
+-- greatest or has no room in the bits; characters that packed have no room are too many. The last case is that of items
+-- whose value is empty.
 abbrev pub why_not : Item → List ℕ → Option Why
-why_not (Lit literal) value = first_reason false (not (length value == 0)) false false
 why_not (Pad n) value = first_reason (not (are_digits value)) (not (length value == n)) false false
 why_not (Int greatest) value = first_reason (not (are_digits value)) (length value == 0) (has_leading_zero value) (nat_lt greatest (decimal_value value))
 why_not (Esc lo hi) value = first_reason (not (are_in_set82 value)) (not (is_between lo hi (length value))) false false
 why_not (NumPad bits n) value = first_reason (not (are_digits value)) (not (length value == n)) false (nat_le (2 ^ bits) (decimal_value value))
 why_not (Num bits greatest) value = first_reason (not (are_digits value)) (length value == 0) (has_leading_zero value) (nat_lt greatest (decimal_value value) || nat_le (2 ^ bits) (decimal_value value))
 why_not (Ascii7 lo hi bits) value = first_reason (not (are_in_set82 value)) (not (is_between lo hi (length value) && nat_le (7 * length value) bits)) false false
-why_not (Fill a b) value = first_reason false (not (length value == 0)) false false
+why_not _ value = first_reason false (not (length value == 0)) false false
 
 -- the items hold their values, as far as the first n
 abbrev pub AreHeldBefore : List Item → List (List ℕ) → ℕ → Type 0

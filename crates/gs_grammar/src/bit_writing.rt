@@ -9,25 +9,24 @@ use crate::fault::WriteFault;
 use crate::item::Item;
 use crate::numerals::decimal_number;
 use crate::opt::Opt;
-use crate::unpack::bit_at;
 use crate::writing::first_refusal;
 use gs_bits::BitBuf;
 use gs_chars::Text;
 
 /// Appends the bits of a number, which have room.
-fn push_number(number: u64, bits: u32, out: &mut BitBuf<64>)
+fn push_number<const N: usize>(number: u64, bits: u32, out: &mut BitBuf<N>)
     requires width { bits ≤ 64 }
     requires fits { number < 2 ^ bits }
-    requires room { length out.old + bits ≤ 512 }
+    requires room { length out.old + bits ≤ 8 * N }
     ensures { out.new ≡ out.old ++ bits_of bits number }
 {
     let _ = out.push_bits(number, bits);
 }
 
 /// Appends symbols, each 0 or 1.
-fn push_symbols(symbols: &[u8], out: &mut BitBuf<64>)
+fn push_symbols<const N: usize>(symbols: &[u8], out: &mut BitBuf<N>)
     requires bits { AreBits symbols.now }
-    requires room { length out.old + length symbols.now ≤ 512 }
+    requires room { length out.old + length symbols.now ≤ 8 * N }
     ensures { out.new ≡ out.old ++ symbols.now }
 {
     for symbol in symbols {
@@ -36,8 +35,8 @@ fn push_symbols(symbols: &[u8], out: &mut BitBuf<64>)
 }
 
 /// Appends zeros.
-fn push_zeros(count: usize, out: &mut BitBuf<64>)
-    requires { length out.old + count ≤ 512 }
+fn push_zeros<const N: usize>(count: usize, out: &mut BitBuf<N>)
+    requires { length out.old + count ≤ 8 * N }
     ensures { out.new ≡ out.old ++ replicate count 0 }
 {
     for _place in 0..count {
@@ -46,9 +45,9 @@ fn push_zeros(count: usize, out: &mut BitBuf<64>)
 }
 
 /// Appends 7 bits of each character.
-fn push_characters(value: &[u8], out: &mut BitBuf<64>)
+fn push_characters<const N: usize>(value: &[u8], out: &mut BitBuf<N>)
     requires codes { All (λ c. c < 128) value.now }
-    requires room { length out.old + 7 * length value.now ≤ 512 }
+    requires room { length out.old + 7 * length value.now ≤ 8 * N }
     ensures { out.new ≡ out.old ++ flat_map (bits_of 7) value.now }
 {
     for character in value {
@@ -57,10 +56,10 @@ fn push_characters(value: &[u8], out: &mut BitBuf<64>)
 }
 
 /// Appends the number that digits write, which is below 2 to the 64.
-fn push_decimal(digits: &[u8], bits: u8, out: &mut BitBuf<64>)
+fn push_decimal<const N: usize>(digits: &[u8], bits: u8, out: &mut BitBuf<N>)
     requires width { bits ≤ 64 }
     requires fits { decimal_value digits.now < 2 ^ bits }
-    requires room { length out.old + bits ≤ 512 }
+    requires room { length out.old + bits ≤ 8 * N }
     ensures { out.new ≡ out.old ++ bits_of bits (decimal_value digits.now) }
 {
     match decimal_number(digits) {
@@ -70,41 +69,36 @@ fn push_decimal(digits: &[u8], bits: u8, out: &mut BitBuf<64>)
 }
 
 /// Appends the written word of a value.
-fn push_bit_word(item: &Item, value: &[u8], out: &mut BitBuf<64>)
+fn push_bit_word<const N: usize>(item: &Item, value: &[u8], out: &mut BitBuf<N>)
     requires item { is_in_bounds true item.now ≡ true }
     requires held { why_not item.now value.now ≡ None }
-    requires room { length out.old + size_of item.now ≤ 512 }
+    requires room { length out.old + size_of item.now ≤ 8 * N }
     ensures { out.new ≡ out.old ++ written_word item.now value.now }
 {
     match item {
         Item::Lit(literal) => push_symbols(literal.as_bytes(), out),
-        Item::NumPad { bits, n: _ } => push_decimal(value, *bits, out),
-        Item::Num { bits, max: _ } => push_decimal(value, *bits, out),
-        Item::Ascii7 { lo: _, hi: _, bits } => {
+        Item::NumPad { bits, .. } | Item::Num { bits, .. } => push_decimal(value, *bits, out),
+        Item::Ascii7 { bits, .. } => {
             push_characters(value, out);
             push_zeros(usize::from(*bits) - 7 * value.len(), out);
         }
-        Item::Fill { a: _, b } => push_zeros(usize::from(*b), out),
-        Item::Pad { n: _ } => unreachable!(),
-        Item::Int { max: _ } => unreachable!(),
-        Item::Esc { lo: _, hi: _ } => unreachable!(),
+        Item::Fill { b, .. } => push_zeros(usize::from(*b), out),
+        _ => unreachable!(),
     }
 }
 
-/// The written words of the values, joined, as bits.
-fn written_bits(items: &[Item], values: &[Text]) -> BitBuf<64>
+/// Appends the written words of the values, joined.
+fn push_words<const N: usize>(items: &[Item], values: &[Text], out: &mut BitBuf<N>)
     requires one_each { length values.now ≡ length items.now }
     requires bounds { AllPass (is_in_bounds true) items.now }
     requires held { AreHeld items.now values.now }
-    requires small { size_of_all items.now ≤ 512 }
-    ensures { result ≡ written items.now values.now }
+    requires room { length out.old + size_of_all items.now ≤ 8 * N }
+    ensures { out.new ≡ out.old ++ written items.now values.now }
 {
-    let mut out = BitBuf::new();
     for (number, item) in items.iter().enumerate() {
         let value = &values[number];
-        push_bit_word(item, value.as_bytes(), &mut out);
+        push_bit_word(item, value.as_bytes(), out);
     }
-    out
 }
 
 /// Appends the written words of the values to the bits: one value for each item of an option of a bit level. `CannotHold`
@@ -127,9 +121,6 @@ pub fn write_bits<const N: usize>(
     if let Some((item, why)) = first_refusal(items, values) {
         return Err(WriteFault::CannotHold { item, why });
     }
-    let word = written_bits(items, values);
-    for place in 0..word.len() {
-        let _ = out.push_bits(u64::from(bit_at(&word, place)), 1);
-    }
+    push_words(items, values, out);
     Ok(())
 }

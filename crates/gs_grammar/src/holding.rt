@@ -79,7 +79,6 @@ fn reason_against(item: &Item, value: &[u8]) -> Result<(), Why>
 {
     let count = value.len();
     match item {
-        Item::Lit(_) => judge(false, count != 0, false, false),
         Item::Pad { n } => judge(!all_digits(value), count != usize::from(*n), false, false),
         Item::Int { max } => judge(
             !all_digits(value),
@@ -111,7 +110,7 @@ fn reason_against(item: &Item, value: &[u8]) -> Result<(), Why>
             false,
             false,
         ),
-        Item::Fill { a: _, b: _ } => judge(false, count != 0, false, false),
+        Item::Lit(_) | Item::Fill { .. } => judge(false, count != 0, false, false),
     }
 }
 

@@ -68,13 +68,6 @@ fn is_num(bits: u8, max: u64) -> bool
     1 <= bits && bits <= 64 && fits_bits(max, bits)
 }
 
-/// Whether an item `Int` keeps its bounds, as each does.
-fn is_int(max: u64) -> bool
-    ensures { result ≡ is_in_bounds false (Item.Int max) }
-{
-    max <= u64::MAX
-}
-
 /// Whether an item `Ascii7` keeps its bounds.
 fn is_ascii7(lo: u8, hi: u8, bits: u16) -> bool
     ensures { result ≡ is_in_bounds true (Item.Ascii7 lo hi bits) }
@@ -93,7 +86,7 @@ impl Item {
                 is_within(1, 64, symbols.len()) && are_literal_symbols(bit_level, symbols)
             }
             Item::Pad { n } => !bit_level && 1 <= *n && *n <= 18,
-            Item::Int { max } => !bit_level && is_int(*max),
+            Item::Int { max } => !bit_level && *max <= u64::MAX,
             Item::Esc { lo, hi } => !bit_level && 1 <= *lo && *lo <= *hi && *hi <= 64,
             Item::NumPad { bits, n } => {
                 bit_level
@@ -115,11 +108,10 @@ impl Item {
             Item::Lit(literal) => literal.as_bytes().len(),
             Item::Pad { n } => usize::from(*n),
             Item::Int { max } => digit_count(*max),
-            Item::Esc { lo: _, hi } => 3 * usize::from(*hi),
-            Item::NumPad { bits, n: _ } => usize::from(*bits),
-            Item::Num { bits, max: _ } => usize::from(*bits),
-            Item::Ascii7 { lo: _, hi: _, bits } => usize::from(*bits),
-            Item::Fill { a: _, b } => usize::from(*b),
+            Item::Esc { hi, .. } => 3 * usize::from(*hi),
+            Item::NumPad { bits, .. } | Item::Num { bits, .. } => usize::from(*bits),
+            Item::Ascii7 { bits, .. } => usize::from(*bits),
+            Item::Fill { b, .. } => usize::from(*b),
         }
     }
 
@@ -128,14 +120,10 @@ impl Item {
         ensures { result ≡ shortest_of self.now }
     {
         match self {
-            Item::Lit(literal) => literal.as_bytes().len(),
-            Item::Pad { n } => usize::from(*n),
-            Item::Int { max: _ } => 1,
-            Item::Esc { lo, hi: _ } => usize::from(*lo),
-            Item::NumPad { bits, n: _ } => usize::from(*bits),
-            Item::Num { bits, max: _ } => usize::from(*bits),
-            Item::Ascii7 { lo: _, hi: _, bits } => usize::from(*bits),
-            Item::Fill { a, b: _ } => usize::from(*a),
+            Item::Int { .. } => 1,
+            Item::Esc { lo, .. } => usize::from(*lo),
+            Item::Fill { a, .. } => usize::from(*a),
+            _ => self.size(),
         }
     }
 }

@@ -1,14 +1,26 @@
-ghost use Rattle.std.specs.Prelude.{◌≡◌, ◌<◌, ℕ, All, Bool, List, IsTrue, Some, length, slice_get};
+ghost use Rattle.std.specs.Prelude.{◌≡◌, ◌↔◌, ◌<◌, ◌^◌, ℕ, All, Bool, List, IsTrue, Some, length, slice_get};
 ghost use Rattle.gs_grammar.specs.declared.item.Item.{Item};
 ghost use Rattle.gs_grammar.specs.Items.{IsItem, is_in_bounds};
 ghost use Rattle.gs_grammar.specs.Derivations.{Derives, OneDerivation, TwoDerivations};
-ghost use Rattle.gs_grammar.specs.Words.{Word};
+ghost use Rattle.gs_grammar.specs.Words.{IsWord, Word, decimal_value, number_of_word};
+ghost use Rattle.gs_grammar.specs.Languages.{Language};
 ghost use Rattle.gs_grammar.specs.Writing.{AreHeld, written, written_words};
 ghost use Rattle.gs_grammar.specs.Counts.{Counted};
 
 /// A word fixes its value: no list of symbols is a word of one item with two values.
 pub fn word_fixes_its_value()
     ensures { (item : Item) (value other w : List ℕ) → Word item value w → Word item other w → value ≡ other }
+{}
+
+/// The words of each item, told without their values.
+pub fn words_without_values()
+    ensures { (item : Item) (w : List ℕ) → IsWord item w ↔ Language item w }
+{}
+
+/// The number of a whole word, of an item that is a number in bits, is the one that its value writes.
+pub fn word_writes_its_value()
+    ensures digits { (bits n : ℕ) (value w : List ℕ) → Word (Item.NumPad bits n) value w → number_of_word (Item.NumPad bits n) w ≡ decimal_value value }
+    ensures numeral { (bits greatest : ℕ) (value w : List ℕ) → greatest < 2 ^ 64 → Word (Item.Num bits greatest) value w → number_of_word (Item.Num bits greatest) w ≡ decimal_value value }
 {}
 
 /// No word of an item that keeps its bounds is empty.

@@ -1,5 +1,5 @@
-ghost use Rattle.std.specs.Prelude.{◌≡◌, IfOk, All};
-ghost use Rattle.gs_grammar.specs.Levels.{OptionForm};
+ghost use Rattle.std.specs.Prelude.{◌≡◌, IfOk};
+ghost use Rattle.gs_grammar.specs.Levels.{AreOfKind};
 
 use crate::opt::Opt;
 use gs_chars::{List, Memory};
@@ -19,12 +19,16 @@ impl Model for Level {
     ghost Value = { LevelForm };
 
     ghost view = { λ a. record { bit_level = a.bit_level; options = a.options } };
+
+    ghost use Rattle.gs_grammar.specs.Levels.{AreOfKind};
+
+    ghost invariant = { λ a. AreOfKind a.bit_level a.options };
 }
 
 impl Level {
     /// The level of these options. The one refusal is want of memory.
     pub fn new(_alloc: Global, bit_level: bool, options: Vec<Opt>) -> Result<Level, Memory>
-        requires { All (λ (option : OptionForm). option.bit_level ≡ bit_level) options.items }
+        requires { AreOfKind bit_level options.items }
         ensures bit_level { IfOk result (λ level. level.bit_level ≡ bit_level) }
         ensures options { IfOk result (λ level. level.options ≡ options.items) }
     {
@@ -34,9 +38,10 @@ impl Level {
         })
     }
 
-    /// The options, in their order.
+    /// The options, in their order. Each is of the level's kind.
     pub fn options(&self) -> &[Opt]
-        ensures { result.now ≡ self.now.options }
+        ensures options { result.now ≡ self.now.options }
+        ensures of_kind { AreOfKind self.now.bit_level self.now.options }
     {
         self.options.items()
     }

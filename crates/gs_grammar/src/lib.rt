@@ -16,8 +16,6 @@ mod read;
 mod reading;
 mod splits;
 mod tally;
-#[cfg(test)]
-mod tests;
 mod unpack;
 mod wide;
 mod words;
@@ -29,7 +27,7 @@ pub use holding::holds;
 pub use item::Item;
 pub use laws::{
     each_text_is_counted, no_word_is_empty, one_derivation_is_alone, what_is_written_is_derived,
-    what_is_written_is_read, word_fixes_its_value,
+    what_is_written_is_read, word_fixes_its_value, word_writes_its_value, words_without_values,
 };
 pub use level::Level;
 pub use opt::Opt;

@@ -5,6 +5,7 @@ ghost use Rattle.gs_grammar.specs.Levels.{KeepBounds, IsFaultOf};
 use crate::fault::OptFault;
 use crate::item::Item;
 use gs_chars::List;
+use std::alloc::Global;
 use std::marker::Model;
 
 /// An option of a level: items that stand one after the other, of at most 512 symbols.
@@ -51,7 +52,7 @@ fn size_within_limit(items: &[Item]) -> Option<usize>
 impl Opt {
     /// The option of these items. `BadItem(k)` comes exactly where item k is the first that is not of the level or breaks a
     /// bound; `Size` exactly where no item does, and the sizes add up to more than 512.
-    pub fn new(bit_level: bool, items: Vec<Item>) -> Result<Opt, OptFault>
+    pub fn new(_alloc: Global, bit_level: bool, items: Vec<Item>) -> Result<Opt, OptFault>
         ensures bit_level { IfOk result (λ option. option.bit_level ≡ bit_level) }
         ensures items { IfOk result (λ option. option.items ≡ items.items) }
         ensures in_bounds { IfOk result (λ option. KeepBounds bit_level items.items) }

@@ -1,6 +1,7 @@
 ghost use Rattle.std.specs.Prelude.{◌∷◌, All, IfOk};
 ghost use Rattle.gs_grammar.specs.Items.{IsItem};
-ghost use Rattle.gs_grammar.specs.Searches.{Finds, IsDerived, HasValues, AtCut};
+ghost use Rattle.gs_grammar.specs.Derivations.{IsDerived, HasValues};
+ghost use Rattle.gs_grammar.specs.Searches.{Finds, AtCut};
 
 use crate::found::Found;
 use crate::item::Item;

@@ -1,21 +1,19 @@
-ghost use Rattle.std.specs.Prelude.{◌≡◌, All, IsTrue, length, not};
+ghost use Rattle.std.specs.Prelude.{◌≡◌, All, IsTrue, length};
 ghost use Rattle.std.specs.Bool.{MatchBool};
-ghost use Rattle.std.specs.List.{AllPass};
-ghost use Rattle.gs_grammar.specs.Items.{IsItem, is_numeric, is_packed};
-ghost use Rattle.gs_grammar.specs.Searches.{HasNumbers, IsDerived};
+ghost use Rattle.gs_grammar.specs.Items.{IsItem};
+ghost use Rattle.gs_grammar.specs.Derivations.{HasNumbers, IsDerived};
 
 use crate::found::Found;
 use crate::item::Item;
 use crate::opt::Opt;
 use crate::splits::{count_ways, first_cut};
 use crate::unpack::unpack;
-use crate::words::number_of;
+use crate::words::number_of_word;
 use gs_bits::BitBuf;
 
 /// Writes the numbers of a derivation of the symbols by the items.
 fn tally(items: &[Item], symbols: &[u8], out: &mut [u64])
     requires items { All IsItem items.now }
-    requires numeric { AllPass is_numeric items.now }
     requires derived { IsDerived items.now symbols.now }
     requires room { length out.old ≡ length items.now }
     ensures { HasNumbers items.now symbols.now out.new }
@@ -25,19 +23,18 @@ fn tally(items: &[Item], symbols: &[u8], out: &mut [u64])
     let mut number = 0;
     while let Some((item, others)) = left.split_first() {
         let (word, behind) = rest.split_at(first_cut(item, others, rest));
-        out[number] = number_of(item, word);
+        out[number] = number_of_word(item, word);
         number += 1;
         left = others;
         rest = behind;
     }
 }
 
-/// Reads the bits as one option of a bit level that has no item `Ascii7`. Number k of `out` becomes the number that the value
-/// of item k writes, 0 for `Lit` and `Fill`. `false` comes exactly where the bits have no derivation by the option, and then
-/// `out` is as it was. It takes no memory.
+/// Reads the bits as one option of a bit level. Number k of `out` becomes the number that the whole word of item k writes: its
+/// bits, where the item is `NumPad` or `Num`, and 0 of any other item. `false` comes exactly where the bits have no derivation
+/// by the option, and then `out` is as it was. It takes no memory.
 pub fn read_option<const N: usize>(option: &Opt, bits: &BitBuf<N>, out: &mut [u64]) -> bool
     requires bit_level { IsTrue option.now.bit_level }
-    requires not_packed { AllPass (λ item. not (is_packed item)) option.now.items }
     requires room { length out.old ≡ length option.now.items }
     ensures numbers { MatchBool result (HasNumbers option.now.items bits.now out.new) (IsDerived option.now.items bits.now → ⊥) }
     ensures unchanged { MatchBool result (length out.new ≡ length out.old) (out.new ≡ out.old) }

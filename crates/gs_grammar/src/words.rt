@@ -1,7 +1,7 @@
-ghost use Rattle.std.specs.Prelude.{◌≡◌, ◌↔◌, ◌==◌, ◌&&◌, ◌≤◌, length, ℕ, List, IsTrue, IfOk};
+ghost use Rattle.std.specs.Prelude.{◌≡◌, ◌↔◌, ◌==◌, ◌&&◌, ◌≤◌, length, ℕ, IsTrue, IfOk};
 ghost use Rattle.gs_chars.specs.Characters.{are_digits};
-ghost use Rattle.gs_grammar.specs.Items.{IsItem, is_numeric};
-ghost use Rattle.gs_grammar.specs.Words.{IsWord, Word, WritesNumber, decimal_value};
+ghost use Rattle.gs_grammar.specs.Items.{IsItem};
+ghost use Rattle.gs_grammar.specs.Words.{IsWord, Word, WritesNumber, number_of_word};
 
 use crate::bit_words::{are_zeros, number_in_bits, packed_count, unpacked};
 use crate::escaped::{spelled, spelled_count};
@@ -63,8 +63,8 @@ pub fn is_word(item: &Item, symbols: &[u8]) -> bool
     }
 }
 
-/// The number that a word of an item `NumPad` or `Num` is.
-fn number_of_word(word: &[u8], bits: u8) -> u64
+/// The number that a list of bits is.
+fn number_of_bits(word: &[u8], bits: u8) -> u64
     requires narrow { bits ≤ 64 }
     requires number { (number : ℕ) × WritesNumber bits number word.now }
     ensures { WritesNumber bits result word.now }
@@ -82,46 +82,29 @@ pub fn value_of(alloc: Global, item: &Item, word: &[u8]) -> Result<Text, Memory>
     ensures { IfOk result (λ value. Word item.now value word.now) }
 {
     match item {
-        Item::Lit(_) => Ok(Text::from_vec(Vec::new(alloc))),
-        Item::Pad { n: _ } => Text::from_bytes(alloc, word),
-        Item::Int { max: _ } => Text::from_bytes(alloc, word),
-        Item::Esc { lo: _, hi: _ } => Ok(Text::from_vec(spelled(alloc, word)?)),
+        Item::Lit(_) | Item::Fill { .. } => Ok(Text::from_vec(Vec::new(alloc))),
+        Item::Pad { .. } | Item::Int { .. } => Text::from_bytes(alloc, word),
+        Item::Esc { .. } => Ok(Text::from_vec(spelled(alloc, word)?)),
         Item::NumPad { bits, n } => {
-            let number = number_of_word(word, *bits);
+            let number = number_of_bits(word, *bits);
             Ok(Text::from_vec(padded(alloc, number, *n)?))
         }
-        Item::Num { bits, max: _ } => {
-            let number = number_of_word(word, *bits);
+        Item::Num { bits, .. } => {
+            let number = number_of_bits(word, *bits);
             Ok(decimal_text(alloc, number)?)
         }
-        Item::Ascii7 {
-            lo: _,
-            hi: _,
-            bits: _,
-        } => Ok(Text::from_vec(unpacked(alloc, word)?)),
-        Item::Fill { a: _, b: _ } => Ok(Text::from_vec(Vec::new(alloc))),
+        Item::Ascii7 { .. } => Ok(Text::from_vec(unpacked(alloc, word)?)),
     }
 }
 
-/// The number that the value of a word writes, and 0 for an empty value.
-pub fn number_of(item: &Item, word: &[u8]) -> u64
+/// The number that a whole word writes: its bits, where the item is a number in bits, and 0 of any other item.
+pub fn number_of_word(item: &Item, word: &[u8]) -> u64
     requires item { IsItem item.now }
-    requires numeric { IsTrue (is_numeric item.now) }
     requires word { IsWord item.now word.now }
-    ensures { (value : List ℕ) × (Word item.now value word.now × (result ≡ decimal_value value)) }
+    ensures { result ≡ number_of_word item.now word.now }
 {
     match item {
-        Item::NumPad { bits, n: _ } => number_of_word(word, *bits),
-        Item::Num { bits, max: _ } => number_of_word(word, *bits),
-        Item::Lit(_) => 0,
-        Item::Fill { a: _, b: _ } => 0,
-        Item::Pad { n: _ } => unreachable!(),
-        Item::Int { max: _ } => unreachable!(),
-        Item::Esc { lo: _, hi: _ } => unreachable!(),
-        Item::Ascii7 {
-            lo: _,
-            hi: _,
-            bits: _,
-        } => unreachable!(),
+        Item::NumPad { bits, .. } | Item::Num { bits, .. } => number_of_bits(word, *bits),
+        _ => 0,
     }
 }

@@ -48,17 +48,9 @@ fn push_word(item: &Item, value: &[u8], text: &mut Vec<u8>) -> Result<(), Memory
 {
     match item {
         Item::Lit(literal) => text.extend_from_slice(literal.as_bytes())?,
-        Item::Pad { n: _ } => text.extend_from_slice(value)?,
-        Item::Int { max: _ } => text.extend_from_slice(value)?,
-        Item::Esc { lo: _, hi: _ } => push_spellings(value, text)?,
-        Item::NumPad { bits: _, n: _ } => unreachable!(),
-        Item::Num { bits: _, max: _ } => unreachable!(),
-        Item::Ascii7 {
-            lo: _,
-            hi: _,
-            bits: _,
-        } => unreachable!(),
-        Item::Fill { a: _, b: _ } => unreachable!(),
+        Item::Pad { .. } | Item::Int { .. } => text.extend_from_slice(value)?,
+        Item::Esc { .. } => push_spellings(value, text)?,
+        _ => unreachable!(),
     }
     Ok(())
 }

@@ -1,11 +1,13 @@
 -- What a look-up in a tree finds.
-use Rattle.std.proofs.Common.{◌≡◌, ℕ, ◌<◌, List, [], ◌∷◌, length, get_or, map, Option, Some, None, option_map, Ok, String, Global, Equal, string_bytes, nat_cmp, is_eq, refl, subst, sym, ap, ◌∙◌}
+use Rattle.std.proofs.Common.{◌≡◌, ℕ, ◌<◌, List, [], ◌∷◌, ◌++◌, length, get_or, map, append-nil, Option, Some, None, option_map, Ok, String, Global, Equal, Less, string_bytes, string_cmp, nat_cmp, is_eq, refl, subst, sym, ap, ◌∙◌}
 use Rattle.std.proofs.lemmas.Map.Text.{is_eq-slice_cmp}
 use Rattle.std.proofs.lemmas.Slice.Eq.{bytes_eq-Decides}
 use Rattle.std.proofs.lemmas.Str.{IsUtf8-had}
 use Rattle.std.specs.Prelude.{IsUtf8}
 use Rattle.std.specs.BTreeMap.{is_at}
 use Rattle.std.specs.Cmp.Lexicographic.{slice_cmp}
+use Rattle.std.specs.List.{AllByRecursion}
+use Rattle.std.specs.List.Sorted.{IsStrictlySortedBy}
 use Rattle.std.specs.Map.{keys_of, lookup}
 use Rattle.serde_json.specs.Data.{Data, Items, null, boolean, number, string, array, object}
 use Rattle.serde_json.specs.Events.{items_len}
@@ -13,7 +15,7 @@ use Rattle.serde_json.specs.Find.{as_array, as_object, at, get_item, get_member}
 use Rattle.serde_json.specs.View.{view, items_view, members_view}
 use Rattle.serde_json.specs.declared.value.Value.{Value as Tree}
 use Rattle.serde_json.proofs.Views.{get_item_within, items_len-items_view, member_later, view-lookup}
-use Rattle.gs_json.specs.Answers.{asked, count_of, items_count, member_at, names_of, names_of_members}
+use Rattle.gs_json.specs.Answers.{AscendByBytes, asked, count_of, items_count, member_at, names_of, names_of_members}
 use Rattle.gs_json.specs.Places.{member_place}
 
 -- the items of an array
@@ -77,3 +79,20 @@ no_such_member (e ∷ entries) name h =
     let P : List ℕ → Type 0 = λ text. IsUtf8 text in
     let other : name ≡ string_bytes e.0 → ⊥ = λ same. h (subst P (sym same) (IsUtf8-had (string_bytes e.0) e.0.ok)) in
     no_such_member entries name h ∙ sym (member_later name e entries other)
+
+-- keys that ascend do so by their bytes
+ascend_behind : (key : String Global) (keys : List (String Global)) → AllByRecursion (λ k. string_cmp key k ≡ Less) keys → AllByRecursion (λ name. slice_cmp nat_cmp (string_bytes key) name ≡ Less) (map string_bytes keys)
+ascend_behind key [] h = tt
+ascend_behind key (k ∷ keys) h = (h.0, ascend_behind key keys h.1)
+
+pub ascending_keys : (keys : List (String Global)) → IsStrictlySortedBy string_cmp keys → AscendByBytes (map string_bytes keys)
+unfolding IsStrictlySortedBy
+ascending_keys [] h = tt
+ascending_keys (key ∷ keys) h = (ascend_behind key keys h.0, ascending_keys keys h.1)
+
+-- the names of all keys
+pub ascending_names : (names : List (List ℕ)) (left start keys : List (String Global)) → names ++ map string_bytes left ≡ map string_bytes start → left ≡ [] → start ≡ keys → IsStrictlySortedBy string_cmp keys → AscendByBytes names
+ascending_names names left start keys so_far none from ordered =
+    let whole : names ++ [] ≡ map string_bytes start = rw none at so_far in
+    let all : names ≡ map string_bytes keys = sym (append-nil names) ∙ whole ∙ ap (map string_bytes) from in
+    rw all (ascending_keys keys ordered)

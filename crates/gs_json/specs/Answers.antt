@@ -1,6 +1,9 @@
 -- The answers of look-ups, by the words of `serde_json` for the tree that a text is. Want of memory may come in place of
 -- each of them.
 use Rattle.std.specs.Prelude.{◌≡◌, ℕ, List, [], ◌∷◌, Option, Some, None, option_map, unwrap_or, Result, Ok, Err}
+use Rattle.std.specs.Cmp.Lexicographic.{slice_cmp}
+use Rattle.std.specs.List.Sorted.{IsStrictlySortedBy}
+use Rattle.std.specs.Ordering.{nat_cmp}
 use Rattle.serde_json.specs.Data.{Data, Members, no_members, member}
 use Rattle.serde_json.specs.Events.{items_len}
 use Rattle.serde_json.specs.Find.{as_array, as_object, get_member}
@@ -63,6 +66,10 @@ items_count d = unwrap_or (count_of d) 0
 abbrev pub names_of_members : Members → List (List ℕ)
 names_of_members no_members = []
 names_of_members (member name d members) = name ∷ names_of_members members
+
+-- names ascend strictly by their bytes
+abbrev pub AscendByBytes : List (List ℕ) → Type 0
+AscendByBytes names = IsStrictlySortedBy (slice_cmp nat_cmp) names
 
 -- the names of an object's members
 abbrev pub names_of : Data → Option (List (List ℕ))

@@ -1,6 +1,6 @@
 -- What an object must be by a plan, and its faults in their order.
-use Rattle.std.specs.Prelude.{ℕ, suc, Bool, not, if◌then◌else◌, List, [], ◌∷◌, ◌++◌, map, filter, Option, Some, None, is_some, option_and_then, Result, Ok, Err}
-use Rattle.std.specs.List.{flat_map, list_any}
+use Rattle.std.specs.Prelude.{ℕ, Bool, not, if◌then◌else◌, List, [], ◌∷◌, ◌++◌, map, filter, Option, Some, None, is_some, option_and_then, Result, Ok, Err}
+use Rattle.std.specs.List.{enumerate_from, flat_map, list_any}
 use Rattle.std.specs.Str.{bytes_eq}
 use Rattle.serde_json.specs.Data.{Data, Items, no_items, item, Members}
 use Rattle.serde_json.specs.Find.{as_array, as_bool, as_number, as_object, as_str, as_u64, get_member}
@@ -14,10 +14,14 @@ use Rattle.gs_json.specs.declared.plan.Entry.{Entry}
 use Rattle.gs_json.specs.declared.plan.Sort.{Sort}
 use Rattle.gs_json.specs.declared.plan.Sort.TheVariants.{Text, Number, Truth, Array, Texts, Arrays}
 
--- the numbers of the items that fail a test, the first of them counted as k
-abbrev pub failing_from : ℕ → (Data → Bool) → Items → List ℕ
-failing_from k test no_items = []
-failing_from k test (item d items) = if test d then failing_from (suc k) test items else k ∷ failing_from (suc k) test items
+-- the items of an array
+abbrev pub items_list : Items → List Data
+items_list no_items = []
+items_list (item d items) = d ∷ items_list items
+
+-- the numbers of the items that fail a test, where the first item has the number k
+abbrev pub failing_from : ℕ → (Data → Bool) → List Data → List ℕ
+failing_from k test items = map (λ e. e.0) (filter (λ e. not (test e.1)) (enumerate_from k items))
 
 -- a part of another kind
 abbrev pub kind_faults : List ℕ → Bool → List JsonFault
@@ -25,7 +29,7 @@ kind_faults place fits = if fits then [] else Kind place ∷ []
 
 -- an array whose items pass a test
 abbrev pub items_faults : List ℕ → (Data → Bool) → Option Items → List JsonFault
-items_faults place test (Some items) = map (λ i. Kind (item_place place i)) (failing_from 0 test items)
+items_faults place test (Some items) = map (λ i. Kind (item_place place i)) (failing_from 0 test (items_list items))
 items_faults place test None = Kind place ∷ []
 
 -- what is a text, and what is an array

@@ -1,7 +1,7 @@
 ghost use Rattle.std.specs.Prelude.{◌≡◌, ℕ, List, slice_get};
 ghost use Rattle.serde_json.specs.View.{view, items_view};
 ghost use Rattle.gs_json.specs.Fits.{fit_answer, fit_but, fit_if};
-ghost use Rattle.gs_json.specs.Shapes.{failing_from, first_fault, is_array, is_text, sort_faults};
+ghost use Rattle.gs_json.specs.Shapes.{failing_from, first_fault, is_array, is_text, items_list, sort_faults};
 
 use crate::plan::Sort;
 use serde_json::Value;
@@ -53,7 +53,7 @@ fn all_but(failing: Option<usize>) -> Fit
 }
 
 fn first_no_text(items: &[Value]) -> Option<usize>
-    ensures { result ≡ slice_get (failing_from 0 is_text (items_view items.now)) 0 }
+    ensures { result ≡ slice_get (failing_from 0 is_text (items_list (items_view items.now))) 0 }
 {
     for (i, item) in items.iter().enumerate() {
         if !item.is_string() {
@@ -64,7 +64,7 @@ fn first_no_text(items: &[Value]) -> Option<usize>
 }
 
 fn first_no_array(items: &[Value]) -> Option<usize>
-    ensures { result ≡ slice_get (failing_from 0 is_array (items_view items.now)) 0 }
+    ensures { result ≡ slice_get (failing_from 0 is_array (items_list (items_view items.now))) 0 }
 {
     for (i, item) in items.iter().enumerate() {
         if !item.is_array() {

@@ -15,6 +15,3 @@ pub use fault::JsonFault;
 pub use laws::places_point_to_their_parts;
 pub use node::Node;
 pub use plan::{Entry, Sort};
-
-#[cfg(test)]
-mod tests;

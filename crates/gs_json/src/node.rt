@@ -2,6 +2,7 @@ ghost use Rattle.std.specs.Prelude.{◌≡◌, ◌<◌, ◌⊎◌, ℕ, List, ma
 ghost use Rattle.serde_json.specs.Find.{as_array, as_bool, as_number, as_object, as_str, as_u64, at};
 ghost use Rattle.serde_json.specs.View.{view};
 ghost use Rattle.std.specs.BTreeMap.{keys};
+ghost use Rattle.gs_json.specs.Answers.{AscendByBytes};
 ghost use Rattle.gs_json.specs.Places.{item_place, member_place};
 
 use crate::fault::JsonFault;
@@ -132,10 +133,11 @@ impl<'a> Node<'a> {
         })
     }
 
-    /// The names of an object's members, in ascending order and lent by the document: `Kind` exactly where this is no
-    /// object.
+    /// The names of an object's members, which ascend strictly by their bytes and are lent by the document: `Kind` exactly
+    /// where this is no object.
     pub fn names(&self, alloc: Global) -> Result<List<&'a str>, JsonFault>
-        ensures { OrMemory (result_map (map (λ name. name.now)) result) (asked self.now.place (names_of (view self.now.tree))) }
+        ensures answer { OrMemory (result_map (map (λ name. name.now)) result) (asked self.now.place (names_of (view self.now.tree))) }
+        ensures ascending { IfOk result (λ names. AscendByBytes (map (λ name. name.now) names)) }
     {
         let value: &'a Value = self.value;
         let Some(map) = value.as_object() else {
@@ -178,7 +180,8 @@ impl<'a> Node<'a> {
 
 /// The keys of a map, in ascending order and lent by it.
 fn keys_of<'v>(alloc: Global, members: &'v Map<String, Value>) -> Result<Vec<&'v str>, Memory>
-    ensures { IfOk result (λ names. map (λ name. name.now) names.items ≡ map string_bytes (keys members.now)) }
+    ensures names { IfOk result (λ names. map (λ name. name.now) names.items ≡ map string_bytes (keys members.now)) }
+    ensures ascending { IfOk result (λ names. AscendByBytes (map (λ name. name.now) names.items)) }
 {
     let mut names = Vec::new(alloc);
     for name in members.keys() {

@@ -1,5 +1,7 @@
 -- What an answer of the outside says, by its variant.
-use Rattle.std.specs.Prelude.{ℕ, List, Result, Ok, Err}
+use Rattle.std.specs.Prelude.{ℕ, List, Option, Result, Ok, Err}
+use Rattle.gs_port.specs.Counts.{counted}
+use Rattle.gs_port.specs.Files.{counted_if_there}
 use Rattle.gs_port.specs.declared.source.ReadAnswer.{ReadAnswer}
 use Rattle.gs_port.specs.declared.source.ReadAnswer.TheVariants as read
 use Rattle.gs_port.specs.declared.sink.WriteAnswer.{WriteAnswer}
@@ -21,6 +23,11 @@ abbrev pub OnReadFailed : ReadAnswer → Type 0 → Type 0
 OnReadFailed (read.Got n) fact = Unit {0}
 OnReadFailed read.Failed fact = fact
 
+-- the count of faults after a read: one more where it failed
+abbrev pub count_after_read : ReadAnswer → ℕ → ℕ
+count_after_read (read.Got n) count = count
+count_after_read read.Failed count = counted count
+
 -- a fact about the number of bytes that a write took
 abbrev pub IfTook : WriteAnswer → (ℕ → Type 0) → Type 0
 IfTook (write.Took n) fact = fact n
@@ -39,6 +46,12 @@ OnWriteFailed (write.Took n) fact = Unit {0}
 OnWriteFailed write.Failed fact = fact
 OnWriteFailed write.Memory fact = Unit {0}
 
+-- the count of faults after a write: one more where it failed
+abbrev pub count_after_write : WriteAnswer → ℕ → ℕ
+count_after_write (write.Took n) count = count
+count_after_write write.Failed count = counted count
+count_after_write write.Memory count = count
+
 -- a fact for bytes that were written whole
 abbrev pub OnDone : Whole → Type 0 → Type 0
 OnDone whole.Done fact = fact
@@ -56,6 +69,12 @@ abbrev pub OnSinkFault : Whole → Type 0 → Type 0
 OnSinkFault whole.Done fact = Unit {0}
 OnSinkFault whole.SinkFault fact = fact
 OnSinkFault whole.Memory fact = Unit {0}
+
+-- the count of faults after bytes were written: one more where the rest was not written for a fault
+abbrev pub count_after_whole : Whole → ℕ → ℕ
+count_after_whole whole.Done count = count
+count_after_whole whole.SinkFault count = counted count
+count_after_whole whole.Memory count = count
 
 -- a fact for a file that was opened
 abbrev pub OnOpened : OpenAnswer → Type 0 → Type 0
@@ -81,6 +100,18 @@ OnOpenAnswered opening.Opened fact = fact
 OnOpenAnswered opening.Failed fact = fact
 OnOpenAnswered opening.Memory fact = Unit {0}
 
+-- the count of faults after an open: one more where it failed
+abbrev pub count_after_open : OpenAnswer → ℕ → ℕ
+count_after_open opening.Opened count = count
+count_after_open opening.Failed count = counted count
+count_after_open opening.Memory count = count
+
+-- the same, where a file that is not among those that are told is no fault
+abbrev pub count_after_named : OpenAnswer → Option (List (List ℕ × List ℕ)) → List ℕ → ℕ → ℕ
+count_after_named opening.Opened files name count = count
+count_after_named opening.Failed files name count = counted_if_there files name count
+count_after_named opening.Memory files name count = count
+
 -- a fact about the first bytes of a file that has too many
 abbrev pub IfOver : Result (List ℕ) FileFault → (List ℕ → Type 0) → Type 0
 IfOver (Ok text) fact = Unit {0}
@@ -101,3 +132,17 @@ OnFileFailed (Ok text) fact = Unit {0}
 OnFileFailed (Err (file.Over text)) fact = Unit {0}
 OnFileFailed (Err file.Failed) fact = fact
 OnFileFailed (Err file.Memory) fact = Unit {0}
+
+-- the count of faults after the reading of a file: one more where it failed, but where it is not among files that are told
+abbrev pub count_after_file : Result (List ℕ) FileFault → Option (List (List ℕ × List ℕ)) → List ℕ → ℕ → ℕ
+count_after_file (Ok text) files name count = count
+count_after_file (Err (file.Over text)) files name count = count
+count_after_file (Err file.Failed) files name count = counted_if_there files name count
+count_after_file (Err file.Memory) files name count = count
+
+-- the count of faults after the reading of the current file
+abbrev pub count_after_rest : Result (List ℕ) FileFault → ℕ → ℕ
+count_after_rest (Ok text) count = count
+count_after_rest (Err (file.Over text)) count = count
+count_after_rest (Err file.Failed) count = counted count
+count_after_rest (Err file.Memory) count = count

@@ -1,5 +1,6 @@
 -- Files, each a name and its bytes.
 use Rattle.std.specs.Prelude.{◌≡◌, ℕ, List, [], ◌∷◌, ◌++◌, ◌⊎◌, Option, Some, None, bytes_eq, find, option_map}
+use Rattle.gs_port.specs.Counts.{counted}
 
 -- the bytes of the first file with the name
 abbrev pub file_of : List (List ℕ × List ℕ) → List ℕ → Option (List ℕ)
@@ -27,3 +28,13 @@ with_name names name = names ++ (name ∷ [])
 -- the names that were opened are after as before, or with this name in addition
 abbrev pub MayHaveName : List (List ℕ) → List ℕ → List (List ℕ) → Type 0
 MayHaveName before name after = (after ≡ before) ⊎ (after ≡ with_name before name)
+
+-- the count after a fault at a file, where one was found
+abbrev pub counted_if_found : Option (List ℕ) → ℕ → ℕ
+counted_if_found None count = count
+counted_if_found (Some bytes) count = counted count
+
+-- the count after a file could not be opened or read: one more, but where it is not among files that are told
+abbrev pub counted_if_there : Option (List (List ℕ × List ℕ)) → List ℕ → ℕ → ℕ
+counted_if_there None name count = counted count
+counted_if_there (Some files) name count = counted_if_found (file_of files name) count

@@ -4,3 +4,4 @@ pub mod Counts
 pub mod Files
 pub mod Folder
 pub mod Memory
+pub mod System

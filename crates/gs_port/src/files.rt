@@ -2,7 +2,7 @@ ghost use Rattle.std.specs.Prelude.{◌≡◌, ◌<◌, ◌≤◌, ◌↔◌, �
 ghost use Rattle.gs_port.specs.Contents.{prepend_known};
 ghost use Rattle.gs_port.specs.Counts.{Rises};
 ghost use Rattle.gs_port.specs.Files.{IsAbsent, MayHaveName, told_file, with_name};
-ghost use Rattle.gs_port.specs.Answers.{IfGot, OnNotOpened, OnOpenAnswered, OnOpenFailed, OnOpened, OnReadFailed};
+ghost use Rattle.gs_port.specs.Answers.{IfGot, OnNotOpened, OnOpenAnswered, OnOpenFailed, OnOpened, OnReadFailed, count_after_named, count_after_read};
 
 use crate::source::ReadAnswer;
 
@@ -28,7 +28,8 @@ pub trait Files {
     /// The bytes that are left of the current file, where the files are told.
     ghost left: { Self → Option (List ℕ) };
 
-    /// The count of faults. It never falls, and stands still at 2^64 - 1.
+    /// The count of faults: of the calls that failed, but for opens of a name that is not among files that are told. It
+    /// stands still at 2^64 - 1.
     ghost faults: { Self → ℕ };
 
     /// The names that were opened, in order, whether or not there was a file.
@@ -46,6 +47,7 @@ pub trait Files {
         ensures absent { IsAbsent (files self.old) name.now → faults self.new ≡ faults self.old }
         ensures files { files self.new ≡ files self.old }
         ensures counts { faults self.old ≤ faults self.new }
+        ensures count { faults self.new ≡ count_after_named result (files self.old) name.now (faults self.old) }
         ensures named { OnOpenAnswered result (opened self.new ≡ with_name (opened self.old) name.now) }
         ensures no_other { MayHaveName (opened self.old) name.now (opened self.new) };
 
@@ -62,5 +64,6 @@ pub trait Files {
         ensures files { files self.new ≡ files self.old }
         ensures stays_open { is_open self.new ≡ true }
         ensures same_names { opened self.new ≡ opened self.old }
-        ensures counts { faults self.old ≤ faults self.new };
+        ensures counts { faults self.old ≤ faults self.new }
+        ensures count { faults self.new ≡ count_after_read result (faults self.old) };
 }

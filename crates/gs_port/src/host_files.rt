@@ -3,11 +3,12 @@ ghost use Rattle.std.specs.Prelude.{◌≡◌, false, [], None, is_some};
 use crate::files::{Files, OpenAnswer};
 use crate::opened_names::OpenedNames;
 use crate::source::ReadAnswer;
+use crate::system::{open_fault, read_answer};
 use std::fs::File;
-use std::io::{ErrorKind, Read};
+use std::io::Read;
 
-/// The files of the system. Each error of an open or a read is counted. Nothing is told of them but the names that were
-/// opened.
+/// The files of the system. Each error of an open or a read is counted, but for an error of want of memory, which an open
+/// answers by `Memory`. Nothing is told of the files but the names that were opened.
 #[derive(Drop)]
 pub struct HostFiles {
     rt: HostRuntime,
@@ -54,11 +55,7 @@ impl Files for HostFiles {
                 self.current = Some(file);
                 OpenAnswer::Opened
             }
-            Err(error) if error.kind() == ErrorKind::OutOfMemory => OpenAnswer::Memory,
-            Err(_) => {
-                self.faults = self.faults.saturating_add(1);
-                OpenAnswer::Failed
-            }
+            Err(error) => open_fault(error, &mut self.faults),
         }
     }
 
@@ -66,12 +63,6 @@ impl Files for HostFiles {
         let Some(file) = &mut self.current else {
             unreachable!()
         };
-        match file.read(buf) {
-            Ok(moved) => ReadAnswer::Got(moved),
-            Err(_) => {
-                self.faults = self.faults.saturating_add(1);
-                ReadAnswer::Failed
-            }
-        }
+        read_answer(file.read(buf), &mut self.faults)
     }
 }

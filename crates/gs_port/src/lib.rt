@@ -12,6 +12,7 @@ mod reading;
 mod sink;
 mod source;
 mod stdio;
+mod system;
 mod transfer;
 mod whole;
 

@@ -4,7 +4,7 @@ ghost use Rattle.gs_port.specs.Counts.{Rises};
 ghost use Rattle.gs_port.specs.Files.{IsAbsent, MayHaveName, file_of, told_file, with_name};
 ghost use Rattle.gs_port.specs.Memory.{FailsNow, after_call};
 ghost use Rattle.gs_port.specs.Folder.{bytes_at, told_files};
-ghost use Rattle.gs_port.specs.Answers.{IfGot, OnNotOpened, OnOpenAnswered, OnOpenFailed, OnOpened, OnReadFailed};
+ghost use Rattle.gs_port.specs.Answers.{IfGot, OnNotOpened, OnOpenAnswered, OnOpenFailed, OnOpened, OnReadFailed, count_after_named, count_after_read};
 
 use crate::files::{Files, OpenAnswer};
 use crate::opened_names::OpenedNames;
@@ -98,6 +98,7 @@ impl Files for MemFiles {
         ensures absent { IsAbsent (Some self.old.files) name.now → self.new.count ≡ self.old.count }
         ensures files { Some self.new.files ≡ Some self.old.files }
         ensures counts { self.old.count ≤ self.new.count }
+        ensures count { self.new.count ≡ count_after_named result (Some self.old.files) name.now self.old.count }
         ensures named { OnOpenAnswered result (self.new.opened ≡ with_name self.old.opened name.now) }
         ensures no_other { MayHaveName self.old.opened name.now self.new.opened }
         ensures planned { OnOpenFailed result (FailsNow self.old.plan ⊎ IsAbsent (Some self.old.files) name.now) }
@@ -135,6 +136,7 @@ impl Files for MemFiles {
         ensures stays_open { is_some self.new.current ≡ true }
         ensures same_names { self.new.opened ≡ self.old.opened }
         ensures counts { self.old.count ≤ self.new.count }
+        ensures count { self.new.count ≡ count_after_read result self.old.count }
         ensures most { IfGot result (λ n. IfSome self.old.current (λ bytes. n ≡ min (length buf.new) (length bytes))) }
         ensures planned { OnReadFailed result (FailsNow self.old.plan) }
         ensures unplanned { IfGot result (λ _. ¬ FailsNow self.old.plan) }

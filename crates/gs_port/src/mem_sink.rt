@@ -2,7 +2,7 @@ ghost use Rattle.std.specs.Prelude.{◌≡◌, ◌<◌, ◌≤◌, [], Some, len
 ghost use Rattle.gs_port.specs.Contents.{append_known};
 ghost use Rattle.gs_port.specs.Counts.{Rises};
 ghost use Rattle.gs_port.specs.Memory.{FailsNow, after_call};
-ghost use Rattle.gs_port.specs.Answers.{IfTook, OnNothingTaken, OnWriteFailed};
+ghost use Rattle.gs_port.specs.Answers.{IfTook, OnNothingTaken, OnWriteFailed, count_after_write};
 
 use crate::plan::CallPlan;
 use crate::sink::{Sink, WriteAnswer};
@@ -63,6 +63,7 @@ impl Sink for MemSink {
         ensures unchanged { OnNothingTaken result (Some self.new.kept ≡ Some self.old.kept) }
         ensures failed { OnWriteFailed result (Rises self.old.count self.new.count) }
         ensures counts { self.old.count ≤ self.new.count }
+        ensures count { self.new.count ≡ count_after_write result self.old.count }
         ensures most { IfTook result (λ n. n ≡ min self.old.most (length piece.now)) }
         ensures planned { OnWriteFailed result (FailsNow self.old.plan) }
         ensures unplanned { IfTook result (λ _. ¬ FailsNow self.old.plan) }

@@ -2,7 +2,7 @@ ghost use Rattle.std.specs.Prelude.{◌≡◌, ◌<◌, ◌≤◌, ◌↔◌, []
 ghost use Rattle.gs_port.specs.Contents.{prepend_known};
 ghost use Rattle.gs_port.specs.Counts.{Rises};
 ghost use Rattle.gs_port.specs.Memory.{FailsNow, after_call};
-ghost use Rattle.gs_port.specs.Answers.{IfGot, OnReadFailed};
+ghost use Rattle.gs_port.specs.Answers.{IfGot, OnReadFailed, count_after_read};
 
 use crate::plan::CallPlan;
 use crate::source::{ReadAnswer, Source};
@@ -60,6 +60,7 @@ impl Source for MemSource {
         ensures unmoved { OnReadFailed result (Some self.new.rest ≡ Some self.old.rest) }
         ensures failed { OnReadFailed result (Rises self.old.count self.new.count) }
         ensures counts { self.old.count ≤ self.new.count }
+        ensures count { self.new.count ≡ count_after_read result self.old.count }
         ensures most { IfGot result (λ n. n ≡ min (min self.old.most (length buf.new)) (length self.old.rest)) }
         ensures planned { OnReadFailed result (FailsNow self.old.plan) }
         ensures unplanned { IfGot result (λ _. ¬ FailsNow self.old.plan) }

@@ -2,7 +2,7 @@ ghost use Rattle.std.specs.Prelude.{◌≡◌, ◌≤◌, ◌+◌, ◌++◌, ◌
 ghost use Rattle.gs_port.specs.Contents.{prepend_known};
 ghost use Rattle.gs_port.specs.Counts.{Rises};
 ghost use Rattle.gs_port.specs.Files.{IsAbsent, IsFile, MayHaveName, told_file, with_name};
-ghost use Rattle.gs_port.specs.Answers.{IfOver, OnFileAnswered, OnFileFailed};
+ghost use Rattle.gs_port.specs.Answers.{IfOver, OnFileAnswered, OnFileFailed, count_after_file, count_after_rest};
 
 use crate::files::{Files, OpenAnswer};
 use crate::source::ReadAnswer;
@@ -52,6 +52,7 @@ pub fn read_file<F: Files>(
     ensures taken { F.is_open files.new ≡ true → (bytes : List ℕ) × (length bytes ≤ max + 1) × (told_file (F.files files.old) name.now ≡ prepend_known bytes (F.left files.new)) }
     ensures files { F.files files.new ≡ F.files files.old }
     ensures counts { F.faults files.old ≤ F.faults files.new }
+    ensures count { F.faults files.new ≡ count_after_file result (F.files files.old) name.now (F.faults files.old) }
     ensures named { OnFileAnswered result (F.opened files.new ≡ with_name (F.opened files.old) name.now) }
     ensures no_other { MayHaveName (F.opened files.old) name.now (F.opened files.new) }
 {
@@ -81,6 +82,7 @@ fn read_current<F: Files>(alloc: Global, files: &mut F, max: usize) -> Result<Te
     ensures taken { (bytes : List ℕ) × (length bytes ≤ max + 1) × (F.left files.old ≡ prepend_known bytes (F.left files.new)) }
     ensures files { F.files files.new ≡ F.files files.old }
     ensures counts { F.faults files.old ≤ F.faults files.new }
+    ensures count { F.faults files.new ≡ count_after_rest result (F.faults files.old) }
     ensures same_names { F.opened files.new ≡ F.opened files.old }
 {
     let mut room = zeros(alloc, BLOCK)?;

@@ -1,7 +1,7 @@
 ghost use Rattle.std.specs.Prelude.{◌≡◌, ℕ, ◌<◌, ◌≤◌, List, Option, length, take};
 ghost use Rattle.gs_port.specs.Contents.{append_known};
 ghost use Rattle.gs_port.specs.Counts.{Rises};
-ghost use Rattle.gs_port.specs.Answers.{IfTook, OnNothingTaken, OnWriteFailed};
+ghost use Rattle.gs_port.specs.Answers.{IfTook, OnNothingTaken, OnWriteFailed, count_after_write};
 
 /// What a write answers.
 #[derive(Clone, Copy, Debug, PartialEq, Eq)]
@@ -19,7 +19,7 @@ pub trait Sink {
     /// The bytes that it holds, where the sink tells them.
     ghost held: { Self → Option (List ℕ) };
 
-    /// The count of faults. It never falls, and stands still at 2^64 - 1.
+    /// The count of faults: of the calls that failed. It stands still at 2^64 - 1.
     ghost faults: { Self → ℕ };
 
     /// Appends bytes from the front of the piece, at least one unless it is empty. `Failed` comes only where a fault was
@@ -30,5 +30,6 @@ pub trait Sink {
         ensures appended { IfTook result (λ n. held self.new ≡ append_known (held self.old) (take n piece.now)) }
         ensures unchanged { OnNothingTaken result (held self.new ≡ held self.old) }
         ensures failed { OnWriteFailed result (Rises (faults self.old) (faults self.new)) }
-        ensures counts { faults self.old ≤ faults self.new };
+        ensures counts { faults self.old ≤ faults self.new }
+        ensures count { faults self.new ≡ count_after_write result (faults self.old) };
 }

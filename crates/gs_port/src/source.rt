@@ -1,7 +1,7 @@
 ghost use Rattle.std.specs.Prelude.{◌≡◌, ℕ, ◌<◌, ◌≤◌, ◌↔◌, List, [], Option, IfSome, length, take};
 ghost use Rattle.gs_port.specs.Contents.{prepend_known};
 ghost use Rattle.gs_port.specs.Counts.{Rises};
-ghost use Rattle.gs_port.specs.Answers.{IfGot, OnReadFailed};
+ghost use Rattle.gs_port.specs.Answers.{IfGot, OnReadFailed, count_after_read};
 
 /// What a read answers.
 #[derive(Clone, Copy, Debug, PartialEq, Eq)]
@@ -17,7 +17,7 @@ pub trait Source {
     /// The bytes that are left, where the source tells them.
     ghost left: { Self → Option (List ℕ) };
 
-    /// The count of faults. It never falls, and stands still at 2^64 - 1.
+    /// The count of faults: of the calls that failed. It stands still at 2^64 - 1.
     ghost faults: { Self → ℕ };
 
     /// Moves the next bytes of what is left into the front of `buf`, at most as many as `buf` is long, and 0 exactly
@@ -29,5 +29,6 @@ pub trait Source {
         ensures end { IfGot result (λ n. IfSome (left self.old) (λ bytes. (n ≡ 0) ↔ (bytes ≡ []))) }
         ensures unmoved { OnReadFailed result (left self.new ≡ left self.old) }
         ensures failed { OnReadFailed result (Rises (faults self.old) (faults self.new)) }
-        ensures counts { faults self.old ≤ faults self.new };
+        ensures counts { faults self.old ≤ faults self.new }
+        ensures count { faults self.new ≡ count_after_read result (faults self.old) };
 }

@@ -2,6 +2,7 @@ ghost use Rattle.std.specs.Prelude.{◌≡◌, None};
 
 use crate::sink::{Sink, WriteAnswer};
 use crate::source::{ReadAnswer, Source};
+use crate::system::{read_answer, write_answer};
 use std::io::{Read, Stdin, Stdout, Write};
 
 /// The standard input. Each error of a read is counted. Nothing is told of its content.
@@ -26,13 +27,7 @@ impl Source for StdinSource {
     ghost faults = { λ s. s.faults };
 
     fn read(&mut self, buf: &mut [u8]) -> ReadAnswer {
-        match self.stdin.read(buf) {
-            Ok(moved) => ReadAnswer::Got(moved),
-            Err(_) => {
-                self.faults = self.faults.saturating_add(1);
-                ReadAnswer::Failed
-            }
-        }
+        read_answer(self.stdin.read(buf), &mut self.faults)
     }
 }
 
@@ -59,12 +54,6 @@ impl Sink for StdoutSink {
     ghost faults = { λ s. s.faults };
 
     fn write(&mut self, piece: &[u8]) -> WriteAnswer {
-        match self.stdout.write(piece) {
-            Ok(taken) if taken > 0 || piece.is_empty() => WriteAnswer::Took(taken),
-            _ => {
-                self.faults = self.faults.saturating_add(1);
-                WriteAnswer::Failed
-            }
-        }
+        write_answer(self.stdout.write(piece), piece.len(), &mut self.faults)
     }
 }

@@ -1,7 +1,7 @@
 ghost use Rattle.std.specs.Prelude.{◌≡◌, ℕ, ◌≤◌, length, take};
 ghost use Rattle.gs_port.specs.Contents.{append_known};
 ghost use Rattle.gs_port.specs.Counts.{Rises};
-ghost use Rattle.gs_port.specs.Answers.{OnDone, OnShort, OnSinkFault};
+ghost use Rattle.gs_port.specs.Answers.{OnDone, OnShort, OnSinkFault, count_after_whole};
 
 use crate::sink::{Sink, WriteAnswer};
 
@@ -22,6 +22,7 @@ pub fn write_whole<K: Sink>(sink: &mut K, bytes: &[u8]) -> Whole
     ensures short { OnShort result ((n : ℕ) × (n ≤ length bytes.now) × (K.held sink.new ≡ append_known (K.held sink.old) (take n bytes.now))) }
     ensures fault { OnSinkFault result (Rises (K.faults sink.old) (K.faults sink.new)) }
     ensures counts { K.faults sink.old ≤ K.faults sink.new }
+    ensures count { K.faults sink.new ≡ count_after_whole result (K.faults sink.old) }
 {
     let mut done = 0;
     while done < bytes.len() {

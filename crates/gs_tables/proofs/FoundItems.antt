@@ -4,16 +4,16 @@ use Rattle.std.specs.Prelude.{option_to_list}
 use Rattle.std.specs.List.{flat_map}
 use Rattle.std.proofs.lemmas.List.{map-append}
 use Rattle.std.proofs.lemmas.List.Elements.{filter-append}
+use Rattle.gs_chars.proofs.TruthsAndLists.{read_at}
 use Rattle.gs_grammar.specs.declared.item.Item.{Item}
 use Rattle.gs_grammar.specs.Items.{size_of, size_of_all}
-use Rattle.gs_tables.specs.declared.field.Field.{Field}
-use Rattle.gs_tables.specs.declared.field.Field.TheVariants.{Filter, Gcp, Rest, Serial}
+use Rattle.gs_document.specs.declared.field.Field.{Field}
+use Rattle.gs_document.specs.declared.field.Field.TheVariants.{Filter, Gcp, Rest, Serial}
 use Rattle.gs_tables.specs.declared.field_items.Found.{Found}
 use Rattle.gs_tables.specs.declared.field_items.Found.TheVariants.{One, More}
 use Rattle.gs_tables.specs.Founds.{IsFound, IsMany}
-use Rattle.gs_tables.specs.Items.{FieldItem}
+use Rattle.gs_document.specs.Items.{FieldItem}
 use Rattle.gs_tables.specs.Rules.{is_field, items_of_field}
-use Rattle.gs_ai.proofs.Searches.{read_at}
 
 abbrev there : List (Option FieldItem) → List FieldItem
 there xs = flat_map option_to_list xs

@@ -1,8 +1,7 @@
-pub mod BuiltInLemmas
-pub mod FormLemmas
 pub mod FoundItems
-pub mod NoRefusals
+pub mod KeptRows
+pub mod KeptSets
+pub mod OneAnswer
 pub mod OptionLemmas
-pub mod Parts
 pub mod RefusalLists
 pub mod SetLemmas

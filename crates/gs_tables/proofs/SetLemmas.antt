@@ -1,17 +1,19 @@
 -- The set of rows, and the first of their refusals.
 use Rattle.std.proofs.Common.{◌≡◌, ℕ, List, [], ◌++◌, map, Some, None, slice_get, Bool, true, false, not, ◌==◌, refl, sym, ◌∙◌, inl, inr}
 use Rattle.std.specs.Prelude.{Result, Ok, Err}
+use Rattle.gs_chars.proofs.TruthsAndLists.{first_of_back, first_of_front, none_behind, none_in_front, none_of_both}
 use Rattle.gs_ai.specs.declared.row.AiRow.{AiRow}
 use Rattle.gs_ai.specs.Tables.{table_faults}
-use Rattle.gs_tables.specs.declared.document.Document.{Document}
-use Rattle.gs_tables.specs.declared.document.KindRow.{KindRow}
-use Rattle.gs_tables.specs.declared.document.OptionRow.{OptionRow}
-use Rattle.gs_tables.specs.declared.fault.LoadFault.{LoadFault}
-use Rattle.gs_tables.specs.declared.fault.LoadFault.TheVariants.{Json, Version, Limit, Ai, BadKind, BadItem, Mismatch, Duplicate, Memory}
-use Rattle.gs_tables.specs.declared.level_name.LevelName.TheVariants.{Binary, Tag, Pure}
+use Rattle.gs_document.specs.declared.document.Document.{Document}
+use Rattle.gs_document.specs.declared.document.KindRow.{KindRow}
+use Rattle.gs_document.specs.declared.document.OptionRow.{OptionRow}
+use Rattle.gs_document.specs.declared.fault.LoadFault.{LoadFault}
+use Rattle.gs_document.specs.declared.fault.LoadFault.TheVariants.{Json, Version, Limit, Ai, BadKind, BadItem, Mismatch, Duplicate, Memory}
+use Rattle.gs_document.specs.declared.level_name.LevelName.TheVariants.{Binary, Tag, Pure}
 use Rattle.gs_tables.specs.Tables.{IsAnswer, IsFirst, TableRows, refuse_if, refusals, kind_of, kinds_refusals, level_of, level_refusals, limit_refusals, row_refusals, set_of}
-use Rattle.gs_tables.specs.Shapes.{Holds, IsFormRefusal, Shape}
-use Rattle.gs_tables.proofs.RefusalLists.{first_of_back, first_of_front, none_behind, none_in_front, none_of_both, refused, refused_behind}
+use Rattle.gs_document.specs.Readings.{Holds, IsFormRefusal}
+use Rattle.gs_tables.specs.Shapes.{Shape}
+use Rattle.gs_tables.proofs.RefusalLists.{refused, refused_behind}
 
 -- the refusals of the kinds and of the options
 abbrev pub others : List AiRow → List KindRow → List OptionRow → List OptionRow → List OptionRow → List LoadFault
@@ -87,25 +89,26 @@ version_refused bytes document e holds h =
     let same = refused_version (not (document.version == 1)) e h in
     rw same (inr (document, holds, first_of_front (refuse_if (not (document.version == 1)) Version) (row_refusals document) Version (rw same at h)))
 
-behind_version : (document : Document) (e : LoadFault) → refuse_if (not (document.version == 1)) Version ≡ [] → slice_get (row_refusals document) 0 ≡ Some e → slice_get (refusals document) 0 ≡ Some e
-unfolding refusals
-behind_version document e none h = first_of_back (refuse_if (not (document.version == 1)) Version) (row_refusals document) e none h
+-- the answer by the rows of a document
+pub by_rows : (bytes : List ℕ) (document : Document) (answer : Result TableRows LoadFault) → Holds bytes document → IsAnswer (refusals document) (set_of document) answer → Shape bytes answer
+by_rows bytes document (Ok set) holds h = inr (document, holds, h)
+by_rows bytes document (Err Memory) holds h = tt
+by_rows bytes document (Err (Json fault)) holds h = inr (document, holds, h)
+by_rows bytes document (Err Version) holds h = inr (document, holds, h)
+by_rows bytes document (Err (Limit name)) holds h = inr (document, holds, h)
+by_rows bytes document (Err (Ai fault)) holds h = inr (document, holds, h)
+by_rows bytes document (Err (BadKind i)) holds h = inr (document, holds, h)
+by_rows bytes document (Err (BadItem level i k)) holds h = inr (document, holds, h)
+by_rows bytes document (Err (Mismatch level i)) holds h = inr (document, holds, h)
+by_rows bytes document (Err (Duplicate level j i)) holds h = inr (document, holds, h)
 
-no_refusals : (document : Document) → refuse_if (not (document.version == 1)) Version ≡ [] → row_refusals document ≡ [] → refusals document ≡ []
+-- the version is 1, so that the refusals are those of the rows
+behind_version : (document : Document) → refuse_if (not (document.version == 1)) Version ≡ [] → row_refusals document ≡ refusals document
 unfolding refusals
-no_refusals document none h = none_of_both (refuse_if (not (document.version == 1)) Version) (row_refusals document) none h
+behind_version document none = rw none refl
 
 pub rows_answer : (bytes : List ℕ) (document : Document) (answer : Result TableRows LoadFault) → Holds bytes document → IsFirst (refuse_if (not (document.version == 1)) Version) (Ok tt) → IsAnswer (row_refusals document) (set_of document) answer → Shape bytes answer
-rows_answer bytes document (Ok set) holds none h = inr (document, holds, (no_refusals document none h.0, h.1))
-rows_answer bytes document (Err Memory) holds none h = tt
-rows_answer bytes document (Err (Json fault)) holds none h = inr (document, holds, behind_version document (Json fault) none h)
-rows_answer bytes document (Err Version) holds none h = inr (document, holds, behind_version document Version none h)
-rows_answer bytes document (Err (Limit name)) holds none h = inr (document, holds, behind_version document (Limit name) none h)
-rows_answer bytes document (Err (Ai fault)) holds none h = inr (document, holds, behind_version document (Ai fault) none h)
-rows_answer bytes document (Err (BadKind i)) holds none h = inr (document, holds, behind_version document (BadKind i) none h)
-rows_answer bytes document (Err (BadItem level i k)) holds none h = inr (document, holds, behind_version document (BadItem level i k) none h)
-rows_answer bytes document (Err (Mismatch level i)) holds none h = inr (document, holds, behind_version document (Mismatch level i) none h)
-rows_answer bytes document (Err (Duplicate level j i)) holds none h = inr (document, holds, behind_version document (Duplicate level j i) none h)
+rows_answer bytes document answer holds none h = by_rows bytes document answer holds (rw (behind_version document none) at h)
 
 -- an answer by the form
 pub form_answer : (bytes : List ℕ) (e : LoadFault) → IsFormRefusal bytes e → Shape bytes (Err e)

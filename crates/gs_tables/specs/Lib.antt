@@ -1,8 +1,10 @@
-pub mod Items
+pub use Rattle.gs_builtin.specs.BuiltIn
+pub use Rattle.gs_document.specs.Documents
+pub use Rattle.gs_document.specs.Items
+pub use Rattle.gs_document.specs.Readings
 pub mod Forms
 pub mod Rules
 pub mod Founds
 pub mod Tables
-pub mod Documents
+pub mod KeptRules
 pub mod Shapes
-pub mod BuiltIn

@@ -10,17 +10,17 @@ use Rattle.gs_ai.specs.Values.{has_code}
 use Rattle.gs_grammar.specs.declared.item.Item.{Item}
 use Rattle.gs_grammar.specs.declared.item.Item.TheVariants.{Lit, Pad, Int, Esc, NumPad, Num, Ascii7, Fill}
 use Rattle.gs_grammar.specs.Items.{is_between, size_of_all}
-use Rattle.gs_tables.specs.declared.field.Field.{Field}
-use Rattle.gs_tables.specs.declared.field.Field.TheVariants.{Filter, Gcp, Rest, Serial}
+use Rattle.gs_document.specs.declared.field.Field.{Field}
+use Rattle.gs_document.specs.declared.field.Field.TheVariants.{Filter, Gcp, Rest, Serial}
 use Rattle.gs_tables.specs.declared.form.KeyForm.{KeyForm}
 use Rattle.gs_tables.specs.declared.form.KeyForm.TheVariants.{Digits, Characters}
-use Rattle.gs_tables.specs.declared.document.KindRow.{KindRow}
-use Rattle.gs_tables.specs.declared.kind.SerialAt.{SerialAt}
-use Rattle.gs_tables.specs.declared.kind.SerialAt.TheVariants.{Nowhere, Tail, Ai}
-use Rattle.gs_tables.specs.declared.level_name.LevelName.{LevelName}
-use Rattle.gs_tables.specs.declared.level_name.LevelName.TheVariants.{Binary, Tag, Pure}
+use Rattle.gs_document.specs.declared.document.KindRow.{KindRow}
+use Rattle.gs_document.specs.declared.kind.SerialAt.{SerialAt}
+use Rattle.gs_document.specs.declared.kind.SerialAt.TheVariants.{Nowhere, Tail, Ai}
+use Rattle.gs_document.specs.declared.level_name.LevelName.{LevelName}
+use Rattle.gs_document.specs.declared.level_name.LevelName.TheVariants.{Binary, Tag, Pure}
 use Rattle.gs_tables.specs.Forms.{key_form, form_at, tail_of, characters_of, serial_at, serial_room}
-use Rattle.gs_tables.specs.Items.{FieldItem}
+use Rattle.gs_document.specs.Items.{FieldItem, alone}
 
 -- bytes that are visible characters of ISO 646
 abbrev pub are_visible : List ℕ → Bool
@@ -140,7 +140,7 @@ keeps_serial (Some most) items = is_one (has_room most) items
 
 -- what an option of a level must keep beside its kind: the name of an encoding, a filter value and whole words of 16 bits
 unfoldable pub keeps_level : LevelName → List ℕ → List FieldItem → Bool
-keeps_level Binary encoding items = not (is_empty encoding) && is_one is_filter (items_of_field Filter items) && (size_of_all (map (λ (i : FieldItem). i.1) items) % 16 == 0)
+keeps_level Binary encoding items = not (is_empty encoding) && is_one is_filter (items_of_field Filter items) && (size_of_all (alone items) % 16 == 0)
 keeps_level Tag encoding items = not (is_empty encoding) && is_one is_filter (items_of_field Filter items)
 keeps_level Pure encoding items = is_empty encoding && is_empty (items_of_field Filter items)
 

@@ -9,19 +9,20 @@ use Rattle.gs_ai.specs.Tables.{table_faults}
 use Rattle.gs_grammar.specs.declared.item.Item.{Item}
 use Rattle.gs_grammar.specs.Items.{is_bad, size_of_all}
 use Rattle.gs_grammar.specs.Levels.{OptionForm}
-use Rattle.gs_tables.specs.declared.document.Document.{Document}
-use Rattle.gs_tables.specs.declared.document.KindRow.{KindRow}
-use Rattle.gs_tables.specs.declared.document.OptionRow.{OptionRow}
-use Rattle.gs_tables.specs.declared.fault.LimitName.TheVariants.{Ais, Kinds, Options, Items, Size}
-use Rattle.gs_tables.specs.declared.fault.LoadFault.{LoadFault}
-use Rattle.gs_tables.specs.declared.fault.LoadFault.TheVariants.{Version, Limit, Ai, BadKind, BadItem, Mismatch, Duplicate, Memory}
-use Rattle.gs_tables.specs.declared.kind.Kind.{Kind}
-use Rattle.gs_tables.specs.declared.level_name.LevelName.{LevelName}
-use Rattle.gs_tables.specs.declared.level_name.LevelName.TheVariants.{Binary, Tag, Pure}
+use Rattle.gs_document.specs.declared.document.Document.{Document}
+use Rattle.gs_document.specs.declared.document.KindRow.{KindRow}
+use Rattle.gs_document.specs.declared.document.OptionRow.{OptionRow}
+use Rattle.gs_document.specs.declared.fault.LimitName.TheVariants.{Ais, Kinds, Options, Items, Size}
+use Rattle.gs_document.specs.declared.fault.LoadFault.{LoadFault}
+use Rattle.gs_document.specs.declared.fault.LoadFault.TheVariants.{Version, Limit, Ai, BadKind, BadItem, Mismatch, Duplicate, Memory}
+use Rattle.gs_document.specs.declared.kind.Kind.{Kind}
+use Rattle.gs_document.specs.declared.level_name.LevelName.{LevelName}
+use Rattle.gs_document.specs.declared.level_name.LevelName.TheVariants.{Binary, Tag, Pure}
 use Rattle.gs_tables.specs.declared.level_table.LevelTable.{LevelTable}
-use Rattle.gs_tables.specs.declared.opt_info.OptInfo.{OptInfo}
+use Rattle.gs_document.specs.declared.opt_info.OptInfo.{OptInfo}
 use Rattle.gs_tables.specs.Forms.{serial_at}
-use Rattle.gs_tables.specs.Items.{FieldItem}
+use Rattle.gs_document.specs.Documents.{is_bits}
+use Rattle.gs_document.specs.Items.{FieldItem, alone, fields_of, present}
 use Rattle.gs_tables.specs.Rules.{is_kind, fits_kind, has_name}
 
 -- ---- table sets
@@ -40,12 +41,6 @@ level_rows Binary set = set.binary
 level_rows Tag set = set.tag
 level_rows Pure set = set.pure
 
--- the symbols of a level are bits
-abbrev pub is_bits : LevelName → Bool
-is_bits Binary = true
-is_bits Tag = false
-is_bits Pure = false
-
 -- ---- the rows of a document
 
 -- the kind of a row
@@ -60,10 +55,10 @@ options_of Pure document = document.pure
 
 -- the items that are there, with their fields
 abbrev pub items_there : OptionRow → List FieldItem
-items_there row = flat_map option_to_list row.items
+items_there row = present row.items
 
 abbrev pub items_alone : OptionRow → List Item
-items_alone row = map (λ (i : FieldItem). i.1) (items_there row)
+items_alone row = alone (items_there row)
 
 -- ---- refusals
 
@@ -146,7 +141,7 @@ info_of kinds row = record {
   kind = unwrap_or (position (has_name row.kind) kinds) 0;
   encoding = row.encoding;
   gcp = row.gcp;
-  fields = map (λ (i : FieldItem). i.0) (items_there row);
+  fields = fields_of (items_there row);
 }
 
 abbrev pub level_of : List KindRow → LevelName → List OptionRow → LevelTable

@@ -1,13 +1,11 @@
-ghost use Rattle.std.specs.Prelude.{◌≡◌, ◌&&◌, ◌≤◌, map, option_to_list, SomeIff};
-ghost use Rattle.std.specs.List.{flat_map};
+ghost use Rattle.std.specs.Prelude.{◌≡◌, ◌≤◌, SomeIff};
 ghost use Rattle.gs_grammar.specs.Items.{size_of_all};
 ghost use Rattle.gs_tables.specs.Founds.{IsFound};
-ghost use Rattle.gs_tables.specs.Items.{FieldItem};
+ghost use Rattle.gs_document.specs.Items.{alone, present};
 ghost use Rattle.gs_tables.specs.Rules.{has_room, is_digits, is_filter, is_free, items_of_field, keeps_gcp, keeps_level, keeps_rest, keeps_serial, longest_of};
 
-use crate::field::Field;
 use crate::form::KeyForm;
-use crate::level_name::LevelName;
+use gs_document::{Field, FieldItem, LevelName};
 use gs_grammar::Item;
 
 /// What is found of the items of a field.
@@ -22,8 +20,8 @@ enum Found<'a> {
 }
 
 /// The items whose value stands for a field, as far as they are none, one or more.
-fn items_of<'a>(field: Field, items: &'a [Option<(Option<Field>, Item)>]) -> Found<'a>
-    ensures { IsFound (items_of_field field (flat_map option_to_list items.now)) result }
+fn items_of<'a>(field: Field, items: &'a [Option<FieldItem>]) -> Found<'a>
+    ensures { IsFound (items_of_field field (present items.now)) result }
 {
     let mut found = Found::None;
     for entry in items {
@@ -94,13 +92,8 @@ fn is_free(most: usize, item: &Item) -> bool
 
 /// Whether the prefix has a length that the key leaves room for, in the one item of it.
 #[tactic(auto, unfolding(crate::specs::Rules::keeps_gcp))]
-pub(crate) fn keeps_gcp(
-    form: KeyForm,
-    lead: u64,
-    n: u64,
-    items: &[Option<(Option<Field>, Item)>],
-) -> bool
-    ensures { result ≡ keeps_gcp form lead n (items_of_field Field.Gcp (flat_map option_to_list items.now)) }
+pub(crate) fn keeps_gcp(form: KeyForm, lead: u64, n: u64, items: &[Option<FieldItem>]) -> bool
+    ensures { result ≡ keeps_gcp form lead n (items_of_field Field.Gcp (present items.now)) }
 {
     if n < 1 || n > 12 {
         return false;
@@ -119,8 +112,8 @@ pub(crate) fn keeps_gcp(
 /// Whether the digits or characters of the key that are left beside the prefix stand in one item, or in none where no
 /// digit is left.
 #[tactic(auto, unfolding(crate::specs::Rules::keeps_rest))]
-pub(crate) fn keeps_rest(form: KeyForm, n: u64, items: &[Option<(Option<Field>, Item)>]) -> bool
-    ensures { result ≡ keeps_rest form n (items_of_field Field.Rest (flat_map option_to_list items.now)) }
+pub(crate) fn keeps_rest(form: KeyForm, n: u64, items: &[Option<FieldItem>]) -> bool
+    ensures { result ≡ keeps_rest form n (items_of_field Field.Rest (present items.now)) }
 {
     match (form, items_of(Field::Rest, items)) {
         (KeyForm::Digits(digits, _), Found::None) => u64::from(digits) <= n,
@@ -136,8 +129,8 @@ pub(crate) fn keeps_rest(form: KeyForm, n: u64, items: &[Option<(Option<Field>, 
 
 /// Whether there is one serial item where there is a serial, with a longest value that it has room for, and else none.
 #[tactic(auto, unfolding(crate::specs::Rules::keeps_serial))]
-pub(crate) fn keeps_serial(room: Option<u8>, items: &[Option<(Option<Field>, Item)>]) -> bool
-    ensures { result ≡ keeps_serial room (items_of_field Field.Serial (flat_map option_to_list items.now)) }
+pub(crate) fn keeps_serial(room: Option<u8>, items: &[Option<FieldItem>]) -> bool
+    ensures { result ≡ keeps_serial room (items_of_field Field.Serial (present items.now)) }
 {
     match (room, items_of(Field::Serial, items)) {
         (None, Found::None) => true,
@@ -147,8 +140,8 @@ pub(crate) fn keeps_serial(room: Option<u8>, items: &[Option<(Option<Field>, Ite
 }
 
 /// The sizes of the items added up, where they are at most 512.
-pub(crate) fn size_within_limit(items: &[Option<(Option<Field>, Item)>]) -> Option<usize>
-    ensures { SomeIff result (size_of_all (map (λ (i : FieldItem). i.1) (flat_map option_to_list items.now)) ≤ 512) (size_of_all (map (λ (i : FieldItem). i.1) (flat_map option_to_list items.now))) }
+pub(crate) fn size_within_limit(items: &[Option<FieldItem>]) -> Option<usize>
+    ensures { let size = size_of_all (alone (present items.now)) in SomeIff result (size ≤ 512) size }
 {
     let mut size = 0;
     for entry in items {
@@ -169,10 +162,10 @@ pub(crate) fn keeps_level(
     level: LevelName,
     encoding: &[u8],
     size: usize,
-    items: &[Option<(Option<Field>, Item)>],
+    items: &[Option<FieldItem>],
 ) -> bool
-    requires { size ≡ size_of_all (map (λ (i : FieldItem). i.1) (flat_map option_to_list items.now)) }
-    ensures { result ≡ keeps_level level encoding.now (flat_map option_to_list items.now) }
+    requires { size ≡ size_of_all (alone (present items.now)) }
+    ensures { result ≡ keeps_level level encoding.now (present items.now) }
 {
     let named = !encoding.is_empty();
     match (level, items_of(Field::Filter, items)) {

@@ -1,4 +1,4 @@
-ghost use Rattle.std.specs.Prelude.{◌≡◌};
+ghost use Rattle.std.specs.Prelude.{◌≡◌, is_some};
 ghost use Rattle.gs_tables.specs.Forms.{characters_of, digits_form, form_at, key_form, serial_at, serial_room, tail_of};
 
 use crate::form::KeyForm;
@@ -53,6 +53,13 @@ pub(crate) fn characters_of(parts: &[Part]) -> Option<u8>
         [Part::Set(most)] => Some(*most),
         _ => None,
     }
+}
+
+/// Whether the parts are characters of the set of 82 alone.
+pub fn are_characters(parts: &[Part]) -> bool
+    ensures { result ≡ is_some (characters_of parts.now) }
+{
+    characters_of(parts).is_some()
 }
 
 /// The most characters of the serial, where there is one.

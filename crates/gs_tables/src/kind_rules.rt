@@ -3,10 +3,10 @@ ghost use Rattle.std.specs.List.{list_any};
 ghost use Rattle.gs_tables.specs.Forms.{serial_at};
 ghost use Rattle.gs_tables.specs.Rules.{are_visible, fits_key, has_key, has_name, is_characters, is_kind, is_lead, is_new_name, is_serial_of};
 
-use crate::document::KindRow;
 use crate::form::KeyForm;
-use crate::forms::{characters_of, key_form, tail_of};
+use crate::forms::{are_characters, key_form, tail_of};
 use gs_ai::{AiRow, AiTable, Role};
+use gs_document::KindRow;
 
 /// Whether each byte is a visible character.
 pub(crate) fn are_visible(text: &[u8]) -> bool
@@ -51,7 +51,7 @@ fn is_characters(ais: &AiTable, code: &[u8]) -> bool
     ensures { result ≡ is_characters ais.now code.now }
 {
     match ais.row_with(code) {
-        Some(row) => characters_of(row.parts.items()).is_some(),
+        Some(row) => are_characters(row.parts.items()),
         None => false,
     }
 }

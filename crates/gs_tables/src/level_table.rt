@@ -1,5 +1,5 @@
-use crate::opt_info::OptInfo;
 use gs_chars::List;
+use gs_document::OptInfo;
 use gs_grammar::Level;
 
 /// A level of a table set: its options, and what is said of each beside its items, in the same order.

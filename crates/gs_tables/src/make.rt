@@ -1,22 +1,19 @@
-ghost use Rattle.std.specs.Prelude.{◌≡◌, ◌≤◌, [], IfOk, IsSome, map, option_to_list, position};
+ghost use Rattle.std.specs.Prelude.{◌≡◌, ◌≤◌, [], IfOk, IsSome, map, position};
 ghost use Rattle.gs_ai.specs.Tables.{table_faults};
-ghost use Rattle.std.specs.List.{flat_map};
 ghost use Rattle.gs_grammar.specs.Levels.{KeepBounds};
 ghost use Rattle.gs_tables.specs.Forms.{serial_at};
-ghost use Rattle.gs_tables.specs.Items.{FieldItem};
+ghost use Rattle.gs_document.specs.Items.{alone, fields_of, present};
 ghost use Rattle.gs_tables.specs.Rules.{has_name};
-ghost use Rattle.gs_tables.specs.Tables.{IsAnswer, info_of, is_bits, items_alone, kind_of, kinds_refusals, level_of, level_refusals, option_form};
-ghost use Rattle.gs_tables.specs.declared.fault.LoadFault.TheVariants.{Ai};
+ghost use Rattle.gs_document.specs.Documents.{is_bits};
+ghost use Rattle.gs_tables.specs.Tables.{IsAnswer, info_of, items_alone, kind_of, kinds_refusals, level_of, level_refusals, option_form};
+ghost use Rattle.gs_document.specs.declared.fault.LoadFault.TheVariants.{Ai};
 
-use crate::document::{KindRow, OptionRow};
-use crate::fault::LoadFault;
-use crate::field::Field;
-use crate::kind::{Kind, SerialAt};
-use crate::level_name::LevelName;
 use crate::level_table::LevelTable;
-use crate::opt_info::OptInfo;
 use gs_ai::{AiFault, AiRow, AiTable};
 use gs_chars::{List, Memory, Text};
+use gs_document::{
+    Field, FieldItem, Kind, KindRow, LevelName, LoadFault, OptInfo, OptionRow, SerialAt,
+};
 use gs_grammar::{Item, Level, Opt};
 use std::alloc::Global;
 
@@ -54,6 +51,7 @@ pub(crate) fn make_kinds(
     requires { kinds_refusals ais.now rows ≡ [] }
     ensures { IfOk result (λ kinds. kinds ≡ map kind_of rows) }
 {
+    // the proof alone reads it: the rows keep the rules beside these application identifiers
     let _ = ais;
     let mut kinds = Vec::new(alloc);
     for row in rows.into_vec() {
@@ -70,9 +68,10 @@ pub(crate) fn make_kinds(
 /// The items that are there, apart from their fields.
 fn split_items(
     alloc: Global,
-    items: List<Option<(Option<Field>, Item)>>,
+    items: List<Option<FieldItem>>,
 ) -> Result<(List<Option<Field>>, Vec<Item>), Memory>
-    ensures { IfOk result (λ parts. (parts.0 ≡ map (λ (i : FieldItem). i.0) (flat_map option_to_list items)) × (parts.1.items ≡ map (λ (i : FieldItem). i.1) (flat_map option_to_list items))) }
+    ensures fields { IfOk result (λ parts. parts.0 ≡ fields_of (present items)) }
+    ensures items { IfOk result (λ parts. parts.1.items ≡ alone (present items)) }
 {
     let mut fields = Vec::new(alloc);
     let mut alone = Vec::new(alloc);
@@ -109,7 +108,7 @@ fn make_option(
         unreachable!();
     };
     let (fields, items) = split_items(alloc, row.items)?;
-    let Ok(option) = Opt::new(level.is_bits(), items) else {
+    let Ok(option) = Opt::new(alloc, level.is_bits(), items) else {
         unreachable!();
     };
     let info = OptInfo {
@@ -132,6 +131,7 @@ pub(crate) fn make_level(
     requires { level_refusals ais.now kinds.now level rows ≡ [] }
     ensures { IfOk result (λ made. made ≡ level_of kinds.now level rows) }
 {
+    // the proof alone reads it: the rows keep the rules beside these application identifiers
     let _ = ais;
     let mut options = Vec::new(alloc);
     let mut info = Vec::new(alloc);

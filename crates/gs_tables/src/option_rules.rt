@@ -5,19 +5,15 @@ ghost use Rattle.std.specs.Option.{option_copied};
 ghost use Rattle.gs_tables.specs.Rules.{fits_kind, has_name, keeps_form};
 ghost use Rattle.gs_tables.specs.Tables.{IsFirst, fits, is_bad_item, is_same, items_alone, items_there, option_refusals};
 
-use crate::document::{KindRow, OptionRow};
-use crate::fault::{LimitName, LoadFault};
-use crate::field::Field;
 use crate::field_items::{keeps_gcp, keeps_level, keeps_rest, keeps_serial, size_within_limit};
 use crate::form::KeyForm;
 use crate::forms::{form_at, serial_room};
 use crate::kind_rules::are_visible;
-use crate::level_name::LevelName;
 use gs_ai::AiTable;
-use gs_grammar::Item;
+use gs_document::{FieldItem, KindRow, LevelName, LimitName, LoadFault, OptionRow};
 
 /// The index of the first item that is not there or breaks a bound of the level.
-fn first_bad(bits: bool, items: &[Option<(Option<Field>, Item)>]) -> Option<usize>
+fn first_bad(bits: bool, items: &[Option<FieldItem>]) -> Option<usize>
     ensures { result ≡ position (is_bad_item bits) items.now }
 {
     items.iter().position(|item| match item {

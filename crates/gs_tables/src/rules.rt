@@ -1,14 +1,13 @@
 ghost use Rattle.std.specs.Prelude.{◌≡◌, ◌==◌, ◌||◌, ◌++◌, not, length, take};
 ghost use Rattle.std.specs.List.{flat_map, enumerate_from};
 ghost use Rattle.gs_tables.specs.Rules.{is_kind};
-ghost use Rattle.gs_tables.specs.Tables.{IsFirst, has_long, is_bits, kind_refusals, kinds_refusals, level_refusals, limit_refusals, more_than, option_refusals, refuse_if};
+ghost use Rattle.gs_document.specs.Documents.{is_bits};
+ghost use Rattle.gs_tables.specs.Tables.{IsFirst, has_long, kind_refusals, kinds_refusals, level_refusals, limit_refusals, more_than, option_refusals, refuse_if};
 
-use crate::document::{Document, KindRow, OptionRow};
-use crate::fault::{LimitName, LoadFault};
 use crate::kind_rules::is_kind;
-use crate::level_name::LevelName;
 use crate::option_rules::check_option;
 use gs_ai::AiTable;
+use gs_document::{Document, KindRow, LevelName, LimitName, LoadFault, OptionRow};
 
 /// Refuses a document of another version.
 pub(crate) fn check_version(document: &Document) -> Result<(), LoadFault>

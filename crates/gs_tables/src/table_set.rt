@@ -1,18 +1,13 @@
 ghost use Rattle.std.specs.Prelude.{◌≡◌};
 ghost use Rattle.gs_tables.specs.Tables.{level_rows, IsShaped, IsAnswer, row_refusals, set_of};
-ghost use Rattle.gs_tables.specs.Shapes.{Shape};
+ghost use Rattle.gs_tables.specs.Shapes.{LoadAnswer};
 
-use crate::document::Document;
-use crate::fault::LoadFault;
-use crate::kind::Kind;
-use crate::level_name::LevelName;
 use crate::level_table::LevelTable;
 use crate::make::{make_ais, make_kinds, make_level};
-use crate::opt_info::OptInfo;
-use crate::read_document::read_document;
 use crate::rules::{check_limits, check_rows, check_version};
 use gs_ai::AiTable;
 use gs_chars::List;
+use gs_document::{Document, Kind, LevelName, LoadFault, OptInfo, read_document};
 use gs_grammar::Level;
 use std::alloc::Global;
 use std::marker::Model;
@@ -46,7 +41,7 @@ impl TableSet {
     /// `BadItem` for its first bad item, `Limit(Size)`, `Mismatch` where it does not fit its kind, `Duplicate` for the first
     /// earlier option of the same kind, encoding and prefix length. `Memory` may come in place of any answer.
     pub fn load(alloc: Global, bytes: &[u8]) -> Result<TableSet, LoadFault>
-        ensures { Shape bytes.now result }
+        ensures { LoadAnswer bytes.now result }
     {
         let document = read_document(alloc, bytes)?;
         check_version(&document)?;
@@ -103,6 +98,7 @@ impl TableSet {
         ensures rows { result.now ≡ (level_rows name self.now).level }
         ensures shaped { IsShaped self.now }
     {
+        // the proof alone reads it: what holds of the set
         let _ = &self.kinds;
         &self.table(name).level
     }
@@ -112,6 +108,7 @@ impl TableSet {
         ensures rows { result.now ≡ (level_rows name self.now).info }
         ensures shaped { IsShaped self.now }
     {
+        // the proof alone reads it: what holds of the set
         let _ = &self.kinds;
         self.table(name).info.items()
     }

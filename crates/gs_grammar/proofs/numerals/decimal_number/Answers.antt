@@ -1,5 +1,5 @@
 use Rattle.std.proofs.Common.{arith, ◌≤◌, ◌^◌, ◌+◌, ◌*◌, ◌-◌, get_or}
-use Rattle.gs_grammar.proofs.Numbers.{too_great}
+use Rattle.gs_grammar.proofs.Numbers.{too_great, after_zero}
 use Rattle.gs_grammar.proofs.numerals.decimal_number.Goals as goal
 
 pub returns-in_err-shifted : goal.returns-in_err-shifted
@@ -13,3 +13,6 @@ returns-in_err-number c =
     let large : 2 ^ 64 ≤ 10 * c.loop-digit.number + (get_or c.args.digits.now c.loop-digit.digit-index 0 - 48) =
     let e = c.in_err-number.ensures in let s = c.in_ok-shifted.ensures.1 in let f = c.from.ensures in let m = c.saturating_sub.ensures in omega arith in
     rw c.from_residual-in_err-number.ensures (too_great _ _ _ _ c.loop-digit-test.true c.loop-digit.invariant.value large)
+
+pub loop-digit-init : goal.loop-digit-init
+loop-digit-init c = record { value = after_zero _; small = omega arith }

@@ -1,5 +1,6 @@
 use Rattle.std.proofs.Common.{◌≡◌, ◌<◌, ◌^◌, drop}
-use Rattle.gs_grammar.specs.Words.{value_after, decimal_value}
+use Rattle.gs_grammar.specs.Words.{decimal_value}
+use Rattle.gs_grammar.proofs.Numbers.{value_after}
 use Rattle.gs_grammar.proofs.numerals.decimal_number.Given as goal
 
 abbrev pub invariant-loop-digit : goal.invariant-loop-digit

@@ -1,5 +1,5 @@
 use Rattle.std.proofs.Common.{arith, ◌≤◌, ◌^◌, ◌+◌, ◌*◌, ◌-◌, get_or}
-use Rattle.gs_grammar.proofs.Numbers.{too_great}
+use Rattle.gs_grammar.proofs.Numbers.{too_great, after_zero}
 use Rattle.gs_grammar.proofs.numerals.wide_decimal_number.Goals as goal
 
 pub returns-in_err-number : goal.returns-in_err-number
@@ -7,3 +7,6 @@ returns-in_err-number c =
     let large : 2 ^ 256 ≤ 10 * c.loop-digit.number + (get_or c.args.digits.now c.loop-digit.digit-index 0 - 48) =
     let e = c.in_err-number.ensures in let m = c.saturating_sub.ensures in omega arith in
     rw c.from_residual.ensures (too_great _ _ _ _ c.loop-digit-test.true c.loop-digit.invariant.value large)
+
+pub loop-digit-init : goal.loop-digit-init
+loop-digit-init c = rw c.from_digit-number.ensures (record { value = after_zero _; small = omega arith })

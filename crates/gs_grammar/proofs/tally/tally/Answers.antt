@@ -1,5 +1,5 @@
 use Rattle.std.proofs.Common.{arith, ◌<◌, length, length-set}
-use Rattle.gs_grammar.proofs.Cuts.{first_item, other_items, first_numeric, other_numeric, tallies_step, tallies_end, tally_take}
+use Rattle.gs_grammar.proofs.Cuts.{first_item, other_items, tallies_step, tallies_end, tally_take}
 use Rattle.std.proofs.lemmas.List.{take_all}
 use Rattle.gs_grammar.proofs.tally.tally.Goals as goal
 
@@ -9,23 +9,19 @@ first_cut-requires-clause-item c = first_item _ _ _ c.in-Some.ensures.cases.0 c.
 pub first_cut-requires-clause-others : goal.first_cut-requires-clause-others
 first_cut-requires-clause-others c = other_items _ _ _ c.in-Some.ensures.cases.0 c.loop-item.invariant.items
 
-pub number_of-requires-clause-item : goal.number_of-requires-clause-item
-number_of-requires-clause-item c = first_item _ _ _ c.in-Some.ensures.cases.0 c.loop-item.invariant.items
-
-pub number_of-requires-clause-numeric : goal.number_of-requires-clause-numeric
-number_of-requires-clause-numeric c = first_numeric _ _ _ c.in-Some.ensures.cases.0 c.loop-item.invariant.numeric
+pub number_of_word-requires-clause-item : goal.number_of_word-requires-clause-item
+number_of_word-requires-clause-item c = first_item _ _ _ c.in-Some.ensures.cases.0 c.loop-item.invariant.items
 
 pub loop-item-preserved : goal.loop-item-preserved
 loop-item-preserved c =
     let count = c.in-Some.ensures.cases.1 in
     let room = c.loop-item.invariant.room in
     let within : c.loop-item.number < length c.loop-item.out = omega arith in
-    let whole = rw (c.split_at.ensures.front) at c.number_of.ensures in
+    let whole = rw (c.split_at.ensures.front) at c.number_of_word.ensures in
     record {
       items = other_items _ _ _ c.in-Some.ensures.cases.0 c.loop-item.invariant.items;
-      numeric = other_numeric _ _ _ c.in-Some.ensures.cases.0 c.loop-item.invariant.numeric;
       room = simp length-set (omega arith);
-      numbers = rw (tally_take c.loop-item.out c.loop-item.number c.number_of.result within, c.split_at.ensures.back) (tallies_step _ _ _ _ _ _ _ _ _ c.loop-item.invariant.numbers c.in-Some.ensures.cases.0 c.first_cut.ensures whole);
+      numbers = rw (tally_take c.loop-item.out c.loop-item.number c.number_of_word.result within, c.split_at.ensures.back) (tallies_step _ _ _ _ _ _ _ _ _ c.loop-item.invariant.numbers c.in-Some.ensures.cases.0 c.first_cut.ensures whole);
     }
 
 pub returns : goal.returns

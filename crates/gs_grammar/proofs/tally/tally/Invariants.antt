@@ -1,13 +1,11 @@
 use Rattle.std.proofs.Common.{◌≡◌, ◌+◌, length, take, All}
-use Rattle.std.specs.List.{AllPass}
-use Rattle.gs_grammar.specs.Items.{IsItem, is_numeric}
+use Rattle.gs_grammar.specs.Items.{IsItem}
 use Rattle.gs_grammar.proofs.Cuts.{Tallies}
 use Rattle.gs_grammar.proofs.tally.tally.Given as goal
 
 abbrev pub invariant-loop-item : goal.invariant-loop-item
 invariant-loop-item l = record {
   items : All IsItem l.left;
-  numeric : AllPass is_numeric l.left;
   room : l.number + length l.left ≡ length l.out;
   numbers : Tallies l.items l.symbols l.left l.rest (take l.number l.out);
 }

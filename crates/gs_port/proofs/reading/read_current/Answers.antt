@@ -19,7 +19,7 @@ loop-block-preserved g c =
       current = c.in-Got.ensures.stays_open;
       files = c.in-Got.ensures.files ∙ c.loop-block.invariant.files;
       same_names = c.in-Got.ensures.same_names ∙ c.loop-block.invariant.same_names;
-      counts = omega (arith, c.in-Got.ensures.counts, c.loop-block.invariant.counts);
+      count = c.in-Got.ensures.count ∙ c.loop-block.invariant.count;
     }
 
 pub returns-in_err-extend_from_slice-in-Got-clause-taken : goal.returns-in_err-extend_from_slice-in-Got-clause-taken

@@ -11,7 +11,7 @@ invariant-loop-block g l = record {
   current : g.F.Files.is_open l.files ≡ true;
   files : g.F.Files.files l.files ≡ g.F.Files.files l.fn.files;
   same_names : g.F.Files.opened l.files ≡ g.F.Files.opened l.fn.files;
-  counts : g.F.Files.faults l.fn.files ≤ g.F.Files.faults l.files;
+  count : g.F.Files.faults l.files ≡ g.F.Files.faults l.fn.files;
 }
 
 abbrev pub decreases-loop-block : goal.decreases-loop-block

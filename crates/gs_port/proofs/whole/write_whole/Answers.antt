@@ -1,4 +1,4 @@
-use Rattle.std.proofs.Common.{arith}
+use Rattle.std.proofs.Common.{◌∙◌, arith}
 use Rattle.std.proofs.lemmas.Grind.{common_steps}
 use Rattle.gs_port.proofs.Pieces.{appended_further}
 use Rattle.gs_port.proofs.whole.write_whole.Goals as goal
@@ -7,5 +7,5 @@ pub loop-done-preserved : goal.loop-done-preserved
 loop-done-preserved g c = record {
   within = grind (arith, common_steps, c.in-Took.ensures.within);
   appended = appended_further _ _ _ _ _ _ c.loop-done.invariant.appended c.in-Took.ensures.appended;
-  counts = omega (arith, c.in-Took.ensures.counts, c.loop-done.invariant.counts);
+  count = c.in-Took.ensures.count ∙ c.loop-done.invariant.count;
 }

@@ -1,7 +1,7 @@
 use Rattle.std.proofs.Common.{◌≤◌, arith}
 use Rattle.std.proofs.lemmas.Iterator.Adapters.{YieldsList-from_vec}
 use Rattle.std.proofs.lemmas.Iterator.Consumers.{YieldsList-turn}
-use Rattle.gs_tables.proofs.NoRefusals.{lead_kept}
+use Rattle.gs_tables.proofs.KeptRows.{lead_kept}
 use Rattle.gs_tables.proofs.make.make_kinds.Goals as goal
 
 pub overflow_cast-row : goal.overflow_cast-row

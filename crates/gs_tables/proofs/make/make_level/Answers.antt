@@ -1,7 +1,7 @@
 use Rattle.std.proofs.Common.{sym}
 use Rattle.std.proofs.lemmas.Iterator.Adapters.{YieldsList-from_vec}
 use Rattle.std.proofs.lemmas.Iterator.Consumers.{YieldsList-turn}
-use Rattle.gs_tables.proofs.NoRefusals.{row_kept, bits_of_all}
+use Rattle.gs_tables.proofs.KeptRows.{bits_of_all, can_be_made}
 use Rattle.gs_tables.proofs.make.make_level.Goals as goal
 
 pub make_option-requires : goal.make_option-requires
@@ -9,7 +9,7 @@ make_option-requires c =
     let made = c.into_iter-row-iterator.ensures.into_iter_gives in
     let whole = c.into_vec-row-items.result.ok in
     let t = YieldsList-turn (YieldsList-from_vec {s = c.into_iter-row-iterator.result} c.args.rows (cc) (cc)) c.loop-row.yielded c.loop-row.row-iterator c.loop-row.yielded_by c.next.result c.next.new.self c.in-Some.row c.in-Some.is c.next.ensures.steps in
-    let kept = row_kept c.args.ais.now c.args.kinds.now c.args.level c.args.rows _ c.in-Some.row c.requires t.0 t.1 in
+    let kept = can_be_made c.args.ais.now c.args.kinds.now c.args.level c.args.rows _ c.in-Some.row c.requires t.0 t.1 in
     record { named = kept.named; gcp = kept.gcp; items = kept.items }
 
 pub new-requires : goal.new-requires

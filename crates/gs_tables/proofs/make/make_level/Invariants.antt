@@ -1,5 +1,6 @@
 use Rattle.std.proofs.Common.{◌≡◌, map}
-use Rattle.gs_tables.specs.Tables.{info_of, is_bits, option_form}
+use Rattle.gs_document.specs.Documents.{is_bits}
+use Rattle.gs_tables.specs.Tables.{info_of, option_form}
 use Rattle.gs_tables.proofs.make.make_level.Given as goal
 
 abbrev pub invariant-loop-row : goal.invariant-loop-row

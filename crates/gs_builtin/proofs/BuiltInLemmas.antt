@@ -1,0 +1,20 @@
+-- The built-in rows: bits one by one, and tests that hold at each row.
+use Rattle.std.proofs.Common.{◌≡◌, ℕ, ◌-◌, ◌<◌, ◌∙◌, zero, suc, true, List, [], ◌∷◌, ◌++◌, append_assoc, refl, arith}
+use Rattle.std.specs.Int.{bit_at}
+use Rattle.std.specs.List.{list_all}
+use Rattle.gs_bits.specs.Bits.{bits_of}
+use Rattle.gs_builtin.specs.BuiltIn.{asset_encodings, document_encodings, encodings, rests_fit, item_encodings}
+
+-- the next bit behind those that are there
+pub bits_more : (xs ys : List ℕ) (b left number : ℕ) → 0 < left → b ≡ bit_at number (left - 1) → ys ≡ xs ++ b ∷ [] → ys ++ bits_of (left - 1) number ≡ xs ++ bits_of left number
+unfolding bits_of
+bits_more xs ys b zero number h e f = absurd (omega arith)
+bits_more xs ys b (suc n) number h e f =
+    let less : suc n - 1 ≡ n = omega arith in
+    let first : b ≡ bit_at number n = e ∙ (rw less refl) in
+    rw less (rw f (rw append_assoc (rw first refl)))
+
+-- the numbers of the encodings have at most 64 bits
+pub rests_of_encodings_fit : list_all rests_fit encodings ≡ true
+unfolding encodings item_encodings asset_encodings document_encodings
+rests_of_encodings_fit = refl

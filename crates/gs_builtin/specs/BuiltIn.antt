@@ -1,0 +1,291 @@
+-- The built-in rows. The application identifiers are those of GS1 General Specifications, section 3; kinds, encodings and
+-- the partition table those of TDS 2.0, sections 6.3, 14.2 and 14.6. The choice of rows is this project's own.
+use Rattle.std.specs.Prelude.{ℕ, ◌-◌, ◌^◌, ◌==◌, nat_le, Bool, true, false, if◌then◌else◌, List, [], ◌∷◌, ◌++◌, map, codes, replicate, Option, Some, None, option_map, option_to_list}
+use Rattle.std.specs.List.{flat_map, list_all}
+use Rattle.gs_ai.specs.declared.part.Part.{Part}
+use Rattle.gs_ai.specs.declared.part.Part.TheVariants as part
+use Rattle.gs_ai.specs.declared.part.Role.TheVariants as role
+use Rattle.gs_ai.specs.declared.row.AiRow.{AiRow}
+use Rattle.gs_bits.specs.Bits.{bits_of}
+use Rattle.gs_grammar.specs.declared.item.Item.{Item}
+use Rattle.gs_grammar.specs.declared.item.Item.TheVariants.{Lit, Pad, Int, Esc, NumPad, Num, Ascii7, Fill}
+use Rattle.gs_document.specs.declared.document.Document.{Document}
+use Rattle.gs_document.specs.declared.document.KindRow.{KindRow}
+use Rattle.gs_document.specs.declared.document.OptionRow.{OptionRow}
+use Rattle.gs_builtin.specs.declared.encoding.Encoding.{Encoding}
+use Rattle.gs_builtin.specs.declared.encoding.Identity.{Identity}
+use Rattle.gs_builtin.specs.declared.encoding.Partition.{Partition}
+use Rattle.gs_builtin.specs.declared.encoding.RestForm.{RestForm}
+use Rattle.gs_builtin.specs.declared.encoding.RestForm.TheVariants.{Digits, Number, Characters}
+use Rattle.gs_document.specs.declared.field.Field.{Field}
+use Rattle.gs_document.specs.declared.field.Field.TheVariants.{Filter, Gcp, Rest, Serial}
+use Rattle.gs_document.specs.Items.{FieldItem}
+
+-- ---- application identifiers
+
+abbrev pub attribute : List ℕ → Part → AiRow
+attribute code p = record { code = code; parts = p ∷ []; role = role.Attribute; qualifiers = []; short = false; none = [] }
+
+abbrev pub qualifier : List ℕ → Part → List ℕ → AiRow
+qualifier code p none = record { code = code; parts = p ∷ []; role = role.Qualifier; qualifiers = []; short = false; none = none }
+
+abbrev pub key : List ℕ → List Part → List (List ℕ) → Bool → AiRow
+key code parts qualifiers short = record { code = code; parts = parts; role = role.Key; qualifiers = qualifiers; short = short; none = [] }
+
+-- logistic units, trade items and lots
+unfoldable pub item_ais : List AiRow
+item_ais =
+    key (codes "00") (part.NumCheck 18 ∷ []) [] false
+    ∷ key (codes "01") (part.NumCheck 14 ∷ []) (codes "22" ∷ codes "10" ∷ codes "21" ∷ []) true
+    ∷ attribute (codes "02") (part.NumCheck 14)
+    ∷ qualifier (codes "10") (part.Set 20) [] ∷ []
+
+unfoldable pub date_ais : List AiRow
+date_ais =
+    attribute (codes "11") part.Date ∷ attribute (codes "12") part.Date ∷ attribute (codes "13") part.Date
+    ∷ attribute (codes "15") part.Date ∷ attribute (codes "16") part.Date ∷ attribute (codes "17") part.Date ∷ []
+
+-- variants, serials and counts
+unfoldable pub variant_ais : List AiRow
+variant_ais =
+    attribute (codes "20") (part.Num 2)
+    ∷ qualifier (codes "21") (part.Set 20) [] ∷ qualifier (codes "22") (part.Set 20) []
+    ∷ attribute (codes "30") (part.NumUpTo 8) ∷ attribute (codes "37") (part.NumUpTo 8) ∷ []
+
+-- additional identifications, documents and extensions of locations
+unfoldable pub additional_ais : List AiRow
+additional_ais =
+    attribute (codes "240") (part.Set 30) ∷ attribute (codes "241") (part.Set 30)
+    ∷ attribute (codes "250") (part.Set 30) ∷ attribute (codes "251") (part.Set 30)
+    ∷ key (codes "253") (part.NumCheck 13 ∷ part.SetOpt 17 ∷ []) [] false
+    ∷ qualifier (codes "254") (part.Set 20) (codes "0") ∷ []
+
+-- net weights
+unfoldable pub weight_ais : List AiRow
+weight_ais =
+    attribute (codes "3100") (part.Num 6) ∷ attribute (codes "3101") (part.Num 6) ∷ attribute (codes "3102") (part.Num 6)
+    ∷ attribute (codes "3103") (part.Num 6) ∷ attribute (codes "3104") (part.Num 6) ∷ attribute (codes "3105") (part.Num 6) ∷ []
+
+-- orders, consignments and shipments
+unfoldable pub shipment_ais : List AiRow
+shipment_ais =
+    attribute (codes "400") (part.Set 30)
+    ∷ key (codes "401") (part.Set 30 ∷ []) [] false
+    ∷ key (codes "402") (part.NumCheck 17 ∷ []) [] false
+    ∷ attribute (codes "403") (part.Set 30) ∷ []
+
+-- parties that goods are sent, billed or bought for
+unfoldable pub party_ais : List AiRow
+party_ais =
+    attribute (codes "410") (part.NumCheck 13) ∷ attribute (codes "411") (part.NumCheck 13)
+    ∷ attribute (codes "412") (part.NumCheck 13) ∷ attribute (codes "413") (part.NumCheck 13) ∷ []
+
+-- locations, and parties by themselves
+unfoldable pub location_ais : List AiRow
+location_ais =
+    key (codes "414") (part.NumCheck 13 ∷ []) (codes "254" ∷ []) false
+    ∷ attribute (codes "415") (part.NumCheck 13) ∷ attribute (codes "416") (part.NumCheck 13)
+    ∷ key (codes "417") (part.NumCheck 13 ∷ []) [] false ∷ []
+
+-- assets and services
+unfoldable pub asset_ais : List AiRow
+asset_ais =
+    key (codes "8003") (part.Zero ∷ part.NumCheck 13 ∷ part.SetOpt 16 ∷ []) [] false
+    ∷ key (codes "8004") (part.Set 30 ∷ []) [] false
+    ∷ key (codes "8017") (part.NumCheck 18 ∷ []) (codes "8019" ∷ []) false
+    ∷ key (codes "8018") (part.NumCheck 18 ∷ []) (codes "8019" ∷ []) false
+    ∷ qualifier (codes "8019") (part.NumUpTo 10) []
+    ∷ attribute (codes "8020") (part.Set 25) ∷ []
+
+-- what partners agree on, and companies use for themselves
+unfoldable pub agreed_ais : List AiRow
+agreed_ais =
+    attribute (codes "90") (part.Set 30)
+    ∷ attribute (codes "91") (part.Set 90) ∷ attribute (codes "92") (part.Set 90) ∷ attribute (codes "93") (part.Set 90)
+    ∷ attribute (codes "94") (part.Set 90) ∷ []
+
+unfoldable pub company_ais : List AiRow
+company_ais =
+    attribute (codes "95") (part.Set 90) ∷ attribute (codes "96") (part.Set 90) ∷ attribute (codes "97") (part.Set 90)
+    ∷ attribute (codes "98") (part.Set 90) ∷ attribute (codes "99") (part.Set 90) ∷ []
+
+unfoldable pub builtin_ais : List AiRow
+builtin_ais =
+    item_ais ++ date_ais ++ variant_ais ++ additional_ais ++ weight_ais ++ shipment_ais ++ party_ais ++ location_ais
+    ++ asset_ais ++ agreed_ais ++ company_ais
+
+-- ---- kinds
+
+abbrev pub kind : List ℕ → List ℕ → ℕ → List ℕ → KindRow
+kind name key lead serial = record { name = name; key = key; lead = lead; serial = serial }
+
+unfoldable pub builtin_kinds : List KindRow
+builtin_kinds =
+    kind (codes "sgtin") (codes "01") 1 (codes "21")
+    ∷ kind (codes "sscc") (codes "00") 1 []
+    ∷ kind (codes "sgln") (codes "414") 0 (codes "254")
+    ∷ kind (codes "grai") (codes "8003") 0 (codes "tail")
+    ∷ kind (codes "giai") (codes "8004") 0 []
+    ∷ kind (codes "gdti") (codes "253") 0 (codes "tail")
+    ∷ kind (codes "gsrn") (codes "8018") 0 [] ∷ []
+
+-- ---- the partition table: the digits of the prefix, the partition, and the bits of the prefix (TDS 2.0, section 14.2)
+
+abbrev pub partition : ℕ → ℕ → ℕ → Partition
+partition digits number bits = record { digits = digits; number = number; bits = bits }
+
+abbrev pub partitions : List Partition
+partitions = partition 12 0 40 ∷ partition 11 1 37 ∷ partition 10 2 34 ∷ partition 9 3 30 ∷ partition 8 4 27 ∷ partition 7 5 24 ∷ partition 6 6 20 ∷ []
+
+-- ---- the encodings
+
+-- an encoding: its header, the bits of prefix and rest together, the rest, the serial, and the zeros at the end
+abbrev pub encoding : List ℕ → List ℕ → ℕ → ℕ → RestForm → Option Item → Option Item → Encoding
+encoding name kind header width rest serial after = record { name = name; kind = kind; header = header; width = width; rest = rest; serial = serial; after = after }
+
+-- a literal of zeros, so many
+abbrev pub zeros : ℕ → Item
+zeros n = Lit (replicate n 0)
+
+-- the encodings of trade items, logistic units and locations
+unfoldable pub item_encodings : List Encoding
+item_encodings =
+    encoding (codes "sgtin-96") (codes "sgtin") 48 44 (Digits 13) (Some (Num 38 274877906943)) None
+    ∷ encoding (codes "sgtin-198") (codes "sgtin") 54 44 (Digits 13) (Some (Ascii7 1 20 140)) (Some (Fill 2 10))
+    ∷ encoding (codes "sscc-96") (codes "sscc") 49 58 (Digits 17) None (Some (zeros 24))
+    ∷ encoding (codes "sgln-96") (codes "sgln") 50 41 (Digits 12) (Some (Num 41 2199023255551)) None
+    ∷ encoding (codes "sgln-195") (codes "sgln") 57 41 (Digits 12) (Some (Ascii7 1 20 140)) (Some (Fill 5 13)) ∷ []
+
+-- the encodings of assets
+unfoldable pub asset_encodings : List Encoding
+asset_encodings =
+    encoding (codes "grai-96") (codes "grai") 51 44 (Digits 12) (Some (Num 38 274877906943)) None
+    ∷ encoding (codes "grai-170") (codes "grai") 55 44 (Digits 12) (Some (Ascii7 1 16 112)) (Some (Fill 6 6))
+    ∷ encoding (codes "giai-96") (codes "giai") 52 82 Number None None
+    ∷ encoding (codes "giai-202") (codes "giai") 56 188 Characters None (Some (Fill 6 6)) ∷ []
+
+-- the encodings of documents and services
+unfoldable pub document_encodings : List Encoding
+document_encodings =
+    encoding (codes "gdti-96") (codes "gdti") 44 41 (Digits 12) (Some (Num 41 2199023255551)) None
+    ∷ encoding (codes "gdti-174") (codes "gdti") 62 41 (Digits 12) (Some (Ascii7 1 17 119)) (Some (Fill 2 2))
+    ∷ encoding (codes "gsrn-96") (codes "gsrn") 45 58 (Digits 17) None (Some (zeros 24)) ∷ []
+
+unfoldable pub encodings : List Encoding
+encodings = item_encodings ++ asset_encodings ++ document_encodings
+
+-- ---- options
+
+-- an item that is there
+abbrev pub there : FieldItem → Option FieldItem
+there i = Some i
+
+-- the item of a field, where there is one
+abbrev pub of_field : Option Field → Option Item → List FieldItem
+of_field field item = map (λ (i : Item). (field, i)) (option_to_list item)
+
+-- the rest beside a prefix of n digits, in so many bits
+abbrev pub rest_in_bits : RestForm → ℕ → ℕ → FieldItem
+rest_in_bits (Digits d) n bits = if d - n == 0 then (None, zeros bits) else (Some Rest, NumPad bits (d - n))
+rest_in_bits Number n bits = (Some Rest, Num bits (2 ^ bits - 1))
+rest_in_bits Characters n bits = (Some Rest, Ascii7 1 (30 - n) bits)
+
+-- header, filter, partition, prefix, rest, serial, and the zeros at the end
+abbrev pub binary_items : Encoding → Partition → List FieldItem
+binary_items e p =
+    (None, Lit (bits_of 8 e.header)) ∷ (Some Filter, Num 3 7) ∷ (None, Lit (bits_of 3 p.number)) ∷ (Some Gcp, NumPad p.bits p.digits)
+    ∷ rest_in_bits e.rest p.digits (e.width - p.bits)
+    ∷ of_field (Some Serial) e.serial ++ of_field None e.after
+
+-- the item of a text level for one of a bit level
+abbrev pub in_text : Item → Item
+in_text (NumPad bits n) = Pad n
+in_text (Num bits most) = Int most
+in_text (Ascii7 lo hi bits) = Esc lo hi
+in_text other = other
+
+-- a dot, and the item of a field
+abbrev pub dotted : Field → Item → List FieldItem
+dotted field i = (None, Lit (codes ".")) ∷ (Some field, i) ∷ []
+
+-- what follows the prefix: the rest and the serial, each behind a dot, where a rest of no digits leaves two dots
+abbrev pub behind_prefix : FieldItem → Option Item → List FieldItem
+behind_prefix (None, _) serial = (None, Lit (codes "..")) ∷ of_field (Some Serial) serial
+behind_prefix (Some field, rest) serial = dotted Rest rest ++ flat_map (dotted Serial) (option_to_list serial)
+
+abbrev pub in_text_too : FieldItem → FieldItem
+in_text_too i = (i.0, in_text i.1)
+
+-- `urn:epc:tag:ENCODING:`, filter, prefix, rest and serial
+abbrev pub tag_items : Encoding → Partition → List FieldItem
+tag_items e p =
+    (None, Lit (codes "urn:epc:tag:" ++ e.name ++ codes ":")) ∷ (Some Filter, Int 7) ∷ (None, Lit (codes ".")) ∷ (Some Gcp, Pad p.digits)
+    ∷ behind_prefix (in_text_too (rest_in_bits e.rest p.digits (e.width - p.bits))) (option_map in_text e.serial)
+
+-- the pure identity of a kind: its name, what the rest is, and the serial
+abbrev pub identity : List ℕ → RestForm → Option Item → Identity
+identity name rest serial = record { name = name; rest = rest; serial = serial }
+
+unfoldable pub identities : List Identity
+identities =
+    identity (codes "sgtin") (Digits 13) (Some (Esc 1 20))
+    ∷ identity (codes "sscc") (Digits 17) None
+    ∷ identity (codes "sgln") (Digits 12) (Some (Esc 1 20))
+    ∷ identity (codes "grai") (Digits 12) (Some (Esc 1 16))
+    ∷ identity (codes "giai") Characters None
+    ∷ identity (codes "gdti") (Digits 12) (Some (Esc 1 17))
+    ∷ identity (codes "gsrn") (Digits 17) None ∷ []
+
+-- `urn:epc:id:KIND:`, prefix, rest and serial
+abbrev pub pure_items : Identity → Partition → List FieldItem
+pure_items k p =
+    (None, Lit (codes "urn:epc:id:" ++ k.name ++ codes ":")) ∷ (Some Gcp, Pad p.digits)
+    ∷ behind_prefix (in_text_too (rest_in_bits k.rest p.digits 0)) k.serial
+
+abbrev pub option_row : List ℕ → List ℕ → Partition → List FieldItem → OptionRow
+option_row kind encoding p items = record { kind = kind; encoding = encoding; gcp = p.digits; items = map there items }
+
+-- an option for each length of the prefix from 12 to 6
+abbrev pub binary_row : Encoding → Partition → OptionRow
+binary_row e p = option_row e.kind e.name p (binary_items e p)
+
+abbrev pub binary_rows : Encoding → List OptionRow
+binary_rows e = map (binary_row e) partitions
+
+abbrev pub tag_row : Encoding → Partition → OptionRow
+tag_row e p = option_row e.kind e.name p (tag_items e p)
+
+abbrev pub tag_rows : Encoding → List OptionRow
+tag_rows e = map (tag_row e) partitions
+
+abbrev pub pure_row : Identity → Partition → OptionRow
+pure_row k p = option_row k.name [] p (pure_items k p)
+
+abbrev pub pure_rows : Identity → List OptionRow
+pure_rows k = map (pure_row k) partitions
+
+-- for each encoding, or for each kind
+unfoldable pub builtin_binary : List OptionRow
+builtin_binary = flat_map binary_rows encodings
+
+unfoldable pub builtin_tag : List OptionRow
+builtin_tag = flat_map tag_rows encodings
+
+unfoldable pub builtin_pure : List OptionRow
+builtin_pure = flat_map pure_rows identities
+
+-- ---- numbers that 64 bits hold, as the code has them
+
+-- a rest that is a number has at most 64 bits
+abbrev pub rest_fits : RestForm → ℕ → Bool
+rest_fits (Digits d) bits = true
+rest_fits Number bits = nat_le bits 64
+rest_fits Characters bits = true
+
+-- with each length of the prefix
+abbrev pub rests_fit : Encoding → Bool
+rests_fit e = list_all (λ (p : Partition). rest_fits e.rest (e.width - p.bits)) partitions
+
+-- the rows of the built-in tables
+abbrev pub builtin_document : Document
+builtin_document = record { version = 1; ais = builtin_ais; kinds = builtin_kinds; binary = builtin_binary; tag = builtin_tag; pure = builtin_pure }

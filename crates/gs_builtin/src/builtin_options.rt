@@ -1,0 +1,129 @@
+ghost use Rattle.std.specs.Prelude.{◌≡◌, ◌∷◌, ◌++◌, [], IfOk, IsTrue, OnOk, List, map};
+ghost use Rattle.std.specs.List.{flat_map, list_all};
+ghost use Rattle.gs_builtin.specs.BuiltIn.{binary_rows, rests_fit, option_row, pure_rows, tag_rows};
+
+use crate::builtin_encodings::PARTITIONS;
+use crate::builtin_items::{binary_items, pure_items, tag_items};
+use crate::encoding::{Encoding, Identity, Partition};
+use gs_chars::{List, Memory, Text};
+use gs_document::{FieldItem, OptionRow};
+use std::alloc::Global;
+
+/// Appends an option.
+fn push(
+    alloc: Global,
+    rows: &mut Vec<OptionRow>,
+    kind: &[u8],
+    encoding: &[u8],
+    partition: Partition,
+    items: List<Option<FieldItem>>,
+) -> Result<(), Memory>
+    ensures { OnOk result (rows.new.items ≡ rows.old.items
+        ++ (record { kind = kind.now; encoding = encoding.now; gcp = partition.digits; items = items }) ∷ []) }
+{
+    let row = OptionRow {
+        kind: Text::from_bytes(alloc, kind)?,
+        encoding: Text::from_bytes(alloc, encoding)?,
+        gcp: u64::from(partition.digits),
+        items,
+    };
+    rows.push(row)?;
+    Ok(())
+}
+
+/// Appends the binary options of an encoding.
+fn add_binary(alloc: Global, rows: &mut Vec<OptionRow>, encoding: &Encoding) -> Result<(), Memory>
+    requires { IsTrue (rests_fit encoding.now) }
+    ensures { OnOk result (rows.new.items ≡ rows.old.items ++ binary_rows encoding.now) }
+{
+    for partition in &PARTITIONS {
+        let items = binary_items(alloc, encoding, *partition)?;
+        push(
+            alloc,
+            rows,
+            encoding.kind.as_bytes(),
+            encoding.name.as_bytes(),
+            *partition,
+            items,
+        )?;
+    }
+    Ok(())
+}
+
+/// Appends the tag options of an encoding.
+fn add_tag(alloc: Global, rows: &mut Vec<OptionRow>, encoding: &Encoding) -> Result<(), Memory>
+    requires { IsTrue (rests_fit encoding.now) }
+    ensures { OnOk result (rows.new.items ≡ rows.old.items ++ tag_rows encoding.now) }
+{
+    for partition in &PARTITIONS {
+        let items = tag_items(alloc, encoding, *partition)?;
+        push(
+            alloc,
+            rows,
+            encoding.kind.as_bytes(),
+            encoding.name.as_bytes(),
+            *partition,
+            items,
+        )?;
+    }
+    Ok(())
+}
+
+/// Appends the pure options of a kind.
+fn add_pure(alloc: Global, rows: &mut Vec<OptionRow>, identity: &Identity) -> Result<(), Memory>
+    ensures { OnOk result (rows.new.items ≡ rows.old.items ++ pure_rows identity.now) }
+{
+    for partition in &PARTITIONS {
+        let items = pure_items(alloc, identity, *partition)?;
+        push(
+            alloc,
+            rows,
+            identity.name.as_bytes(),
+            b"",
+            *partition,
+            items,
+        )?;
+    }
+    Ok(())
+}
+
+/// The binary options of the encodings.
+pub(crate) fn binary_options(
+    alloc: Global,
+    encodings: &[Encoding],
+) -> Result<List<OptionRow>, Memory>
+    requires { IsTrue (list_all rests_fit encodings.now) }
+    ensures { IfOk result (λ rows. rows ≡ flat_map binary_rows encodings.now) }
+{
+    let mut rows = Vec::new(alloc);
+    for encoding in encodings {
+        add_binary(alloc, &mut rows, encoding)?;
+    }
+    Ok(List::from_vec(rows))
+}
+
+/// The tag options of the encodings.
+pub(crate) fn tag_options(alloc: Global, encodings: &[Encoding]) -> Result<List<OptionRow>, Memory>
+    requires { IsTrue (list_all rests_fit encodings.now) }
+    ensures { IfOk result (λ rows. rows ≡ flat_map tag_rows encodings.now) }
+{
+    let mut rows = Vec::new(alloc);
+    for encoding in encodings {
+        add_tag(alloc, &mut rows, encoding)?;
+    }
+    Ok(List::from_vec(rows))
+}
+
+/// The pure options of the kinds.
+pub(crate) fn pure_options(
+    alloc: Global,
+    identities: &[Identity],
+) -> Result<List<OptionRow>, Memory>
+    ensures { IfOk result (λ rows. rows ≡ flat_map pure_rows identities.now) }
+{
+    let mut rows = Vec::new(alloc);
+    for identity in identities {
+        add_pure(alloc, &mut rows, identity)?;
+    }
+    Ok(List::from_vec(rows))
+}

@@ -1,0 +1,28 @@
+ghost use Rattle.std.specs.Prelude.{◌≡◌, IfOk};
+ghost use Rattle.gs_builtin.specs.BuiltIn.{builtin_document};
+
+use crate::builtin_ais::builtin_ais;
+use crate::builtin_encodings::{encodings, identities};
+use crate::builtin_kinds::builtin_kinds;
+use crate::builtin_options::{binary_options, pure_options, tag_options};
+use gs_chars::Memory;
+use gs_document::Document;
+use std::alloc::Global;
+
+/// The built-in rows: the application identifiers, seven kinds of key, and for each encoding and each length of the company
+/// prefix from 12 to 6 its binary and its tag option, and for each kind its pure option.
+#[tactic(auto, using(crate::proofs::BuiltInLemmas::rests_of_encodings_fit), unfolding(crate::specs::BuiltIn::builtin_binary, crate::specs::BuiltIn::builtin_tag, crate::specs::BuiltIn::builtin_pure))]
+pub fn builtin_document(alloc: Global) -> Result<Document, Memory>
+    ensures { IfOk result (λ document. document ≡ builtin_document) }
+{
+    let encodings = encodings(alloc)?;
+    let identities = identities(alloc)?;
+    Ok(Document {
+        version: 1,
+        ais: builtin_ais(alloc)?,
+        kinds: builtin_kinds(alloc)?,
+        binary: binary_options(alloc, encodings.items())?,
+        tag: tag_options(alloc, encodings.items())?,
+        pure: pure_options(alloc, identities.items())?,
+    })
+}

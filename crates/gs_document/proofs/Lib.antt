@@ -1,0 +1,5 @@
+pub mod FaultLists
+pub mod FormLemmas
+pub mod OneReading
+pub mod Parts
+pub mod PartWords

@@ -1,0 +1,26 @@
+use Rattle.std.proofs.Common.{◌≤◌, ℕ, length, sym, ◌∙◌, arith}
+use Rattle.std.proofs.lemmas.Result.{err_from_is_err_and}
+use Rattle.serde_json.specs.Data.{Data}
+use Rattle.serde_json.specs.View.{view}
+use Rattle.gs_json.specs.Places.{item_place}
+use Rattle.gs_document.specs.Documents.{items_in, object_faults}
+use Rattle.gs_document.proofs.Parts.{items_at, items_length}
+use Rattle.gs_document.proofs.FaultLists.{form_row, form_more, form_all}
+use Rattle.gs_document.proofs.reading.judge_items.Goals as goal
+
+pub returns-in_err-shaped : goal.returns-in_err-shaped
+returns-in_err-shaped c =
+    let p = err_from_is_err_and c.from_residual-in_err-shaped.result c.from_residual-in_err-shaped.ensures.1 in
+    rw (p.1, p.2)
+    (form_row (λ (row : ℕ × Data). object_faults (item_place c.args.array.now.place row.0) c.args.plan.now row.1) (items_in (view c.args.array.now.tree)) c.loop-i.i (view c.in_ok-row.row.tree) c.in_err-shaped.field-0.0
+    (items_at (view c.args.array.now.tree) c.loop-i.i ∙ sym c.in_ok-row.ensures.item) c.loop-i.invariant (rw c.in_ok-row.ensures.place at c.in_err-shaped.ensures))
+
+pub loop-i-preserved : goal.loop-i-preserved
+loop-i-preserved c =
+    form_more (λ (row : ℕ × Data). object_faults (item_place c.args.array.now.place row.0) c.args.plan.now row.1) (items_in (view c.args.array.now.tree)) c.loop-i.i (view c.in_ok-row.row.tree)
+    (items_at (view c.args.array.now.tree) c.loop-i.i ∙ sym c.in_ok-row.ensures.item) c.loop-i.invariant (rw c.in_ok-row.ensures.place at c.in_ok-shaped.ensures)
+
+pub returns : goal.returns
+returns c =
+    let few : length (items_in (view c.args.array.now.tree)) ≤ c.loop-i.i = rw (items_length (view c.args.array.now.tree)) (omega (arith, c.in_ok-count.ensures)) in
+    form_all (λ (row : ℕ × Data). object_faults (item_place c.args.array.now.place row.0) c.args.plan.now row.1) (items_in (view c.args.array.now.tree)) c.loop-i.i few c.loop-i.invariant

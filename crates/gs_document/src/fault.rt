@@ -1,0 +1,73 @@
+use crate::level_name::LevelName;
+use gs_ai::AiFault;
+use gs_chars::Memory;
+use gs_json::JsonFault;
+
+/// What there may be only so many of.
+#[derive(Clone, Copy, Debug, PartialEq, Eq)]
+pub enum LimitName {
+    /// Rows of application identifiers, at most 256.
+    Ais,
+    /// Kinds, at most 64.
+    Kinds,
+    /// Options of a level, at most 256.
+    Options,
+    /// Items of an option, at most 24.
+    Items,
+    /// Symbols of an option, at most 512.
+    Size,
+}
+
+/// Why tables are refused. The indexes count from 0.
+#[derive(Debug, Drop, PartialEq, Eq)]
+pub enum LoadFault {
+    /// The document is not of the form of a table document.
+    Json(JsonFault),
+    /// The version is not 1.
+    Version,
+    /// There is more than the limit allows.
+    Limit(LimitName),
+    /// A rule of the application identifiers is broken.
+    Ai(AiFault),
+    /// The kind at this index breaks a rule.
+    BadKind(usize),
+    /// The item at the last index, of the option of the level, is none of the level, or breaks a bound.
+    BadItem(LevelName, usize, usize),
+    /// The option of the level does not fit its kind.
+    Mismatch(LevelName, usize),
+    /// The options of the level at the two indexes have the same kind, encoding and prefix length.
+    Duplicate(LevelName, usize, usize),
+    /// Want of memory.
+    Memory,
+}
+
+/// Why an item is not read.
+#[derive(Clone, Copy, Debug, PartialEq, Eq)]
+pub enum ItemFault {
+    /// It is no item of the level.
+    Bad,
+    /// Want of memory.
+    Memory,
+}
+
+impl From<Memory> for LoadFault {
+    ghost use Rattle.std.specs.Prelude.{◌≡◌};
+    ghost use Rattle.gs_document.specs.declared.fault.LoadFault.TheVariants.{Memory as WantOfMemory};
+
+    ghost from_gives = { λ _ e. e ≡ WantOfMemory };
+
+    fn from(_refused: Memory) -> LoadFault {
+        LoadFault::Memory
+    }
+}
+
+impl From<Memory> for ItemFault {
+    ghost use Rattle.std.specs.Prelude.{◌≡◌};
+    ghost use Rattle.gs_document.specs.declared.fault.ItemFault.TheVariants.{Memory as WantOfMemory};
+
+    ghost from_gives = { λ _ e. e ≡ WantOfMemory };
+
+    fn from(_refused: Memory) -> ItemFault {
+        ItemFault::Memory
+    }
+}

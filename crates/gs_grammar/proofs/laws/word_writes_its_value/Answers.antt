@@ -1,0 +1,8 @@
+use Rattle.gs_grammar.proofs.ItemWords.{numpad_number, num_number}
+use Rattle.gs_grammar.proofs.laws.word_writes_its_value.Goals as goal
+
+pub returns-clause-digits : goal.returns-clause-digits
+returns-clause-digits c = numpad_number
+
+pub returns-clause-numeral : goal.returns-clause-numeral
+returns-clause-numeral c = num_number

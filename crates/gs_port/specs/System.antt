@@ -1,0 +1,16 @@
+-- What the calls of the system answer.
+use Rattle.std.specs.Prelude.{ℕ, ◌==◌, ◌&&◌, not, if◌then◌else◌, Result, Ok, Err}
+use Rattle.gs_port.specs.declared.source.ReadAnswer.{ReadAnswer}
+use Rattle.gs_port.specs.declared.source.ReadAnswer.TheVariants as read
+use Rattle.gs_port.specs.declared.sink.WriteAnswer.{WriteAnswer}
+use Rattle.gs_port.specs.declared.sink.WriteAnswer.TheVariants as write
+
+-- the answer to a read, of which an error is a fault
+abbrev pub read_answer_of : {E : Type 0} → Result ℕ E → ReadAnswer
+read_answer_of (Ok n) = read.Got n
+read_answer_of (Err error) = read.Failed
+
+-- the answer to a write of so many bytes, of which an error is a fault, and taking nothing of some bytes is one too
+abbrev pub write_answer_of : {E : Type 0} → ℕ → Result ℕ E → WriteAnswer
+write_answer_of length (Ok n) = if (n == 0) && not (length == 0) then write.Failed else write.Took n
+write_answer_of length (Err error) = write.Failed

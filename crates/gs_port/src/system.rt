@@ -1,0 +1,54 @@
+ghost use Rattle.std.specs.Prelude.{◌≡◌, ◌≢◌, ◌≤◌, ◌↔◌};
+ghost use Rattle.std.specs.IoError.{error_kind};
+ghost use Rattle.gs_port.specs.Answers.{count_after_open, count_after_read, count_after_write};
+ghost use Rattle.gs_port.specs.System.{read_answer_of, write_answer_of};
+
+use crate::files::OpenAnswer;
+use crate::sink::WriteAnswer;
+use crate::source::ReadAnswer;
+use std::io::{Error, ErrorKind, Result};
+
+/// What a read of the system answers. An error is a fault, which is counted.
+pub(crate) fn read_answer(read: Result<usize>, faults: &mut u64) -> ReadAnswer
+    ensures answer { result ≡ read_answer_of read }
+    ensures count { faults.new ≡ count_after_read result faults.old }
+    ensures counts { faults.old ≤ faults.new }
+{
+    match read {
+        Ok(moved) => ReadAnswer::Got(moved),
+        Err(_) => {
+            *faults = faults.saturating_add(1);
+            ReadAnswer::Failed
+        }
+    }
+}
+
+/// What a write of a piece of so many bytes to the system answers. An error is a fault, which is counted, and so is a
+/// write that takes nothing of a piece that is not empty.
+pub(crate) fn write_answer(written: Result<usize>, len: usize, faults: &mut u64) -> WriteAnswer
+    ensures answer { result ≡ write_answer_of len written }
+    ensures count { faults.new ≡ count_after_write result faults.old }
+    ensures counts { faults.old ≤ faults.new }
+{
+    match written {
+        Ok(taken) if taken > 0 || len == 0 => WriteAnswer::Took(taken),
+        _ => {
+            *faults = faults.saturating_add(1);
+            WriteAnswer::Failed
+        }
+    }
+}
+
+/// What an open of the system answers that ends with an error. It is counted, but for want of memory.
+pub(crate) fn open_fault(error: Error, faults: &mut u64) -> OpenAnswer
+    ensures memory { (result ≡ OpenAnswer.Memory) ↔ (error_kind error ≡ ErrorKind.OutOfMemory) }
+    ensures failed { (result ≡ OpenAnswer.Failed) ↔ (error_kind error ≢ ErrorKind.OutOfMemory) }
+    ensures count { faults.new ≡ count_after_open result faults.old }
+    ensures counts { faults.old ≤ faults.new }
+{
+    if error.kind() == ErrorKind::OutOfMemory {
+        return OpenAnswer::Memory;
+    }
+    *faults = faults.saturating_add(1);
+    OpenAnswer::Failed
+}

@@ -1,0 +1,8 @@
+use Rattle.gs_tables.proofs.OneAnswer.{one_of_builtin, some_of_builtin}
+use Rattle.gs_tables.proofs.laws.built_in_rows_have_one_answer.Goals as goal
+
+pub returns-clause-some : goal.returns-clause-some
+returns-clause-some c = some_of_builtin
+
+pub returns-clause-at_most_one : goal.returns-clause-at_most_one
+returns-clause-at_most_one c = one_of_builtin
