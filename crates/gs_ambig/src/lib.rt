@@ -1,13 +1,12 @@
-// A library with one function.
+//! The search for a list of symbols with two different accepting runs, in one machine or in two.
 #![tactic(auto)]
 
-ghost use Rattle.std.specs.Prelude.{◌≡◌};
-ghost use Rattle.gs_ambig.specs.Echo.{echo_of};
+mod bits;
+mod checking;
+mod forks;
+mod marks;
+mod search;
+mod verdict;
 
-// The `ensures` clause is the contract: what `echo` returns is `echo_of` of its argument, a definition
-// in `specs/Echo.antt`, which a caller's clause can cite too.
-pub fn echo(x: usize) -> usize
-    ensures { result ≡ echo_of x }
-{
-    x
-}
+pub use checking::check;
+pub use verdict::Verdict;

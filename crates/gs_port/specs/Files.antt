@@ -6,20 +6,10 @@ use Rattle.gs_port.specs.Counts.{counted}
 abbrev pub file_of : List (List ℕ × List ℕ) → List ℕ → Option (List ℕ)
 file_of files name = option_map (λ file. file.1) (find (λ file. bytes_eq file.0 name) files)
 
--- the count after a fault of a file, if there is one
-abbrev pub for_file : Option (List ℕ) → ℕ → ℕ
-for_file None count = count
-for_file (Some bytes) count = counted count
-
 -- the bytes of the named file, where the files are told and it is among them
 abbrev pub told_file : Option (List (List ℕ × List ℕ)) → List ℕ → Option (List ℕ)
 told_file None name = None
 told_file (Some files) name = file_of files name
-
--- the count after a file could not be opened or read: one more, but where the named one is not among files that are told
-abbrev pub counted_if_there : Option (List (List ℕ × List ℕ)) → List ℕ → ℕ → ℕ
-counted_if_there None name count = counted count
-counted_if_there (Some files) name count = for_file (file_of files name) count
 
 -- the files are told, and the named one is not among them
 abbrev pub IsAbsent : Option (List (List ℕ × List ℕ)) → List ℕ → Type 0
@@ -38,3 +28,13 @@ with_name names name = names ++ (name ∷ [])
 -- the names that were opened are after as before, or with this name in addition
 abbrev pub MayHaveName : List (List ℕ) → List ℕ → List (List ℕ) → Type 0
 MayHaveName before name after = (after ≡ before) ⊎ (after ≡ with_name before name)
+
+-- the count after a fault at a file, where one was found
+abbrev pub counted_if_found : Option (List ℕ) → ℕ → ℕ
+counted_if_found None count = count
+counted_if_found (Some bytes) count = counted count
+
+-- the count after a file could not be opened or read: one more, but where it is not among files that are told
+abbrev pub counted_if_there : Option (List (List ℕ × List ℕ)) → List ℕ → ℕ → ℕ
+counted_if_there None name count = counted count
+counted_if_there (Some files) name count = counted_if_found (file_of files name) count

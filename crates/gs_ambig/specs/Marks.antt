@@ -1,0 +1,12 @@
+-- Sets of numbers as bits.
+use Rattle.std.specs.Prelude.{◌≡◌, ◌↔◌, ℕ, ◌/◌, ◌%◌, List, slice_index}
+use Rattle.std.specs.Int.{bit_at}
+use Rattle.std.specs.List.{Contains}
+
+-- the bit of the number is set, in words of 64 bits
+abbrev pub IsSet : List ℕ → ℕ → Type 0
+IsSet bits number = bit_at (slice_index bits (number / 64)) (number % 64) ≡ 1
+
+-- the bits that are set are those of these numbers
+pub record AreMarked (bits numbers : List ℕ) : Type 0 where
+  pub marked : (number : ℕ) → IsSet bits number ↔ Contains numbers number

@@ -1,0 +1,57 @@
+-- What the search over pairs of states finds. These definitions are the search's own.
+use Rattle.std.specs.Prelude.{◌≡◌, ℕ, ◌<◌, ◌≤◌, ◌/◌, ◌%◌, List, ◌∷◌}
+use Rattle.std.specs.List.{Contains}
+use Rattle.gs_machine.specs.declared.edge.Edge.{Edge}
+use Rattle.gs_machine.specs.Walks.{Fits, edges_at, Walk}
+use Rattle.gs_machine.specs.Machines.{AutoForm, states_of, accept_of}
+
+-- the list of symbols leads both machines from these states to their accepting states
+pub record Leads (m n : AutoForm) (p q : ℕ) (symbols : List ℕ) : Type 0 where
+  pub run : List ℕ
+  pub other_run : List ℕ
+  pub walk : Walk m.table p run symbols (accept_of m)
+  pub other_walk : Walk n.table q other_run symbols (accept_of n)
+
+-- no list of symbols does so
+abbrev pub IsDead : AutoForm → AutoForm → ℕ → ℕ → Type 0
+IsDead m n p q = (symbols : List ℕ) → Leads m n p q symbols → ⊥
+
+-- the same of lists that go by this edge in the first machine, and in the second to a state that is not below the least
+
+pub record LeadsBehind (m n : AutoForm) (edge : Edge) (q least : ℕ) (symbols : List ℕ) : Type 0 where
+  pub symbol : ℕ
+  pub rest : List ℕ
+  pub next : ℕ
+  pub whole : symbols ≡ symbol ∷ rest
+  pub above : edge.lo ≤ symbol
+  pub below : symbol ≤ edge.hi
+  pub fits : Fits (edges_at n.table q) symbol next
+  pub high : least ≤ next
+  pub leads : Leads m n edge.to next rest
+
+abbrev pub IsDeadBehind : AutoForm → AutoForm → Edge → List Edge → ℕ → Type 0
+IsDeadBehind m n edge edges least = (symbol next : ℕ) → edge.lo ≤ symbol → symbol ≤ edge.hi → Fits edges symbol next → least ≤ next → IsDead m n edge.to next
+
+-- each number of the set is that of a pair from which no list leads
+abbrev pub MarksDead : AutoForm → AutoForm → List ℕ → Type 0
+MarksDead m n marks = (number : ℕ) → Contains marks number → IsDead m n (number / states_of n) (number % states_of n)
+
+-- the list of symbols has two different walks from the state to the accepting one
+pub record Parts (m : AutoForm) (p : ℕ) (symbols : List ℕ) : Type 0 where
+  pub run : List ℕ
+  pub other_run : List ℕ
+  pub walk : Walk m.table p run symbols (accept_of m)
+  pub other_walk : Walk m.table p other_run symbols (accept_of m)
+  pub differ : run ≡ other_run → ⊥
+
+-- no list of symbols has
+abbrev pub IsSingle : AutoForm → ℕ → Type 0
+IsSingle m p = (symbols : List ℕ) → Parts m p symbols → ⊥
+
+-- two edges with one symbol to different states lead on to no list
+abbrev pub HasNoFork : AutoForm → List Edge → List Edge → Type 0
+HasNoFork m edges others = (symbol next other : ℕ) → Fits edges symbol next → Fits others symbol other → next < other → IsDead m m next other
+
+-- each number of the set is that of a state from which no list has two different walks
+abbrev pub MarksSingle : AutoForm → List ℕ → Type 0
+MarksSingle m marks = (state : ℕ) → Contains marks state → IsSingle m state

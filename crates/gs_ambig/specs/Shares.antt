@@ -1,0 +1,43 @@
+-- Lists of symbols that machines share, and the answer of the check.
+use Rattle.std.specs.Prelude.{◌≡◌, ℕ, ◌<◌, ◌≤◌, ◌⊎◌, List, Some, slice_get}
+use Rattle.gs_machine.specs.Machines.{AutoForm, Accepts}
+use Rattle.gs_ambig.specs.declared.verdict.Verdict.{Verdict}
+use Rattle.gs_ambig.specs.declared.verdict.Verdict.TheVariants.{Clear, Double}
+
+-- Machine i and machine j share the list of symbols: it has an accepting run of i and a different one of j. Runs of two
+-- machines are different.
+pub record Share (machines : List AutoForm) (i j : ℕ) (symbols : List ℕ) : Type 0 where
+  pub one : AutoForm
+  pub other : AutoForm
+  pub one_at : slice_get machines i ≡ Some one
+  pub other_at : slice_get machines j ≡ Some other
+  pub run : List ℕ
+  pub other_run : List ℕ
+  pub accepts : Accepts one run symbols
+  pub other_accepts : Accepts other other_run symbols
+  pub differ : i ≡ j → run ≡ other_run → ⊥
+
+-- the pair k, l stands before the pair i, j
+abbrev pub IsBefore : ℕ → ℕ → ℕ → ℕ → Type 0
+IsBefore k l i j = (k < i) ⊎ ((k ≡ i) × (l < j))
+
+-- i, j is the first pair, i at most j, that shares a list, and it shares this word
+pub record IsFirstDouble (machines : List AutoForm) (i j : ℕ) (word : List ℕ) : Type 0 where
+  pub order : i ≤ j
+  pub share : Share machines i j word
+  pub first : (k l : ℕ) (symbols : List ℕ) → k ≤ l → IsBefore k l i j → Share machines k l symbols → ⊥
+
+-- the answer for the machines: no list of symbols has two different accepting runs, or the first pair that shares one
+abbrev pub IsVerdict : List AutoForm → Verdict → Type 0
+IsVerdict machines Clear = (i j : ℕ) (symbols : List ℕ) → Share machines i j symbols → ⊥
+IsVerdict machines (Double i j word) = IsFirstDouble machines i j word
+
+-- machine i shares no list of symbols with itself, or with a machine behind it and before this one
+abbrev pub SharesNone : List AutoForm → ℕ → ℕ → Type 0
+SharesNone machines i before = (j : ℕ) (symbols : List ℕ) → i ≤ j → j < before → Share machines i j symbols → ⊥
+
+-- machine j is the first, from i on, that shares a list of symbols with machine i, and they share this word
+pub record IsFirstFrom (machines : List AutoForm) (i j : ℕ) (word : List ℕ) : Type 0 where
+  pub order : i ≤ j
+  pub share : Share machines i j word
+  pub first : SharesNone machines i j

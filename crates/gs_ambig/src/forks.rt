@@ -1,0 +1,72 @@
+ghost use Rattle.std.specs.Prelude.{◌≡◌, ◌*◌, ◌^◌, ◌<◌, IfOk, IfSome, IfNone};
+ghost use Rattle.gs_machine.specs.Machines.{states_of};
+ghost use Rattle.gs_machine.specs.Walks.{edges_at};
+ghost use Rattle.gs_ambig.specs.Searches.{Parts, IsSingle, HasNoFork, MarksDead, MarksSingle};
+
+use crate::marks::Marks;
+use crate::search::search_behind;
+use gs_chars::Memory;
+use gs_machine::Auto;
+use std::alloc::Global;
+
+/// A list of symbols with two walks from this state to the accepting one that part at once. `None` comes exactly where no two
+/// edges that part lead on to one list.
+fn search_fork(
+    alloc: Global,
+    m: &Auto,
+    p: usize,
+    dead: &mut Marks,
+) -> Result<Option<Vec<u8>>, Memory>
+    requires state { p < states_of m.now }
+    requires room { states_of m.now * states_of m.now < 2 ^ 64 }
+    requires marked { MarksDead m.now m.now dead.old }
+    ensures found { IfOk result (λ found. IfSome found (λ word. Parts m.now p word.items)) }
+    ensures none { IfOk result (λ found. IfNone found (HasNoFork m.now (edges_at m.now.table p) (edges_at m.now.table p))) }
+    ensures marks { MarksDead m.now m.now dead.new }
+{
+    let edges = m.edges(p);
+    for edge in edges {
+        if let Some(word) = search_behind(alloc, m, m, p, edge, p, edge.to + 1, dead)? {
+            return Ok(Some(word));
+        }
+    }
+    Ok(None)
+}
+
+/// A list of symbols with two different walks from this state to the accepting one. `None` comes exactly where there is none.
+/// States from which there is none are marked, and are not gone to again.
+pub fn search_forks(
+    alloc: Global,
+    m: &Auto,
+    p: usize,
+    single: &mut Marks,
+    dead: &mut Marks,
+) -> Result<Option<Vec<u8>>, Memory>
+    requires state { p < states_of m.now }
+    requires room { states_of m.now * states_of m.now < 2 ^ 64 }
+    requires marked_single { MarksSingle m.now single.old }
+    requires marked { MarksDead m.now m.now dead.old }
+    ensures found { IfOk result (λ found. IfSome found (λ word. Parts m.now p word.items)) }
+    ensures none { IfOk result (λ found. IfNone found (IsSingle m.now p)) }
+    ensures marks_single { MarksSingle m.now single.new }
+    ensures marks { MarksDead m.now m.now dead.new }
+{
+    if single.contains(p) {
+        return Ok(None);
+    }
+    if let Some(word) = search_fork(alloc, m, p, dead)? {
+        return Ok(Some(word));
+    }
+    let edges = m.edges(p);
+    for edge in edges {
+        if edge.hi < edge.lo {
+            continue;
+        }
+        if let Some(mut word) = search_forks(alloc, m, edge.to, single, dead)? {
+            word.insert(0, edge.lo)?;
+            return Ok(Some(word));
+        }
+    }
+    single.insert(p)?;
+    Ok(None)
+}

@@ -1,0 +1,248 @@
+-- Elements with their codes in brackets: each is told by the text that it stands in front of.
+use Rattle.std.proofs.Common.{◌≡◌, ℕ, ◌<◌, ◌≤◌, ◌==◌, ◌&&◌, not, true, false, List, [], ◌∷◌, ◌++◌, length, drop, Option, Some, None, refl, sym, ap, ◌∙◌, append_assoc, arith, ◌⊎◌, inl, inr, true≢false}
+use Rattle.std.specs.List.{take_while}
+use Rattle.std.proofs.lemmas.Bool.Decides.{nat_tests}
+use Rattle.std.proofs.lemmas.List.Sums.{take_while-cons}
+use Rattle.gs_chars.specs.Characters.{are_digits, are_in_set82, is_digit, is_in_set82}
+use Rattle.gs_chars.proofs.TruthsAndLists.{and_first, and_second, false_from, true_or_false}
+use Rattle.gs_ai.specs.declared.faults.ElementFault.{ElementFault}
+use Rattle.gs_ai.specs.declared.faults.ElementWhy.TheVariants.{Value, Bracket}
+use Rattle.gs_ai.specs.declared.faults.ValueFault.{ValueFault}
+use Rattle.gs_ai.specs.declared.pair.Pair.{Pair}
+use Rattle.gs_ai.specs.declared.row.AiRow.{AiRow}
+use Rattle.gs_ai.specs.Tables.{is_code, is_empty, KeepsRules}
+use Rattle.gs_ai.specs.Values.{value_fault}
+use Rattle.gs_ai.proofs.RowLemmas.{code_digits, code_long}
+use Rattle.gs_ai.proofs.ValueLemmas.{code_of_row, value_in_set82}
+use Rattle.gs_element.specs.Bracketed.{bracketed_element, bracketed_fault, closed_code, code_front, front_fault, is_cut, value_before, written_value, IsBracketedElement}
+use Rattle.gs_element.proofs.JoinLemmas.{IsBlocked, IsGreedy, IsTold}
+use Rattle.gs_element.proofs.RawLemmas.{drop_seam, same_front}
+
+-- ---- codes
+
+-- digits up to a character that is none
+digits_before : (code : List ℕ) (c : ℕ) (after : List ℕ) → are_digits code ≡ true → is_digit c ≡ false → take_while is_digit (code ++ c ∷ after) ≡ code
+digits_before [] c after digits other = take_while-cons is_digit c after ∙ (rw other refl)
+digits_before (d ∷ code) c after digits other =
+    let first : is_digit d ≡ true = and_first _ _ digits in
+    take_while-cons is_digit d (code ++ c ∷ after) ∙ (rw first (ap (λ (x : List ℕ). d ∷ x) (digits_before code c after (and_second _ _ digits) other)))
+
+no_end : is_digit 41 ≡ false
+no_end = refl
+
+some_code : (code : List ℕ) → is_code code ≡ true → is_empty code ≡ false
+some_code code ok = by code (code_long code ok)
+  where
+    by : (code : List ℕ) → 2 ≤ length code → is_empty code ≡ false
+    by [] long = absurd (omega arith)
+    by (c ∷ code) long = refl
+
+closed_told : (code text : List ℕ) → is_empty code ≡ false → closed_code code (41 ∷ text) ≡ Some (code, text)
+closed_told code text some = rw some refl
+
+-- the code is what the text has in front
+pub code_told : (code text : List ℕ) → is_code code ≡ true → code_front (40 ∷ (code ++ 41 ∷ text)) ≡ Some (code, text)
+code_told code text ok =
+    let front = digits_before code 41 text (code_digits code ok) no_end in
+    rw (front, drop_seam code (41 ∷ text)) (closed_told code text (some_code code ok))
+
+-- ---- values
+
+backslash_outside : is_in_set82 92 ≡ false
+unfolding is_in_set82
+backslash_outside = refl
+
+no_backslash : (c : ℕ) → is_in_set82 c ≡ true → (c == 92) ≡ false
+no_backslash c h = false_from (c == 92) (λ e. let same : c ≡ 92 = grind (arith, nat_tests) in true≢false (sym h ∙ ap is_in_set82 same ∙ backslash_outside))
+
+value_none : (after : List ℕ) → is_cut after ≡ true → value_before after ≡ []
+value_none [] cut = refl
+value_none (c ∷ []) cut = rw cut refl
+value_none (c ∷ d ∷ after) cut = rw cut refl
+
+-- one character, and then the others
+value_one : (c : ℕ) (text : List ℕ) → (c == 40) ≡ false → (c == 92) ≡ false → value_before (c ∷ text) ≡ c ∷ value_before text
+value_one c [] other plain = rw other refl
+value_one c (d ∷ text) other plain = rw (other, plain) refl
+
+-- what is written of a value is read as the value
+pub value_told : (value after : List ℕ) → are_in_set82 value ≡ true → is_cut after ≡ true → value_before (written_value value ++ after) ≡ value
+value_told [] after plain cut = value_none after cut
+value_told (c ∷ value) after plain cut =
+    let rest = value_told value after (and_second _ _ plain) cut in
+    elim (true_or_false (c == 40)) [
+      | inl is ↦
+          let same : c ≡ 40 = grind (arith, nat_tests) in
+          rw is (ap (λ (x : List ℕ). 40 ∷ x) rest ∙ ap (λ (d : ℕ). d ∷ value) (sym same))
+      | inr other ↦ rw other (value_one c (written_value value ++ after) other (no_backslash c (and_first _ _ plain)) ∙ ap (λ (x : List ℕ). c ∷ x) rest)
+    ]
+
+-- a text is what is written of the value at its front, and then a cut
+pub record IsValueFront (text : List ℕ) : Type 0 where
+  pub after : List ℕ
+  pub text_is : text ≡ written_value (value_before text) ++ after
+  pub cut : is_cut after ≡ true
+
+pub value_front : (text : List ℕ) → IsValueFront text
+value_front [] = record { after = []; text_is = refl; cut = refl }
+value_front (c ∷ []) = elim (true_or_false (c == 40)) [
+  | inl is ↦ record { after = c ∷ []; text_is = rw is refl; cut = is }
+  | inr other ↦ record { after = []; text_is = rw (other, other) refl; cut = refl }
+]
+value_front (c ∷ d ∷ text) =
+    let rest = value_front (d ∷ text) in
+    let later = value_front text in
+    elim (true_or_false (c == 40)) [
+      | inl is ↦ record { after = c ∷ d ∷ text; text_is = rw is refl; cut = is }
+      | inr other ↦ elim (true_or_false ((c == 92) && (d == 40))) [
+        | inl pair ↦
+            let first : c ≡ 92 = grind (arith, nat_tests) in
+            let second : d ≡ 40 = grind (arith, nat_tests) in
+            record {
+              after = later.after;
+              text_is = rw (other, pair) (ap (λ (x : ℕ). x ∷ d ∷ text) first ∙ ap (λ (x : ℕ). 92 ∷ x ∷ text) second ∙ ap (λ (x : List ℕ). 92 ∷ 40 ∷ x) later.text_is);
+              cut = later.cut;
+            }
+        | inr apart ↦ record {
+          after = rest.after;
+          text_is = rw (other, apart, other) (ap (λ (x : List ℕ). c ∷ x) rest.text_is);
+          cut = rest.cut;
+        }
+      ]
+    ]
+
+-- ---- elements
+
+module _ (rows : List AiRow) (rules : KeepsRules rows) where
+  abbrev Element : Pair → List ℕ → List ℕ → Type 0
+  Element = IsBracketedElement rows
+
+  in_shape : (pair : Pair) (text after : List ℕ) → Element pair text after → text ≡ 40 ∷ (pair.code ++ 41 ∷ (written_value pair.value ++ after))
+  in_shape pair text after h = h.text_is ∙ ap (λ (x : List ℕ). 40 ∷ x) (append_assoc pair.code (41 ∷ written_value pair.value) after)
+
+  code_is : (pair : Pair) (text after : List ℕ) → Element pair text after → code_front text ≡ Some (pair.code, written_value pair.value ++ after)
+  code_is pair text after h = ap code_front (in_shape pair text after h) ∙ code_told pair.code (written_value pair.value ++ after) (code_of_row rows rules pair.code pair.value h.in_order.fits)
+
+  value_is : (pair : Pair) (text after : List ℕ) → Element pair text after → value_before (written_value pair.value ++ after) ≡ pair.value
+  value_is pair text after h = value_told pair.value after (value_in_set82 rows pair.code pair.value h.in_order.fits) h.cut
+
+  ends : (pair : Pair) (text after : List ℕ) → Element pair text after → (before : List ℕ) × (text ≡ before ++ after) × (0 < length before)
+  ends pair text after h = (bracketed_element pair, h.text_is, omega arith)
+
+  -- both parts of what is behind a bracket
+  record SameFront (p q : Pair) (a b : List ℕ) : Type 0 where
+    codes : p.code ≡ q.code
+    texts : written_value p.value ++ a ≡ written_value q.value ++ b
+
+  same_parts : (x y : List ℕ × List ℕ) → Some x ≡ Some y → (x.0 ≡ y.0) × (x.1 ≡ y.1)
+  same_parts x y e = let f : x ≡ y = cc in (ap (λ (z : List ℕ × List ℕ). z.0) f, ap (λ (z : List ℕ × List ℕ). z.1) f)
+
+  same_told : (text : List ℕ) (p q : Pair) (a b : List ℕ) → Element p text a → Element q text b → SameFront p q a b
+  same_told text p q a b h k =
+      let both = same_parts (p.code, written_value p.value ++ a) (q.code, written_value q.value ++ b) (sym (code_is p text a h) ∙ code_is q text b k) in
+      record { codes = both.0; texts = both.1 }
+
+  same_value : (text : List ℕ) (p q : Pair) (a b : List ℕ) → Element p text a → Element q text b → p.value ≡ q.value
+  same_value text p q a b h k = sym (value_is p text a h) ∙ ap value_before (same_told text p q a b h k).texts ∙ value_is q text b k
+
+  same_pair : (text : List ℕ) (p q : Pair) (a b : List ℕ) → Element p text a → Element q text b → p ≡ q
+  same_pair text p q a b h k =
+      let codes = (same_told text p q a b h k).codes in
+      let values = same_value text p q a b h k in
+      λ i. record { code = codes i; value = values i }
+
+  same_rest : (text : List ℕ) (p q : Pair) (a b : List ℕ) → Element p text a → Element q text b → b ≡ a
+  same_rest text p q a b h k =
+      let texts = (same_told text p q a b h k).texts in
+      let values = same_value text p q a b h k in
+      sym (same_front (written_value p.value) a b (texts ∙ ap (λ (v : List ℕ). written_value v ++ b) (sym values)))
+
+  pub greedy_told : (p : Pair) (text a : List ℕ) → Element p text a → IsGreedy Element text a
+  greedy_told p text a h q b k = inl (same_rest text p q a b h k)
+
+  -- ---- faults
+
+  empty_blocked : IsBlocked Element []
+  empty_blocked pair after h = absurd (let e : [] ≡ 40 ∷ (pair.code ++ 41 ∷ (written_value pair.value ++ after)) = in_shape pair [] after h in cc)
+
+  fault_told : (pair : Pair) (c : ℕ) (text after : List ℕ) → Element pair (c ∷ text) after → bracketed_fault rows (c ∷ text) ≡ None
+  fault_told pair c text after h =
+      let front = ap (front_fault rows) (code_is pair (c ∷ text) after h) in
+      let value = value_is pair (c ∷ text) after h in
+      front ∙ (rw (value, h.in_order.fits) refl)
+
+  pub blocked : (text : List ℕ) (fault : ElementFault) → bracketed_fault rows text ≡ Some fault → IsBlocked Element text
+  blocked [] fault e = empty_blocked
+  blocked (c ∷ text) fault e = λ pair after h. absurd (let f : None ≡ Some fault = sym (fault_told pair c text after h) ∙ e in cc)
+
+  -- ---- an element is cut
+
+  closed_shape : (digits text code after : List ℕ) → closed_code digits text ≡ Some (code, after) → (digits ≡ code) × (text ≡ 41 ∷ after)
+  closed_shape digits [] code after e = absurd (let f : None ≡ Some (code, after) = e in cc)
+  closed_shape digits (c ∷ text) code after e = elim (true_or_false (not (is_empty digits) && (c == 41))) [
+    | inl h ↦
+        let f = rw h at e in
+        let both = same_parts (digits, text) (code, after) f in
+        let last = and_second (not (is_empty digits)) (c == 41) h in
+        let same : c ≡ 41 = grind (arith, nat_tests) in
+        (both.0, ap (λ (x : ℕ). x ∷ text) same ∙ ap (λ (x : List ℕ). 41 ∷ x) both.1)
+    | inr h ↦ absurd (let f = rw h at e in let g : None ≡ Some (code, after) = f in cc)
+  ]
+
+  -- a code at the front is written so
+  pub code_shape : (text code after : List ℕ) → code_front text ≡ Some (code, after) → text ≡ 40 ∷ (code ++ 41 ∷ after)
+  code_shape [] code after e = absurd (let f : None ≡ Some (code, after) = e in cc)
+  code_shape (c ∷ text) code after e = elim (true_or_false (c == 40)) [
+    | inl h ↦
+        let f = rw h at e in
+        let same : c ≡ 40 = grind (arith, nat_tests) in
+        let digits = take_while is_digit text in
+        let parts = closed_shape digits (drop (length digits) text) code after f in
+        let whole : digits ++ drop (length digits) text ≡ text = digits_split text in
+        ap (λ (x : ℕ). x ∷ text) same ∙ ap (λ (x : List ℕ). 40 ∷ x) (sym whole ∙ ap (λ (x : List ℕ). x ++ drop (length digits) text) parts.0 ∙ ap (λ (x : List ℕ). code ++ x) parts.1)
+    | inr h ↦ absurd (let f = rw h at e in let g : None ≡ Some (code, after) = f in cc)
+  ]
+    where
+      digits_split : (xs : List ℕ) → take_while is_digit xs ++ drop (length (take_while is_digit xs)) xs ≡ xs
+      digits_split [] = refl
+      digits_split (x ∷ xs) = elim (true_or_false (is_digit x)) [
+        | inl h ↦ rw (take_while-cons is_digit x xs, h) (ap (λ (ys : List ℕ). x ∷ ys) (digits_split xs))
+        | inr h ↦ rw (take_while-cons is_digit x xs, h) refl
+      ]
+
+  pub cut_is : (text code value behind after : List ℕ) → code_front text ≡ Some (code, behind) → value_fault rows code value ≡ None → behind ≡ written_value value ++ after → is_cut after ≡ true → Element (record { code = code; value = value }) text after
+  cut_is text code value behind after front fits value_text cut = record {
+    text_is = code_shape text code behind front ∙ ap (λ (x : List ℕ). 40 ∷ (code ++ 41 ∷ x)) value_text ∙ sym (ap (λ (x : List ℕ). 40 ∷ x) (append_assoc code (41 ∷ written_value value) after));
+    in_order = record { fits = fits };
+    cut = cut;
+  }
+
+  abbrev GoesOn : List ℕ → Type 0
+  GoesOn text = ((fault : ElementFault) × (bracketed_fault rows text ≡ Some fault)) ⊎ ((pair : Pair) × ((next : List ℕ) × (Element pair text next × IsGreedy Element text next)))
+
+  goes_by_value : (c : ℕ) (text code behind : List ℕ) → code_front (c ∷ text) ≡ Some (code, behind) → (f : Option ValueFault) → value_fault rows code (value_before behind) ≡ f → GoesOn (c ∷ text)
+  goes_by_value c text code behind e (Some f) h = inl (record { at = 1; why = Value f }, ap (front_fault rows) e ∙ (rw h refl))
+  goes_by_value c text code behind e None h =
+      let value = value_front behind in
+      let element = cut_is (c ∷ text) code (value_before behind) behind value.after e h value.text_is value.cut in
+      inr (record { code = code; value = value_before behind }, (value.after, (element, greedy_told (record { code = code; value = value_before behind }) (c ∷ text) value.after element)))
+
+  goes_by_code : (c : ℕ) (text : List ℕ) (r : Option (List ℕ × List ℕ)) → code_front (c ∷ text) ≡ r → GoesOn (c ∷ text)
+  goes_by_code c text None e = inl (record { at = 0; why = Bracket }, ap (front_fault rows) e)
+  goes_by_code c text (Some front) e = goes_by_value c text front.0 front.1 e (value_fault rows front.0 (value_before front.1)) refl
+
+  goes_on : (c : ℕ) (text : List ℕ) → GoesOn (c ∷ text)
+  goes_on c text = goes_by_code c text (code_front (c ∷ text)) refl
+
+  pub bracketed_told : IsTold Element (bracketed_fault rows)
+  bracketed_told = record { ends = ends; same_pair = same_pair; blocked = blocked; goes_on = goes_on; greedy = λ p text a h. inl (greedy_told p text a h); none_at_end = refl }
+
+-- no code at the front
+pub no_code : (rows : List AiRow) (text : List ℕ) → 0 < length text → None ≡ code_front text → bracketed_fault rows text ≡ Some (record { at = 0; why = Bracket })
+no_code rows [] some e = absurd (omega arith)
+no_code rows (c ∷ text) some e = ap (front_fault rows) (sym e)
+
+-- a fault of the value behind the code at the front
+pub no_value : (rows : List AiRow) (text code behind value : List ℕ) (fault : ValueFault) → 0 < length text → Some (code, behind) ≡ code_front text → value ≡ value_before behind → value_fault rows code value ≡ Some fault → bracketed_fault rows text ≡ Some (record { at = 1; why = Value fault })
+no_value rows [] code behind value fault some e v f = absurd (omega arith)
+no_value rows (c ∷ text) code behind value fault some e v f = ap (front_fault rows) (sym e) ∙ (rw (← v, f) refl)

@@ -1,0 +1,153 @@
+-- What is written of pairs, and that it is read as these pairs.
+use Rattle.std.proofs.Common.{◌≡◌, ℕ, ◌+◌, ◌<◌, Bool, true, if◌then◌else◌, List, [], ◌∷◌, ◌++◌, length, take, get_or, Option, Some, None, is_some, is_none, All, refl, sym, ap, subst, ◌∙◌, append_assoc, append-nil, ◌⊎◌, inl, inr, IsSome}
+use Rattle.std.proofs.lemmas.List.{take_more}
+use Rattle.std.proofs.lemmas.List.Elements.{All-cons, All-head, All-nil, All-tail}
+use Rattle.gs_ai.specs.declared.pair.Pair.{Pair}
+use Rattle.gs_ai.specs.declared.row.AiRow.{AiRow}
+use Rattle.gs_ai.specs.Predefined.{predefined_length}
+use Rattle.gs_ai.specs.Tables.{KeepsRules}
+use Rattle.gs_ai.proofs.ValueLemmas.{code_of_row, predefined_kept}
+use Rattle.gs_ident.specs.Elements.{Elements, pairs_of}
+use Rattle.gs_ident.specs.Identities.{IsInOrder, IsMadeWith}
+use Rattle.gs_element.specs.Bracketed.{bracketed_text, is_cut, IsBracketed, IsBracketedElement}
+use Rattle.gs_element.specs.Joins.{Joined}
+use Rattle.gs_element.specs.Raw.{body_of, raw_text, separator, IsRaw, IsRawElement}
+use Rattle.gs_element.specs.Writing.{last_open, raw_behind, separator_of}
+use Rattle.gs_element.proofs.BodyLemmas.{digit_body}
+use Rattle.gs_element.proofs.RawLemmas.{digit_front}
+
+-- ---- element by element
+
+raw_behind-append : (u : Bool) (a b : List Pair) → raw_behind u (a ++ b) ≡ raw_behind u a ++ raw_behind (last_open u a) b
+raw_behind-append u [] b = refl
+raw_behind-append u (p ∷ a) b =
+    let v = is_none (predefined_length p.code) in
+    let rest = raw_behind-append v a b in
+    ap (λ (x : List ℕ). separator_of u ++ (p.code ++ (p.value ++ x))) rest
+    ∙ ap (λ (x : List ℕ). separator_of u ++ (p.code ++ x)) (sym (append_assoc p.value (raw_behind v a) (raw_behind (last_open v a) b)))
+    ∙ ap (λ (x : List ℕ). separator_of u ++ x) (sym (append_assoc p.code (p.value ++ raw_behind v a) (raw_behind (last_open v a) b)))
+    ∙ sym (append_assoc (separator_of u) (p.code ++ (p.value ++ raw_behind v a)) (raw_behind (last_open v a) b))
+
+last_open-append : (u : Bool) (a b : List Pair) → last_open u (a ++ b) ≡ last_open (last_open u a) b
+last_open-append u [] b = refl
+last_open-append u (p ∷ a) b = last_open-append (is_none (predefined_length p.code)) a b
+
+taken : (pairs : List Pair) (i : ℕ) (pair : Pair) → i < length pairs → pair ≡ get_or pairs i pair → take (i + 1) pairs ≡ take i pairs ++ pair ∷ []
+taken pairs i pair low read = take_more pairs i pair low ∙ ap (λ (p : Pair). take i pairs ++ p ∷ []) (sym read)
+
+pub one_written : (u : Bool) (pairs : List Pair) (i : ℕ) (pair : Pair) (base out closed coded new : List ℕ) → i < length pairs → pair ≡ get_or pairs i pair → out ≡ base ++ raw_behind u (take i pairs) → closed ≡ out ++ separator_of (last_open u (take i pairs)) → coded ≡ closed ++ pair.code → new ≡ coded ++ pair.value → new ≡ base ++ raw_behind u (take (i + 1) pairs)
+one_written u pairs i pair base out closed coded new low read e f g h =
+    let done = raw_behind u (take i pairs) in
+    let sep = separator_of (last_open u (take i pairs)) in
+    let all : new ≡ (((base ++ done) ++ sep) ++ pair.code) ++ pair.value = h ∙ ap (λ (x : List ℕ). x ++ pair.value) (g ∙ ap (λ (x : List ℕ). x ++ pair.code) (f ∙ ap (λ (x : List ℕ). x ++ sep) e)) in
+    let one : raw_behind (last_open u (take i pairs)) (pair ∷ []) ≡ sep ++ (pair.code ++ pair.value) = ap (λ (x : List ℕ). sep ++ (pair.code ++ x)) (append-nil pair.value) in
+    let more : raw_behind u (take (i + 1) pairs) ≡ done ++ (sep ++ (pair.code ++ pair.value)) = ap (raw_behind u) (taken pairs i pair low read) ∙ raw_behind-append u (take i pairs) (pair ∷ []) ∙ ap (λ (x : List ℕ). done ++ x) one in
+    all ∙ append_assoc ((base ++ done) ++ sep) pair.code pair.value ∙ append_assoc (base ++ done) sep (pair.code ++ pair.value) ∙ append_assoc base done (sep ++ (pair.code ++ pair.value)) ∙ ap (λ (x : List ℕ). base ++ x) (sym more)
+
+pub one_open : (u : Bool) (pairs : List Pair) (i : ℕ) (pair : Pair) → i < length pairs → pair ≡ get_or pairs i pair → is_none (predefined_length pair.code) ≡ last_open u (take (i + 1) pairs)
+one_open u pairs i pair low read = sym (ap (last_open u) (taken pairs i pair low read) ∙ last_open-append u (take i pairs) (pair ∷ []))
+
+-- ---- the whole text
+
+separator_is : (r : Option ℕ) → (if is_some r then [] else 29 ∷ []) ≡ separator_of (is_none r)
+separator_is None = refl
+separator_is (Some n) = refl
+
+raw_text_is : (pair : Pair) (pairs : List Pair) → raw_text (pair ∷ pairs) ≡ pair.code ++ (pair.value ++ raw_behind (is_none (predefined_length pair.code)) pairs)
+raw_text_is pair [] = ap (λ (x : List ℕ). pair.code ++ x) (sym (append-nil pair.value))
+raw_text_is pair (next ∷ pairs) =
+    ap (λ (x : List ℕ). pair.code ++ (pair.value ++ (x ++ raw_text (next ∷ pairs)))) (separator_is (predefined_length pair.code))
+    ∙ ap (λ (x : List ℕ). pair.code ++ (pair.value ++ (separator_of (is_none (predefined_length pair.code)) ++ x))) (raw_text_is next pairs)
+
+pub all_written : (identity : Elements) (coded valued some all : List ℕ) (u v : Bool) → coded ≡ identity.key.code → valued ≡ coded ++ identity.key.value → u ≡ is_none (predefined_length identity.key.code) → some ≡ valued ++ raw_behind u identity.qualifiers → v ≡ last_open u identity.qualifiers → all ≡ some ++ raw_behind v identity.attributes → all ≡ raw_text (pairs_of identity)
+all_written identity coded valued some all u v e f g h j k =
+    let key = identity.key in
+    let w = is_none (predefined_length key.code) in
+    let q = raw_behind w identity.qualifiers in
+    let a = raw_behind (last_open w identity.qualifiers) identity.attributes in
+    let last : raw_behind v identity.attributes ≡ a = ap (λ (x : Bool). raw_behind x identity.attributes) (j ∙ ap (λ (x : Bool). last_open x identity.qualifiers) g) in
+    let first : some ≡ (key.code ++ key.value) ++ q = h ∙ ap (λ (x : List ℕ). x ++ raw_behind u identity.qualifiers) (f ∙ ap (λ (x : List ℕ). x ++ key.value) e) ∙ ap (λ (x : Bool). (key.code ++ key.value) ++ raw_behind x identity.qualifiers) g in
+    let whole : all ≡ ((key.code ++ key.value) ++ q) ++ a = k ∙ ap (λ (x : List ℕ). some ++ x) last ∙ ap (λ (x : List ℕ). x ++ a) first in
+    let both : raw_behind w (identity.qualifiers ++ identity.attributes) ≡ q ++ a = raw_behind-append w identity.qualifiers identity.attributes in
+    whole ∙ append_assoc (key.code ++ key.value) q a ∙ append_assoc key.code key.value (q ++ a) ∙ ap (λ (x : List ℕ). key.code ++ (key.value ++ x)) (sym both) ∙ sym (raw_text_is key (identity.qualifiers ++ identity.attributes))
+
+-- ---- the parts of an identity that was made with a table
+
+all_left : (P : Pair → Type 0) (a b : List Pair) → All P (a ++ b) → All P a
+all_left P [] b h = All-nil P
+all_left P (p ∷ a) b h = All-cons P p a (All-head P p (a ++ b) h) (all_left P a b (All-tail P p (a ++ b) h))
+
+all_right : (P : Pair → Type 0) (a b : List Pair) → All P (a ++ b) → All P b
+all_right P [] b h = h
+all_right P (p ∷ a) b h = all_right P a b (All-tail P p (a ++ b) h)
+
+module _ (rows : List AiRow) (identity : Elements) (made : IsMadeWith rows identity) where
+  others : All (IsInOrder rows) (identity.qualifiers ++ identity.attributes)
+  others = All-tail (IsInOrder rows) identity.key (identity.qualifiers ++ identity.attributes) made.in_order
+
+  pub qualifiers_in_order : All (IsInOrder rows) identity.qualifiers
+  qualifiers_in_order = all_left (IsInOrder rows) identity.qualifiers identity.attributes others
+
+  pub attributes_in_order : All (IsInOrder rows) identity.attributes
+  attributes_in_order = all_right (IsInOrder rows) identity.qualifiers identity.attributes others
+
+-- ---- what is written is read
+
+module _ (rows : List AiRow) (rules : KeepsRules rows) where
+  some_or_not : (code : List ℕ) (r : Option ℕ) → predefined_length code ≡ r → (separator code ≡ 29 ∷ []) ⊎ ((separator code ≡ []) × IsSome (predefined_length code))
+  some_or_not code None e = inl (rw e refl)
+  some_or_not code (Some n) e = inr (rw e refl, rw e refl)
+
+  closing : (code after : List ℕ) → (separator code ≡ 29 ∷ []) ⊎ ((separator code ≡ []) × (IsSome (predefined_length code) ⊎ (after ≡ [])))
+  closing code after = elim (some_or_not code (predefined_length code) refl) [ inl one ↦ inl one | inr none ↦ inr (none.0, inl none.1) ]
+
+  raw_joined : (pairs : List Pair) → All (IsInOrder rows) pairs → Joined (IsRawElement rows) pairs (raw_text pairs) []
+  raw_joined [] all = refl
+  raw_joined (pair ∷ []) all =
+      let own = All-head (IsInOrder rows) pair [] all in (
+        [],
+        record {
+          closing = [];
+          text_is = ap (λ (x : List ℕ). pair.code ++ x) (sym (append-nil pair.value));
+          in_order = own;
+          predefined = predefined_kept rows rules pair.code pair.value own.fits;
+          closed = inr (refl, inr refl);
+        },
+        refl,
+      )
+  raw_joined (pair ∷ next ∷ pairs) all =
+      let own = All-head (IsInOrder rows) pair (next ∷ pairs) all in (
+        raw_text (next ∷ pairs),
+        record {
+          closing = separator pair.code;
+          text_is = refl;
+          in_order = own;
+          predefined = predefined_kept rows rules pair.code pair.value own.fits;
+          closed = closing pair.code (raw_text (next ∷ pairs));
+        },
+        raw_joined (next ∷ pairs) (All-tail (IsInOrder rows) pair (next ∷ pairs) all),
+      )
+
+  body_is : (pair : Pair) (pairs : List Pair) → IsInOrder rows pair → body_of (raw_text (pair ∷ pairs)) ≡ raw_text (pair ∷ pairs)
+  body_is pair pairs own =
+      let digit = digit_front pair.code (code_of_row rows rules pair.code pair.value own.fits) in
+      let rest = pair.value ++ raw_behind (is_none (predefined_length pair.code)) pairs in
+      let text : raw_text (pair ∷ pairs) ≡ digit.digit ∷ (digit.others ++ rest) = raw_text_is pair pairs ∙ ap (λ (x : List ℕ). x ++ rest) digit.is in
+      ap body_of text ∙ digit_body digit.digit (digit.others ++ rest) digit.of_digits ∙ sym text
+
+  pub raw_read : (identity : Elements) → IsMadeWith rows identity → IsRaw rows (raw_text (pairs_of identity)) (pairs_of identity)
+  raw_read identity made =
+      let own = All-head (IsInOrder rows) identity.key (identity.qualifiers ++ identity.attributes) made.in_order in
+      subst (λ (x : List ℕ). Joined (IsRawElement rows) (pairs_of identity) x []) (sym (body_is identity.key (identity.qualifiers ++ identity.attributes) own)) (raw_joined (pairs_of identity) made.in_order)
+
+  next_cut : (pairs : List Pair) → is_cut (bracketed_text pairs) ≡ true
+  next_cut [] = refl
+  next_cut (pair ∷ pairs) = refl
+
+  bracketed_joined : (pairs : List Pair) → All (IsInOrder rows) pairs → Joined (IsBracketedElement rows) pairs (bracketed_text pairs) []
+  bracketed_joined [] all = refl
+  bracketed_joined (pair ∷ pairs) all =
+      (bracketed_text pairs, record { text_is = refl; in_order = All-head (IsInOrder rows) pair pairs all; cut = next_cut pairs }, bracketed_joined pairs (All-tail (IsInOrder rows) pair pairs all))
+
+  pub bracketed_read : (identity : Elements) → IsMadeWith rows identity → IsBracketed rows (bracketed_text (pairs_of identity)) (pairs_of identity)
+  bracketed_read identity made = bracketed_joined (pairs_of identity) made.in_order

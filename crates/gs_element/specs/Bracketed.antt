@@ -1,0 +1,88 @@
+-- Element strings as they are printed below a symbol, each code in brackets: GS1 General Specifications, section 4
+-- (human readable interpretation). The backslash before a bracket of a value is this project's own.
+use Rattle.std.specs.Prelude.{◌≡◌, ℕ, Bool, true, ◌==◌, ◌&&◌, not, List, [], ◌∷◌, ◌++◌, length, drop, take_while, Option, Some, None, if◌then◌else◌}
+use Rattle.std.specs.List.{flat_map}
+use Rattle.std.specs.Option.{option_map}
+use Rattle.gs_chars.specs.Characters.{is_digit}
+use Rattle.gs_ai.specs.declared.faults.ElementFault.{ElementFault}
+use Rattle.gs_ai.specs.declared.faults.ElementWhy.TheVariants.{Value, Bracket}
+use Rattle.gs_ai.specs.declared.pair.Pair.{Pair}
+use Rattle.gs_ai.specs.declared.row.AiRow.{AiRow}
+use Rattle.gs_ai.specs.Tables.{is_empty}
+use Rattle.gs_ai.specs.Values.{value_fault}
+use Rattle.gs_ident.specs.Identities.{IsInOrder}
+use Rattle.gs_element.specs.Joins.{Joined, IsFirstFault}
+
+-- ---- what is written
+
+-- an opening bracket of a value is written with a backslash before it
+abbrev pub written_character : ℕ → List ℕ
+written_character c = if c == 40 then 92 ∷ 40 ∷ [] else c ∷ []
+
+abbrev pub written_value : List ℕ → List ℕ
+written_value value = flat_map written_character value
+
+-- the code in brackets, and the value
+abbrev pub bracketed_element : Pair → List ℕ
+bracketed_element pair = 40 ∷ (pair.code ++ 41 ∷ written_value pair.value)
+
+abbrev pub bracketed_text : List Pair → List ℕ
+bracketed_text pairs = flat_map bracketed_element pairs
+
+-- ---- what is read
+
+-- the text ends, or goes on with an opening bracket
+abbrev pub is_cut : List ℕ → Bool
+is_cut [] = true
+is_cut (c ∷ _) = c == 40
+
+-- the text is the element of the pair and then `after`, which is nothing or a further element
+pub record IsBracketedElement (table : List AiRow) (pair : Pair) (text after : List ℕ) : Type 0 where
+  pub text_is : text ≡ bracketed_element pair ++ after
+  -- the value is one of its code's
+  pub in_order : IsInOrder table pair
+  pub cut : is_cut after ≡ true
+
+-- the text is the join of the elements of these pairs
+abbrev pub IsBracketed : List AiRow → List ℕ → List Pair → Type 0
+IsBracketed table text pairs = Joined (IsBracketedElement table) pairs text []
+
+-- ---- faults
+
+-- The value up to the next opening bracket that has no backslash before it, or the end. A backslash before an opening
+-- bracket is none of its characters; any other is.
+abbrev pub value_before : List ℕ → List ℕ
+value_before [] = []
+value_before (c ∷ []) = if c == 40 then [] else c ∷ []
+value_before (c ∷ d ∷ text) =
+    if c == 40 then []
+    else if c == 92 && d == 40 then 40 ∷ value_before text
+    else c ∷ value_before (d ∷ text)
+
+-- the code and what follows its closing bracket, which is the first character of what is behind the code
+abbrev pub closed_code : List ℕ → List ℕ → Option (List ℕ × List ℕ)
+closed_code code [] = None
+closed_code code (c ∷ text) = if not (is_empty code) && (c == 41) then Some (code, text) else None
+
+-- the code in brackets at the front of a text, one or more digits, and what follows it
+abbrev pub code_front : List ℕ → Option (List ℕ × List ℕ)
+code_front [] = None
+code_front (c ∷ text) =
+    if c == 40 then closed_code (take_while is_digit text) (drop (length (take_while is_digit text)) text)
+    else None
+
+-- no code at the front, at the place of its bracket; or a fault of its value, at the place of the code
+abbrev pub front_fault : List AiRow → Option (List ℕ × List ℕ) → Option ElementFault
+front_fault table None = Some (record { at = 0; why = Bracket })
+front_fault table (Some (code, text)) =
+    option_map (λ fault. record { at = 1; why = Value fault }) (value_fault table code (value_before text))
+
+-- the fault at the front of a text
+abbrev pub bracketed_fault : List AiRow → List ℕ → Option ElementFault
+bracketed_fault table [] = None
+bracketed_fault table (c ∷ text) = front_fault table (code_front (c ∷ text))
+
+-- the fault of a text that no pairs are read from
+abbrev pub IsBracketedFault : List AiRow → List ℕ → ElementFault → Type 0
+IsBracketedFault table text fault =
+    IsFirstFault (IsBracketedElement table) (bracketed_fault table) text text fault

@@ -1,0 +1,5 @@
+pub mod Answers
+pub mod Bracketed
+pub mod Joins
+pub mod Raw
+pub mod Writing

@@ -1,0 +1,120 @@
+ghost use Rattle.std.specs.Prelude.{◌≡◌, ◌≤◌, ◌==◌, not, length, None, Some, All, IfOk, IfErr};
+ghost use Rattle.std.specs.List.{prefix_len};
+ghost use Rattle.gs_ai.specs.Predefined.{predefined_length};
+ghost use Rattle.gs_ident.specs.Identities.{IsInOrder};
+ghost use Rattle.gs_element.specs.Answers.{IsRawRefusal};
+ghost use Rattle.gs_element.specs.Raw.{body_of, raw_value, raw_value_fault, without_separator, IsCutFrom, IsRaw};
+
+use crate::faults::{ElementsFault, fault_at};
+use crate::pairs::push_pair;
+use gs_ai::{AiTable, ElementWhy, Pair, ValueFault};
+use gs_chars::Text;
+use std::alloc::Global;
+
+/// The FNC1, as readers transmit it.
+const FNC1: u8 = 29;
+
+/// The text without a symbology identifier or an FNC1 in front.
+#[tactic(auto, unfolding(crate::specs::Raw::body_of))]
+fn body_of(text: &[u8]) -> &[u8]
+    ensures { result.now ≡ body_of text.now }
+{
+    if text.starts_with(b"]C1")
+        || text.starts_with(b"]e0")
+        || text.starts_with(b"]d2")
+        || text.starts_with(b"]Q3")
+    {
+        &text[3..]
+    } else {
+        without_separator(text)
+    }
+}
+
+/// The text without one FNC1 in front.
+fn without_separator(text: &[u8]) -> &[u8]
+    ensures { result.now ≡ without_separator text.now }
+{
+    match text {
+        [FNC1, rest @ ..] => rest,
+        _ => text,
+    }
+}
+
+/// The number of bytes before the next FNC1, or of all.
+fn len_before_separator(text: &[u8]) -> usize
+    ensures len { result ≡ prefix_len (λ c. not (c == 29)) text.now }
+    ensures within { result ≤ length text.now }
+{
+    text.iter().take_while(|c| **c != FNC1).count()
+}
+
+/// The value that is cut behind a code: what the predefined length of code and value leaves to it, or all up to the next
+/// FNC1; all that is left where that is less.
+fn cut_value<'a>(predefined: Option<usize>, code: &[u8], after: &'a [u8]) -> &'a [u8]
+    requires { predefined ≡ predefined_length code.now }
+    ensures { result.now ≡ raw_value code.now after.now }
+{
+    match predefined {
+        Some(n) => after
+            .split_at(after.len().min(n.saturating_sub(code.len())))
+            .0,
+        None => after.split_at(len_before_separator(after)).0,
+    }
+}
+
+/// The front of a text.
+#[derive(Clone, Copy)]
+struct Cut<'a> {
+    code: &'a [u8],
+    value: &'a [u8],
+    rest: &'a [u8],
+}
+
+/// Cuts the element at the front of the text: its code is the one that begins the text.
+fn cut_element<'a>(table: &AiTable, text: &'a [u8]) -> Result<Cut<'a>, ValueFault>
+    ensures cut { IfOk result (λ cut. IsCutFrom table.now text.now cut.code.now cut.value.now cut.rest.now) }
+    ensures fault { IfErr result (λ fault. raw_value_fault table.now text.now ≡ Some fault) }
+{
+    let Some(row) = table.begins(text) else {
+        return Err(ValueFault::Unknown);
+    };
+    let (code, after) = text.split_at(table.rows()[row].code.as_bytes().len());
+    let value = cut_value(table.predefined(row), code, after);
+    if let Err(fault) = table.row_value_ok(row, value) {
+        return Err(fault);
+    }
+    let rest = without_separator(&after[value.len()..]);
+    Ok(Cut { code, value, rest })
+}
+
+/// The pairs of an element string as a reader gives it: one of the symbology identifiers `]C1`, `]e0`, `]d2`, `]Q3` or one
+/// FNC1 (the byte 29) may stand in front; behind an element without predefined length stands an FNC1 unless the text ends,
+/// and one may stand behind any other (GS1 General Specifications, section 7.8). An empty text has no pairs.
+///
+/// The fault is the first from the left, at the place of the code: `Unknown` where no code begins what is left, else that
+/// of the value. `Memory` is want of memory, and may come in place of any answer. The text is scanned once, from left to
+/// right, and memory is taken for the pairs alone.
+pub fn read_raw(alloc: Global, table: &AiTable, text: &[u8]) -> Result<Vec<Pair>, ElementsFault>
+    ensures read { IfOk result (λ pairs. IsRaw table.now text.now pairs.items) }
+    ensures in_order { IfOk result (λ pairs. All (IsInOrder table.now) pairs.items) }
+    ensures refused { IfErr result (IsRawRefusal table.now text.now) }
+{
+    let mut pairs = Vec::new(alloc);
+    // For the proof alone: the rows of the table keep its rules.
+    let _ = table.rows();
+    let mut rest = body_of(text);
+    while !rest.is_empty() {
+        match cut_element(table, rest) {
+            Ok(cut) => {
+                let value = Text::from_bytes(alloc, cut.value)?;
+                push_pair(alloc, &mut pairs, cut.code, value)?;
+                rest = cut.rest;
+            }
+            Err(fault) => {
+                let at = text.len() - rest.len();
+                return Err(fault_at(at, ElementWhy::Value(fault)));
+            }
+        }
+    }
+    Ok(pairs)
+}
