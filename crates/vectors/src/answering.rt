@@ -1,6 +1,7 @@
 use crate::case::{Answer, Refusal, behind, text_of, words_of};
 use crate::{
-    bits, characters, documents, epcs, grammars, identifiers, identities, outside, prefixes, tables,
+    bits, characters, documents, elements, epcs, grammars, identifiers, identities, outside,
+    prefixes, tables,
 };
 use gs_chars::{Memory, Text};
 use gs_tables::TableSet;
@@ -20,6 +21,7 @@ fn answer_of(alloc: Global, set: &TableSet, path: &str, args: &[Text]) -> Answer
         "gs_ai" => identifiers::answer(alloc, set, call, args),
         "gs_ident" => identities::answer(alloc, set, call, args),
         "gs_tables" => tables::answer(alloc, set, call, args),
+        "gs_element" => elements::answer(alloc, set, call, args),
         "gs_prefix" => prefixes::answer(alloc, call, args),
         "gs_epc" => epcs::answer(alloc, set, call, args),
         _ => Err(Refusal::NoCase),

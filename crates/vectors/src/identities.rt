@@ -57,7 +57,11 @@ fn answer_of(alloc: Global, table: &AiTable, words: &[Text], asked: Asked<'_>) -
 }
 
 /// The fault of the first value that is none of its code.
-fn first_fault(alloc: Global, table: &AiTable, words: &[Text]) -> Result<Option<String>, Refusal> {
+pub fn first_fault(
+    alloc: Global,
+    table: &AiTable,
+    words: &[Text],
+) -> Result<Option<String>, Refusal> {
     for pair in words.chunks(2) {
         if let Err(fault) = table.value_ok(arg(pair, 0)?, arg(pair, 1)?) {
             return Ok(Some(format!(in alloc; "value {fault:?}")?));
@@ -87,7 +91,7 @@ fn checked(alloc: Global, table: &AiTable, code: &[u8], value: &[u8]) -> Result<
 }
 
 /// Pairs that are in order.
-fn pairs_of(alloc: Global, table: &AiTable, words: &[Text]) -> Result<Vec<Pair>, Refusal>
+pub fn pairs_of(alloc: Global, table: &AiTable, words: &[Text]) -> Result<Vec<Pair>, Refusal>
     ensures { IfOk result (λ pairs. All (IsInOrder table.now) pairs.items) }
 {
     let mut pairs = Vec::new(alloc);
@@ -97,7 +101,8 @@ fn pairs_of(alloc: Global, table: &AiTable, words: &[Text]) -> Result<Vec<Pair>,
     Ok(pairs)
 }
 
-fn refusal(alloc: Global, fault: IdentFault) -> Answer {
+/// The words of a refusal.
+pub fn refusal(alloc: Global, fault: IdentFault) -> Answer {
     match fault {
         IdentFault::Repeat(code) => coded(alloc, "Repeat", &code),
         IdentFault::NoKey => Ok(String::from_str(alloc, "NoKey")?),

@@ -15,6 +15,7 @@ mod bits;
 mod case;
 mod characters;
 mod documents;
+mod elements;
 mod epcs;
 mod grammars;
 mod identifiers;
