@@ -1,0 +1,111 @@
+-- What words ask for.
+use Rattle.std.proofs.Common.{◌≡◌, ℕ, true, false, List, [], ◌∷◌, ◌++◌, refl, sym, ◌∙◌, ap, subst}
+use Rattle.std.specs.Prelude.{codes}
+use Rattle.gs_translate.specs.declared.form.Form.{Form}
+use Rattle.gs_translate.specs.declared.form.Form.TheVariants.{Hex, Tag, Pure}
+use Rattle.gs_translate.specs.Steps.{HasOne}
+use Rattle.gs_program.specs.declared.command.Command.{Command}
+use Rattle.gs_program.specs.declared.command.Command.TheVariants.{Canon, Check}
+use Rattle.gs_program.specs.Commands.{command_words, form_word, names_of}
+use Rattle.gs_program.specs.Names.{AreOfRows, has_required}
+use Rattle.gs_program.specs.Requests.{Asked, Asks, AsksForCanon, FileNames, NotInOrder, WordsInOrder, named_files}
+use Rattle.gs_program.proofs.PairLemmas.{same_pairs}
+
+-- ---- the command
+
+pub order_of_canon : (words : List (List ℕ)) (asked : Asked) → AsksForCanon words asked → WordsInOrder (codes "canon" ∷ words) asked
+order_of_canon words asked a = record {
+  command = Canon a.form;
+  behind = a.behind;
+  spelled = ap (λ (ws : List (List ℕ)). codes "canon" ∷ ws) a.spelled;
+  asks = a.asks;
+}
+
+pub order_of_check : (words : List (List ℕ)) (asked : Asked) → Asks Check words asked → WordsInOrder (codes "check" ∷ words) asked
+order_of_check words asked a = record { command = Check; behind = words; spelled = refl; asks = a }
+
+canon_from : (command : Command) (words behind : List (List ℕ)) (asked : Asked) → codes "canon" ∷ words ≡ command_words command ++ behind → Asks command behind asked → AsksForCanon words asked
+canon_from (Canon form) words behind asked e a = record { form = form; behind = behind; spelled = cc; asks = a }
+canon_from Check words behind asked e a = absurd (let f : codes "canon" ≡ codes "check" = cc in cc)
+
+pub asks_for_canon : (words : List (List ℕ)) (asked : Asked) → WordsInOrder (codes "canon" ∷ words) asked → AsksForCanon words asked
+asks_for_canon words asked o = canon_from o.command words o.behind asked o.spelled o.asks
+
+check_from : (command : Command) (words behind : List (List ℕ)) (asked : Asked) → codes "check" ∷ words ≡ command_words command ++ behind → Asks command behind asked → Asks Check words asked
+check_from (Canon form) words behind asked e a = absurd (let f : codes "check" ≡ codes "canon" = cc in cc)
+check_from Check words behind asked e a = let same : words ≡ behind = cc in rw same a
+
+pub asks_for_check : (words : List (List ℕ)) (asked : Asked) → WordsInOrder (codes "check" ∷ words) asked → Asks Check words asked
+asks_for_check words asked o = check_from o.command words o.behind asked o.spelled o.asks
+
+no_command : (first : List ℕ) (command : Command) (words behind : List (List ℕ)) → (first ≡ codes "canon" → ⊥) → (first ≡ codes "check" → ⊥) → first ∷ words ≡ command_words command ++ behind → ⊥
+no_command first (Canon form) words behind canon check e = canon cc
+no_command first Check words behind canon check e = check cc
+
+-- no other word is a command
+pub other_word : (first : List ℕ) (words : List (List ℕ)) → (first ≡ codes "canon" → ⊥) → (first ≡ codes "check" → ⊥) → NotInOrder (first ∷ words)
+other_word first words canon check asked o = no_command first o.command words o.behind canon check o.spelled
+
+no_spelling : (command : Command) (behind : List (List ℕ)) → [] ≡ command_words command ++ behind → ⊥
+no_spelling (Canon form) behind e = cc
+no_spelling Check behind e = cc
+
+pub no_word : NotInOrder []
+no_word asked o = no_spelling o.command o.behind o.spelled
+
+-- ---- the form
+
+pub no_form : (words : List (List ℕ)) (asked : Asked) → words ≡ [] → AsksForCanon words asked → ⊥
+no_form words asked none a = let e : [] ≡ form_word a.form ∷ a.behind = sym none ∙ a.spelled in cc
+
+pub other_form : (first : List ℕ) (words : List (List ℕ)) (asked : Asked) → ((form : Form) → first ≡ form_word form → ⊥) → AsksForCanon (first ∷ words) asked → ⊥
+other_form first words asked none a = none a.form (let e = a.spelled in cc)
+
+same_form : (one other : Form) → form_word one ≡ form_word other → one ≡ other
+same_form Hex Hex e = refl
+same_form Hex Tag e = absurd (let f : codes "hex" ≡ codes "tag" = e in cc)
+same_form Hex Pure e = absurd (let f : codes "hex" ≡ codes "pure" = e in cc)
+same_form Tag Hex e = absurd (let f : codes "tag" ≡ codes "hex" = e in cc)
+same_form Tag Tag e = refl
+same_form Tag Pure e = absurd (let f : codes "tag" ≡ codes "pure" = e in cc)
+same_form Pure Hex e = absurd (let f : codes "pure" ≡ codes "hex" = e in cc)
+same_form Pure Tag e = absurd (let f : codes "pure" ≡ codes "tag" = e in cc)
+same_form Pure Pure e = refl
+
+pub asks_of_form : (form : Form) (first : List ℕ) (words : List (List ℕ)) (asked : Asked) → first ≡ form_word form → AsksForCanon (first ∷ words) asked → Asks (Canon form) words asked
+asks_of_form form first words asked e a =
+    let s = a.spelled in
+    let words_same : form_word form ≡ form_word a.form = cc in
+    let same : form ≡ a.form = same_form form a.form words_same in
+    let behind : words ≡ a.behind = cc in
+    rw (same, behind) a.asks
+
+pub canon_of_form : (form : Form) (first : List ℕ) (words : List (List ℕ)) (asked : Asked) → first ≡ form_word form → Asks (Canon form) words asked → AsksForCanon (first ∷ words) asked
+canon_of_form form first words asked e a = record { form = form; behind = words; spelled = ap (λ (w : List ℕ). w ∷ words) e; asks = a }
+
+-- ---- one request
+
+same_asks : (command : Command) (words : List (List ℕ)) (one other : Asked) → Asks command words one → Asks command words other → one ≡ other
+same_asks command words one other a b =
+    let pairs = same_pairs words a.pairs b.pairs a.of_rows.are b.of_rows.are in
+    let asked : List (List ℕ × List ℕ) → Asked = λ ps. record { command = command; files = named_files ps } in
+    a.is ∙ ap asked pairs ∙ sym b.is
+
+-- a command and what stands behind it and its operands
+record SameCommand (one other : Command) (behind behind' : List (List ℕ)) : Type 0 where
+  commands : one ≡ other
+  behinds : behind ≡ behind'
+
+same_command : (one other : Command) (behind behind' : List (List ℕ)) → command_words one ++ behind ≡ command_words other ++ behind' → SameCommand one other behind behind'
+same_command (Canon form) (Canon form') behind behind' e =
+    let forms : form_word form ≡ form_word form' = cc in
+    record { commands = ap Canon (same_form form form' forms); behinds = cc }
+same_command (Canon form) Check behind behind' e = absurd (let f : codes "canon" ≡ codes "check" = cc in cc)
+same_command Check (Canon form) behind behind' e = absurd (let f : codes "check" ≡ codes "canon" = cc in cc)
+same_command Check Check behind behind' e = record { commands = refl; behinds = cc }
+
+pub one_request : (words : List (List ℕ)) → HasOne (WordsInOrder words)
+one_request words one other a b =
+    let same = same_command a.command b.command a.behind b.behind (sym a.spelled ∙ b.spelled) in
+    let asks : Asks a.command a.behind other = rw (same.commands, same.behinds) b.asks in
+    same_asks a.command a.behind one other a.asks asks

@@ -1,0 +1,10 @@
+/// A form that texts are read in.
+#[derive(Clone, Copy, Debug, PartialEq, Eq)]
+pub enum Form {
+    /// The bits of a tag, in hexadecimal digits (TDS 2.0, section 14).
+    Hex,
+    /// EPC tag URIs (TDS 2.0, section 12).
+    Tag,
+    /// Pure identity URIs (TDS 2.0, section 6).
+    Pure,
+}
