@@ -1,5 +1,8 @@
+use gs_ai::ElementFault;
 use gs_chars::Memory;
+use gs_element::ElementsFault;
 use gs_epc::EpcFault;
+use gs_ident::IdentFault;
 
 /// Why a text is refused.
 #[derive(Debug, Drop)]
@@ -8,6 +11,10 @@ pub enum Reason {
     Long,
     /// The text says no EPC, for this reason, which is never want of memory.
     Epc(EpcFault),
+    /// An element of the text is not in order: where, and why.
+    Element(ElementFault),
+    /// The elements of the text have no identity, for this reason, which is never want of memory.
+    Ident(IdentFault),
     /// Want of memory.
     Memory,
 }
@@ -20,5 +27,19 @@ impl From<Memory> for Reason {
 
     fn from(_refused: Memory) -> Reason {
         Reason::Memory
+    }
+}
+
+impl From<ElementsFault> for Reason {
+    ghost use Rattle.std.specs.Prelude.{◌≡◌};
+    ghost use Rattle.gs_translate.specs.Meanings.{elements_reason};
+
+    ghost from_gives = { λ fault reason. reason ≡ elements_reason fault };
+
+    fn from(fault: ElementsFault) -> Reason {
+        match fault {
+            ElementsFault::Element(fault) => Reason::Element(fault),
+            ElementsFault::Memory => Reason::Memory,
+        }
     }
 }
