@@ -75,7 +75,7 @@ pub fn search(
 }
 
 /// The same of lists of symbols that go by this edge in the first machine, and in the second by an edge from q to a state that
-/// is not below the least.
+/// is not below the least. The state p, which the edge leaves, tells how far the search can still go.
 #[cycle(search)]
 pub fn search_behind(
     alloc: Global,
