@@ -18,8 +18,12 @@ use Rattle.gs_dlink.specs.Values.{are_escapes, by_row, by_value, pair_answer, va
 abbrev IsTold : {X : Type 0} → Result X LinkFault → Type 0
 IsTold answer = answer ≢ Err Memory
 
+-- the pair of a value
+abbrev made : Written → List ℕ → Pair
+made pair value = record { code = pair.code; value = value }
+
 value_told : (pair : Written) (value : List ℕ) (why : Option ElementWhy) → IsTold (by_value pair value why)
-value_told pair value None e = let f : Ok (record { code = pair.code; value = value }) ≡ Err Memory = e in cc
+value_told pair value None e = let f : Ok (made pair value) ≡ Err Memory = e in cc
 value_told pair value (Some why) e = let f : Err (Element (record { at = pair.at; why = why })) ≡ Err Memory = e in cc
 
 choice_told : {X : Type 0} (test : Bool) (one other : Result X LinkFault) → IsTold one → IsTold other → IsTold (if test then one else other)
@@ -41,8 +45,11 @@ then_told (Err fault) rest a b e = a (let f : Err fault ≡ Err Memory = e in cc
 then_told (Ok pair) (Ok pairs) a b e = let f : Ok (pair ∷ pairs) ≡ Err Memory = e in cc
 then_told (Ok pair) (Err fault) a b e = b (let f : Err fault ≡ Err Memory = e in cc)
 
+no_pairs : IsTold {X = List Pair} (Ok [])
+no_pairs e = cc
+
 written_told : (table : List AiRow) (written : List Written) → IsTold (written_answer table written)
-written_told table [] e = let f : Ok [] ≡ Err Memory = e in cc
+written_told table [] = no_pairs
 written_told table (pair ∷ written) = then_told (pair_answer table pair) (written_answer table written) (pair_told table pair) (written_told table written)
 
 no_path : IsTold {X = List Pair} (Err NoKeyPath)
@@ -59,8 +66,11 @@ target_told table at text =
     let path = key_path table (segments at (path_of text)) in
     choice_told (not (is_rooted (path_of text))) (Err NoKeyPath) (by_key_path table query path) no_path (path_told table query path)
 
+no_link : IsTold {X = List Pair} (Err NotHttp)
+no_link e = cc
+
 authority_told : (table : List AiRow) (text : List ℕ) (end : Option ℕ) → IsTold (by_authority table text end)
-authority_told table text None e = let f : Err NotHttp ≡ Err Memory = e in cc
+authority_told table text None = no_link
 authority_told table text (Some at) = target_told table at (drop at text)
 
 link_told : (table : List AiRow) (text : List ℕ) → IsTold (link_answer table text)
