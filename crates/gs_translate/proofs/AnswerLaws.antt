@@ -33,11 +33,11 @@ use Rattle.gs_translate.specs.declared.form.Form.{Form}
 use Rattle.gs_translate.specs.declared.form.Form.TheVariants as form
 use Rattle.gs_translate.specs.declared.meaning.Meaning.{Meaning}
 use Rattle.gs_translate.specs.declared.reason.Reason.{Reason}
-use Rattle.gs_translate.specs.declared.reason.Reason.TheVariants.{Element, Epc as NoEpc, Ident, Long, Memory as NoMemory}
+use Rattle.gs_translate.specs.declared.reason.Reason.TheVariants.{Element, Epc as NoEpc, Ident, Long, NoKeyPath, NotHttp, Memory as NoMemory}
 use Rattle.gs_translate.specs.Answers.{IsAnswer, IsCanonical}
-use Rattle.gs_translate.specs.Meanings.{IsRead, MeaningOf, Means, MeansEpc, ReadsBracketed, ReadsRaw, epc_meaning, short, too_long}
+use Rattle.gs_translate.specs.Meanings.{IsRead, MeaningOf, Means, MeansEpc, ReadsBracketed, ReadsLink, ReadsRaw, epc_meaning, short, too_long}
 use Rattle.gs_translate.specs.Steps.{HasOne, HasSome}
-use Rattle.gs_translate.proofs.PairLaws.{ais_kept, one_bracketed, one_of_pairs, one_raw, some_bracketed, some_of_pairs, some_raw}
+use Rattle.gs_translate.proofs.PairLaws.{ais_kept, one_bracketed, one_link, one_of_pairs, one_raw, some_bracketed, some_link, some_of_pairs, some_raw}
 use Rattle.gs_translate.proofs.StepLaws.{then_one, then_some}
 
 -- the answer is no want of memory
@@ -127,6 +127,8 @@ means_told set (Err fault) (Err (NoEpc reason)) m = m.1
 means_told set (Err fault) (Err Long) m = absurd m
 means_told set (Err fault) (Err (Element other)) m = absurd m
 means_told set (Err fault) (Err (Ident other)) m = absurd m
+means_told set (Err fault) (Err NotHttp) m = absurd m
+means_told set (Err fault) (Err NoKeyPath) m = absurd m
 means_told set (Err fault) (Err NoMemory) m = absurd m
 means_told set (Err fault) (Ok meaning) m = absurd m
 
@@ -139,11 +141,15 @@ same_meaning set (Err fault) (Err (NoEpc reason)) (Err (NoEpc reason')) a b = ap
 same_meaning set (Err fault) (Err (NoEpc reason)) (Err Long) a b = absurd b
 same_meaning set (Err fault) (Err (NoEpc reason)) (Err (Element other)) a b = absurd b
 same_meaning set (Err fault) (Err (NoEpc reason)) (Err (Ident other)) a b = absurd b
+same_meaning set (Err fault) (Err (NoEpc reason)) (Err NotHttp) a b = absurd b
+same_meaning set (Err fault) (Err (NoEpc reason)) (Err NoKeyPath) a b = absurd b
 same_meaning set (Err fault) (Err (NoEpc reason)) (Err NoMemory) a b = absurd b
 same_meaning set (Err fault) (Err (NoEpc reason)) (Ok meaning) a b = absurd b
 same_meaning set (Err fault) (Err Long) other a b = absurd a
 same_meaning set (Err fault) (Err (Element element)) other a b = absurd a
 same_meaning set (Err fault) (Err (Ident ident)) other a b = absurd a
+same_meaning set (Err fault) (Err NotHttp) other a b = absurd a
+same_meaning set (Err fault) (Err NoKeyPath) other a b = absurd a
 same_meaning set (Err fault) (Err NoMemory) other a b = absurd a
 same_meaning set (Err fault) (Ok meaning) other a b = absurd a
 
@@ -159,6 +165,7 @@ one_meaning set form.Tag text shaped = means_one set (ReadsAs set level.Tag text
 one_meaning set form.Pure text shaped = means_one set (ReadsAs set level.Pure text) (same_read set level.Pure text)
 one_meaning set form.Raw text shaped = one_of_pairs set (ReadsRaw set text) (one_raw set text (ais_kept set shaped))
 one_meaning set form.Bracketed text shaped = one_of_pairs set (ReadsBracketed set text) (one_bracketed set text (ais_kept set shaped))
+one_meaning set form.Link text shaped = one_of_pairs set (ReadsLink set text) (one_link set text)
 
 pub one_read : (set : TableRows) (form : Form) (text : List ℕ) → IsShaped set → HasOne (IsRead set form text)
 one_read set form text shaped one other (too_long more e) (too_long more' e') = e ∙ sym e'
@@ -254,6 +261,7 @@ some_meaning set form.Tag text shaped = means_some set (ReadsAs set level.Tag te
 some_meaning set form.Pure text shaped = means_some set (ReadsAs set level.Pure text) shaped (told_level set level.Pure text shaped)
 some_meaning set form.Raw text shaped = some_of_pairs set (ReadsRaw set text) (some_raw set text (ais_kept set shaped))
 some_meaning set form.Bracketed text shaped = some_of_pairs set (ReadsBracketed set text) (some_bracketed set text (ais_kept set shaped))
+some_meaning set form.Link text shaped = some_of_pairs set (ReadsLink set text) (some_link set text)
 
 pub some_read : (set : TableRows) (form : Form) (text : List ℕ) → IsShaped set → HasSome (IsRead set form text)
 some_read set form text shaped = elim (leb_tells (length text) 2048) as (λ _. HasSome (IsRead set form text)) [

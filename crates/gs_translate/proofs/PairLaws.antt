@@ -1,10 +1,14 @@
--- What element strings mean: one thing, by tables that keep their rules.
+-- What element strings and links mean: one thing, by tables that keep their rules.
 use Rattle.std.proofs.Common.{◌≡◌, ◌⊎◌, inl, inr, ℕ, List, [], ◌∷◌, ◌++◌, map, refl, sym, ◌∙◌, ap, arith}
-use Rattle.std.specs.Prelude.{Result, Ok, Err, MatchResult}
+use Rattle.std.specs.Prelude.{◌≢◌, Option, Some, Result, Ok, Err, MatchResult}
 use Rattle.gs_ai.specs.declared.faults.ElementFault.{ElementFault}
 use Rattle.gs_ai.specs.declared.pair.Pair.{Pair}
 use Rattle.gs_ai.specs.Tables.{KeepsRules, table_faults}
 use Rattle.gs_ai.proofs.RuleLemmas.{rules_kept}
+use Rattle.gs_dlink.specs.declared.fault.LinkFault.{LinkFault}
+use Rattle.gs_dlink.specs.declared.fault.LinkFault.TheVariants as link
+use Rattle.gs_dlink.specs.Answers.{IsLink, link_fault}
+use Rattle.gs_dlink.proofs.AnswerLaws as dlink
 use Rattle.gs_document.specs.declared.document.Document.{Document}
 use Rattle.gs_document.specs.declared.fault.LoadFault.TheVariants.{Ai}
 use Rattle.gs_element.specs.declared.faults.ElementsFault.{ElementsFault}
@@ -19,8 +23,8 @@ use Rattle.gs_ident.specs.Identities.{identity_of_pairs}
 use Rattle.gs_tables.specs.Tables.{IsShaped, TableRows, row_refusals}
 use Rattle.gs_translate.specs.declared.meaning.Meaning.{Meaning}
 use Rattle.gs_translate.specs.declared.reason.Reason.{Reason}
-use Rattle.gs_translate.specs.declared.reason.Reason.TheVariants.{Element}
-use Rattle.gs_translate.specs.Meanings.{IsIdentified, MeansPairs, OfElement, ReadsBracketed, ReadsRaw, elements_reason, identified}
+use Rattle.gs_translate.specs.declared.reason.Reason.TheVariants.{Element, NoKeyPath, NotHttp}
+use Rattle.gs_translate.specs.Meanings.{IsIdentified, MeansPairs, OfElement, OfLink, ReadsBracketed, ReadsLink, ReadsRaw, elements_reason, identified, link_reason}
 use Rattle.gs_translate.specs.Steps.{HasOne, HasSome, UnlessMemory, refuses}
 use Rattle.gs_translate.proofs.StepLaws.{then_one, then_some}
 
@@ -73,6 +77,17 @@ module _ (set : TableRows) (text : List ℕ) (rules : KeepsRules set.ais) where
       (one_of_element (IsBracketedFault set.ais text) (λ a b f g. one_fault (IsBracketedElement set.ais) (bracketed_fault set.ais) told text text a b f g))
       (λ pairs why j w. no_fault (IsBracketedElement set.ais) (bracketed_fault set.ais) told pairs text text w.0 j w.2)
 
+one_of_link : (found : Option LinkFault) → HasOne (OfLink found)
+one_of_link found a b f g =
+    let same : Some f.0 ≡ Some g.0 = sym f.2 ∙ g.2 in
+    let fault : f.0 ≡ g.0 = cc in
+    f.3 ∙ ap link_reason fault ∙ sym g.3
+
+pub one_link : (set : TableRows) (text : List ℕ) → HasOne (ReadsLink set text)
+one_link set text =
+    one_of_two (IsLink set.ais text) (OfLink (link_fault set.ais text)) (dlink.one_list set.ais text) (one_of_link (link_fault set.ais text))
+    (λ pairs why j w. dlink.no_fault set.ais text pairs w.0 j w.2)
+
 -- ---- a reading
 
 some_of_two : (Are : List Pair → Type 0) (IsFault : ElementFault → Type 0) → HasSome Are ⊎ HasSome IsFault → HasSome (λ answer. MatchResult answer Are (OfElement IsFault))
@@ -85,6 +100,13 @@ module _ (set : TableRows) (text : List ℕ) (rules : KeepsRules set.ais) where
 
   pub some_bracketed : HasSome (ReadsBracketed set text)
   some_bracketed = some_of_two (IsBracketed set.ais text) (IsBracketedFault set.ais text) (answered (IsBracketedElement set.ais) (bracketed_fault set.ais) (bracketed_told set.ais rules) text text (omega arith))
+
+some_of_link : (set : TableRows) (text : List ℕ) → HasSome (IsLink set.ais text) ⊎ ((fault : LinkFault) × (fault ≢ link.Memory) × (link_fault set.ais text ≡ Some fault)) → HasSome (ReadsLink set text)
+some_of_link set text (inl a) = (Ok a.0, a.1)
+some_of_link set text (inr f) = (Err (link_reason f.0), (f.0, f.1, f.2, refl))
+
+pub some_link : (set : TableRows) (text : List ℕ) → HasSome (ReadsLink set text)
+some_link set text = some_of_link set text (dlink.answered set.ais text)
 
 -- ---- the meaning of pairs
 
@@ -103,3 +125,10 @@ some_of_pairs set Reads some = then_some Reads (IsIdentified set) some (λ pairs
 pub elements_refused : (set : TableRows) (Are : List Pair → Type 0) (IsFault : ElementFault → Type 0) (Refuses : ElementsFault → Type 0) (fault : ElementsFault) → ((f : ElementFault) → Refuses (WrongElement f) → IsFault f) → Refuses fault → UnlessMemory {X = Meaning} (Err (elements_reason fault)) (MeansPairs set (λ answer. MatchResult answer Are (OfElement IsFault)) (Err (elements_reason fault)))
 elements_refused set Are IsFault Refuses (WrongElement fault) f r = refuses (Element fault) (fault, refl, f fault r) refl
 elements_refused set Are IsFault Refuses NoMemory f r = tt
+
+-- a refusal of the reader of links is that of the text
+pub link_refused : (set : TableRows) (text : List ℕ) (fault : LinkFault) → (fault ≢ link.Memory → link_fault set.ais text ≡ Some fault) → UnlessMemory {X = Meaning} (Err (link_reason fault)) (MeansPairs set (ReadsLink set text) (Err (link_reason fault)))
+link_refused set text link.NotHttp f = refuses NotHttp (link.NotHttp, (λ e. cc), f (λ e. cc), refl) refl
+link_refused set text link.NoKeyPath f = refuses NoKeyPath (link.NoKeyPath, (λ e. cc), f (λ e. cc), refl) refl
+link_refused set text (link.Element fault) f = refuses (Element fault) (link.Element fault, (λ e. cc), f (λ e. cc), refl) refl
+link_refused set text link.Memory f = tt

@@ -2,7 +2,7 @@
 use Rattle.std.proofs.Common.{◌≡◌, refl}
 use Rattle.std.specs.Prelude.{Result, Ok, Err}
 use Rattle.gs_translate.specs.declared.reason.Reason.{Reason}
-use Rattle.gs_translate.specs.declared.reason.Reason.TheVariants.{Element, Epc, Ident, Long, Memory}
+use Rattle.gs_translate.specs.declared.reason.Reason.TheVariants.{Element, Epc, Ident, Long, Memory, NoKeyPath, NotHttp}
 use Rattle.gs_translate.specs.Steps.{HasOne, HasSome, Then, UnlessMemory, goes_on, refuses}
 
 pub then_one : {A B E : Type 0} (First : Result A E → Type 0) (Next : A → Result B E → Type 0) → HasOne First → ((a : A) → HasOne (Next a)) → HasOne (Then First Next)
@@ -34,6 +34,8 @@ told_answer (Err Long) fact told f = f
 told_answer (Err (Epc fault)) fact told f = f
 told_answer (Err (Element fault)) fact told f = f
 told_answer (Err (Ident fault)) fact told f = f
+told_answer (Err NotHttp) fact told f = f
+told_answer (Err NoKeyPath) fact told f = f
 told_answer (Err Memory) fact told f = absurd (told refl)
 
 -- a fact about an answer follows from another
@@ -43,6 +45,8 @@ unless_map (Err Long) f a = f a
 unless_map (Err (Epc fault)) f a = f a
 unless_map (Err (Element fault)) f a = f a
 unless_map (Err (Ident fault)) f a = f a
+unless_map (Err NotHttp) f a = f a
+unless_map (Err NoKeyPath) f a = f a
 unless_map (Err Memory) f a = tt
 
 -- a fact about a refusal, as the answer of a later step
@@ -51,4 +55,6 @@ unless_refused X Y Long f a = f a
 unless_refused X Y (Epc fault) f a = f a
 unless_refused X Y (Element fault) f a = f a
 unless_refused X Y (Ident fault) f a = f a
+unless_refused X Y NotHttp f a = f a
+unless_refused X Y NoKeyPath f a = f a
 unless_refused X Y Memory f a = tt

@@ -1,9 +1,12 @@
 -- What a text of a form means: TDS 2.0, sections 6 and 12 (URIs), 14 (tag bits) and 7 (keys); GS1 General Specifications,
--- sections 7.8 and 4.14 (element strings).
-use Rattle.std.specs.Prelude.{◌≡◌, ◌≢◌, ℕ, ◌<◌, ◌≤◌, List, [], length, Some, None, Result, Ok, Err, MatchResult}
+-- sections 7.8 and 4 (element strings); GS1 Digital Link URI Syntax, section 3 (links).
+use Rattle.std.specs.Prelude.{◌≡◌, ◌≢◌, ℕ, ◌<◌, ◌≤◌, List, [], length, Option, Some, None, Result, Ok, Err, MatchResult}
 use Rattle.gs_ai.specs.declared.faults.ElementFault.{ElementFault}
 use Rattle.gs_ai.specs.declared.pair.Pair.{Pair}
 use Rattle.gs_document.specs.declared.level_name.LevelName.TheVariants as level
+use Rattle.gs_dlink.specs.declared.fault.LinkFault.{LinkFault}
+use Rattle.gs_dlink.specs.declared.fault.LinkFault.TheVariants as link
+use Rattle.gs_dlink.specs.Answers.{IsLink, link_fault}
 use Rattle.gs_element.specs.declared.faults.ElementsFault.{ElementsFault}
 use Rattle.gs_element.specs.declared.faults.ElementsFault.TheVariants.{Element as WrongElement, Memory as NoMemory}
 use Rattle.gs_element.specs.Bracketed.{IsBracketed, IsBracketedFault}
@@ -18,10 +21,10 @@ use Rattle.gs_ident.specs.Elements.{Elements}
 use Rattle.gs_ident.specs.Identities.{identity_of_pairs}
 use Rattle.gs_tables.specs.Tables.{TableRows}
 use Rattle.gs_translate.specs.declared.form.Form.{Form}
-use Rattle.gs_translate.specs.declared.form.Form.TheVariants.{Hex, Tag, Pure, Raw, Bracketed}
+use Rattle.gs_translate.specs.declared.form.Form.TheVariants.{Hex, Tag, Pure, Raw, Bracketed, Link}
 use Rattle.gs_translate.specs.declared.meaning.Meaning.{Meaning}
 use Rattle.gs_translate.specs.declared.reason.Reason.{Reason}
-use Rattle.gs_translate.specs.declared.reason.Reason.TheVariants.{Epc as NoEpc, Element, Ident, Long, Memory as OutOfMemory}
+use Rattle.gs_translate.specs.declared.reason.Reason.TheVariants.{Epc as NoEpc, Element, Ident, Long, NoKeyPath, NotHttp, Memory as OutOfMemory}
 use Rattle.gs_translate.specs.Steps.{Then}
 
 -- ---- of what a tag or an EPC URI says
@@ -67,6 +70,21 @@ ReadsRaw set text answer = MatchResult answer (IsRaw set.ais text) (OfElement (I
 abbrev pub ReadsBracketed : TableRows → List ℕ → Result (List Pair) Reason → Type 0
 ReadsBracketed set text answer = MatchResult answer (IsBracketed set.ais text) (OfElement (IsBracketedFault set.ais text))
 
+-- the reason by which the reader of links refuses a text
+abbrev pub link_reason : LinkFault → Reason
+link_reason link.NotHttp = NotHttp
+link_reason link.NoKeyPath = NoKeyPath
+link_reason (link.Element fault) = Element fault
+link_reason link.Memory = OutOfMemory
+
+-- the reason is the fault of a link
+abbrev pub OfLink : Option LinkFault → Reason → Type 0
+OfLink found reason = (fault : LinkFault) × (fault ≢ link.Memory) × (found ≡ Some fault) × (reason ≡ link_reason fault)
+
+-- the pairs that a link names, or why it names none
+abbrev pub ReadsLink : TableRows → List ℕ → Result (List Pair) Reason → Type 0
+ReadsLink set text answer = MatchResult answer (IsLink set.ais text) (OfLink (link_fault set.ais text))
+
 -- the meaning of an identity that no EPC names: there is neither a prefix length nor a filter value nor an encoding
 abbrev pub identity_meaning : Elements → Meaning
 identity_meaning identity = record { identity = identity; gcp = None; filter = None; encoding = [] }
@@ -92,6 +110,7 @@ Means set Tag text answer = MeansEpc set (ReadsAs set level.Tag text) answer
 Means set Pure text answer = MeansEpc set (ReadsAs set level.Pure text) answer
 Means set Raw text answer = MeansPairs set (ReadsRaw set text) answer
 Means set Bracketed text answer = MeansPairs set (ReadsBracketed set text) answer
+Means set Link text answer = MeansPairs set (ReadsLink set text) answer
 
 -- the most bytes of a text that is read
 abbrev pub longest_text : ℕ

@@ -55,5 +55,7 @@ abbrev pub reason_text : Reason → List ℕ
 reason_text reason.Long = codes "long"
 reason_text (reason.Epc fault) = epc_text fault
 reason_text (reason.Element fault) = element_text fault
+reason_text reason.NotHttp = codes "http"
+reason_text reason.NoKeyPath = codes "path"
 reason_text (reason.Ident fault) = ident_text fault
 reason_text reason.Memory = codes "memory"

@@ -1,12 +1,13 @@
 ghost use Rattle.std.specs.Prelude.{All, IfOk};
 ghost use Rattle.gs_ident.specs.Identities.{IsInOrder, IsMadeWith};
-ghost use Rattle.gs_translate.specs.Meanings.{IsIdentified, MeansPairs, ReadsBracketed, ReadsRaw};
+ghost use Rattle.gs_translate.specs.Meanings.{IsIdentified, MeansPairs, ReadsBracketed, ReadsLink, ReadsRaw};
 ghost use Rattle.gs_translate.specs.Steps.{UnlessMemory};
 
 use crate::meaning::Meaning;
 use crate::reason::Reason;
 use gs_ai::Pair;
 use gs_chars::Text;
+use gs_dlink::read_link;
 use gs_element::{read_bracketed, read_raw};
 use gs_ident::{IdentFault, make};
 use gs_tables::TableSet;
@@ -49,5 +50,14 @@ pub(crate) fn bracketed_meaning(
     ensures with_table { IfOk result (λ meaning. IsMadeWith set.now.ais meaning.identity) }
 {
     let pairs = read_bracketed(alloc, set.ais(), text)?;
+    meaning_of_pairs(alloc, set, pairs)
+}
+
+/// The meaning of a link.
+pub(crate) fn link_meaning(alloc: Global, set: &TableSet, text: &[u8]) -> Result<Meaning, Reason>
+    ensures meaning { UnlessMemory result (MeansPairs set.now (ReadsLink set.now text.now) result) }
+    ensures with_table { IfOk result (λ meaning. IsMadeWith set.now.ais meaning.identity) }
+{
+    let pairs = read_link(alloc, set.ais(), text)?;
     meaning_of_pairs(alloc, set, pairs)
 }

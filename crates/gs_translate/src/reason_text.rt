@@ -17,6 +17,8 @@ pub fn append_reason(alloc: Global, out: &mut Vec<u8>, reason: &Reason) -> Resul
         Reason::Long => Ok(out.extend_from_slice(b"long")?),
         Reason::Epc(fault) => append_epc(alloc, out, *fault),
         Reason::Element(fault) => append_element(alloc, out, *fault),
+        Reason::NotHttp => Ok(out.extend_from_slice(b"http")?),
+        Reason::NoKeyPath => Ok(out.extend_from_slice(b"path")?),
         Reason::Ident(fault) => append_ident(out, fault),
         Reason::Memory => Ok(out.extend_from_slice(b"memory")?),
     }
