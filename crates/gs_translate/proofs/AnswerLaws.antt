@@ -1,5 +1,5 @@
 -- A text has at most one meaning and one answer, and one by tables that keep their rules.
-use Rattle.std.proofs.Common.{◌≡◌, ℕ, zero, suc, ◌≤◌, ◌⊎◌, true, List, [], ◌∷◌, Option, Some, None, refl, sym, ◌∙◌, ap, inl, inr, length, take, slice_get, get_or, arith}
+use Rattle.std.proofs.Common.{◌≡◌, ℕ, zero, suc, ◌≤◌, ◌⊎◌, true, List, [], ◌∷◌, Option, Some, None, refl, sym, ◌∙◌, ap, inl, inr, length, take, get_or, arith}
 use Rattle.std.specs.Prelude.{◌≢◌, ◌%◌, is_some, Result, Ok, Err}
 use Rattle.std.specs.List.{AllPass}
 use Rattle.std.proofs.lemmas.Bool.{cases_eq}
@@ -35,7 +35,7 @@ use Rattle.gs_translate.specs.declared.meaning.Meaning.{Meaning}
 use Rattle.gs_translate.specs.declared.reason.Reason.{Reason}
 use Rattle.gs_translate.specs.declared.reason.Reason.TheVariants.{Epc as NoEpc, Long, Memory as NoMemory}
 use Rattle.gs_translate.specs.Answers.{IsAnswer, IsCanonical}
-use Rattle.gs_translate.specs.Meanings.{IsMeaning, IsRead, MeaningOf, Means, MeansEpc, epc_meaning, short, too_long}
+use Rattle.gs_translate.specs.Meanings.{IsRead, MeaningOf, Means, MeansEpc, epc_meaning, short, too_long}
 use Rattle.gs_translate.specs.Steps.{HasOne, HasSome}
 use Rattle.gs_translate.proofs.StepLaws.{then_one, then_some}
 

@@ -1,5 +1,5 @@
 -- What a text of a form means: TDS 2.0, sections 6 and 12 (URIs), 14 (tag bits) and 7 (keys).
-use Rattle.std.specs.Prelude.{◌≡◌, ◌≢◌, ℕ, ◌<◌, ◌≤◌, List, length, Option, Some, Result, Ok, Err}
+use Rattle.std.specs.Prelude.{◌≡◌, ◌≢◌, ℕ, ◌<◌, ◌≤◌, List, length, Some, Result, Ok, Err}
 use Rattle.gs_document.specs.declared.level_name.LevelName.TheVariants as level
 use Rattle.gs_epc.specs.declared.epc.Epc.{Epc}
 use Rattle.gs_epc.specs.declared.fault.EpcFault.{EpcFault}

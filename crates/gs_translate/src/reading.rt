@@ -15,11 +15,7 @@ use std::alloc::Global;
 const LONGEST_TEXT: usize = 2048;
 
 /// The meaning of what a tag or an EPC URI says.
-fn meaning_of(
-    alloc: Global,
-    set: &TableSet,
-    read: Result<Epc, EpcFault>,
-) -> Result<Meaning, Reason>
+fn meaning_of(alloc: Global, set: &TableSet, read: Result<Epc, EpcFault>) -> Result<Meaning, Reason>
     requires { IfOk read (IsOfSet set.now) }
     ensures meaning { UnlessMemory result (MeaningOf set.now read result) }
     ensures with_table { IfOk result (λ meaning. IsMadeWith set.now.ais meaning.identity) }
@@ -50,12 +46,7 @@ fn meaning_of(
 
 /// What a text of a form means, or why it is refused. `Long` comes exactly where the text has more than 2,048 bytes, and
 /// before every other reason; `Epc` exactly where the text says no EPC for that reason.
-pub fn read(
-    alloc: Global,
-    set: &TableSet,
-    form: Form,
-    text: &[u8],
-) -> Result<Meaning, Reason>
+pub fn read(alloc: Global, set: &TableSet, form: Form, text: &[u8]) -> Result<Meaning, Reason>
     ensures meaning { UnlessMemory result (IsRead set.now form text.now result) }
     ensures with_table { IfOk result (λ meaning. IsMadeWith set.now.ais meaning.identity) }
 {
