@@ -5,3 +5,5 @@ pub mod Arms
 pub mod Blocks
 pub mod Runs
 pub mod Bounds
+pub mod AddedRows
+pub mod ItemReaders
