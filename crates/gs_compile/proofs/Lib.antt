@@ -7,3 +7,4 @@ pub mod Runs
 pub mod Bounds
 pub mod AddedRows
 pub mod ItemReaders
+pub mod Numerals
