@@ -8,3 +8,4 @@ pub mod Bounds
 pub mod AddedRows
 pub mod ItemReaders
 pub mod Numerals
+pub mod DecimalTexts

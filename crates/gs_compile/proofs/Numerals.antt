@@ -39,7 +39,7 @@ digit_between s a b = grind (arith, nat_tests)
 more_digits : (s : ℕ) (w : List ℕ) → 48 ≤ s → s ≤ 57 → IsTrue (are_digits w) → IsTrue (are_digits (s ∷ w))
 more_digits s w a b d = let f = digit_between s a b in rw (f, d) refl
 
-first_digit : (s : ℕ) (w : List ℕ) → IsTrue (are_digits (s ∷ w)) → (48 ≤ s) × (s ≤ 57)
+pub first_digit : (s : ℕ) (w : List ℕ) → IsTrue (are_digits (s ∷ w)) → (48 ≤ s) × (s ≤ 57)
 first_digit s w d = let f = and_first (is_digit s) (are_digits w) d in (grind (arith, nat_tests), grind (arith, nat_tests))
 
 other_digits : (s : ℕ) (w : List ℕ) → IsTrue (are_digits (s ∷ w)) → IsTrue (are_digits w)
@@ -257,7 +257,7 @@ apart_higher zero digit end s w h k = let a = h.0 in let b = h.1 in omega arith
 apart_higher (suc n) digit end s w h k = no_free (suc n) (rw k.2 at h.2)
 
 -- a state where some digits may follow
-reads_tight_more : (table : List (List Edge)) (low n digit rest base next q : ℕ) → 48 ≤ low → low ≤ 48 + digit → low ≤ 49 → digit ≤ 9 → rest < 10 ^ suc n → edges_at table base ≡ tight_edges low (suc n) digit next q → base < q → Ascends table → Reads table (q - suc n) q (IsFree (suc n)) → Reads table (q - n) q (FreeOrEnd n) → Reads table next q (IsTight (suc n) rest) → Reads table base q (λ w. IsTight (suc (suc n)) (digit * 10 ^ suc n + rest) w × FirstFrom low w)
+pub reads_tight_more : (table : List (List Edge)) (low n digit rest base next q : ℕ) → 48 ≤ low → low ≤ 48 + digit → low ≤ 49 → digit ≤ 9 → rest < 10 ^ suc n → edges_at table base ≡ tight_edges low (suc n) digit next q → base < q → Ascends table → Reads table (q - suc n) q (IsFree (suc n)) → Reads table (q - n) q (FreeOrEnd n) → Reads table next q (IsTight (suc n) rest) → Reads table base q (λ w. IsTight (suc (suc n)) (digit * 10 ^ suc n + rest) w × FirstFrom low w)
 reads_tight_more table low n digit rest base next q f m u g r e l a lower higher same =
     let end = arms_one table (edge 48 57 q) q IsEmpty (reads_end table q q a refl) in
     let three = arms_cons table (edge (above_digit n digit) 57 (q - n)) (edge 48 57 q ∷ []) q (FreeOrEnd n) (ByEdge (edge 48 57 q) IsEmpty) higher end (apart_higher n digit q) in
@@ -293,6 +293,6 @@ last_back digit next (s ∷ []) t =
     (d.0, omega arith, refl)
 last_back digit next (s ∷ x ∷ w) t = absurd (let m = t.most in omega arith)
 
-reads_tight_last : (table : List (List Edge)) (digit base q : ℕ) → digit ≤ 9 → edges_at table base ≡ edge 48 (48 + digit) q ∷ [] → base < q → Ascends table → Reads table base q (IsTight 1 digit)
+pub reads_tight_last : (table : List (List Edge)) (digit base q : ℕ) → digit ≤ 9 → edges_at table base ≡ edge 48 (48 + digit) q ∷ [] → base < q → Ascends table → Reads table base q (IsTight 1 digit)
 reads_tight_last table digit base q g e l a =
     reads_as table base q (Begins (ByEdge (edge 48 (48 + digit) q) IsEmpty)) (IsTight 1 digit) (reads_edge table base q 48 (48 + digit) q IsEmpty e l (reads_end table q q a refl)) (last_there digit q g) (last_back digit q)
