@@ -1,5 +1,5 @@
 -- Texts that are cut at the first or the last byte that passes a test, and the pieces between such bytes.
-use Rattle.std.proofs.Common.{◌≡◌, ℕ, zero, suc, ◌+◌, ◌-◌, ◌<◌, ◌≤◌, ◌||◌, ◌==◌, not, Bool, true, false, cond, List, [], ◌∷◌, ◌++◌, length, get_or, take, drop, Option, Some, None, refl, sym, ap, ◌∙◌, arith, inl, inr, if◌then◌else◌, true≢false, drop-cons, take-append-drop, add-one, append-nil, append_assoc, length-drop}
+use Rattle.std.proofs.Common.{◌≡◌, ℕ, zero, suc, ◌+◌, ◌-◌, ◌<◌, ◌≤◌, ◌==◌, not, Bool, true, false, cond, List, [], ◌∷◌, ◌++◌, length, get_or, take, drop, Option, Some, None, refl, sym, ap, ◌∙◌, arith, inl, inr, if◌then◌else◌, drop-cons, take-append-drop, add-one, append-nil, append_assoc, length-drop}
 use Rattle.std.specs.List.{after_first, before_first, list_any, position_or_len}
 use Rattle.std.specs.Option.{MatchOption, unwrap_or}
 use Rattle.std.proofs.lemmas.Bool.Decides.{nat_tests}
@@ -7,7 +7,7 @@ use Rattle.std.proofs.lemmas.List.{get_or-drop}
 use Rattle.std.proofs.lemmas.List.Sums.{position_or_len_is}
 use Rattle.memchr.specs.Find.{IsFirstByte, IsLastByte, NoneAfter, Nowhere, Passes}
 use Rattle.gs_chars.proofs.TruthsAndLists.{false_from, or_second, true_or_false}
-use Rattle.gs_dlink.specs.Uris.{LastSlash, NoSlash, Piece, is_slash, part_pairs, pieces_behind, query_pairs, query_parts, segments, separates_parts, Written}
+use Rattle.gs_dlink.specs.Uris.{LastSlash, NoSlash, is_slash, part_pairs, pieces_behind, query_pairs, query_parts, segments, separates_parts, Written}
 
 -- ---- what the searches of `memchr` give
 
@@ -37,9 +37,9 @@ last_at text k none h = record {
   within = none.high;
   cut = cut_at text k none.high (equal_number (get_or text k 0) 47 h);
   last = none_any is_slash (drop (k + 1) text) (λ j low.
-    let at = get_or-drop (k + 1) text j 0 in
-    let inside : k + 1 + j < length text = below text k j none.high low in
-    rw at (false_from _ (none.after (k + 1 + j) (omega arith) inside)));
+      let at = get_or-drop (k + 1) text j 0 in
+      let inside : k + 1 + j < length text = below text k j none.high low in
+      rw at (false_from _ (none.after (k + 1 + j) (omega arith) inside)));
 }
   where
     below : (text : List ℕ) (k j : ℕ) → k < length text → j < length (drop (k + 1) text) → k + 1 + j < length text

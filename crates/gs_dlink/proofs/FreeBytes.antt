@@ -1,8 +1,8 @@
 -- The bytes that cut a link into its parts stand in no code and in no escaped value.
-use Rattle.std.proofs.Common.{◌≡◌, ℕ, ◌+◌, ◌/◌, ◌%◌, ◌<◌, ◌==◌, ◌&&◌, ◌||◌, not, nat_lt, Bool, true, false, List, [], ◌∷◌, ◌++◌, All, refl, sym, ap, ◌∙◌, arith, inl, inr, true≢false, if◌then◌else◌}
+use Rattle.std.proofs.Common.{◌≡◌, ℕ, ◌/◌, ◌%◌, ◌<◌, ◌==◌, ◌&&◌, not, nat_lt, Bool, true, false, List, [], ◌∷◌, ◌++◌, All, refl, sym, ap, ◌∙◌, arith, inl, inr, true≢false}
 use Rattle.std.specs.Prelude.{codes}
 use Rattle.std.specs.Char.{is_ascii_hexdigit}
-use Rattle.std.specs.List.{flat_map, list_all, list_any}
+use Rattle.std.specs.List.{list_all, list_any}
 use Rattle.std.proofs.lemmas.Bool.{agree_below, agree_below_at}
 use Rattle.std.proofs.lemmas.Bool.Decides.{nat_tests}
 use Rattle.std.proofs.lemmas.List.Elements.{All-cons, All-head, All-nil, All-tail}
@@ -14,7 +14,7 @@ use Rattle.gs_chars.proofs.TruthsAndLists.{and_first, and_second, and_true, true
 use Rattle.gs_ident.specs.Links.{escaped_byte, is_unescaped, percent_encoded}
 use Rattle.gs_ident.proofs.ValueEscapes.{IsByte, same_text}
 use Rattle.gs_dlink.specs.Uris.{is_byte}
-use Rattle.gs_dlink.specs.Values.{are_escapes, begins_hex}
+use Rattle.gs_dlink.specs.Values.{are_escapes}
 
 abbrev separators : List ℕ
 separators = codes "/?#&;="

@@ -1,5 +1,5 @@
 -- The answer to a pair, and to pairs, by what was found of them.
-use Rattle.std.proofs.Common.{◌≡◌, ◌≢◌, ◌⊎◌, ℕ, zero, suc, ◌+◌, ◌<◌, ◌≤◌, not, Bool, true, false, List, [], ◌∷◌, ◌++◌, length, map, take, find, slice_get, get_or, Option, Some, None, option_map, All, refl, sym, ap, ◌∙◌, inl, inr, arith}
+use Rattle.std.proofs.Common.{◌≡◌, ◌≢◌, ℕ, zero, suc, ◌+◌, ◌<◌, ◌≤◌, true, false, List, [], ◌∷◌, ◌++◌, length, map, take, find, slice_get, get_or, Option, Some, None, option_map, All, refl, sym, ap, ◌∙◌, inl, inr, arith}
 use Rattle.std.specs.Prelude.{Result, Ok, Err}
 use Rattle.std.proofs.lemmas.List.{map-append}
 use Rattle.std.proofs.lemmas.List.Elements.{All-cons, All-nil}
@@ -107,6 +107,7 @@ pair_in_order table w p h = by_found (find (has_code w.code) table) h
     by_fault : (value : List ℕ) (o : Option ValueFault) → value_fault table w.code value ≡ o → by_value w value (option_map Value o) ≡ Ok p → IsInOrder table p
     by_fault value (Some fault) e f = absurd (let bad : Err (Element (record { at = w.at; why = Value fault })) ≡ Ok p = f in cc)
     by_fault value None e f = let own : record { code = w.code; value = value } ≡ p = cc in record { fits = rw (← own) e }
+
     by_found : (o : Option AiRow) → by_row table w o ≡ Ok p → IsInOrder table p
     by_found None f = absurd (let bad : Err (Element (record { at = w.at; why = Value Unknown })) ≡ Ok p = f in cc)
     by_found (Some row) f = elim (true_or_false (are_escapes w.value)) [

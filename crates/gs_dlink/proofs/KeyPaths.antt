@@ -1,8 +1,8 @@
 -- The key path in which segments end: there is at most one.
-use Rattle.std.proofs.Common.{◌≡◌, ℕ, zero, suc, ◌+◌, ◌≤◌, ◌&&◌, ◌||◌, not, Bool, true, false, List, [], ◌∷◌, ◌++◌, length, map, take, drop, find, slice_get, Option, Some, None, option_map, bytes_eq, refl, sym, ap, ◌∙◌, arith, ◌⊎◌, inl, inr, if◌then◌else◌, true≢false, append_assoc, append-nil, reverse, take-append-drop}
+use Rattle.std.proofs.Common.{◌≡◌, ℕ, zero, suc, ◌+◌, ◌≤◌, ◌||◌, Bool, true, false, List, [], ◌∷◌, ◌++◌, length, map, take, drop, find, slice_get, Option, Some, None, option_map, bytes_eq, refl, sym, ap, ◌∙◌, arith, ◌⊎◌, inl, inr, true≢false, append_assoc, append-nil, reverse, take-append-drop}
 use Rattle.std.specs.List.{list_any}
 use Rattle.std.proofs.lemmas.List.{reverse-append}
-use Rattle.gs_chars.proofs.TruthsAndLists.{and_first, and_second, and_true, equal_bytes, or_first, or_second, true_or_false}
+use Rattle.gs_chars.proofs.TruthsAndLists.{and_first, and_second, equal_bytes, or_first, or_second, true_or_false}
 use Rattle.gs_ai.specs.declared.row.AiRow.{AiRow}
 use Rattle.gs_ai.specs.Tables.{KeepsRules, is_key_of}
 use Rattle.gs_ai.specs.Values.{has_code}
@@ -76,6 +76,7 @@ module _ (table : List AiRow) (rules : KeepsRules table) where
         | inl t ↦ let g = rw t at h in (zero, g)
         | inr t ↦ let g = rw t at h in let rest = found test rows row g in (suc rest.0, rest.1)
       ]
+
       by : (o : Option AiRow) → ((row : AiRow) → o ≡ Some row → (i : ℕ) × (slice_get table i ≡ Some row)) → list_any is_key (Rattle.std.specs.Option.option_map_or (λ (row : AiRow). row.qualifiers) o []) ≡ false
       by None h = refl
       by (Some row) h = let place = h row refl in (rules.lists_qualifiers place.0 row place.1).1
@@ -158,6 +159,7 @@ found_is_path table (x ∷ segments) pairs h = by (λ g. found_is_path table seg
   where
     later : IsKeyPath table segments pairs → IsKeyPath table (x ∷ segments) pairs
     later is = record { before = suc is.before; rest = is.rest; is_path = is.is_path }
+
     by : (key_path table segments ≡ Some pairs → IsKeyPath table segments pairs) → (o : Option (List Written)) → paired (x ∷ segments) ≡ o → path_or table o (key_path table segments) ≡ Some pairs → IsKeyPath table (x ∷ segments) pairs
     by others None e h = later (others h)
     by others (Some own) e h = elim (true_or_false (is_key_path table own)) [
@@ -196,10 +198,11 @@ module _ (table : List AiRow) (rules : KeepsRules table) (at : ℕ) (path front 
   two_behind value code last before =
       let low : length (take code (take value front)) ≡ code = length_take code (take value front) (let w = before.within in omega arith) in
       let c : Piece = record { at = at + length (take code (take value front)) + 1; text = drop (code + 1) (take value front) } in
-      let v : Piece = record { at = at + length (take value front) + 1; text = drop (value + 1) front } in
-      (c ∷ (v ∷ walked.behind),
-      walked.cut ∙ rw (segments_last at front value last, segments_last at (take value front) code before) (append_assoc (segments at (take code (take value front)) ++ c ∷ []) (v ∷ []) walked.behind ∙ append_assoc (segments at (take code (take value front))) (c ∷ []) (v ∷ walked.behind)),
-      rw (walked.in_pairs, low) refl)
+      let v : Piece = record { at = at + length (take value front) + 1; text = drop (value + 1) front } in (
+        c ∷ (v ∷ walked.behind),
+        walked.cut ∙ rw (segments_last at front value last, segments_last at (take value front) code before) (append_assoc (segments at (take code (take value front)) ++ c ∷ []) (v ∷ []) walked.behind ∙ append_assoc (segments at (take code (take value front))) (c ∷ []) (v ∷ walked.behind)),
+        rw (walked.in_pairs, low) refl,
+      )
 
   -- the pair of a key in front of the others
   pub key_found : (value code : ℕ) → LastSlash front value → LastSlash (take value front) code → is_key_of table (last_pair value code).code ≡ true → key_path table (segments at path) ≡ path_if table rules (last_pair value code ∷ pairs)

@@ -6,3 +6,4 @@ pub mod OrderLemmas
 pub mod SpelledPairs
 pub mod Targets
 pub mod WrittenLinks
+pub mod AnswerLaws

@@ -1,5 +1,5 @@
 -- Codes in the order of a list, and escapes, one after the other.
-use Rattle.std.proofs.Common.{◌≡◌, ℕ, zero, suc, ◌+◌, ◌≤◌, ◌<◌, ◌==◌, ◌&&◌, ◌||◌, not, Bool, true, false, List, [], ◌∷◌, length, get_or, drop, slice_get, bytes_eq, None, refl, sym, ap, ◌∙◌, arith, inl, inr, add-one, drop-cons, true≢false}
+use Rattle.std.proofs.Common.{◌≡◌, ℕ, zero, suc, ◌+◌, ◌≤◌, ◌<◌, ◌==◌, ◌&&◌, ◌||◌, not, Bool, true, false, List, [], ◌∷◌, length, get_or, drop, bytes_eq, refl, sym, ap, ◌∙◌, arith, add-one, drop-cons, true≢false}
 use Rattle.std.proofs.lemmas.Bool.Decides.{nat_tests}
 use Rattle.gs_dlink.specs.Paths.{codes_of, is_code_at, is_in_order}
 use Rattle.gs_dlink.specs.Uris.{Written}

@@ -1,30 +1,27 @@
 -- Pairs that are written in a link are read again.
-use Rattle.std.proofs.Common.{◌≡◌, ℕ, zero, suc, ◌+◌, ◌≤◌, ◌==◌, ◌&&◌, ◌||◌, not, nat_le, Bool, true, false, List, [], ◌∷◌, ◌++◌, All, length, find, slice_get, Some, None, refl, sym, ap, ◌∙◌, inl, inr, true≢false, arith, append_assoc, append-nil, if◌then◌else◌, sum_by}
-use Rattle.std.specs.Prelude.{Result, Ok, Err}
-use Rattle.std.specs.List.{after_first, before_first, flat_map, list_all, list_any}
+use Rattle.std.proofs.Common.{◌≡◌, ℕ, zero, suc, ◌+◌, ◌≤◌, ◌==◌, ◌&&◌, ◌||◌, not, nat_le, Bool, true, false, List, [], ◌∷◌, ◌++◌, All, length, find, Some, None, refl, sym, ap, ◌∙◌, inl, inr, true≢false, arith, append_assoc, append-nil}
+use Rattle.std.specs.Prelude.{Ok}
+use Rattle.std.specs.List.{after_first, before_first, flat_map, list_any}
 use Rattle.std.proofs.lemmas.Bool.Decides.{nat_tests}
-use Rattle.std.proofs.lemmas.List.Elements.{All-head, All-tail}
 use Rattle.percent_encoding.specs.Percent.{percent_decode}
 use Rattle.gs_chars.specs.Characters.{are_digits}
-use Rattle.gs_chars.proofs.TruthsAndLists.{and_first, and_second, and_true, equal_bytes, or_false, true_or_false}
-use Rattle.gs_ai.specs.declared.faults.ValueFault.{ValueFault}
+use Rattle.gs_chars.proofs.TruthsAndLists.{and_first, and_second, equal_bytes, true_or_false}
 use Rattle.gs_ai.specs.declared.faults.ValueFault.TheVariants.{Unknown, Length}
 use Rattle.gs_ai.specs.declared.pair.Pair.{Pair}
 use Rattle.gs_ai.specs.declared.part.Part.{Part}
 use Rattle.gs_ai.specs.declared.part.Part.TheVariants.{NumCheck}
 use Rattle.gs_ai.specs.declared.row.AiRow.{AiRow}
 use Rattle.gs_ai.specs.Tables.{KeepsRules, is_code, is_empty, is_gtin, is_row}
-use Rattle.gs_ai.specs.Values.{greatest_of, has_code, has_length_of, least_of, parts_fault, value_fault}
+use Rattle.gs_ai.specs.Values.{has_code, has_length_of, parts_fault, value_fault}
 use Rattle.gs_ai.proofs.RowLemmas.{code_digits, code_long, row_code}
 use Rattle.gs_ai.proofs.ValueLemmas.{value_in_set82}
 use Rattle.gs_ident.specs.Identities.{IsInOrder}
 use Rattle.gs_ident.specs.Links.{path_step, percent_encoded, query_part}
 use Rattle.gs_ident.proofs.PairLemmas.{Each, find_by_cases, found_each, found_passes}
 use Rattle.gs_ident.proofs.ValueEscapes.{IsByte}
-use Rattle.gs_dlink.specs.declared.fault.LinkFault.{LinkFault}
-use Rattle.gs_dlink.specs.Answers.{then_pairs, written_answer}
+use Rattle.gs_dlink.specs.Answers.{written_answer}
 use Rattle.gs_dlink.specs.Paths.{paired}
-use Rattle.gs_dlink.specs.Uris.{Piece, Written, is_byte, is_named, is_slash, part_pair, part_pairs, pieces_behind, query_pairs, query_parts, separates_parts}
+use Rattle.gs_dlink.specs.Uris.{Written, is_byte, is_slash, part_pairs, pieces_behind, query_parts, separates_parts}
 use Rattle.gs_dlink.specs.Values.{is_short_gtin, padded, pair_answer}
 use Rattle.gs_dlink.proofs.CutLemmas.{after_seam, any_append, before_none, before_seam, no_pieces, pieces_seam}
 use Rattle.gs_dlink.proofs.FreeBytes.{are_free, decoded_again, digits_free, encoded_escapes, encoded_free, equal_number, is_free, no_byte, none_in, set82_bytes}
@@ -92,12 +89,12 @@ pub record IsOfTable (table : List AiRow) (pair : Pair) : Type 0 where
 pub of_table : (table : List AiRow) → KeepsRules table → (pair : Pair) → IsInOrder table pair → IsOfTable table pair
 of_table table rules pair h = elim (find_by_cases (has_code pair.code) table) [
   | inl found ↦ record {
-      row = found.0;
-      found = found.1;
-      row_ok = found_each (λ row. is_row row ≡ true) (has_code pair.code) table found.0 found.1 (λ j row at. (rules.rows_in_order j row at).0);
-      fits = let f = rw found.1 at h.fits in f;
-      in_order = h.fits;
-    }
+    row = found.0;
+    found = found.1;
+    row_ok = found_each (λ row. is_row row ≡ true) (has_code pair.code) table found.0 found.1 (λ j row at. (rules.rows_in_order j row at).0);
+    fits = let f = rw found.1 at h.fits in f;
+    in_order = h.fits;
+  }
   | inr none ↦ absurd (let f = rw none at h.fits in let g : Some Unknown ≡ None = f in cc)
 ]
 
@@ -128,7 +125,7 @@ module _ (table : List AiRow) (pair : Pair) (of : IsOfTable table pair) where
   read_again w spelled =
       let found : Some of.row ≡ find (has_code w.code) table = rw spelled.code (sym of.found) in
       let decoded : pair.value ≡ padded of.row.short (percent_decode w.value) =
-        rw (spelled.value, decoded_again pair.value value_bytes, not_short of.row pair.value of.row_ok of.fits) refl in
+      rw (spelled.value, decoded_again pair.value value_bytes, not_short of.row pair.value of.row_ok of.fits) refl in
       let answer = value_taken table w of.row pair.value found (rw spelled.value (encoded_escapes pair.value value_bytes)) decoded (rw spelled.code of.in_order) in
       sym answer ∙ ap (λ (code : List ℕ). Ok (record { code = code; value = pair.value })) spelled.code
 
@@ -172,8 +169,8 @@ step_pieces at code value b none_code none_value cut =
     let first : before_first is_slash (code ++ 47 ∷ (value ++ b)) ≡ code = before_seam is_slash code (value ++ b) 47 refl ∙ before_none is_slash code none_code in
     let place : ℕ = at + 1 + length code + 1 in
     let behind : pieces_behind is_slash (at + 1) (code ++ 47 ∷ (value ++ b)) ≡ record { at = place; text = value } ∷ pieces_behind is_slash (place + length value) b =
-      pieces_seam is_slash (at + 1) code (value ++ b) 47 refl
-      ∙ rw (no_pieces is_slash (at + 1) code none_code, before_cut value b none_value cut, pieces_skip is_slash place value b none_value) refl in
+    pieces_seam is_slash (at + 1) code (value ++ b) 47 refl
+    ∙ rw (no_pieces is_slash (at + 1) code none_code, before_cut value b none_value cut, pieces_skip is_slash place value b none_value) refl in
     (place, (place + length value, rw (whole, first, behind) refl))
 
 module _ (table : List AiRow) where

@@ -1,7 +1,7 @@
 -- The link that is written of an identity names the identity's pairs.
-use Rattle.std.proofs.Common.{◌≡◌, ◌⊎◌, ℕ, zero, suc, ◌+◌, ◌-◌, ◌≤◌, ◌==◌, ◌&&◌, ◌||◌, not, nat_le, nat_lt, nat_eq, Bool, true, false, List, [], ◌∷◌, ◌++◌, length, map, take, drop, find, slice_get, slice_index, Option, Some, None, bytes_eq, refl, sym, ap, ◌∙◌, inl, inr, true≢false, arith, append_assoc, append-nil, if◌then◌else◌, take-append-drop}
-use Rattle.std.specs.Prelude.{Result, Ok, Err, codes}
-use Rattle.std.specs.List.{after_first, before_first, filter_map, flat_map, list_all, list_any, position_or_len, starts_with}
+use Rattle.std.proofs.Common.{◌≡◌, ◌⊎◌, ℕ, zero, suc, ◌+◌, ◌==◌, not, nat_lt, nat_eq, true, false, List, [], ◌∷◌, ◌++◌, length, map, take, drop, Option, Some, None, bytes_eq, refl, sym, ap, ◌∙◌, inl, inr, true≢false, arith, append_assoc, append-nil, take-append-drop}
+use Rattle.std.specs.Prelude.{Ok, codes}
+use Rattle.std.specs.List.{after_first, before_first, filter_map, list_any, position_or_len, starts_with}
 use Rattle.std.proofs.Math.Seq.{drop-append-add}
 use Rattle.std.proofs.lemmas.Bool.Decides.{nat_tests}
 use Rattle.std.proofs.lemmas.List.{drop-append-le}
@@ -14,15 +14,14 @@ use Rattle.gs_ident.specs.Identities.{IsInOrder, IsMadeWith, counted, elements_o
 use Rattle.gs_ident.specs.Links.{path_step, percent_encoded, query_of, query_part, spelled}
 use Rattle.gs_ident.proofs.IdentityLemmas.{Made, made_facts}
 use Rattle.gs_ident.proofs.PairLemmas.{Each, each_from_all, found_passes}
-use Rattle.gs_dlink.specs.declared.fault.LinkFault.{LinkFault}
-use Rattle.gs_dlink.specs.Answers.{is_rooted, link_answer, target_answer, written_answer}
-use Rattle.gs_dlink.specs.Paths.{codes_of, is_in_order, key_path, listed_of, paired, path_or}
-use Rattle.gs_dlink.specs.Stems.{are_stem_bytes, begins_authority, ends_in_slash, goes_on, is_stem_byte, stem_ok}
-use Rattle.gs_dlink.specs.Uris.{Piece, Written, authority_end, ends_authority, is_byte, is_slash, path_of, pieces_behind, query_of as link_query_of, query_pairs, segments}
+use Rattle.gs_dlink.specs.Answers.{is_rooted, link_answer, target_answer}
+use Rattle.gs_dlink.specs.Paths.{codes_of, is_in_order, key_path, listed_of, paired}
+use Rattle.gs_dlink.specs.Stems.{are_stem_bytes, begins_authority, goes_on, is_stem_byte, stem_ok}
+use Rattle.gs_dlink.specs.Uris.{Written, authority_end, ends_authority, is_byte, is_slash, path_of, pieces_behind, query_of as link_query_of, query_pairs, segments}
 use Rattle.gs_dlink.proofs.CutLemmas.{after_none, after_seam, any_append, any_drop, before_none, before_seam, pieces_seam, place_seam, place_within}
-use Rattle.gs_dlink.proofs.FreeBytes.{are_free, equal_number, is_free, no_byte}
+use Rattle.gs_dlink.proofs.FreeBytes.{equal_number, is_free, no_byte}
 use Rattle.gs_dlink.proofs.KeyPaths.{lists_no_key, none_in_order, ordered_path, path_from_key}
-use Rattle.gs_dlink.proofs.SpelledPairs.{AllSpelled, IsOfTable, IsSpelled, all_read_again, code_free, of_table, query_read, spelled_append, steps, steps_read, tails, value_free}
+use Rattle.gs_dlink.proofs.SpelledPairs.{AllSpelled, IsOfTable, all_read_again, code_free, of_table, query_read, spelled_append, steps, steps_read, tails, value_free}
 use Rattle.gs_dlink.proofs.Targets.{link_by}
 
 -- ---- codes in the order of a list
@@ -131,12 +130,13 @@ module _ (table : List AiRow) (rules : KeepsRules table) (identity : Elements) (
       by (s ∷ d, h, spelled) =
           let ordered : is_in_order (listed_of table s.code) (codes_of d) ≡ true = rw (spelled.0.code, spelled_codes d identity.qualifiers spelled.1) (qualifiers_ordered table identity is_made) in
           let key : is_key_of table s.code ≡ true = rw spelled.0.code (key_code table identity is_made) in
-          let none = none_in_order (λ code. is_key_of table code) (listed_of table s.code) (codes_of d) (lists_no_key table rules s.code) ordered in
-          (s ∷ d,
-          ap (key_path table) (pieces_seam is_slash at p0 _ 47 refl)
-          ∙ path_from_key table rules (pieces_behind is_slash at p0) (pieces_behind is_slash (at + length p0) (steps path_pairs)) s d h key none
-          ∙ sym (ordered_path table s d key ordered),
-          spelled)
+          let none = none_in_order (λ code. is_key_of table code) (listed_of table s.code) (codes_of d) (lists_no_key table rules s.code) ordered in (
+            s ∷ d,
+            ap (key_path table) (pieces_seam is_slash at p0 _ 47 refl)
+                ∙ path_from_key table rules (pieces_behind is_slash at p0) (pieces_behind is_slash (at + length p0) (steps path_pairs)) s d h key none
+                ∙ sym (ordered_path table s d key ordered),
+            spelled,
+          )
 
   -- the query
   query_found : (n : ℕ) → (ws : List Written) × (query_pairs n (query_text identity.attributes) ≡ ws) × AllSpelled ws identity.attributes
@@ -281,12 +281,12 @@ module _ (table : List AiRow) (rules : KeepsRules table) (identity : Elements) (
 
   -- what stands behind the scheme, cut at the end of the authority
   behind_read : (r : List ℕ) → Behind r → (text : List ℕ) (n : ℕ) → authority_end text ≡ Some (n + position_or_len ends_authority r)
-    → drop (n + position_or_len ends_authority r) text ≡ drop (position_or_len ends_authority r) (r ++ (steps (identity.key ∷ identity.qualifiers) ++ query_of identity.attributes)) → link_answer table text ≡ Ok (pairs_of identity)
+      → drop (n + position_or_len ends_authority r) text ≡ drop (position_or_len ends_authority r) (r ++ (steps (identity.key ∷ identity.qualifiers) ++ query_of identity.attributes)) → link_answer table text ≡ Ok (pairs_of identity)
   behind_read r b text n end left =
       let m : ℕ = position_or_len ends_authority r in
       let body : List ℕ = steps (identity.key ∷ identity.qualifiers) ++ query_of identity.attributes in
       let own : drop (n + m) text ≡ (drop m r ++ steps (identity.key ∷ identity.qualifiers)) ++ query_of identity.attributes =
-        left ∙ drop-append-le m r body (place_within ends_authority r) ∙ sym (append_assoc (drop m r) (steps (identity.key ∷ identity.qualifiers)) (query_of identity.attributes)) in
+      left ∙ drop-append-le m r body (place_within ends_authority r) ∙ sym (append_assoc (drop m r) (steps (identity.key ∷ identity.qualifiers)) (query_of identity.attributes)) in
       let question = stem_free 63 refl r b.bytes in
       let hash = stem_free 35 refl r b.bytes in
       link_by table text (n + m) (sym end) ∙ ap (target_answer table (n + m)) own

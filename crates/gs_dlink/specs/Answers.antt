@@ -1,5 +1,5 @@
 -- The pairs that a link names: GS1 Digital Link URI Syntax, section 3.
-use Rattle.std.specs.Prelude.{◌≡◌, ◌⊎◌, ℕ, ◌+◌, not, ◌&&◌, Bool, true, if◌then◌else◌, List, [], ◌∷◌, ◌++◌, length, drop, Option, Some, None, Result, Ok, Err}
+use Rattle.std.specs.Prelude.{◌≡◌, ◌⊎◌, ℕ, ◌+◌, not, Bool, true, if◌then◌else◌, List, [], ◌∷◌, ◌++◌, length, drop, Option, Some, None, Result, Ok, Err}
 use Rattle.gs_ai.specs.declared.pair.Pair.{Pair}
 use Rattle.gs_ai.specs.declared.row.AiRow.{AiRow}
 use Rattle.gs_dlink.specs.declared.fault.LinkFault.{LinkFault}

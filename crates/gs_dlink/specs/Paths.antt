@@ -1,5 +1,5 @@
 -- The key path in which the path of a link ends: GS1 Digital Link URI Syntax, section 3.
-use Rattle.std.specs.Prelude.{◌≡◌, ℕ, ◌+◌, ◌&&◌, Bool, true, false, if◌then◌else◌, List, [], ◌∷◌, map, drop, find, Option, Some, None, option_map, bytes_eq, slice_get}
+use Rattle.std.specs.Prelude.{◌≡◌, ℕ, ◌&&◌, Bool, true, false, if◌then◌else◌, List, [], ◌∷◌, map, drop, find, Option, Some, None, option_map, bytes_eq, slice_get}
 use Rattle.std.specs.Option.{option_map_or}
 use Rattle.gs_ai.specs.declared.row.AiRow.{AiRow}
 use Rattle.gs_ai.specs.Tables.{is_key_of}

@@ -2,7 +2,6 @@
 -- padded with zeros is after its section 3.3; the order of the faults is this project's own.
 use Rattle.std.specs.Prelude.{ℕ, ◌-◌, ◌==◌, ◌&&◌, ◌||◌, not, Bool, true, false, if◌then◌else◌, List, [], ◌∷◌, ◌++◌, length, take, codes, find, Option, Some, None, option_map, Result, Ok, Err}
 use Rattle.std.specs.Char.{is_ascii_hexdigit}
-use Rattle.std.specs.Option.{option_map_or}
 use Rattle.percent_encoding.specs.Percent.{percent_decode}
 use Rattle.gs_chars.specs.Characters.{are_digits}
 use Rattle.gs_ai.specs.declared.faults.ElementWhy.{ElementWhy}

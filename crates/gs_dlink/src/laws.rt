@@ -16,6 +16,7 @@ pub fn one_key_path(table: &AiTable)
     ensures found { (segments : List Piece) (path : List Written)
         → (key_path table.now segments ≡ Some path) ↔ IsKeyPath table.now segments path }
 {
+    // For the proof alone: the rows keep the rules.
     let _ = table.rows();
 }
 
@@ -27,5 +28,6 @@ pub fn written_link_is_read(table: &AiTable)
     ensures canonical { (identity : Elements) → IsMadeWith table.now identity
         → IsLink table.now (canonical_link identity) (pairs_of identity) }
 {
+    // For the proof alone: the rows keep the rules.
     let _ = table.rows();
 }

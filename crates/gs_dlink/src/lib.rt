@@ -5,6 +5,7 @@ mod cuts;
 mod escapes;
 mod fault;
 mod laws;
+mod one_answer;
 mod path;
 mod query;
 mod read;
@@ -14,5 +15,6 @@ mod written;
 
 pub use fault::LinkFault;
 pub use laws::{one_key_path, written_link_is_read};
+pub use one_answer::one_answer_each;
 pub use read::{read_link, read_target};
 pub use stem::{stem_ok, write_link};

@@ -82,6 +82,7 @@ pub(crate) fn key_path<'a>(
     ensures { IfOk result (λ pairs. option_map (λ found. map written_of found.items) pairs
         ≡ key_path table.now (segments at path.now)) }
 {
+    // For the proof alone: the rows keep the rules.
     let _ = table.rows();
     let mut pairs = Vec::new(alloc);
     let mut front = path;

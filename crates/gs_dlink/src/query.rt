@@ -12,7 +12,11 @@ pub(crate) fn behind(text: &[u8], place: usize) -> &[u8]
     requires { place ≤ length text.now }
     ensures { result.now ≡ drop (place + 1) text.now }
 {
-    if place < text.len() { &text[place + 1..] } else { &text[place..] }
+    if place < text.len() {
+        &text[place + 1..]
+    } else {
+        &text[place..]
+    }
 }
 
 /// Appends the pair of a part of a query, where its name is one of digits.

@@ -87,12 +87,7 @@ fn is_rooted(path: &[u8]) -> bool
 
 /// The pairs of a path with its query that stand at a place in the whole text, or the first fault.
 #[tactic(auto, unfolding(crate::specs::Answers::target_answer))]
-fn read_at(
-    alloc: Global,
-    table: &AiTable,
-    at: usize,
-    text: &[u8],
-) -> Result<List<Pair>, LinkFault>
+fn read_at(alloc: Global, table: &AiTable, at: usize, text: &[u8]) -> Result<List<Pair>, LinkFault>
     requires { at + length text.now < 2 ^ 63 }
     ensures { OrMemory result (target_answer table.now at text.now) }
 {

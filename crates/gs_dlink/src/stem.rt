@@ -46,6 +46,5 @@ pub fn write_link(alloc: Global, stem: &[u8], identity: &Identity) -> Result<Tex
     requires { stem_ok stem.now ≡ true }
     ensures { IfOk result (λ text. text ≡ spelled stem.now identity.now) }
 {
-    let _ = stem;
     spell(alloc, stem, identity)
 }

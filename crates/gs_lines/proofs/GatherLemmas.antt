@@ -1,5 +1,5 @@
 -- What was taken of an input that is gathered.
-use Rattle.std.proofs.Common.{◌≡◌, ℕ, ◌+◌, ◌≤◌, List, ◌++◌, Option, length, take, sym, ◌∙◌, ap, arith, length-append, length-take}
+use Rattle.std.proofs.Common.{◌≡◌, ℕ, ◌+◌, ◌≤◌, List, ◌++◌, Option, length, take, ◌∙◌, ap, arith, length-append, length-take}
 use Rattle.gs_port.specs.Contents.{prepend_known, prepend_twice}
 use Rattle.gs_lines.specs.Inputs.{TakesAtMost}
 

@@ -1,5 +1,5 @@
 -- What is written for gathered bytes.
-use Rattle.std.proofs.Common.{◌≡◌, ℕ, ◌+◌, ◌-◌, ◌<◌, ◌≤◌, ◌||◌, Bool, true, false, ltb, List, [], ◌++◌, Option, Some, None, length, take, refl, sym, ◌∙◌, ap, arith, append_assoc, append-nil, length-append, inl, inr, ◌⊎◌}
+use Rattle.std.proofs.Common.{◌≡◌, ℕ, ◌+◌, ◌-◌, ◌<◌, ◌≤◌, ◌||◌, Bool, true, false, ltb, List, [], ◌++◌, Option, Some, None, length, take, refl, sym, ◌∙◌, ap, arith, append_assoc, append-nil, length-append, inl, inr}
 use Rattle.std.specs.Prelude.{if◌then◌else◌}
 use Rattle.std.proofs.lemmas.Bool.Decides.{nat_tests}
 use Rattle.std.proofs.lemmas.List.{take_all, take-append-le}

@@ -1,5 +1,5 @@
 -- What is gathered of an input.
-use Rattle.std.specs.Prelude.{◌≡◌, ℕ, ◌<◌, ◌≤◌, List, Option, length, take}
+use Rattle.std.specs.Prelude.{ℕ, ◌<◌, ◌≤◌, List, Option, length, take}
 use Rattle.gs_port.specs.Counts.{Rises}
 use Rattle.gs_lines.specs.declared.gathering.End.{End}
 use Rattle.gs_lines.specs.declared.gathering.End.TheVariants.{Whole, Long, Fault}

@@ -1,14 +1,13 @@
 -- What was done of what is asked, by how its files were loaded and what its command did.
-use Rattle.std.proofs.Common.{◌≡◌, ◌≢◌, ◌⊎◌, inl, inr, ℕ, ◌+◌, ◌≤◌, true, false, List, [], Option, None, Some, refl, sym, ◌∙◌, arith}
+use Rattle.std.proofs.Common.{◌≡◌, ◌≢◌, ◌⊎◌, inl, inr, ℕ, ◌+◌, ◌≤◌, List, [], Option, refl, arith}
 use Rattle.std.specs.Prelude.{Result, Ok, Err}
 use Rattle.gs_lines.specs.declared.status.Status.{Status}
 use Rattle.gs_lines.specs.declared.status.Status.TheVariants as status
 use Rattle.gs_lines.specs.Outputs.{Appends}
 use Rattle.gs_lines.specs.Printing.{IsInitialPart, PrintedAs}
-use Rattle.gs_lines.specs.Statuses.{OnCutShort, OnReadFault, OnRefused, OnWriteFault, OnWritten, When, is_cut_short, is_read_fault, is_written}
+use Rattle.gs_lines.specs.Statuses.{OnCutShort, OnReadFault, OnRefused, OnWriteFault, OnWritten, is_cut_short, is_read_fault, is_written}
 use Rattle.gs_lines.proofs.OneOutcome.{some_outcome}
 use Rattle.gs_lines.proofs.StatusLemmas.{when_map}
-use Rattle.gs_port.specs.Contents.{append_known}
 use Rattle.gs_port.specs.Counts.{Rises}
 use Rattle.gs_tables.specs.Tables.{IsShaped}
 use Rattle.gs_translate.specs.Steps.{HasSome}

@@ -1,5 +1,5 @@
 -- Words ask for something, or for nothing.
-use Rattle.std.proofs.Common.{◌≡◌, ◌⊎◌, inl, inr, ℕ, Bool, true, false, List, [], ◌∷◌, Option, None, Some, refl, sym, ◌∙◌, ap, arith}
+use Rattle.std.proofs.Common.{◌≡◌, ◌⊎◌, inl, inr, ℕ, true, false, List, [], ◌∷◌, refl, sym, ◌∙◌, ap}
 use Rattle.std.specs.Prelude.{bytes_eq, codes, is_none}
 use Rattle.gs_chars.proofs.TruthsAndLists.{equal_bytes, same_bytes, true_or_false}
 use Rattle.gs_translate.specs.declared.form.Form.{Form}
@@ -10,7 +10,7 @@ use Rattle.gs_program.specs.declared.command.Command.TheVariants.{Canon, Check}
 use Rattle.gs_program.specs.declared.name.NameRow.{NameRow}
 use Rattle.gs_program.specs.Commands.{form_word, names_of}
 use Rattle.gs_program.specs.Names.{AreOfRows, ArePairs, has_required, look_up, takes}
-use Rattle.gs_program.specs.Requests.{Asked, Asks, AsksForCanon, NotInOrder, WordsInOrder, named_files}
+use Rattle.gs_program.specs.Requests.{Asked, Asks, AsksForCanon, WordsInOrder, named_files}
 use Rattle.gs_program.proofs.PairLemmas.{not_behind, not_once, not_taken, of_no_word, of_one_word, one_more, same_pairs}
 use Rattle.gs_program.proofs.RequestLemmas.{asks_for_canon, asks_for_check, asks_of_form, canon_of_form, no_form, no_word, order_of_canon, order_of_check, other_form, other_word}
 

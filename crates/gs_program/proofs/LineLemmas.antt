@@ -1,16 +1,16 @@
 -- The answer lines of texts.
-use Rattle.std.proofs.Common.{◌≡◌, ◌≢◌, ℕ, Bool, List, refl, sym, ◌∙◌, ap}
+use Rattle.std.proofs.Common.{◌≢◌, ℕ, Bool, List, refl, sym, ◌∙◌, ap}
 use Rattle.std.specs.Prelude.{Result, Ok, Err, IfOk}
-use Rattle.gs_lines.specs.Outputs.{AddsAnswer, HasAnswers, HasOneAnswer, LineAnswer}
+use Rattle.gs_lines.specs.Outputs.{AddsAnswer, HasAnswers, HasOneAnswer}
 use Rattle.gs_tables.specs.Tables.{IsShaped, TableRows}
 use Rattle.gs_translate.specs.declared.form.Form.{Form}
 use Rattle.gs_translate.specs.declared.reason.Reason.{Reason}
 use Rattle.gs_translate.specs.declared.reason.Reason.TheVariants.{Memory}
 use Rattle.gs_translate.specs.Answers.{IsAnswer}
-use Rattle.gs_translate.specs.Steps.{HasOne, HasSome, UnlessMemory}
+use Rattle.gs_translate.specs.Steps.{UnlessMemory}
 use Rattle.gs_translate.proofs.AnswerLaws.{one_answer, some_answer}
 use Rattle.gs_translate.proofs.StepLaws.{told_answer}
-use Rattle.gs_program.specs.LineAnswers.{AddsLine, IsCanonLine, IsLineOf, line_of}
+use Rattle.gs_program.specs.LineAnswers.{AddsLine, IsCanonLine, line_of}
 
 -- the line of an answer that is told
 adds_line : (set : TableRows) (form : Form) (text before now : List ℕ) (answer : Result (List ℕ) Reason) (any : Bool) → UnlessMemory answer (IsAnswer set form text answer) → answer ≢ Err Memory → AddsLine answer before now any → AddsAnswer (IsCanonLine set form) text before now any

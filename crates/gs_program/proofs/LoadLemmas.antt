@@ -1,24 +1,19 @@
 -- What files give: one answer, and no other.
-use Rattle.std.proofs.Common.{◌≡◌, ◌≢◌, ℕ, ◌<◌, ◌≤◌, List, [], Option, Some, None, length, refl, sym, ◌∙◌, ap, ◌⊎◌, inl, inr, arith}
+use Rattle.std.proofs.Common.{◌≡◌, ℕ, ◌<◌, ◌≤◌, List, [], Option, Some, None, length, refl, sym, ◌∙◌, ap, inl, inr, arith}
 use Rattle.std.specs.Prelude.{Result, Ok, Err}
 use Rattle.std.proofs.lemmas.Bool.Decides.{leb_tells}
 use Rattle.gs_document.specs.declared.fault.LoadFault.{LoadFault}
-use Rattle.gs_port.specs.Counts.{Rises}
 use Rattle.gs_port.specs.Files.{IsAbsent, IsFile, file_of}
 use Rattle.gs_tables.specs.Shapes.{BuiltInAnswer, HasMemory, LoadAnswer}
-use Rattle.gs_tables.specs.Tables.{IsAnswer, IsShaped, TableRows}
+use Rattle.gs_tables.specs.Tables.{TableRows}
 use Rattle.gs_tables.proofs.OneAnswer.{one_answer, one_of_builtin, some_of_builtin, some_of_bytes}
-use Rattle.gs_translate.specs.Steps.{HasOne, HasSome, Then, goes_on, refuses}
+use Rattle.gs_translate.specs.Steps.{HasOne, HasSome}
 use Rattle.gs_translate.proofs.StepLaws.{then_one, then_some}
 use Rattle.gs_program.specs.declared.file_kind.FileKind.{FileKind}
 use Rattle.gs_program.specs.declared.file_kind.FileKind.TheVariants as kind
-use Rattle.gs_program.specs.declared.loading.Loaded.{Loaded}
-use Rattle.gs_program.specs.declared.loading.Unloaded.{Unloaded}
-use Rattle.gs_program.specs.declared.loading.Unloaded.TheVariants as unloaded
 use Rattle.gs_program.specs.declared.refusal.FileFault.{FileFault}
-use Rattle.gs_program.specs.declared.refusal.FileFault.TheVariants.{Over, Tables}
-use Rattle.gs_program.specs.Loads.{FileGives, FilesGive, Gives, IsLoadedOf, JudgesTables, LoadedBy, StandsFor, Stop, TablesGive, absent, judged, missing, of_verdict, refused, tables_verdict, too_large}
-use Rattle.gs_program.specs.Reads.{ReadBy, UnloadedAs}
+use Rattle.gs_program.specs.declared.refusal.FileFault.TheVariants.{Over}
+use Rattle.gs_program.specs.Loads.{FileGives, FilesGive, Gives, IsLoadedOf, JudgesTables, TablesGive, absent, judged, missing, of_verdict, tables_verdict, too_large}
 use Rattle.gs_program.specs.Refusals.{file_limit}
 use Rattle.gs_program.specs.Requests.{FileNames}
 

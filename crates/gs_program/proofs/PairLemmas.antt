@@ -1,10 +1,8 @@
 -- Words that are pairs, and the look-up of a name in them.
-use Rattle.std.proofs.Common.{◌≡◌, ℕ, ◌<◌, ◌&&◌, ◌||◌, Bool, true, false, List, [], ◌∷◌, Option, Some, None, length, take, get_or, refl, sym, ◌∙◌, ap, arith}
+use Rattle.std.proofs.Common.{◌≡◌, ℕ, ◌<◌, Bool, true, false, List, [], ◌∷◌, Option, Some, None, length, refl, sym, ◌∙◌, ap, arith}
 use Rattle.std.specs.Prelude.{bytes_eq, is_none, is_some, map, not, ◌==◌}
 use Rattle.std.specs.Borrow.{Bor}
 use Rattle.std.proofs.lemmas.Bool.{eqb-true}
-use Rattle.std.specs.List.{list_all, list_any}
-use Rattle.gs_chars.proofs.TruthsAndLists.{false_from}
 use Rattle.gs_program.specs.declared.name.NameRow.{NameRow}
 use Rattle.gs_program.specs.Requests.{told_name}
 use Rattle.gs_program.specs.Names.{AreOfRows, ArePairs, AreTaken, look_up, no_pair, none_taken, one_pair, one_taken, takes}

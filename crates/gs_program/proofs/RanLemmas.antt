@@ -5,7 +5,7 @@ use Rattle.gs_lines.specs.declared.status.Status.TheVariants as status
 use Rattle.gs_lines.specs.Inputs.{IsAtEnd, TakesAtMost, TakesMoreThan}
 use Rattle.gs_lines.specs.Outputs.{AnswersEnded, AnswersInput, BeginsInput, HasAnswers, LineAnswer, WritesAnswers}
 use Rattle.gs_lines.specs.Printing.{IsInitialPart, PrintedAs}
-use Rattle.gs_lines.specs.Statuses.{OnAnswered, OnCutShort, OnInputLong, OnReadFault, OnRefused, OnWriteFault, OnWritten, When, is_answered, is_cut_short, is_read_fault, is_written}
+use Rattle.gs_lines.specs.Statuses.{OnAnswered, OnCutShort, OnInputLong, OnReadFault, OnWriteFault, OnWritten, is_answered, is_cut_short, is_read_fault, is_written}
 use Rattle.gs_lines.proofs.OneOutcome.{whole_of_part}
 use Rattle.gs_lines.proofs.StatusLemmas.{when_always, when_map}
 use Rattle.gs_port.specs.Contents.{prepend_nothing}

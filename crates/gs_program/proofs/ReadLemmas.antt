@@ -1,23 +1,21 @@
 -- What is loaded, by how files were read.
-use Rattle.std.proofs.Common.{◌≡◌, ◌≢◌, ℕ, ◌<◌, ◌≤◌, List, [], ◌∷◌, ◌++◌, Option, Some, None, length, take, refl, sym, ◌∙◌, ap, ◌⊎◌, inl, inr, arith, append-nil}
+use Rattle.std.proofs.Common.{◌≡◌, ℕ, ◌≤◌, List, Option, Some, None, length, refl, sym, ◌∙◌, ap, inl, inr, append-nil}
 use Rattle.std.specs.Prelude.{Result, Ok, Err, option_to_list, not, ◌==◌}
 use Rattle.gs_document.specs.declared.fault.LoadFault.{LoadFault}
-use Rattle.gs_port.specs.Counts.{Rises}
-use Rattle.gs_port.specs.Files.{IsAbsent, IsFile, MayHaveName, with_name}
+use Rattle.gs_port.specs.Files.{IsFile, MayHaveName}
 use Rattle.gs_tables.specs.Shapes.{BuiltInAnswer, HasMemory, LoadAnswer}
 use Rattle.gs_tables.specs.Tables.{IsShaped, TableRows, refusals, refuse_if, row_refusals}
 use Rattle.gs_builtin.specs.BuiltIn.{builtin_document}
 use Rattle.gs_chars.proofs.TruthsAndLists.{none_behind}
 use Rattle.gs_document.specs.declared.fault.LoadFault.TheVariants.{Version}
-use Rattle.gs_translate.specs.Steps.{Then, goes_on, refuses}
-use Rattle.gs_program.specs.declared.file_kind.FileKind.{FileKind}
+use Rattle.gs_translate.specs.Steps.{goes_on, refuses}
 use Rattle.gs_program.specs.declared.file_kind.FileKind.TheVariants as kind
 use Rattle.gs_program.specs.declared.loading.Loaded.{Loaded}
 use Rattle.gs_program.specs.declared.loading.Unloaded.{Unloaded}
 use Rattle.gs_program.specs.declared.loading.Unloaded.TheVariants as unloaded
 use Rattle.gs_program.specs.declared.refusal.FileFault.{FileFault}
 use Rattle.gs_program.specs.declared.refusal.FileFault.TheVariants.{Over, Tables}
-use Rattle.gs_program.specs.Loads.{FileGives, FilesGive, Gives, IsLoadedOf, JudgesTables, LoadedBy, OpensFirst, StandsFor, Stop, TablesGive, absent, judged, missing, of_verdict, refused, tables_verdict, too_large}
+use Rattle.gs_program.specs.Loads.{FilesGive, JudgesTables, LoadedBy, OpensFirst, Stop, TablesGive, absent, judged, missing, of_verdict, refused, tables_verdict, too_large}
 use Rattle.gs_program.specs.Reads.{ReadBy, UnloadedAs}
 use Rattle.gs_program.specs.Refusals.{file_limit}
 use Rattle.gs_program.specs.Requests.{FileNames}

@@ -6,9 +6,8 @@ use Rattle.gs_translate.specs.declared.form.Form.TheVariants.{Hex, Tag, Pure}
 use Rattle.gs_translate.specs.Steps.{HasOne}
 use Rattle.gs_program.specs.declared.command.Command.{Command}
 use Rattle.gs_program.specs.declared.command.Command.TheVariants.{Canon, Check}
-use Rattle.gs_program.specs.Commands.{command_words, form_word, names_of}
-use Rattle.gs_program.specs.Names.{AreOfRows, has_required}
-use Rattle.gs_program.specs.Requests.{Asked, Asks, AsksForCanon, FileNames, NotInOrder, WordsInOrder, named_files}
+use Rattle.gs_program.specs.Commands.{command_words, form_word}
+use Rattle.gs_program.specs.Requests.{Asked, Asks, AsksForCanon, NotInOrder, WordsInOrder, named_files}
 use Rattle.gs_program.proofs.PairLemmas.{same_pairs}
 
 -- ---- words that differ

@@ -1,6 +1,6 @@
 -- A run has one outcome over files and an input that are told, and no other.
-use Rattle.std.proofs.Common.{◌≡◌, ◌⊎◌, inl, inr, ℕ, List, Some, refl, sym, ◌∙◌, ap}
-use Rattle.std.specs.Prelude.{Result, Ok, Err}
+use Rattle.std.proofs.Common.{◌≡◌, inl, inr, ℕ, List, Some, refl, sym, ◌∙◌, ap}
+use Rattle.std.specs.Prelude.{Ok, Err}
 use Rattle.gs_lines.specs.declared.status.Status.{Status}
 use Rattle.gs_lines.specs.declared.status.Status.TheVariants as status
 use Rattle.gs_lines.proofs.OneOutcome.{one_outcome}
@@ -9,8 +9,7 @@ use Rattle.gs_program.specs.declared.command.Command.{Command}
 use Rattle.gs_program.specs.declared.command.Command.TheVariants.{Canon, Check}
 use Rattle.gs_program.specs.declared.loading.Loaded.{Loaded}
 use Rattle.gs_program.specs.LineAnswers.{IsCanonLine}
-use Rattle.gs_program.specs.Loads.{FilesGive, Stop}
-use Rattle.gs_program.specs.Requests.{Asked, NotInOrder, WordsInOrder, usage_line}
+use Rattle.gs_program.specs.Requests.{Asked, WordsInOrder, usage_line}
 use Rattle.gs_program.specs.Runs.{AskedRun, DefinedRun, World, by_request, by_usage, ran, stopped, stops}
 use Rattle.gs_program.specs.Works.{CommandRun, Outcome, input_limit}
 use Rattle.gs_program.proofs.AskedLemmas.{asked_some}

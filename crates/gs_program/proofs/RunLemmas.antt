@@ -1,6 +1,6 @@
 -- Each clause of a run, by what was done of what the words ask for.
-use Rattle.std.proofs.Common.{◌≡◌, ◌≢◌, ◌⊎◌, inl, inr, ℕ, ◌+◌, ◌≤◌, Bool, true, false, List, [], ◌∷◌, Option, refl, sym, ◌∙◌, ap, arith}
-use Rattle.std.specs.Prelude.{Result, Ok, Err, option_to_list, None, Some}
+use Rattle.std.proofs.Common.{◌≡◌, ◌≢◌, ◌⊎◌, inl, inr, ℕ, Bool, true, false, List, [], ◌∷◌, Option, refl, ◌∙◌, ap}
+use Rattle.std.specs.Prelude.{option_to_list, None, Some}
 use Rattle.gs_lines.specs.declared.status.Status.{Status}
 use Rattle.gs_lines.specs.declared.status.Status.TheVariants as status
 use Rattle.gs_lines.specs.Inputs.{IsAtEnd}
@@ -13,9 +13,8 @@ use Rattle.gs_program.specs.declared.command.Command.{Command}
 use Rattle.gs_program.specs.Asking.{AskedRan, Counts, ReadCause}
 use Rattle.gs_program.specs.Commands.{answers_lines}
 use Rattle.gs_program.specs.Ran.{BeginsOne}
-use Rattle.gs_program.specs.Requests.{Asked, AsksForLines, FileNames, NamesFile, NotInOrder, WordsInOrder, names_in_order, usage_line}
+use Rattle.gs_program.specs.Requests.{Asked, AsksForLines, NamesFile, NotInOrder, WordsInOrder, names_in_order, usage_line}
 use Rattle.gs_program.specs.Runs.{AskedEnded, AskedRun, BeginsRun, DefinedRun, EndedRun, IsMissing, IsRefused, World, by_request, by_usage}
-use Rattle.gs_program.specs.Works.{Outcome}
 use Rattle.gs_program.proofs.RanLemmas.{PrintedCase, fault, no_memory, printed_case, whole}
 use Rattle.gs_program.proofs.RequestLemmas.{one_request}
 

@@ -1,6 +1,6 @@
 -- Words of a command line, one by one.
 use Rattle.std.specs.Prelude.{IfNone, IfSome}
-use Rattle.std.proofs.Common.{◌≡◌, ℕ, List, [], ◌∷◌, Option, None, Some, length, get_or, map, refl, sym, ap, arith, ◌<◌, ◌≤◌, ◌-◌, drop, take}
+use Rattle.std.proofs.Common.{◌≡◌, ℕ, List, [], ◌∷◌, Option, None, Some, length, get_or, map, refl, arith, ◌<◌, ◌≤◌, ◌-◌, drop, take}
 use Rattle.std.proofs.lemmas.List.{take_all}
 
 -- the first word, and the others

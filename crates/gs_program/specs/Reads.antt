@@ -1,7 +1,6 @@
 -- How the reading of a file and the load of tables end, for a run.
-use Rattle.std.specs.Prelude.{◌≡◌, ◌≢◌, ◌⊎◌, ℕ, ◌<◌, ◌≤◌, List, length, Option, Result, Ok, Err}
+use Rattle.std.specs.Prelude.{◌≡◌, ◌⊎◌, ℕ, ◌<◌, ◌≤◌, List, length, Option, Result, Ok, Err}
 use Rattle.gs_document.specs.declared.fault.LoadFault.{LoadFault}
-use Rattle.gs_document.specs.declared.fault.LoadFault.TheVariants as load
 use Rattle.gs_port.specs.Counts.{Rises}
 use Rattle.gs_port.specs.Files.{IsAbsent, IsFile}
 use Rattle.gs_tables.specs.Shapes.{HasMemory}
@@ -11,7 +10,6 @@ use Rattle.gs_program.specs.declared.file_kind.FileKind.TheVariants as kind
 use Rattle.gs_program.specs.declared.loading.Unloaded.{Unloaded}
 use Rattle.gs_program.specs.declared.loading.Unloaded.TheVariants.{Refused, ReadFault, Memory}
 use Rattle.gs_program.specs.declared.refusal.FileFault.TheVariants.{Over}
-use Rattle.gs_program.specs.declared.refusal.Refusal.{Refusal}
 use Rattle.gs_program.specs.Loads.{of_verdict, tables_verdict, refused}
 use Rattle.gs_program.specs.Refusals.{file_limit}
 

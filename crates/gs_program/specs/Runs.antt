@@ -1,7 +1,6 @@
 -- What a whole run leaves.
-use Rattle.std.specs.Prelude.{◌≡◌, ◌⊎◌, ℕ, List, [], ◌∷◌, Option, Ok, Err}
+use Rattle.std.specs.Prelude.{◌≡◌, ℕ, List, [], Option, Ok, Err}
 use Rattle.gs_lines.specs.declared.status.Status.TheVariants as status
-use Rattle.gs_port.specs.Files.{IsAbsent}
 use Rattle.gs_program.specs.declared.loading.Loaded.{Loaded}
 use Rattle.gs_program.specs.declared.refusal.Refusal.{Refusal}
 use Rattle.gs_program.specs.Loads.{FilesGive, OpensFirst, Stop, missing, refused}

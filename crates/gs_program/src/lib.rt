@@ -2,11 +2,11 @@
 #![tactic(auto)]
 
 mod arguments;
+mod asking;
 mod canon;
 mod checking;
 mod command;
 mod commands;
-mod asking;
 mod file_kind;
 mod laws;
 mod line_answers;

@@ -50,11 +50,7 @@ fn tables_of(answer: Result<TableSet, LoadFault>) -> Result<TableSet, Unloaded>
 }
 
 /// The tables of the named file.
-fn load_named<F: Files>(
-    alloc: Global,
-    name: &str,
-    files: &mut F,
-) -> Result<TableSet, Unloaded>
+fn load_named<F: Files>(alloc: Global, name: &str, files: &mut F) -> Result<TableSet, Unloaded>
     ensures loaded { LoadedBy (TablesGive (F.files files.old) (Some name.now)) (F.faults files.old) (F.faults files.new) result }
     ensures opened { MayHaveName (F.opened files.old) name.now (F.opened files.new) }
     ensures told { F.files files.new ≡ F.files files.old }

@@ -1,5 +1,5 @@
 -- A text has at most one meaning and one answer, and one by tables that keep their rules.
-use Rattle.std.proofs.Common.{◌≡◌, ℕ, zero, suc, ◌≤◌, ◌⊎◌, true, List, [], ◌∷◌, Option, Some, None, refl, sym, ◌∙◌, ap, inl, inr, length, take, slice_get, get_or, arith}
+use Rattle.std.proofs.Common.{◌≡◌, ℕ, zero, suc, ◌≤◌, ◌⊎◌, true, List, [], ◌∷◌, Option, Some, None, refl, sym, ◌∙◌, ap, inl, inr, length, take, get_or, arith}
 use Rattle.std.specs.Prelude.{◌≢◌, ◌%◌, is_some, Result, Ok, Err}
 use Rattle.std.specs.List.{AllPass}
 use Rattle.std.proofs.lemmas.Bool.{cases_eq}
@@ -33,10 +33,11 @@ use Rattle.gs_translate.specs.declared.form.Form.{Form}
 use Rattle.gs_translate.specs.declared.form.Form.TheVariants as form
 use Rattle.gs_translate.specs.declared.meaning.Meaning.{Meaning}
 use Rattle.gs_translate.specs.declared.reason.Reason.{Reason}
-use Rattle.gs_translate.specs.declared.reason.Reason.TheVariants.{Epc as NoEpc, Long, Memory as NoMemory}
+use Rattle.gs_translate.specs.declared.reason.Reason.TheVariants.{Element, Epc as NoEpc, Ident, Long, NoKeyPath, NotHttp, Memory as NoMemory}
 use Rattle.gs_translate.specs.Answers.{IsAnswer, IsCanonical}
-use Rattle.gs_translate.specs.Meanings.{IsMeaning, IsRead, MeaningOf, Means, MeansEpc, epc_meaning, short, too_long}
+use Rattle.gs_translate.specs.Meanings.{IsRead, MeaningOf, Means, MeansEpc, ReadsBracketed, ReadsLink, ReadsRaw, epc_meaning, short, too_long}
 use Rattle.gs_translate.specs.Steps.{HasOne, HasSome}
+use Rattle.gs_translate.proofs.PairLaws.{ais_kept, one_bracketed, one_link, one_of_pairs, one_raw, some_bracketed, some_link, some_of_pairs, some_raw}
 use Rattle.gs_translate.proofs.StepLaws.{then_one, then_some}
 
 -- the answer is no want of memory
@@ -124,6 +125,10 @@ means_told : (set : TableRows) (said : Result Epc EpcFault) (answer : Result Mea
 means_told set (Ok epc) answer m = tt
 means_told set (Err fault) (Err (NoEpc reason)) m = m.1
 means_told set (Err fault) (Err Long) m = absurd m
+means_told set (Err fault) (Err (Element other)) m = absurd m
+means_told set (Err fault) (Err (Ident other)) m = absurd m
+means_told set (Err fault) (Err NotHttp) m = absurd m
+means_told set (Err fault) (Err NoKeyPath) m = absurd m
 means_told set (Err fault) (Err NoMemory) m = absurd m
 means_told set (Err fault) (Ok meaning) m = absurd m
 
@@ -134,9 +139,17 @@ same_meaning set (Ok epc) (Ok m) (Err reason) a b = absurd b
 same_meaning set (Ok epc) (Err reason) other a b = absurd a
 same_meaning set (Err fault) (Err (NoEpc reason)) (Err (NoEpc reason')) a b = ap (λ (f : EpcFault). Err (NoEpc f)) (a.0 ∙ sym b.0)
 same_meaning set (Err fault) (Err (NoEpc reason)) (Err Long) a b = absurd b
+same_meaning set (Err fault) (Err (NoEpc reason)) (Err (Element other)) a b = absurd b
+same_meaning set (Err fault) (Err (NoEpc reason)) (Err (Ident other)) a b = absurd b
+same_meaning set (Err fault) (Err (NoEpc reason)) (Err NotHttp) a b = absurd b
+same_meaning set (Err fault) (Err (NoEpc reason)) (Err NoKeyPath) a b = absurd b
 same_meaning set (Err fault) (Err (NoEpc reason)) (Err NoMemory) a b = absurd b
 same_meaning set (Err fault) (Err (NoEpc reason)) (Ok meaning) a b = absurd b
 same_meaning set (Err fault) (Err Long) other a b = absurd a
+same_meaning set (Err fault) (Err (Element element)) other a b = absurd a
+same_meaning set (Err fault) (Err (Ident ident)) other a b = absurd a
+same_meaning set (Err fault) (Err NotHttp) other a b = absurd a
+same_meaning set (Err fault) (Err NoKeyPath) other a b = absurd a
 same_meaning set (Err fault) (Err NoMemory) other a b = absurd a
 same_meaning set (Err fault) (Ok meaning) other a b = absurd a
 
@@ -146,22 +159,25 @@ means_one set Reads same one other a b =
     let means : MeaningOf set a.said other = rw said b.means in
     same_meaning set a.said one other a.means means
 
-one_meaning : (set : TableRows) (form : Form) (text : List ℕ) → HasOne (Means set form text)
-one_meaning set form.Hex text = means_one set (ReadsHex set text) (same_hex set text)
-one_meaning set form.Tag text = means_one set (ReadsAs set level.Tag text) (same_read set level.Tag text)
-one_meaning set form.Pure text = means_one set (ReadsAs set level.Pure text) (same_read set level.Pure text)
+one_meaning : (set : TableRows) (form : Form) (text : List ℕ) → IsShaped set → HasOne (Means set form text)
+one_meaning set form.Hex text shaped = means_one set (ReadsHex set text) (same_hex set text)
+one_meaning set form.Tag text shaped = means_one set (ReadsAs set level.Tag text) (same_read set level.Tag text)
+one_meaning set form.Pure text shaped = means_one set (ReadsAs set level.Pure text) (same_read set level.Pure text)
+one_meaning set form.Raw text shaped = one_of_pairs set (ReadsRaw set text) (one_raw set text (ais_kept set shaped))
+one_meaning set form.Bracketed text shaped = one_of_pairs set (ReadsBracketed set text) (one_bracketed set text (ais_kept set shaped))
+one_meaning set form.Link text shaped = one_of_pairs set (ReadsLink set text) (one_link set text)
 
-pub one_read : (set : TableRows) (form : Form) (text : List ℕ) → HasOne (IsRead set form text)
-one_read set form text one other (too_long more e) (too_long more' e') = e ∙ sym e'
-one_read set form text one other (too_long more e) (short few m) = absurd (omega arith)
-one_read set form text one other (short few m) (too_long more e) = absurd (omega arith)
-one_read set form text one other (short few m) (short few' m') = one_meaning set form text one other m m'
+pub one_read : (set : TableRows) (form : Form) (text : List ℕ) → IsShaped set → HasOne (IsRead set form text)
+one_read set form text shaped one other (too_long more e) (too_long more' e') = e ∙ sym e'
+one_read set form text shaped one other (too_long more e) (short few m) = absurd (omega arith)
+one_read set form text shaped one other (short few m) (too_long more e) = absurd (omega arith)
+one_read set form text shaped one other (short few m) (short few' m') = one_meaning set form text shaped one other m m'
 
 one_canonical : (meaning : Meaning) → HasOne (IsCanonical meaning)
 one_canonical meaning one other a b = a ∙ sym b
 
-pub one_answer : (set : TableRows) (form : Form) (text : List ℕ) → HasOne (IsAnswer set form text)
-one_answer set form text = then_one (IsRead set form text) IsCanonical (one_read set form text) one_canonical
+pub one_answer : (set : TableRows) (form : Form) (text : List ℕ) → IsShaped set → HasOne (IsAnswer set form text)
+one_answer set form text shaped = then_one (IsRead set form text) IsCanonical (one_read set form text shaped) one_canonical
 
 -- ---- an answer to the symbols of a level
 
@@ -243,6 +259,9 @@ some_meaning : (set : TableRows) (form : Form) (text : List ℕ) → IsShaped se
 some_meaning set form.Hex text shaped = means_some set (ReadsHex set text) shaped (told_hex set text shaped)
 some_meaning set form.Tag text shaped = means_some set (ReadsAs set level.Tag text) shaped (told_level set level.Tag text shaped)
 some_meaning set form.Pure text shaped = means_some set (ReadsAs set level.Pure text) shaped (told_level set level.Pure text shaped)
+some_meaning set form.Raw text shaped = some_of_pairs set (ReadsRaw set text) (some_raw set text (ais_kept set shaped))
+some_meaning set form.Bracketed text shaped = some_of_pairs set (ReadsBracketed set text) (some_bracketed set text (ais_kept set shaped))
+some_meaning set form.Link text shaped = some_of_pairs set (ReadsLink set text) (some_link set text)
 
 pub some_read : (set : TableRows) (form : Form) (text : List ℕ) → IsShaped set → HasSome (IsRead set form text)
 some_read set form text shaped = elim (leb_tells (length text) 2048) as (λ _. HasSome (IsRead set form text)) [

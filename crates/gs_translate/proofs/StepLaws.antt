@@ -1,8 +1,8 @@
 -- Answers that are found in steps have one answer where each step has one.
-use Rattle.std.proofs.Common.{◌≡◌, refl, sym, ◌∙◌}
+use Rattle.std.proofs.Common.{◌≡◌, refl}
 use Rattle.std.specs.Prelude.{Result, Ok, Err}
 use Rattle.gs_translate.specs.declared.reason.Reason.{Reason}
-use Rattle.gs_translate.specs.declared.reason.Reason.TheVariants.{Epc, Long, Memory}
+use Rattle.gs_translate.specs.declared.reason.Reason.TheVariants.{Element, Epc, Ident, Long, Memory, NoKeyPath, NotHttp}
 use Rattle.gs_translate.specs.Steps.{HasOne, HasSome, Then, UnlessMemory, goes_on, refuses}
 
 pub then_one : {A B E : Type 0} (First : Result A E → Type 0) (Next : A → Result B E → Type 0) → HasOne First → ((a : A) → HasOne (Next a)) → HasOne (Then First Next)
@@ -32,6 +32,10 @@ pub told_answer : {X : Type 0} (answer : Result X Reason) (fact : Type 0) → (a
 told_answer (Ok x) fact told f = f
 told_answer (Err Long) fact told f = f
 told_answer (Err (Epc fault)) fact told f = f
+told_answer (Err (Element fault)) fact told f = f
+told_answer (Err (Ident fault)) fact told f = f
+told_answer (Err NotHttp) fact told f = f
+told_answer (Err NoKeyPath) fact told f = f
 told_answer (Err Memory) fact told f = absurd (told refl)
 
 -- a fact about an answer follows from another
@@ -39,10 +43,18 @@ pub unless_map : {X A B : Type 0} (answer : Result X Reason) → (A → B) → U
 unless_map (Ok x) f a = f a
 unless_map (Err Long) f a = f a
 unless_map (Err (Epc fault)) f a = f a
+unless_map (Err (Element fault)) f a = f a
+unless_map (Err (Ident fault)) f a = f a
+unless_map (Err NotHttp) f a = f a
+unless_map (Err NoKeyPath) f a = f a
 unless_map (Err Memory) f a = tt
 
 -- a fact about a refusal, as the answer of a later step
 pub unless_refused : (X Y : Type 0) {A B : Type 0} (reason : Reason) → (A → B) → UnlessMemory {X = X} (Err reason) A → UnlessMemory {X = Y} (Err reason) B
 unless_refused X Y Long f a = f a
 unless_refused X Y (Epc fault) f a = f a
+unless_refused X Y (Element fault) f a = f a
+unless_refused X Y (Ident fault) f a = f a
+unless_refused X Y NotHttp f a = f a
+unless_refused X Y NoKeyPath f a = f a
 unless_refused X Y Memory f a = tt

@@ -2,6 +2,7 @@
 #![tactic(auto)]
 
 mod answering;
+mod elements;
 mod form;
 mod laws;
 mod meaning;

@@ -14,6 +14,7 @@ mod answering;
 mod bits;
 mod case;
 mod characters;
+mod digital_links;
 mod documents;
 mod elements;
 mod epcs;

@@ -60,12 +60,7 @@ fn status_of(
 }
 
 /// The status, what an output holds, and what is left of an input.
-pub fn outcome(
-    alloc: Global,
-    status: Status,
-    input: &mut MemSource,
-    output: &MemSink,
-) -> Answer {
+pub fn outcome(alloc: Global, status: Status, input: &mut MemSource, output: &MemSink) -> Answer {
     let mut answer = format!(in alloc; "{status:?}")?;
     add(&mut answer, shown(alloc, output.bytes())?.as_str())?;
     let left = left_of(alloc, input)?;

@@ -1,4 +1,4 @@
-use Rattle.std.proofs.Common.{map, sym, ◌∙◌, arith}
+use Rattle.std.proofs.Common.{map, sym, ◌∙◌}
 use Rattle.std.proofs.lemmas.List.{length-map}
 use Rattle.gs_dlink.specs.Values.{written_of}
 use Rattle.gs_dlink.proofs.OrderLemmas.{code_met, code_passed, order_ends}
@@ -9,9 +9,9 @@ pub loop-code-preserved : goal.loop-code-preserved
 loop-code-preserved c =
     elim c.if-is_code_at.branch [
       | then-is_code_at w ↦ rw w.next-is (code_met c.args.list.now (map written_of c.args.pairs.now) c.loop-code.code-index c.loop-code.next c.code-item.result c.loop-code.invariant c.loop-code-test.true c.code-item.is
-        (rw c.as_bytes.ensures at (sym c.is_code_at.ensures ∙ w.if-is_code_at.true)))
+          (rw c.as_bytes.ensures at (sym c.is_code_at.ensures ∙ w.if-is_code_at.true)))
       | else-is_code_at w ↦ rw w.next-is (code_passed c.args.list.now (map written_of c.args.pairs.now) c.loop-code.code-index c.loop-code.next c.code-item.result c.loop-code.invariant c.loop-code-test.true c.code-item.is
-        (rw c.as_bytes.ensures at (sym c.is_code_at.ensures ∙ w.if-is_code_at.false)))
+          (rw c.as_bytes.ensures at (sym c.is_code_at.ensures ∙ w.if-is_code_at.false)))
     ]
 
 pub returns : goal.returns

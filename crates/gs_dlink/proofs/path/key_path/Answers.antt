@@ -1,4 +1,4 @@
-use Rattle.std.proofs.Common.{◌+◌, drop, map, reverse, sym, ◌∙◌, ap, take, Some}
+use Rattle.std.proofs.Common.{◌+◌, map, reverse, sym, ◌∙◌, take}
 use Rattle.gs_dlink.specs.Values.{written_of}
 use Rattle.gs_dlink.proofs.CutLemmas.{rest_taken}
 use Rattle.gs_dlink.proofs.KeyPaths.{key_found, none_left, one_left, one_pair_more, pushed}
@@ -26,5 +26,5 @@ pub returns-then-is_key : goal.returns-then-is_key
 returns-then-is_key c =
     let key = rw (rest_taken (c.in-Some-last_slash.code + 1) (take c.in-Some.value c.loop-value.front.now)) at (sym c.is_key.ensures ∙ c.if-is_key.true) in
     let found = key_found c.args.table.now c.rows.ensures.kept c.args.at c.args.path.now c.loop-value.front.now (map written_of (reverse c.loop-value.pairs.items)) c.loop-value.invariant c.in-Some.value c.in-Some-last_slash.code
-      c.in-Some.ensures c.in-Some-last_slash.ensures key in
+    c.in-Some.ensures c.in-Some-last_slash.ensures key in
     rw found (rw (rest_taken (c.in-Some-last_slash.code + 1) (take c.in-Some.value c.loop-value.front.now), rest_taken (c.in-Some.value + 1) c.loop-value.front.now) at c.with_key.ensures)

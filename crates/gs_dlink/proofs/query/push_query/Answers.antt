@@ -1,4 +1,4 @@
-use Rattle.std.proofs.Common.{◌+◌, ◌<◌, ◌≤◌, length, map, arith, drop, rules}
+use Rattle.std.proofs.Common.{◌+◌, ◌<◌, length, map, arith}
 use Rattle.std.proofs.Common.{length-drop}
 use Rattle.gs_dlink.specs.Values.{written_of}
 use Rattle.gs_dlink.proofs.CutLemmas.{query_ends, query_goes_on}

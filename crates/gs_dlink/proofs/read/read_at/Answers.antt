@@ -1,6 +1,6 @@
 use Rattle.std.proofs.Common.{map, sym, ◌∙◌, inr}
 use Rattle.gs_dlink.specs.Values.{written_of}
-use Rattle.gs_dlink.proofs.Targets.{no_key_path, not_rooted, pairs_found}
+use Rattle.gs_dlink.proofs.Targets.{not_rooted, pairs_found}
 use Rattle.gs_dlink.proofs.read.read_at.Goals as goal
 
 pub returns-then-not-is_rooted : goal.returns-then-not-is_rooted

@@ -1,4 +1,4 @@
-use Rattle.std.proofs.Common.{ap, sym, ◌∙◌, drop}
+use Rattle.std.proofs.Common.{ap, ◌∙◌, drop}
 use Rattle.std.proofs.lemmas.Result.{err_from_is_err_and}
 use Rattle.gs_dlink.specs.Answers.{fault_in, target_answer}
 use Rattle.gs_dlink.proofs.CutLemmas.{rest_taken}

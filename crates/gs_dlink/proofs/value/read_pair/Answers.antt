@@ -1,5 +1,4 @@
-use Rattle.std.proofs.Common.{sym, ◌∙◌, inr, ap}
-use Rattle.std.specs.Prelude.{Err}
+use Rattle.std.proofs.Common.{sym, ◌∙◌, inr}
 use Rattle.gs_dlink.specs.Values.{written_of}
 use Rattle.gs_dlink.proofs.Judged.{no_escape, unknown, value_refused, value_taken}
 use Rattle.gs_dlink.proofs.value.read_pair.Goals as goal

@@ -1,5 +1,4 @@
-use Rattle.std.proofs.Common.{◌≡◌, [], refl, sym}
-use Rattle.gs_lines.specs.Outputs.{Appends}
+use Rattle.std.proofs.Common.{[], refl, sym}
 use Rattle.gs_port.specs.Contents.{append_nothing}
 use Rattle.gs_program.specs.Asking.{Counts}
 use Rattle.gs_program.specs.Ran.{Moment}

@@ -1,7 +1,4 @@
-use Rattle.std.proofs.Common.{◌≡◌, ◌&&◌, false, take}
-use Rattle.std.specs.Prelude.{bytes_eq}
-use Rattle.std.specs.List.{list_any}
-use Rattle.gs_program.specs.declared.name.NameRow.{NameRow}
+use Rattle.std.proofs.Common.{◌≡◌, false, take}
 use Rattle.gs_program.specs.Names.{takes}
 use Rattle.gs_program.proofs.pairs.takes.Given as goal
 

@@ -1,0 +1,11 @@
+pub mod Walking
+pub mod Standing
+pub mod Joining
+pub mod Arms
+pub mod Blocks
+pub mod Runs
+pub mod Bounds
+pub mod AddedRows
+pub mod ItemReaders
+pub mod Numerals
+pub mod DecimalTexts
