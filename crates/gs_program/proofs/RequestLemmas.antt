@@ -1,8 +1,8 @@
 -- What words ask for.
 use Rattle.std.proofs.Common.{◌≡◌, ℕ, true, false, ltb, List, [], ◌∷◌, ◌++◌, get_or, refl, sym, ◌∙◌, ap}
-use Rattle.std.specs.Prelude.{codes}
+use Rattle.std.specs.Prelude.{◌==◌, codes, if◌then◌else◌}
 use Rattle.gs_translate.specs.declared.form.Form.{Form}
-use Rattle.gs_translate.specs.declared.form.Form.TheVariants.{Hex, Tag, Pure}
+use Rattle.gs_translate.specs.declared.form.Form.TheVariants.{Hex, Tag, Pure, Raw, Bracketed, Link}
 use Rattle.gs_translate.specs.Steps.{HasOne}
 use Rattle.gs_program.specs.declared.command.Command.{Command}
 use Rattle.gs_program.specs.declared.command.Command.TheVariants.{Canon, Check}
@@ -14,15 +14,6 @@ use Rattle.gs_program.proofs.PairLemmas.{same_pairs}
 
 canon_check : codes "canon" ≡ codes "check" → ⊥
 canon_check e = let g : true ≡ false = ap (λ (w : List ℕ). ltb (get_or w 1 0) 98) e in cc
-
-hex_tag : codes "hex" ≡ codes "tag" → ⊥
-hex_tag e = let g : true ≡ false = ap (λ (w : List ℕ). ltb (get_or w 0 0) 105) e in cc
-
-hex_pure : codes "hex" ≡ codes "pure" → ⊥
-hex_pure e = let g : true ≡ false = ap (λ (w : List ℕ). ltb (get_or w 0 0) 105) e in cc
-
-tag_pure : codes "tag" ≡ codes "pure" → ⊥
-tag_pure e = let g : true ≡ false = ap (λ (w : List ℕ). ltb 113 (get_or w 0 0)) e in cc
 
 -- the first of two lists that are equal
 same_first : (a b : List ℕ) (behind others : List (List ℕ)) → a ∷ behind ≡ b ∷ others → a ≡ b
@@ -81,16 +72,29 @@ no_form words asked none a = let e : [] ≡ form_word a.form ∷ a.behind = sym 
 pub other_form : (first : List ℕ) (words : List (List ℕ)) (asked : Asked) → ((form : Form) → first ≡ form_word form → ⊥) → AsksForCanon (first ∷ words) asked → ⊥
 other_form first words asked none a = none a.form (same_first first (form_word a.form) words a.behind a.spelled)
 
+-- the form of a word, by its first letter
+abbrev pub form_by : ℕ → Form
+form_by c =
+    if c == 104 then Hex
+    else if c == 116 then Tag
+    else if c == 112 then Pure
+    else if c == 114 then Raw
+    else if c == 98 then Bracketed
+    else Link
+
+abbrev pub form_of : List ℕ → Form
+form_of word = form_by (get_or word 0 0)
+
+pub word_of_form : (form : Form) → form_of (form_word form) ≡ form
+word_of_form Hex = refl
+word_of_form Tag = refl
+word_of_form Pure = refl
+word_of_form Raw = refl
+word_of_form Bracketed = refl
+word_of_form Link = refl
+
 same_form : (one other : Form) → form_word one ≡ form_word other → one ≡ other
-same_form Hex Hex e = refl
-same_form Hex Tag e = absurd (hex_tag e)
-same_form Hex Pure e = absurd (hex_pure e)
-same_form Tag Hex e = absurd (hex_tag (sym e))
-same_form Tag Tag e = refl
-same_form Tag Pure e = absurd (tag_pure e)
-same_form Pure Hex e = absurd (hex_pure (sym e))
-same_form Pure Tag e = absurd (tag_pure (sym e))
-same_form Pure Pure e = refl
+same_form one other e = sym (word_of_form one) ∙ ap form_of e ∙ word_of_form other
 
 pub asks_of_form : (form : Form) (first : List ℕ) (words : List (List ℕ)) (asked : Asked) → first ≡ form_word form → AsksForCanon (first ∷ words) asked → Asks (Canon form) words asked
 asks_of_form form first words asked e a =
