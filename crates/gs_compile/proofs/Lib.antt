@@ -5,3 +5,7 @@ pub mod Arms
 pub mod Blocks
 pub mod Runs
 pub mod Bounds
+pub mod AddedRows
+pub mod ItemReaders
+pub mod Numerals
+pub mod DecimalTexts

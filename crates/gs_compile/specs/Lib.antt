@@ -1,3 +1,4 @@
 pub mod Readers
 pub mod Places
 pub mod Tables
+pub mod NumeralTables

@@ -1,5 +1,5 @@
 -- The states of each item, with the edges that leave them, where the first state has a given number.
-use Rattle.std.specs.Prelude.{ℕ, ◌+◌, ◌-◌, ◌^◌, nat_le, if◌then◌else◌, List, [], ◌∷◌, zero, suc}
+use Rattle.std.specs.Prelude.{ℕ, ◌+◌, ◌-◌, ◌^◌, min, nat_le, if◌then◌else◌, List, [], ◌∷◌, zero, suc}
 use Rattle.gs_machine.specs.declared.edge.Edge.{Edge}
 
 -- an edge with each symbol from one to another
@@ -45,3 +45,7 @@ abbrev pub bound_table : ℕ → ℕ → ℕ → List (List Edge)
 bound_table zero greatest base = []
 bound_table (suc n) greatest base =
     bound_edges n greatest (base + 2) ∷ (edge 0 1 (lower_state n (base + 2)) ∷ []) ∷ bound_table n (bound_rest n greatest) (base + 2)
+
+-- the greatest number of at most n digits that has room in so many bits
+abbrev pub digits_greatest : ℕ → ℕ → ℕ
+digits_greatest bits n = min (10 ^ n) (2 ^ bits) - 1

@@ -1,0 +1,32 @@
+-- The states of decimal texts up to a greatest number, without leading zeros. So many digits may follow at most; at the states
+-- of the first kind the digits so far are those of the greatest, at those of the second any digits may follow.
+use Rattle.std.specs.Prelude.{ℕ, ◌+◌, ◌-◌, ◌/◌, ◌%◌, ◌^◌, List, [], ◌∷◌, ◌++◌, zero, suc}
+use Rattle.gs_machine.specs.declared.edge.Edge.{Edge}
+use Rattle.gs_compile.specs.Tables.{edge}
+
+-- from one to n digits: a state for each count, each with an edge to the end
+abbrev pub free_table : ℕ → ℕ → List (List Edge)
+free_table zero base = []
+free_table (suc zero) base = (edge 48 57 (base + 1) ∷ []) ∷ []
+free_table (suc (suc n)) base = (edge 48 57 (base + 1) ∷ edge 48 57 (base + 1 + suc n) ∷ []) ∷ free_table (suc n) (base + 1)
+
+-- the lowest digit that is above the greatest's, where some digits may follow it, and none where no digit may
+abbrev pub above_digit : ℕ → ℕ → ℕ
+above_digit zero digit = 58
+above_digit (suc n) digit = 49 + digit
+
+-- the edges of a state with the digits of the greatest so far, where this is its next digit and n digits may follow it: to a
+-- lower digit, to the same digit, to a higher digit and one digit less, and to the end
+abbrev pub tight_edges : ℕ → ℕ → ℕ → ℕ → ℕ → List Edge
+tight_edges low zero digit next end = edge 48 (48 + digit) end ∷ []
+tight_edges low (suc n) digit next end =
+    edge low (47 + digit) (end - suc n) ∷ edge (48 + digit) (48 + digit) next ∷ edge (above_digit n digit) 57 (end - n) ∷ edge 48 57 end ∷ []
+
+abbrev pub tight_table : ℕ → ℕ → ℕ → ℕ → List (List Edge)
+tight_table zero rest base end = []
+tight_table (suc n) rest base end = tight_edges 48 n (rest / 10 ^ n) (base + 1) end ∷ tight_table n (rest % 10 ^ n) (base + 1) end
+
+-- a decimal text up to the greatest, whose first digit n digits follow
+abbrev pub numeral_table : ℕ → ℕ → ℕ → List (List Edge)
+numeral_table n greatest base =
+    tight_edges 49 n (greatest / 10 ^ n) (base + 1) (base + 1 + n + n) ∷ (tight_table n (greatest % 10 ^ n) (base + 1) (base + 1 + n + n) ++ free_table n (base + 1 + n))
