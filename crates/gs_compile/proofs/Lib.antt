@@ -9,3 +9,5 @@ pub mod AddedRows
 pub mod ItemReaders
 pub mod Numerals
 pub mod DecimalTexts
+pub mod Spread
+pub mod EscapedDigits

@@ -2,3 +2,4 @@ pub mod Readers
 pub mod Places
 pub mod Tables
 pub mod NumeralTables
+pub mod EscapeTables
