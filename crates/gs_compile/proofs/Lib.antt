@@ -11,3 +11,4 @@ pub mod Numerals
 pub mod DecimalTexts
 pub mod Spread
 pub mod EscapedDigits
+pub mod SpelledTexts
