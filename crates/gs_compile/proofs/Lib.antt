@@ -12,3 +12,4 @@ pub mod DecimalTexts
 pub mod Spread
 pub mod EscapedDigits
 pub mod SpelledTexts
+pub mod Codes

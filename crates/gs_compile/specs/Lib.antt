@@ -3,3 +3,4 @@ pub mod Places
 pub mod Tables
 pub mod NumeralTables
 pub mod EscapeTables
+pub mod CodeTables
