@@ -13,3 +13,4 @@ pub mod Spread
 pub mod EscapedDigits
 pub mod SpelledTexts
 pub mod Codes
+pub mod PackedTexts
