@@ -14,3 +14,4 @@ pub mod EscapedDigits
 pub mod SpelledTexts
 pub mod Codes
 pub mod PackedTexts
+pub mod AddedNumerals
