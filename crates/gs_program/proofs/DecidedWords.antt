@@ -3,7 +3,6 @@ use Rattle.std.proofs.Common.{◌≡◌, ◌⊎◌, inl, inr, ℕ, true, false, 
 use Rattle.std.specs.Prelude.{bytes_eq, codes, is_none}
 use Rattle.gs_chars.proofs.TruthsAndLists.{equal_bytes, same_bytes, true_or_false}
 use Rattle.gs_translate.specs.declared.form.Form.{Form}
-use Rattle.gs_translate.specs.declared.form.Form.TheVariants.{Hex, Tag, Pure}
 use Rattle.gs_translate.specs.Steps.{HasSome}
 use Rattle.gs_program.specs.declared.command.Command.{Command}
 use Rattle.gs_program.specs.declared.command.Command.TheVariants.{Canon, Check}
@@ -12,7 +11,7 @@ use Rattle.gs_program.specs.Commands.{form_word, names_of}
 use Rattle.gs_program.specs.Names.{AreOfRows, ArePairs, has_required, look_up, takes}
 use Rattle.gs_program.specs.Requests.{Asked, Asks, AsksForCanon, WordsInOrder, named_files}
 use Rattle.gs_program.proofs.PairLemmas.{not_behind, not_once, not_taken, of_no_word, of_one_word, one_more, same_pairs}
-use Rattle.gs_program.proofs.RequestLemmas.{asks_for_canon, asks_for_check, asks_of_form, canon_of_form, no_form, no_word, order_of_canon, order_of_check, other_form, other_word}
+use Rattle.gs_program.proofs.RequestLemmas.{asks_for_canon, asks_for_check, asks_of_form, canon_of_form, form_of, no_form, no_word, order_of_canon, order_of_check, other_form, other_word, word_of_form}
 
 -- a thing of which the fact holds, or none
 abbrev pub Decided : {X : Type 0} → (X → Type 0) → Type 0
@@ -27,15 +26,9 @@ same_or_not a b = elim (true_or_false (bytes_eq a b)) as (λ _. (a ≡ b) ⊎ (a
 ]
 
 form_or_none : (word : List ℕ) → Decided (λ form. word ≡ form_word form)
-form_or_none word = elim (same_or_not word (codes "hex")) as (λ _. Decided (λ form. word ≡ form_word form)) [
-  | inl e ↦ inl (Hex, e)
-  | inr hex ↦ elim (same_or_not word (codes "tag")) as (λ _. Decided (λ form. word ≡ form_word form)) [
-    | inl e ↦ inl (Tag, e)
-    | inr tag ↦ elim (same_or_not word (codes "pure")) as (λ _. Decided (λ form. word ≡ form_word form)) [
-      | inl e ↦ inl (Pure, e)
-      | inr pure ↦ inr (elim [ Hex ↦ hex | Tag ↦ tag | Pure ↦ pure ])
-    ]
-  ]
+form_or_none word = elim (same_or_not word (form_word (form_of word))) as (λ _. Decided (λ form. word ≡ form_word form)) [
+  | inl e ↦ inl (form_of word, e)
+  | inr other ↦ inr (λ form e. other (e ∙ ap form_word (sym (word_of_form form)) ∙ ap (λ w. form_word (form_of w)) (sym e)))
 ]
 
 -- ---- pairs

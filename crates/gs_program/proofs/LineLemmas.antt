@@ -25,8 +25,8 @@ pub adds_canon : {E : Type 0} (set : TableRows) (form : Form) (text before now :
 adds_canon set form text before now answer (Ok any) is told adds = adds_line set form text before now answer any is told adds
 adds_canon set form text before now answer (Err e) is told adds = tt
 
-pub one_line : (set : TableRows) (form : Form) → HasOneAnswer (IsCanonLine set form)
-one_line set form text one other a b = a.is ∙ ap line_of (one_answer set form text a.answer b.answer a.is_answer b.is_answer) ∙ sym b.is
+pub one_line : (set : TableRows) (form : Form) → IsShaped set → HasOneAnswer (IsCanonLine set form)
+one_line set form shaped text one other a b = a.is ∙ ap line_of (one_answer set form text shaped a.answer b.answer a.is_answer b.is_answer) ∙ sym b.is
 
 pub some_line : (set : TableRows) (form : Form) → IsShaped set → HasAnswers (IsCanonLine set form)
 some_line set form shaped text =

@@ -4,6 +4,7 @@ use Rattle.std.specs.Prelude.{Ok, Err}
 use Rattle.gs_lines.specs.declared.status.Status.{Status}
 use Rattle.gs_lines.specs.declared.status.Status.TheVariants as status
 use Rattle.gs_lines.proofs.OneOutcome.{one_outcome}
+use Rattle.gs_tables.specs.Tables.{IsShaped}
 use Rattle.gs_translate.specs.Steps.{HasOne, HasSome}
 use Rattle.gs_program.specs.declared.command.Command.{Command}
 use Rattle.gs_program.specs.declared.command.Command.TheVariants.{Canon, Check}
@@ -16,6 +17,7 @@ use Rattle.gs_program.proofs.AskedLemmas.{asked_some}
 use Rattle.gs_program.proofs.DecidedWords.{Decided, order_or_not}
 use Rattle.gs_program.proofs.LineLemmas.{one_line}
 use Rattle.gs_program.proofs.LoadLemmas.{files_one}
+use Rattle.gs_program.proofs.ReadLemmas.{shaped_of}
 use Rattle.gs_program.proofs.RequestLemmas.{one_request}
 
 -- files and an input that are told
@@ -28,18 +30,18 @@ same_outcome one other e f =
     let by_status : Status → Outcome = λ s. record { output = other.output; status = s } in
     ap by_output e ∙ ap by_status f
 
-command_one : (command : Command) (loaded : Loaded) (input : List ℕ) → HasOne (CommandRun command loaded (Some input))
-command_one (Canon form) loaded input one other a b =
-    let same = one_outcome (IsCanonLine loaded.tables form) input_limit input one.output other.output one.status other.status (one_line loaded.tables form) a b in
+command_one : (command : Command) (loaded : Loaded) (input : List ℕ) → IsShaped loaded.tables → HasOne (CommandRun command loaded (Some input))
+command_one (Canon form) loaded input shaped one other a b =
+    let same = one_outcome (IsCanonLine loaded.tables form) input_limit input one.output other.output one.status other.status (one_line loaded.tables form shaped) a b in
     same_outcome one other same.0 same.1
-command_one Check loaded input one other a b = a ∙ sym b
+command_one Check loaded input shaped one other a b = a ∙ sym b
 
 pub asked_one : (asked : Asked) (files : List (List ℕ × List ℕ)) (input : List ℕ) → HasOne (AskedRun asked (told files input))
 asked_one asked files input one other (ran loaded gives a) (ran loaded' gives' b) =
     let answers : Ok loaded ≡ Ok loaded' = files_one files asked.files (Ok loaded) (Ok loaded') gives gives' in
     let same : loaded ≡ loaded' = cc in
     let moved : CommandRun asked.command loaded (Some input) other = rw same b in
-    command_one asked.command loaded input one other a moved
+    command_one asked.command loaded input (shaped_of (Some files) asked.files loaded gives) one other a moved
 asked_one asked files input one other (ran loaded gives a) (stops stop gives' b) =
     absurd (let answers : Ok loaded ≡ Err stop = files_one files asked.files (Ok loaded) (Err stop) gives gives' in cc)
 asked_one asked files input one other (stops stop gives a) (ran loaded gives' b) =

@@ -1,7 +1,7 @@
 -- The commands: for each the words of it and its operands, the names that it takes, and what it uses.
 use Rattle.std.specs.Prelude.{ℕ, Bool, true, false, List, [], ◌∷◌, codes}
 use Rattle.gs_translate.specs.declared.form.Form.{Form}
-use Rattle.gs_translate.specs.declared.form.Form.TheVariants.{Hex, Tag, Pure}
+use Rattle.gs_translate.specs.declared.form.Form.TheVariants.{Hex, Tag, Pure, Raw, Bracketed, Link}
 use Rattle.gs_program.specs.declared.command.Command.{Command}
 use Rattle.gs_program.specs.declared.command.Command.TheVariants.{Canon, Check}
 use Rattle.gs_program.specs.declared.name.Name.{Name}
@@ -13,6 +13,9 @@ abbrev pub form_word : Form → List ℕ
 form_word Hex = codes "hex"
 form_word Tag = codes "tag"
 form_word Pure = codes "pure"
+form_word Raw = codes "raw"
+form_word Bracketed = codes "bracketed"
+form_word Link = codes "link"
 
 -- the words of a command and its operands
 abbrev pub command_words : Command → List (List ℕ)

@@ -24,6 +24,15 @@ fn read_form(word: &str) -> Option<Form>
     if word == "pure" {
         return Some(Form::Pure);
     }
+    if word == "raw" {
+        return Some(Form::Raw);
+    }
+    if word == "bracketed" {
+        return Some(Form::Bracketed);
+    }
+    if word == "link" {
+        return Some(Form::Link);
+    }
     None
 }
 
