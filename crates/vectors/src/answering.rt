@@ -1,7 +1,7 @@
 use crate::case::{Answer, Refusal, behind, text_of, words_of};
 use crate::{
     bits, characters, digital_links, documents, elements, epcs, grammars, identifiers, identities,
-    lines, outside, prefixes, runs, tables, translations,
+    lines, machines, outside, prefixes, runs, tables, translations,
 };
 use gs_chars::{Memory, Text};
 use gs_tables::TableSet;
@@ -26,6 +26,7 @@ fn answer_of(alloc: Global, set: &TableSet, path: &str, args: &[Text]) -> Answer
         "gs_prefix" => prefixes::answer(alloc, call, args),
         "gs_epc" => epcs::answer(alloc, set, call, args),
         "gs_translate" => translations::answer(alloc, set, call, args),
+        "gs_machine" | "gs_ambig" => machines::answer(alloc, call, args),
         "gs_lines" => lines::answer(alloc, call, args),
         "gs_program" => runs::answer(alloc, call, args),
         _ => Err(Refusal::NoCase),

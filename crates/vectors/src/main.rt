@@ -23,6 +23,7 @@ mod identifiers;
 mod identities;
 mod item_words;
 mod lines;
+mod machines;
 mod outside;
 mod prefixes;
 mod runs;
