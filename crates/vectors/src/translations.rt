@@ -1,10 +1,11 @@
-//! Calls of gs_translate, by the built-in tables. A FORM is `Hex`, `Tag` or `Pure`.
+//! Calls of gs_translate, by the built-in tables. A FORM is `Hex`, `Tag`, `Pure`,
+//! `Raw`, `Bracketed` or `Link`.
 //!
 //! - `read FORM TEXT`: the canonical link of the identity, the prefix length, the filter value and the encoding of what the text
 //!   means, or the reason.
 //! - `answer FORM TEXT`: the canonical link, or the reason.
 
-use crate::case::{Answer, Refusal, arg, shown};
+use crate::case::{Answer, Refusal, arg, shown, text_of};
 use gs_chars::Text;
 use gs_ident::canonical;
 use gs_tables::TableSet;
@@ -29,14 +30,14 @@ pub fn answer(alloc: Global, set: &TableSet, call: &str, args: &[Text]) -> Answe
 }
 
 fn form_of(name: &[u8]) -> Result<Form, Refusal> {
-    if name == b"Hex".as_slice() {
-        Ok(Form::Hex)
-    } else if name == b"Tag".as_slice() {
-        Ok(Form::Tag)
-    } else if name == b"Pure".as_slice() {
-        Ok(Form::Pure)
-    } else {
-        Err(Refusal::NoCase)
+    match text_of(name)? {
+        "Hex" => Ok(Form::Hex),
+        "Tag" => Ok(Form::Tag),
+        "Pure" => Ok(Form::Pure),
+        "Raw" => Ok(Form::Raw),
+        "Bracketed" => Ok(Form::Bracketed),
+        "Link" => Ok(Form::Link),
+        _ => Err(Refusal::NoCase),
     }
 }
 
