@@ -4,11 +4,11 @@ use Rattle.std.proofs.lemmas.List.{append_assoc}
 use Rattle.gs_machine.specs.declared.edge.Edge.{Edge}
 use Rattle.gs_compile.specs.Tables.{edge, run_table, fill_table, lower_state, bound_rest, bound_edges, bound_table}
 
-one_more : (whole new : List (List Edge)) (row : List Edge) → new ≡ whole ++ row ∷ [] → length new ≡ length whole + 1
+pub one_more : (whole new : List (List Edge)) (row : List Edge) → new ≡ whole ++ row ∷ [] → length new ≡ length whole + 1
 one_more whole new row e = let m = ap length e in let l = length-append whole (row ∷ []) in omega arith
 
 -- one row more, in front of what is still to come
-next_row : (whole new rest : List (List Edge)) (row : List Edge) → new ≡ whole ++ row ∷ [] → new ++ rest ≡ whole ++ row ∷ rest
+pub next_row : (whole new rest : List (List Edge)) (row : List Edge) → new ≡ whole ++ row ∷ [] → new ++ rest ≡ whole ++ row ∷ rest
 next_row whole new rest row e = ap (λ (rows : List (List Edge)). rows ++ rest) e ∙ append_assoc whole (row ∷ []) rest
 
 pub run_step : (lo hi count place : ℕ) (whole new all : List (List Edge)) → place < count → whole ++ run_table lo hi (count - place) (length whole) ≡ all → new ≡ whole ++ (edge lo hi (length whole + 1) ∷ []) ∷ [] → new ++ run_table lo hi (count - (place + 1)) (length new) ≡ all

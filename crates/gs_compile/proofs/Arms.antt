@@ -73,7 +73,7 @@ cons_some : (table : List (List Edge)) (edge : Edge) (edges : List Edge) (q : �
 cons_some table edge edges q language others r arms s w (inl h) = let x = r.some w h.2 in (edge.to, (x.0, (inl (h.0, h.1, refl), x.1)))
 cons_some table edge edges q language others r arms s w (inr h) = let x = arms.some s w h in (x.0, (x.1.0, (inr x.1.1.0, x.1.1.1)))
 
-same_target : (table : List (List Edge)) (q : ℕ) (language : List ℕ → Type 0) (p t u : ℕ) (w ts us : List ℕ) → Reads table p q language → p ≡ t → p ≡ u → Walk table t ts w q → Walk table u us w q → t ∷ ts ≡ u ∷ us
+pub same_target : (table : List (List Edge)) (q : ℕ) (language : List ℕ → Type 0) (p t u : ℕ) (w ts us : List ℕ) → Reads table p q language → p ≡ t → p ≡ u → Walk table t ts w q → Walk table u us w q → t ∷ ts ≡ u ∷ us
 same_target table q language p t u w ts us r e f x y =
     let a : Walk table p ts w q = rw e x in
     let b : Walk table p us w q = rw f y in

@@ -47,10 +47,10 @@ first_from_low n rest (s ∷ w) t f = absurd (let d = first_digit s w t.digits i
 split_rest : (n rest : ℕ) → rest / 10 ^ n * 10 ^ n + rest % 10 ^ n ≡ rest
 split_rest n rest = let p = one-le-pow n 10 (omega arith) in omega arith
 
-rest_small : (n rest : ℕ) → rest % 10 ^ n < 10 ^ n
+pub rest_small : (n rest : ℕ) → rest % 10 ^ n < 10 ^ n
 rest_small n rest = let p = one-le-pow n 10 (omega arith) in omega arith
 
-digit_small : (n rest : ℕ) → rest < 10 ^ suc n → rest / 10 ^ n ≤ 9
+pub digit_small : (n rest : ℕ) → rest < 10 ^ suc n → rest / 10 ^ n ≤ 9
 digit_small n rest l =
     let power : 10 ^ suc n ≡ 10 * 10 ^ n = pow-succ' 10 n in
     let p = one-le-pow n 10 (omega arith) in
@@ -79,7 +79,7 @@ reads_tight table (suc n) rest base q h a free r l =
     (λ w t. tight_as (suc (suc n)) (rest / 10 ^ suc n * 10 ^ suc n + rest % 10 ^ suc n) rest w whole t.0)
     (λ w t. (tight_as (suc (suc n)) rest (rest / 10 ^ suc n * 10 ^ suc n + rest % 10 ^ suc n) w (sym whole) t, first_from_low (suc (suc n)) rest w t))
 
-length_tight : (n rest base q : ℕ) → length (tight_table n rest base q) ≡ n
+pub length_tight : (n rest base q : ℕ) → length (tight_table n rest base q) ≡ n
 length_tight zero rest base q = refl
 length_tight (suc n) rest base q = ap suc (length_tight n (rest % 10 ^ n) (base + 1) q)
 
@@ -133,7 +133,7 @@ text_low greatest n small l some = elim (cases_lt greatest (10 ^ n)) as (λ _. 1
   | inr g ↦ g
 ]
 
-text_high : (greatest n : ℕ) → greatest < 2 ^ 64 → length (decimal greatest) ≡ suc n → greatest < 10 ^ suc n
+pub text_high : (greatest n : ℕ) → greatest < 2 ^ 64 → length (decimal greatest) ≡ suc n → greatest < 10 ^ suc n
 text_high greatest n small l =
     let v = value_decimal greatest small in
     let b = value_below (decimal greatest) (suc n) (digits_of_decimal greatest small) l in

@@ -9,3 +9,9 @@ pub mod AddedRows
 pub mod ItemReaders
 pub mod Numerals
 pub mod DecimalTexts
+pub mod Spread
+pub mod EscapedDigits
+pub mod SpelledTexts
+pub mod Codes
+pub mod PackedTexts
+pub mod AddedNumerals

@@ -4,11 +4,15 @@ use Rattle.std.specs.Prelude.{ℕ, ◌+◌, ◌-◌, ◌/◌, ◌%◌, ◌^◌, 
 use Rattle.gs_machine.specs.declared.edge.Edge.{Edge}
 use Rattle.gs_compile.specs.Tables.{edge}
 
--- from one to n digits: a state for each count, each with an edge to the end
+-- the edges of a state at which from one digit up to n more than one may follow: to the next such state, and to the end
+abbrev pub free_edges : ℕ → ℕ → List Edge
+free_edges zero base = edge 48 57 (base + 1) ∷ []
+free_edges (suc n) base = edge 48 57 (base + 1) ∷ edge 48 57 (base + 1 + suc n) ∷ []
+
+-- from one to n digits: a state for each count
 abbrev pub free_table : ℕ → ℕ → List (List Edge)
 free_table zero base = []
-free_table (suc zero) base = (edge 48 57 (base + 1) ∷ []) ∷ []
-free_table (suc (suc n)) base = (edge 48 57 (base + 1) ∷ edge 48 57 (base + 1 + suc n) ∷ []) ∷ free_table (suc n) (base + 1)
+free_table (suc n) base = free_edges n base ∷ free_table n (base + 1)
 
 -- the lowest digit that is above the greatest's, where some digits may follow it, and none where no digit may
 abbrev pub above_digit : ℕ → ℕ → ℕ

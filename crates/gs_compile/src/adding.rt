@@ -5,7 +5,7 @@ use gs_chars::Memory;
 use gs_machine::{Edge, Table};
 
 /// The state so many steps behind the last. A state that is too great for a number is too great for memory.
-fn state_ahead(table: &Table, steps: usize) -> Result<usize, Memory>
+pub fn state_ahead(table: &Table, steps: usize) -> Result<usize, Memory>
     ensures { IfOk result (λ state. state ≡ length table.now + steps) }
 {
     match table.len().checked_add(steps) {

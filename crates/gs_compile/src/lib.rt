@@ -3,5 +3,6 @@
 
 mod adding;
 mod laws;
+mod numeral;
 
 pub use laws::cuts_of_runs_are_those_of_derivations;

@@ -1,7 +1,7 @@
 use crate::case::{Answer, Refusal, behind, text_of, words_of};
 use crate::{
-    bits, characters, documents, elements, epcs, grammars, identifiers, identities, outside,
-    prefixes, tables,
+    bits, characters, digital_links, documents, elements, epcs, grammars, identifiers, identities,
+    lines, outside, prefixes, runs, tables, translations,
 };
 use gs_chars::{Memory, Text};
 use gs_tables::TableSet;
@@ -22,8 +22,12 @@ fn answer_of(alloc: Global, set: &TableSet, path: &str, args: &[Text]) -> Answer
         "gs_ident" => identities::answer(alloc, set, call, args),
         "gs_tables" => tables::answer(alloc, set, call, args),
         "gs_element" => elements::answer(alloc, set, call, args),
+        "gs_dlink" => digital_links::answer(alloc, set, call, args),
         "gs_prefix" => prefixes::answer(alloc, call, args),
         "gs_epc" => epcs::answer(alloc, set, call, args),
+        "gs_translate" => translations::answer(alloc, set, call, args),
+        "gs_lines" => lines::answer(alloc, call, args),
+        "gs_program" => runs::answer(alloc, call, args),
         _ => Err(Refusal::NoCase),
     }
 }

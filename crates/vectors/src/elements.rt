@@ -36,7 +36,8 @@ fn pairs_words(alloc: Global, read: Result<Vec<Pair>, ElementsFault>) -> Answer 
     }
 }
 
-fn listed(alloc: Global, pairs: &[Pair]) -> Answer {
+/// The codes and values of the pairs in turn, or `none`.
+pub fn listed(alloc: Global, pairs: &[Pair]) -> Answer {
     if pairs.is_empty() {
         return Ok(String::from_str(alloc, "none")?);
     }
