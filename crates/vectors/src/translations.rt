@@ -1,5 +1,4 @@
-//! Calls of gs_translate, by the built-in tables. A FORM is `Hex`, `Tag`, `Pure`,
-//! `Raw`, `Bracketed` or `Link`.
+//! Calls of gs_translate, by the built-in tables. A FORM is `Hex`, `Tag`, `Pure`, `Raw`, `Bracketed` or `Link`.
 //!
 //! - `read FORM TEXT`: the canonical link of the identity, the prefix length, the filter value and the encoding of what the text
 //!   means, or the reason.
