@@ -31,7 +31,8 @@ use Rattle.gs_translate.specs.Steps.{Then}
 
 -- the meaning of an EPC that names these elements
 abbrev pub epc_meaning : Epc → Elements → Meaning
-epc_meaning epc elements = record { identity = elements; gcp = Some epc.gcp; filter = epc.filter; encoding = epc.encoding }
+epc_meaning epc elements =
+    record { identity = elements; gcp = Some epc.gcp; filter = epc.filter; encoding = epc.encoding }
 
 -- the meaning is that of the EPC, and names the elements that its key is laid out by
 pub record IsMeaning (set : TableRows) (epc : Epc) (meaning : Meaning) : Type 0 where
@@ -46,7 +47,8 @@ MeaningOf set (Err fault) (Err (NoEpc reason)) = (reason ≡ fault) × (fault �
 MeaningOf set _ _ = ⊥
 
 -- the meaning of a text by the EPC that it says
-pub record MeansEpc (set : TableRows) (Reads : Result Epc EpcFault → Type 0) (answer : Result Meaning Reason) : Type 0 where
+pub record MeansEpc (set : TableRows) (Reads : Result Epc EpcFault → Type 0) (answer : Result Meaning Reason)
+    : Type 0 where
   pub said : Result Epc EpcFault
   pub read : Reads said
   pub means : MeaningOf set said answer
@@ -68,7 +70,8 @@ ReadsRaw set text answer = MatchResult answer (IsRaw set.ais text) (OfElement (I
 
 -- the pairs of an element string as it is printed below a symbol, or why it has none
 abbrev pub ReadsBracketed : TableRows → List ℕ → Result (List Pair) Reason → Type 0
-ReadsBracketed set text answer = MatchResult answer (IsBracketed set.ais text) (OfElement (IsBracketedFault set.ais text))
+ReadsBracketed set text answer =
+    MatchResult answer (IsBracketed set.ais text) (OfElement (IsBracketedFault set.ais text))
 
 -- the reason by which the reader of links refuses a text
 abbrev pub link_reason : LinkFault → Reason
@@ -79,7 +82,8 @@ link_reason link.Memory = OutOfMemory
 
 -- the reason is the fault of a link
 abbrev pub OfLink : Option LinkFault → Reason → Type 0
-OfLink found reason = (fault : LinkFault) × (fault ≢ link.Memory) × (found ≡ Some fault) × (reason ≡ link_reason fault)
+OfLink found reason =
+    (fault : LinkFault) × (fault ≢ link.Memory) × (found ≡ Some fault) × (reason ≡ link_reason fault)
 
 -- the pairs that a link names, or why it names none
 abbrev pub ReadsLink : TableRows → List ℕ → Result (List Pair) Reason → Type 0
@@ -117,6 +121,7 @@ abbrev pub longest_text : ℕ
 longest_text = 2048
 
 -- A text of more than 2,048 bytes is refused as long; of any other it is the meaning, or why it has none.
-pub data IsRead (set : TableRows) (form : Form) (text : List ℕ) (answer : Result Meaning Reason) : Type 0 where
+pub data IsRead (set : TableRows) (form : Form) (text : List ℕ) (answer : Result Meaning Reason)
+    : Type 0 where
   too_long : longest_text < length text → answer ≡ Err Long → IsRead set form text answer
   short : length text ≤ longest_text → Means set form text answer → IsRead set form text answer

@@ -4,7 +4,8 @@ use Rattle.gs_translate.specs.declared.reason.Reason.{Reason}
 use Rattle.gs_translate.specs.declared.reason.Reason.TheVariants.{Memory}
 
 -- a step's refusal is the answer, else the answer is that of the step behind it
-pub data Then {A B E : Type 0} (First : Result A E → Type 0) (Next : A → Result B E → Type 0) (answer : Result B E) : Type 0 where
+pub data Then {A B E : Type 0} (First : Result A E → Type 0) (Next : A → Result B E → Type 0)
+    (answer : Result B E) : Type 0 where
   refuses : (fault : E) → First (Err fault) → answer ≡ Err fault → Then First Next answer
   goes_on : (a : A) → First (Ok a) → Next a answer → Then First Next answer
 

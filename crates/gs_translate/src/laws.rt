@@ -9,12 +9,16 @@ ghost use Rattle.gs_translate.specs.Steps.{HasOne, HasSome};
 
 /// Where the tables keep their rules, a text means at most one thing in a form, and it means something or is refused.
 pub fn each_text_has_one_meaning()
-    ensures at_most_one { (set : TableRows) (form : Form) (text : List ℕ) → IsShaped set → HasOne (IsRead set form text) }
-    ensures some { (set : TableRows) (form : Form) (text : List ℕ) → IsShaped set → HasSome (IsRead set form text) }
+    ensures at_most_one { (set : TableRows) (form : Form) (text : List ℕ) → IsShaped set
+        → HasOne (IsRead set form text) }
+    ensures some { (set : TableRows) (form : Form) (text : List ℕ) → IsShaped set
+        → HasSome (IsRead set form text) }
 {}
 
 /// Where the tables keep their rules, a text has at most one answer, and one.
 pub fn each_text_has_one_answer()
-    ensures at_most_one { (set : TableRows) (form : Form) (text : List ℕ) → IsShaped set → HasOne (IsAnswer set form text) }
-    ensures some { (set : TableRows) (form : Form) (text : List ℕ) → IsShaped set → HasSome (IsAnswer set form text) }
+    ensures at_most_one { (set : TableRows) (form : Form) (text : List ℕ) → IsShaped set
+        → HasOne (IsAnswer set form text) }
+    ensures some { (set : TableRows) (form : Form) (text : List ℕ) → IsShaped set
+        → HasSome (IsAnswer set form text) }
 {}
