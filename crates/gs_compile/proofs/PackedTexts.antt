@@ -240,7 +240,7 @@ reads_zeros table lo bits n q z none l =
     subst (λ (k : ℕ). Reads table (q - bits) q (PacksIn k 0 bits)) (sym none)
     (reads_as table (q - bits) q (IsRun 0 0 bits) (PacksIn 0 0 bits) (z bits l) (λ w r. zeros_packed 0 bits w (run_zeros bits w r)) (λ w p. zeros_run bits w (packed_zeros bits w p)))
 
-length_characters_row : (next base : ℕ) → length (trie_table 6 0 (base + 1) next ++ trie_table 6 1 (base + 64) next) ≡ 126
+pub length_characters_row : (next base : ℕ) → length (trie_table 6 0 (base + 1) next ++ trie_table 6 1 (base + 64) next) ≡ 126
 length_characters_row next base =
     let l = length_trie 5 0 (base + 1) next in
     let r = length_trie 5 1 (base + 64) next in

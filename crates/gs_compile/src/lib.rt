@@ -2,7 +2,10 @@
 #![tactic(auto)]
 
 mod adding;
+mod escaped;
+mod items;
 mod laws;
 mod numeral;
+mod packed;
 
 pub use laws::cuts_of_runs_are_those_of_derivations;
