@@ -35,7 +35,7 @@ fill_parts : (n more base place : ℕ) → place ≡ base + n → fill_table (su
 fill_parts zero more base place e = let same : place ≡ base = omega arith in rw same refl
 fill_parts (suc n) more base place e = ap (λ (rows : List (List Edge)). (edge 0 0 (base + 1) ∷ []) ∷ rows) (fill_parts n more (base + 1) place (omega arith))
 
-run_count : (lo hi n base : ℕ) → length (run_table lo hi n base) ≡ n
+pub run_count : (lo hi n base : ℕ) → length (run_table lo hi n base) ≡ n
 run_count lo hi zero base = refl
 run_count lo hi (suc n) base = ap suc (run_count lo hi n (base + 1))
 

@@ -17,3 +17,4 @@ pub mod PackedTexts
 pub mod AddedNumerals
 pub mod AddedCodes
 pub mod InsideItems
+pub mod WholeMachines
