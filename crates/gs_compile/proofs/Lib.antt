@@ -18,3 +18,4 @@ pub mod AddedNumerals
 pub mod AddedCodes
 pub mod InsideItems
 pub mod WholeMachines
+pub mod AddedItems
