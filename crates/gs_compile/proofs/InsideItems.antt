@@ -1,5 +1,5 @@
 -- The edges of an item lead to higher states, and not past its end.
-use Rattle.std.proofs.Common.{◌≡◌, ℕ, ◌<◌, ◌≤◌, ◌+◌, ◌-◌, ◌*◌, ◌/◌, ◌%◌, ◌^◌, Bool, true, false, if◌then◌else◌, List, [], ◌∷◌, ◌++◌, length, zero, suc, refl, sym, ◌∙◌, ap, subst, arith, length-append, decimal}
+use Rattle.std.proofs.Common.{◌≡◌, ℕ, ◌<◌, ◌≤◌, ◌+◌, ◌-◌, ◌*◌, ◌/◌, ◌%◌, ◌^◌, Bool, true, false, List, [], ◌∷◌, ◌++◌, length, zero, suc, refl, sym, subst, arith}
 use Rattle.std.specs.Prelude.{nat_le}
 use Rattle.std.proofs.Math.Nat.{pow-succ', one-le-pow}
 use Rattle.std.proofs.lemmas.Bool.Decides.{nat_tests}
@@ -13,9 +13,9 @@ use Rattle.gs_grammar.proofs.WordLaws.{int_bounds, fill_bounds}
 use Rattle.gs_machine.specs.declared.edge.Edge.{Edge}
 use Rattle.gs_compile.specs.Readers.{Reads}
 use Rattle.gs_compile.specs.Tables.{edge, lit_table, run_table, fill_table, lower_state, bound_rest, bound_edges, bound_table, digits_greatest}
-use Rattle.gs_compile.specs.NumeralTables.{free_edges, free_table, above_digit, tight_edges, tight_table, numeral_table}
+use Rattle.gs_compile.specs.NumeralTables.{free_edges, free_table, tight_edges, tight_table, numeral_table}
 use Rattle.gs_compile.specs.EscapeTables.{with_ranges, plain_ranges, two_ranges, three_ranges, last_or_next, esc_table}
-use Rattle.gs_compile.specs.CodeTables.{edge_where, leaf_edges, trie_table, root_edges, next_character, code_rows, characters_table, ascii_table}
+use Rattle.gs_compile.specs.CodeTables.{edge_where, trie_table, root_edges, next_character, characters_table, ascii_table}
 use Rattle.gs_compile.specs.ItemTables.{digits_behind, item_states, item_table}
 use Rattle.gs_compile.proofs.Walking.{Ascends}
 use Rattle.gs_compile.proofs.Blocks.{Has}

@@ -1,10 +1,9 @@
 -- The machine of a list of items keeps the rules, and reads the items one by one.
-use Rattle.std.proofs.Common.{◌≡◌, ◌⊎◌, ℕ, ◌<◌, ◌≤◌, ◌+◌, ◌-◌, ◌*◌, ◌%◌, ◌^◌, ◌||◌, eqb, Bool, true, false, if◌then◌else◌, IsTrue, All, List, [], ◌∷◌, ◌++◌, length, get_or, zero, suc, Some, None, refl, sym, ◌∙◌, ap, subst, inl, inr, arith, add-one, length-append, decimal}
+use Rattle.std.proofs.Common.{◌≡◌, ◌⊎◌, ℕ, ◌<◌, ◌≤◌, ◌+◌, ◌-◌, ◌*◌, ◌%◌, ◌^◌, ◌||◌, eqb, Bool, true, false, All, List, [], ◌∷◌, ◌++◌, length, get_or, zero, suc, Some, None, refl, sym, ◌∙◌, ap, subst, inl, inr, arith, add-one, length-append}
 use Rattle.std.specs.Prelude.{nat_le, nat_lt, ◌&&◌}
-use Rattle.std.specs.List.{AllPass, list_all, slice_get}
-use Rattle.std.proofs.lemmas.Bool.{cases_lt, le-leb, lt-leb}
+use Rattle.std.specs.List.{list_all, slice_get}
+use Rattle.std.proofs.lemmas.Bool.{cases_lt}
 use Rattle.std.proofs.lemmas.Bool.Decides.{nat_tests}
-use Rattle.std.proofs.lemmas.Fmt.{decimal_nonempty}
 use Rattle.std.proofs.lemmas.List.Elements.{All-head, All-tail}
 use Rattle.std.proofs.lemmas.List.Sums.{AllPass-from_list_all}
 use Rattle.gs_chars.proofs.TruthsAndLists.{and_true, or_true}
@@ -12,14 +11,14 @@ use Rattle.gs_grammar.specs.declared.item.Item.{Item}
 use Rattle.gs_grammar.specs.declared.item.Item.TheVariants.{Lit, Pad, Int, Esc, NumPad, Num, Ascii7, Fill}
 use Rattle.gs_grammar.specs.Items.{IsItem}
 use Rattle.gs_grammar.specs.Words.{IsWord}
-use Rattle.gs_grammar.proofs.WordLaws.{int_bounds, numpad_bounds, num_bounds, fill_bounds}
+use Rattle.gs_grammar.proofs.WordLaws.{numpad_bounds, num_bounds, fill_bounds}
 use Rattle.gs_machine.specs.declared.edge.Edge.{Edge}
 use Rattle.gs_machine.specs.Walks.{edges_at}
-use Rattle.gs_machine.specs.Machines.{AutoForm, IsMachine, is_onward, AscendBefore}
+use Rattle.gs_machine.specs.Machines.{IsMachine, is_onward}
 use Rattle.gs_machine.proofs.Onward.{goes_on}
 use Rattle.gs_compile.specs.Readers.{Reads, ReadsItems}
 use Rattle.gs_compile.specs.Places.{is_border}
-use Rattle.gs_compile.specs.Tables.{lit_table, run_table, fill_table, bound_edges, bound_table, bound_rest, lower_state, edge, digits_greatest}
+use Rattle.gs_compile.specs.Tables.{lit_table, run_table, fill_table, bound_table, bound_rest, digits_greatest}
 use Rattle.gs_compile.specs.NumeralTables.{free_table, tight_table, numeral_table}
 use Rattle.gs_compile.specs.EscapeTables.{esc_table}
 use Rattle.gs_compile.specs.CodeTables.{characters_table}

@@ -23,7 +23,14 @@ fn push_ranges(row: &mut Vec<Edge>, ranges: &[(u8, u8)], to: usize) -> Result<()
 
 /// The edges of the last symbol of a character: to the end where this may be the last character, and to the next character
 /// where so many may follow.
-fn last_row(alloc: Global, lo: usize, more: usize, ranges: &[(u8, u8)], next: usize, end: usize) -> Result<Vec<Edge>, Memory>
+fn last_row(
+    alloc: Global,
+    lo: usize,
+    more: usize,
+    ranges: &[(u8, u8)],
+    next: usize,
+    end: usize,
+) -> Result<Vec<Edge>, Memory>
     ensures { IfOk result (λ row. row.items ≡ last_or_next lo more ranges.now next end) }
 {
     let mut row = Vec::new(alloc);
@@ -41,7 +48,14 @@ fn last_row(alloc: Global, lo: usize, more: usize, ranges: &[(u8, u8)], next: us
 }
 
 /// The edges in front of a character.
-fn first_row(alloc: Global, lo: usize, more: usize, base: usize, next: usize, end: usize) -> Result<Vec<Edge>, Memory>
+fn first_row(
+    alloc: Global,
+    lo: usize,
+    more: usize,
+    base: usize,
+    next: usize,
+    end: usize,
+) -> Result<Vec<Edge>, Memory>
     requires { base + 4 ≡ next }
     ensures { IfOk result (λ row. row.items ≡ last_or_next lo more plain_ranges next end ++ edge 37 37 (base + 1) ∷ []) }
 {
@@ -64,7 +78,13 @@ fn first_row(alloc: Global, lo: usize, more: usize, base: usize, next: usize, en
 }
 
 /// Adds four states.
-fn add_four(table: Table, first: &[Edge], second: &[Edge], third: &[Edge], fourth: &[Edge]) -> Result<Table, Memory>
+fn add_four(
+    table: Table,
+    first: &[Edge],
+    second: &[Edge],
+    third: &[Edge],
+    fourth: &[Edge],
+) -> Result<Table, Memory>
     ensures { IfOk result (λ new. new ≡ table ++ first.now ∷ second.now ∷ third.now ∷ fourth.now ∷ []) }
 {
     table
@@ -75,7 +95,13 @@ fn add_four(table: Table, first: &[Edge], second: &[Edge], third: &[Edge], fourt
 }
 
 /// Adds the four states of a character, of which with it at least `lo` are to come, and so many more may follow.
-fn add_character(alloc: Global, table: Table, lo: usize, more: usize, end: usize) -> Result<Table, Memory>
+fn add_character(
+    alloc: Global,
+    table: Table,
+    lo: usize,
+    more: usize,
+    end: usize,
+) -> Result<Table, Memory>
     ensures { IfOk result (λ new. new ≡ table ++ (last_or_next lo more plain_ranges (length table + 4) end ++ edge 37 37 (length table + 1) ∷ []) ∷ (edge 50 50 (length table + 2) ∷ edge 51 51 (length table + 3) ∷ []) ∷ last_or_next lo more two_ranges (length table + 4) end ∷ last_or_next lo more three_ranges (length table + 4) end ∷ []) }
 {
     let base = table.len();

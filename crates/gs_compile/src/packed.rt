@@ -96,7 +96,14 @@ fn next_of(table: &Table, more: usize, left: usize, end: usize) -> Result<usize,
 
 /// Adds the states of a character, of which with it at least `lo` are to come and so many more may follow, where so many bits
 /// are left.
-fn add_code(alloc: Global, table: Table, lo: usize, more: usize, left: usize, end: usize) -> Result<Table, Memory>
+fn add_code(
+    alloc: Global,
+    table: Table,
+    lo: usize,
+    more: usize,
+    left: usize,
+    end: usize,
+) -> Result<Table, Memory>
     requires few { 7 ≤ left }
     requires room { left ≤ end }
     ensures { IfOk result (λ new. new ≡ table ++ code_rows lo more left (length table) end) }
@@ -108,7 +115,14 @@ fn add_code(alloc: Global, table: Table, lo: usize, more: usize, left: usize, en
 }
 
 /// Adds the states of characters, at least `lo` and at most `hi`.
-fn add_codes(alloc: Global, table: Table, lo: usize, hi: usize, bits: usize, end: usize) -> Result<Table, Memory>
+fn add_codes(
+    alloc: Global,
+    table: Table,
+    lo: usize,
+    hi: usize,
+    bits: usize,
+    end: usize,
+) -> Result<Table, Memory>
     requires few { 7 * hi ≤ bits }
     requires room { bits ≤ end }
     ensures { IfOk result (λ new. new ≡ table ++ characters_table lo hi bits (length table) end) }

@@ -1,6 +1,6 @@
 use Rattle.std.proofs.Common.{arith, ◌<◌}
 use Rattle.gs_compile.proofs.AddedRows.{ok_follows}
-use Rattle.gs_compile.proofs.AddedCodes.{trie_room, trie_less, trie_added, leaf_added, front_small}
+use Rattle.gs_compile.proofs.AddedCodes.{trie_room, trie_less, trie_added}
 use Rattle.gs_compile.proofs.packed.+add_trie.Goals as goal
 
 pub add_trie-requires : goal.add_trie-requires
