@@ -1,14 +1,18 @@
 -- The states of items that were added one item after the other.
-use Rattle.std.proofs.Common.{◌≡◌, ℕ, ◌+◌, All, List, [], ◌∷◌, ◌++◌, length, refl, sym, ◌∙◌, ap, subst, arith, length-append}
+use Rattle.std.proofs.Common.{◌≡◌, ℕ, ◌+◌, ◌*◌, ◌≤◌, All, List, [], ◌∷◌, ◌++◌, length, refl, sym, ◌∙◌, ap, subst, arith, length-append}
 use Rattle.std.proofs.lemmas.List.{append_assoc, append-nil}
-use Rattle.std.proofs.lemmas.List.Elements.{All-head}
+use Rattle.std.proofs.lemmas.List.Elements.{All-head, All-tail}
 use Rattle.gs_grammar.specs.declared.item.Item.{Item}
-use Rattle.gs_grammar.specs.Items.{IsItem}
+use Rattle.gs_grammar.specs.Items.{IsItem, size_of, size_of_all}
+use Rattle.gs_grammar.specs.declared.item.Item.TheVariants.{Lit, Pad, Int, Esc, NumPad, Num, Ascii7, Fill}
+use Rattle.gs_grammar.proofs.WordLaws.{int_bounds}
+use Rattle.std.proofs.lemmas.Fmt.{decimal_nonempty}
+use Rattle.gs_compile.proofs.InsideItems.{ascii_bounds}
 use Rattle.gs_machine.specs.declared.edge.Edge.{Edge}
-use Rattle.gs_machine.specs.Machines.{AutoForm, IsMachine}
+use Rattle.gs_machine.specs.Machines.{AutoForm, IsMachine, states_of}
 use Rattle.gs_compile.specs.Readers.{ReadsItems}
-use Rattle.gs_compile.specs.ItemTables.{item_states, item_table, items_table, items_borders, machine_of}
-use Rattle.gs_compile.proofs.WholeMachines.{item_count, machine_rules, machine_reads}
+use Rattle.gs_compile.specs.ItemTables.{item_states, item_table, items_table, items_borders, machine_of, most_states}
+use Rattle.gs_compile.proofs.WholeMachines.{item_count, machine_rules, machine_reads, some_states, total_states, table_count}
 
 item_end : (table new : List (List Edge)) (item : Item) → IsItem item → new ≡ table ++ item_table item (length table) → length new ≡ length table + item_states item
 item_end table new item i e = ap length e ∙ length-append table (item_table item (length table)) ∙ ap (λ (n : ℕ). length table + n) (item_count item (length table) i)
@@ -51,3 +55,38 @@ whole_rules table borders items a e f = let r = machine_rules items a in rw e (r
 
 pub reads_of : (auto : AutoForm) (items given : List Item) → given ≡ items → All IsItem given → auto ≡ machine_of given → ReadsItems auto items
 reads_of auto items given e a m = rw m (subst (λ (x : List Item). ReadsItems (machine_of given) x) e (machine_reads given a))
+
+-- how many states the machine has
+
+int_few : (greatest : ℕ) → IsItem (Int greatest) → item_states (Int greatest) + 1 ≤ 32 * size_of (Int greatest)
+int_few greatest i = let some = decimal_nonempty greatest (int_bounds greatest i) in omega arith
+
+item_few : (item : Item) → IsItem item → item_states item + 1 ≤ 32 * size_of item
+item_few (Lit literal) i = let some = some_states (Lit literal) i in omega arith
+item_few (Pad n) i = let some = some_states (Pad n) i in omega arith
+item_few (Int greatest) i = int_few greatest i
+item_few (Esc lo hi) i = let some = some_states (Esc lo hi) i in omega arith
+item_few (NumPad bits n) i = let some = some_states (NumPad bits n) i in omega arith
+item_few (Num bits greatest) i = let some = some_states (Num bits greatest) i in omega arith
+item_few (Ascii7 lo hi bits) i = let b = ascii_bounds lo hi bits i in let x = b.0 in let y = b.1 in omega arith
+item_few (Fill a b) i = let some = some_states (Fill a b) i in omega arith
+
+items_few : (items : List Item) → All IsItem items → total_states items ≤ 32 * size_of_all items
+items_few [] h = omega arith
+items_few (item ∷ items) h =
+    let here = item_few item (All-head IsItem item items h) in
+    let rest = items_few items (All-tail IsItem item items h) in
+    omega arith
+
+few_states : (items : List Item) → All IsItem items → total_states items + 1 ≤ most_states items
+few_states [] h = omega arith
+few_states (item ∷ items) h =
+    let here = item_few item (All-head IsItem item items h) in
+    let rest = items_few items (All-tail IsItem item items h) in
+    omega arith
+
+pub few_of : (auto : AutoForm) (items given : List Item) → given ≡ items → All IsItem given → auto ≡ machine_of given → states_of auto ≤ most_states items
+few_of auto items given e a m =
+    let count = table_count given 0 a in
+    let few = few_states given a in
+    rw m (subst (λ (x : List Item). length (items_table given 0) ≤ most_states x) e (omega arith))

@@ -82,7 +82,7 @@ lit_bounds literal h = grind (arith, nat_tests)
 pad_bounds : (n : ℕ) → IsItem (Pad n) → 1 ≤ n
 pad_bounds n h = grind (arith, nat_tests)
 
-some_states : (item : Item) → IsItem item → 1 ≤ item_states item
+pub some_states : (item : Item) → IsItem item → 1 ≤ item_states item
 some_states (Lit literal) i = lit_bounds literal i
 some_states (Pad n) i = pad_bounds n i
 some_states (Int greatest) i = omega arith
@@ -154,7 +154,7 @@ onward_append states all state (x ∷ xs) ys a b =
     let e : state + length (x ∷ xs) ≡ state + 1 + length xs = omega arith in
     (a.0, onward_append states all (state + 1) xs ys a.1 (rw e at b))
 
-abbrev total_states : List Item → ℕ
+abbrev pub total_states : List Item → ℕ
 total_states [] = 0
 total_states (item ∷ items) = item_states item + total_states items
 

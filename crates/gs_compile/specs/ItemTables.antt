@@ -2,6 +2,7 @@
 use Rattle.std.specs.Prelude.{ℕ, ◌+◌, ◌-◌, ◌*◌, List, [], ◌∷◌, ◌++◌, length, decimal}
 use Rattle.gs_grammar.specs.declared.item.Item.{Item}
 use Rattle.gs_grammar.specs.declared.item.Item.TheVariants.{Lit, Pad, Int, Esc, NumPad, Num, Ascii7, Fill}
+use Rattle.gs_grammar.specs.Items.{size_of_all}
 use Rattle.gs_machine.specs.declared.edge.Edge.{Edge}
 use Rattle.gs_machine.specs.Machines.{AutoForm}
 use Rattle.gs_compile.specs.Tables.{lit_table, run_table, fill_table, bound_table, digits_greatest}
@@ -48,3 +49,8 @@ items_borders (item ∷ items) base = (base + item_states item) ∷ items_border
 -- the machine of a list of items
 abbrev pub machine_of : List Item → AutoForm
 machine_of items = record { table = items_table items 0; borders = 0 ∷ items_borders items 0 }
+
+-- the most states of the machine of items: 32 for each symbol of their size, and one where there are no items
+abbrev pub most_states : List Item → ℕ
+most_states [] = 1
+most_states (item ∷ items) = 32 * size_of_all (item ∷ items)

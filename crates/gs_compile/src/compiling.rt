@@ -1,7 +1,8 @@
-ghost use Rattle.std.specs.Prelude.{◌≡◌, All, IfOk};
+ghost use Rattle.std.specs.Prelude.{◌≡◌, ◌≤◌, All, IfOk};
 ghost use Rattle.gs_grammar.specs.Items.{IsItem};
+ghost use Rattle.gs_machine.specs.Machines.{states_of};
 ghost use Rattle.gs_compile.specs.Readers.{ReadsItems};
-ghost use Rattle.gs_compile.specs.ItemTables.{machine_of};
+ghost use Rattle.gs_compile.specs.ItemTables.{machine_of, most_states};
 
 use crate::items::add_item;
 use gs_chars::Memory;
@@ -29,9 +30,11 @@ fn machine_of_items(alloc: Global, items: &[Item]) -> Result<Auto, Memory>
 
 /// The machine of an option: its items one after the other, with a border before each and one behind the last. Exactly one
 /// walk leads from border k to the next on each word of item k, and none on any other list of symbols.
+/// The machine has at most 32 states for each symbol of the option's size, and one where there are no items.
 pub fn compile(alloc: Global, option: &Opt) -> Result<Auto, Memory>
     ensures machine { IfOk result (λ auto. auto ≡ machine_of option.now.items) }
     ensures reads { IfOk result (λ auto. ReadsItems auto option.now.items) }
+    ensures few { IfOk result (λ auto. states_of auto ≤ most_states option.now.items) }
 {
     machine_of_items(alloc, option.items())
 }
