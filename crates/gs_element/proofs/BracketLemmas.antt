@@ -2,6 +2,8 @@
 use Rattle.std.proofs.Common.{◌≡◌, ℕ, ◌<◌, ◌≤◌, ◌==◌, ◌&&◌, not, true, false, List, [], ◌∷◌, ◌++◌, length, drop, Option, Some, None, refl, sym, ap, ◌∙◌, append_assoc, arith, ◌⊎◌, inl, inr, true≢false}
 use Rattle.std.specs.List.{take_while}
 use Rattle.std.proofs.lemmas.Bool.Decides.{nat_tests}
+use Rattle.std.proofs.Math.Seq.{drop-append_seam}
+use Rattle.std.proofs.lemmas.List.{append_cancel_left}
 use Rattle.std.proofs.lemmas.List.Sums.{take_while-cons}
 use Rattle.gs_chars.specs.Characters.{are_digits, are_in_set82, is_digit, is_in_set82}
 use Rattle.gs_chars.proofs.TruthsAndLists.{and_first, and_second, false_from, true_or_false}
@@ -16,7 +18,6 @@ use Rattle.gs_ai.proofs.RowLemmas.{code_digits, code_long}
 use Rattle.gs_ai.proofs.ValueLemmas.{code_of_row, value_in_set82}
 use Rattle.gs_element.specs.Bracketed.{bracketed_element, bracketed_fault, closed_code, code_front, front_fault, is_cut, value_before, written_value, IsBracketedElement}
 use Rattle.gs_element.proofs.JoinLemmas.{IsBlocked, IsGreedy, IsTold}
-use Rattle.gs_element.proofs.RawLemmas.{drop_seam, same_front}
 
 -- ---- codes
 
@@ -44,7 +45,7 @@ closed_told code text some = rw some refl
 pub code_told : (code text : List ℕ) → is_code code ≡ true → code_front (40 ∷ (code ++ 41 ∷ text)) ≡ Some (code, text)
 code_told code text ok =
     let front = digits_before code 41 text (code_digits code ok) no_end in
-    rw (front, drop_seam code (41 ∷ text)) (closed_told code text (some_code code ok))
+    rw (front, drop-append_seam code (41 ∷ text)) (closed_told code text (some_code code ok))
 
 -- ---- values
 
@@ -155,7 +156,7 @@ module _ (rows : List AiRow) (rules : KeepsRules rows) where
   same_rest text p q a b h k =
       let texts = (same_told text p q a b h k).texts in
       let values = same_value text p q a b h k in
-      sym (same_front (written_value p.value) a b (texts ∙ ap (λ (v : List ℕ). written_value v ++ b) (sym values)))
+      sym (append_cancel_left (written_value p.value) a b (texts ∙ ap (λ (v : List ℕ). written_value v ++ b) (sym values)))
 
   pub greedy_told : (p : Pair) (text a : List ℕ) → Element p text a → IsGreedy Element text a
   greedy_told p text a h q b k = inl (same_rest text p q a b h k)

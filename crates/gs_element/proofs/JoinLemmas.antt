@@ -3,11 +3,7 @@ use Rattle.std.proofs.Common.{◌≡◌, ℕ, zero, suc, ◌+◌, ◌-◌, ◌<�
 use Rattle.std.proofs.lemmas.List.Elements.{All-cons, All-nil}
 use Rattle.gs_ai.specs.declared.faults.ElementFault.{ElementFault}
 use Rattle.gs_ai.specs.declared.pair.Pair.{Pair}
-use Rattle.gs_element.specs.Joins.{Joined, IsFirstFault}
-
--- what an element is, by a text, its pair and what follows
-abbrev pub Form : Type 1
-Form = Pair → List ℕ → List ℕ → Type 0
+use Rattle.gs_element.specs.Joins.{Form, Joined, IsFirstFault}
 
 -- no element stands at the front of the text
 abbrev pub IsBlocked : Form → List ℕ → Type 0

@@ -2,7 +2,7 @@
 use Rattle.std.proofs.Common.{◌≡◌, ℕ, zero, suc, ◌+◌, ◌-◌, ◌<◌, ◌≤◌, ◌==◌, not, Bool, true, false, List, [], ◌∷◌, ◌++◌, length, take, drop, position, find, Option, Some, None, IsSome, get_or, slice_get, refl, sym, ap, subst, ◌∙◌, append_assoc, arith, ◌⊎◌, inl, inr, true≢false, length-append}
 use Rattle.std.specs.List.{before_first}
 use Rattle.std.specs.Option.{option_and_then, option_map_or}
-use Rattle.std.proofs.Math.Seq.{take-append_seam}
+use Rattle.std.proofs.Math.Seq.{drop-append_seam, take-append_seam}
 use Rattle.std.proofs.lemmas.Bool.Decides.{nat_tests}
 use Rattle.std.proofs.lemmas.List.{length-drop, length-take, take_all, take-append-drop}
 use Rattle.std.proofs.lemmas.List.Sums.{take_while-cons}
@@ -27,15 +27,8 @@ use Rattle.gs_element.proofs.JoinLemmas.{IsBlocked, IsGreedy, IsTold}
 
 -- ---- codes and values
 
-pub drop_seam : (a b : List ℕ) → drop (length a) (a ++ b) ≡ b
-drop_seam [] b = refl
-drop_seam (c ∷ a) b = drop_seam a b
-
 pub begins_append : (a b : List ℕ) → begins a (a ++ b) ≡ true
 begins_append a b = rw (take-append_seam a b) (same_bytes a)
-
-pub same_front : (a x y : List ℕ) → a ++ x ≡ a ++ y → x ≡ y
-same_front a x y e = sym (drop_seam a x) ∙ ap (drop (length a)) e ∙ drop_seam a y
 
 -- the first character of a code is a digit
 pub record IsDigitFront (code : List ℕ) : Type 0 where
@@ -97,10 +90,10 @@ module _ (rows : List AiRow) (rules : KeepsRules rows) where
       record { row = of.row; found = found_front text of.index of.row of.at front; code_is = of.code_is }
 
   behind_code : (pair : Pair) (text after : List ℕ) (h : Element pair text after) → drop (length pair.code) text ≡ pair.value ++ (h.closing ++ after)
-  behind_code pair text after h = ap (drop (length pair.code)) h.text_is ∙ drop_seam pair.code (pair.value ++ (h.closing ++ after))
+  behind_code pair text after h = ap (drop (length pair.code)) h.text_is ∙ drop-append_seam pair.code (pair.value ++ (h.closing ++ after))
 
   behind_value : (pair : Pair) (text after : List ℕ) (h : Element pair text after) → drop (length pair.value) (drop (length pair.code) text) ≡ h.closing ++ after
-  behind_value pair text after h = ap (drop (length pair.value)) (behind_code pair text after h) ∙ drop_seam pair.value (h.closing ++ after)
+  behind_value pair text after h = ap (drop (length pair.value)) (behind_code pair text after h) ∙ drop-append_seam pair.value (h.closing ++ after)
 
   cut_by : (code value left : List ℕ) (r : Option ℕ) → predefined_length code ≡ r → ((n : ℕ) → predefined_length code ≡ Some n → length code + length value ≡ n) → are_in_set82 value ≡ true → (r ≡ None → is_closed left ≡ true) → option_map_or (λ n. take (n - length code) (value ++ left)) r (before_first (λ c. c == 29) (value ++ left)) ≡ value
   cut_by code value left (Some n) e size plain closed =

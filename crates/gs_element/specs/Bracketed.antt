@@ -1,4 +1,4 @@
--- Element strings as they are printed below a symbol, each code in brackets: GS1 General Specifications, section 4.14
+-- Element strings as they are printed below a symbol, each code in brackets: GS1 General Specifications, section 4
 -- (human readable interpretation). The backslash before a bracket of a value is this project's own.
 use Rattle.std.specs.Prelude.{◌≡◌, ℕ, Bool, true, ◌==◌, ◌&&◌, not, List, [], ◌∷◌, ◌++◌, length, drop, take_while, Option, Some, None, if◌then◌else◌}
 use Rattle.std.specs.List.{flat_map}
@@ -54,7 +54,10 @@ IsBracketed table text pairs = Joined (IsBracketedElement table) pairs text []
 abbrev pub value_before : List ℕ → List ℕ
 value_before [] = []
 value_before (c ∷ []) = if c == 40 then [] else c ∷ []
-value_before (c ∷ d ∷ text) = if c == 40 then [] else if c == 92 && d == 40 then 40 ∷ value_before text else c ∷ value_before (d ∷ text)
+value_before (c ∷ d ∷ text) =
+    if c == 40 then []
+    else if c == 92 && d == 40 then 40 ∷ value_before text
+    else c ∷ value_before (d ∷ text)
 
 -- the code and what follows its closing bracket, which is the first character of what is behind the code
 abbrev pub closed_code : List ℕ → List ℕ → Option (List ℕ × List ℕ)
@@ -64,12 +67,15 @@ closed_code code (c ∷ text) = if not (is_empty code) && (c == 41) then Some (c
 -- the code in brackets at the front of a text, one or more digits, and what follows it
 abbrev pub code_front : List ℕ → Option (List ℕ × List ℕ)
 code_front [] = None
-code_front (c ∷ text) = if c == 40 then closed_code (take_while is_digit text) (drop (length (take_while is_digit text)) text) else None
+code_front (c ∷ text) =
+    if c == 40 then closed_code (take_while is_digit text) (drop (length (take_while is_digit text)) text)
+    else None
 
 -- no code at the front, at the place of its bracket; or a fault of its value, at the place of the code
 abbrev pub front_fault : List AiRow → Option (List ℕ × List ℕ) → Option ElementFault
 front_fault table None = Some (record { at = 0; why = Bracket })
-front_fault table (Some (code, text)) = option_map (λ fault. record { at = 1; why = Value fault }) (value_fault table code (value_before text))
+front_fault table (Some (code, text)) =
+    option_map (λ fault. record { at = 1; why = Value fault }) (value_fault table code (value_before text))
 
 -- the fault at the front of a text
 abbrev pub bracketed_fault : List AiRow → List ℕ → Option ElementFault
@@ -78,4 +84,5 @@ bracketed_fault table (c ∷ text) = front_fault table (code_front (c ∷ text))
 
 -- the fault of a text that no pairs are read from
 abbrev pub IsBracketedFault : List AiRow → List ℕ → ElementFault → Type 0
-IsBracketedFault table text fault = IsFirstFault (IsBracketedElement table) (bracketed_fault table) text text fault
+IsBracketedFault table text fault =
+    IsFirstFault (IsBracketedElement table) (bracketed_fault table) text text fault

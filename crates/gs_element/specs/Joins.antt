@@ -3,21 +3,27 @@ use Rattle.std.specs.Prelude.{◌≡◌, ℕ, ◌+◌, ◌≤◌, List, [], ◌�
 use Rattle.gs_ai.specs.declared.faults.ElementFault.{ElementFault}
 use Rattle.gs_ai.specs.declared.pair.Pair.{Pair}
 
--- The text is an element of each pair in turn, and then the rest. What an element of a pair is, with the text that
--- follows it, is the first argument.
-abbrev pub Joined : (Pair → List ℕ → List ℕ → Type 0) → List Pair → List ℕ → List ℕ → Type 0
+-- what an element is, by a text, its pair and the text that follows it
+abbrev pub Form : Type 1
+Form = Pair → List ℕ → List ℕ → Type 0
+
+-- the text is an element of each pair in turn, and then the rest
+abbrev pub Joined : Form → List Pair → List ℕ → List ℕ → Type 0
 Joined Element [] text rest = text ≡ rest
-Joined Element (pair ∷ pairs) text rest = (after : List ℕ) × Element pair text after × Joined Element pairs after rest
+Joined Element (pair ∷ pairs) text rest =
+    (after : List ℕ) × Element pair text after × Joined Element pairs after rest
 
 -- The fault of a text that is no join of elements stands after the longest initial part that is one: it is the fault that
 -- the rest has at its front. `whole` is the text as it was given, of which the text is the end.
-pub record IsFirstFault (Element : Pair → List ℕ → List ℕ → Type 0) (fault_of : List ℕ → Option ElementFault) (whole text : List ℕ) (fault : ElementFault) : Type 0 where
+pub record IsFirstFault (Element : Form) (fault_of : List ℕ → Option ElementFault) (whole text : List ℕ)
+    (fault : ElementFault) : Type 0 where
   -- an initial part that is a join, and what is left
   pub pairs : List Pair
   pub rest : List ℕ
   pub joined : Joined Element pairs text rest
   -- no initial part that is a join is longer
-  pub longest : (others : List Pair) (after : List ℕ) → Joined Element others text after → length rest ≤ length after
+  pub longest : (others : List Pair) (after : List ℕ) → Joined Element others text after
+      → length rest ≤ length after
   -- the fault of the rest, whose place counts from the front of the rest
   pub own : ElementFault
   pub at_front : fault_of rest ≡ Some own

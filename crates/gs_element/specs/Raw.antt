@@ -1,5 +1,5 @@
--- Element strings as they stand in a symbol: GS1 General Specifications, sections 5.1 (symbology identifiers), 7.8.5
--- (predefined lengths) and 7.8.6 (FNC1, which is transmitted as the byte 29).
+-- Element strings as they stand in a symbol: GS1 General Specifications, sections 5.1 (symbology identifiers) and 7.8
+-- (predefined lengths, and FNC1, which is transmitted as the byte 29).
 use Rattle.std.specs.Prelude.{◌≡◌, ℕ, ◌+◌, ◌-◌, ◌==◌, List, [], ◌∷◌, ◌++◌, length, take, drop, find, Option, Some, None, IsSome, is_some, if◌then◌else◌, codes, ◌⊎◌}
 use Rattle.std.specs.List.{before_first}
 use Rattle.std.specs.Option.{option_map, option_map_or}
@@ -15,18 +15,20 @@ use Rattle.gs_ai.specs.Values.{value_fault}
 use Rattle.gs_ident.specs.Identities.{IsInOrder}
 use Rattle.gs_element.specs.Joins.{Joined, IsFirstFault}
 
--- what a reader may send in front: the symbology identifier of GS1-128, GS1 DataBar, GS1 DataMatrix and GS1 QR Code, or the FNC1 alone
+-- what a reader may send in front: the symbology identifier of GS1-128, GS1 DataBar, GS1 DataMatrix or GS1 QR Code, or the
+-- FNC1 alone
 abbrev pub identifiers : List (List ℕ)
 identifiers = codes "]C1" ∷ codes "]e0" ∷ codes "]d2" ∷ codes "]Q3" ∷ (29 ∷ []) ∷ []
 
 -- the text without one of these in front
 unfoldable pub body_of : List ℕ → List ℕ
-body_of text = option_map_or (λ front. drop (length front) text) (find (λ front. begins front text) identifiers) text
+body_of text =
+    option_map_or (λ front. drop (length front) text) (find (λ front. begins front text) identifiers) text
 
 -- ---- what is read
 
--- The text is an element of the pair and then `after`: code and value, and behind them one byte 29 or nothing. Nothing stands
--- behind them only where the code has a predefined length or the text ends there.
+-- The text is an element of the pair and then `after`: code and value, and behind them one byte 29 or nothing. Nothing
+-- stands behind them only where the code has a predefined length or the text ends there.
 pub record IsRawElement (table : List AiRow) (pair : Pair) (text after : List ℕ) : Type 0 where
   pub closing : List ℕ
   pub text_is : text ≡ pair.code ++ (pair.value ++ (closing ++ after))
@@ -42,19 +44,23 @@ IsRaw table text pairs = Joined (IsRawElement table) pairs (body_of text) []
 
 -- ---- faults
 
--- the value that is cut behind a code: what the predefined length leaves to it, or all before the next byte 29; all that is left where that is less
+-- the value that is cut behind a code: what the predefined length leaves to it, or all before the next byte 29; all that
+-- is left where that is less
 abbrev pub raw_value : List ℕ → List ℕ → List ℕ
-raw_value code after = option_map_or (λ n. take (n - length code) after) (predefined_length code) (before_first (λ c. c == 29) after)
+raw_value code after =
+    option_map_or (λ n. take (n - length code) after) (predefined_length code) (before_first (λ c. c == 29) after)
 
 -- the fault of the value that is cut behind the code that begins the text, or `Unknown` where none does
 abbrev pub raw_value_fault : List AiRow → List ℕ → Option ValueFault
 raw_value_fault table text =
-    option_map_or (λ row. value_fault table row.code (raw_value row.code (drop (length row.code) text))) (find (λ row. begins row.code text) table) (Some Unknown)
+    option_map_or (λ row. value_fault table row.code (raw_value row.code (drop (length row.code) text)))
+    (find (λ row. begins row.code text) table) (Some Unknown)
 
 -- the fault at the front of a text, which stands at the place of the code
 abbrev pub raw_fault : List AiRow → List ℕ → Option ElementFault
 raw_fault table [] = None
-raw_fault table (c ∷ text) = option_map (λ fault. record { at = 0; why = Value fault }) (raw_value_fault table (c ∷ text))
+raw_fault table (c ∷ text) =
+    option_map (λ fault. record { at = 0; why = Value fault }) (raw_value_fault table (c ∷ text))
 
 -- the fault of a text that no pairs are read from
 abbrev pub IsRawFault : List AiRow → List ℕ → ElementFault → Type 0
@@ -86,4 +92,5 @@ separator code = if is_some (predefined_length code) then [] else 29 ∷ []
 abbrev pub raw_text : List Pair → List ℕ
 raw_text [] = []
 raw_text (pair ∷ []) = pair.code ++ pair.value
-raw_text (pair ∷ next ∷ pairs) = pair.code ++ (pair.value ++ (separator pair.code ++ raw_text (next ∷ pairs)))
+raw_text (pair ∷ next ∷ pairs) =
+    pair.code ++ (pair.value ++ (separator pair.code ++ raw_text (next ∷ pairs)))

@@ -10,7 +10,8 @@ separator_of unclosed = if unclosed then 29 ∷ [] else []
 -- the elements of the pairs behind an element that is open or not
 abbrev pub raw_behind : Bool → List Pair → List ℕ
 raw_behind unclosed [] = []
-raw_behind unclosed (pair ∷ pairs) = separator_of unclosed ++ (pair.code ++ (pair.value ++ raw_behind (is_none (predefined_length pair.code)) pairs))
+raw_behind unclosed (pair ∷ pairs) =
+    separator_of unclosed ++ (pair.code ++ (pair.value ++ raw_behind (is_none (predefined_length pair.code)) pairs))
 
 -- the last element is open, or that before them where there are none
 abbrev pub last_open : Bool → List Pair → Bool

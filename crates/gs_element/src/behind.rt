@@ -47,7 +47,8 @@ struct Next<'a> {
 /// The next character of a value, and `None` where the value ends: at the end of the text, or at an opening bracket
 /// without a backslash before it. A backslash before an opening bracket is no character.
 fn next_character(text: &[u8]) -> Option<Next<'_>>
-    ensures value { IfSome result (λ next. value_before text.now ≡ next.character ∷ value_before next.rest.now) }
+    ensures value { IfSome result (λ next. value_before text.now
+        ≡ next.character ∷ value_before next.rest.now) }
     ensures text { IfSome result (λ next. text.now ≡ written_character next.character ++ next.rest.now) }
     ensures none { IfNone result ((value_before text.now ≡ []) × (is_cut text.now ≡ true)) }
 {

@@ -11,7 +11,7 @@ use gs_chars::Text;
 use std::alloc::Global;
 
 /// The pairs of an element string in the printed form: for each element `(`, its code, `)` and its value, in which `\(`
-/// stands for an opening bracket (GS1 General Specifications, section 4.14; the backslash is this project's own). An empty
+/// stands for an opening bracket (GS1 General Specifications, section 4; the backslash is this project's own). An empty
 /// text has no pairs.
 ///
 /// The fault is that at the smallest place: `Bracket` where `(` has to stand or where no digits and `)` follow one; at the

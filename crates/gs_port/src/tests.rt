@@ -13,9 +13,12 @@ fn the_standard_streams_answer(rt: HostRuntime) {
     assert_ne!(rt; source.read(&mut block), ReadAnswer::Failed);
 }
 
+/// The most bytes that `read_file` may be asked for.
+const LARGEST: usize = 16_777_216;
+
 /// What reading a file answers: the number of its bytes, or that it failed.
 fn outcome(alloc: Global, files: &mut HostFiles, name: &str, max: usize) -> (usize, bool) {
-    match read_file(alloc, files, name, max) {
+    match read_file(alloc, files, name, max.min(LARGEST)) {
         Ok(text) => (text.as_bytes().len(), false),
         Err(FileFault::Over(text)) => (text.as_bytes().len(), false),
         Err(FileFault::Failed) => (0, true),

@@ -1,0 +1,9 @@
+pub mod CutLemmas
+pub mod FreeBytes
+pub mod Judged
+pub mod KeyPaths
+pub mod OrderLemmas
+pub mod SpelledPairs
+pub mod Targets
+pub mod WrittenLinks
+pub mod AnswerLaws

@@ -1,0 +1,82 @@
+-- Codes in the order of a list, and escapes, one after the other.
+use Rattle.std.proofs.Common.{◌≡◌, ℕ, zero, suc, ◌+◌, ◌≤◌, ◌<◌, ◌==◌, ◌&&◌, ◌||◌, not, Bool, true, false, List, [], ◌∷◌, length, get_or, drop, bytes_eq, refl, sym, ap, ◌∙◌, arith, add-one, drop-cons, true≢false}
+use Rattle.std.proofs.lemmas.Bool.Decides.{nat_tests}
+use Rattle.gs_dlink.specs.Paths.{codes_of, is_code_at, is_in_order}
+use Rattle.gs_dlink.specs.Uris.{Written}
+use Rattle.gs_dlink.specs.Values.{are_escapes, begins_hex}
+
+-- ---- codes
+
+step_true : (first : List ℕ) (list : List (List ℕ)) (pairs : List Written) (n : ℕ) → is_code_at pairs n first ≡ true → is_in_order (first ∷ list) (codes_of (drop n pairs)) ≡ is_in_order list (codes_of (drop (n + 1) pairs))
+step_true first list [] n h = absurd (true≢false (sym h))
+step_true first list (w ∷ pairs) zero h = let t : bytes_eq first w.code ≡ true = h in rw t refl
+step_true first list (w ∷ pairs) (suc n) h = let e : suc n + 1 ≡ suc (n + 1) = omega arith in rw e (step_true first list pairs n h)
+
+step_false : (first : List ℕ) (list : List (List ℕ)) (pairs : List Written) (n : ℕ) → is_code_at pairs n first ≡ false → is_in_order (first ∷ list) (codes_of (drop n pairs)) ≡ is_in_order list (codes_of (drop n pairs))
+step_false first [] [] zero h = refl
+step_false first (l ∷ list) [] zero h = refl
+step_false first [] [] (suc n) h = refl
+step_false first (l ∷ list) [] (suc n) h = refl
+step_false first list (w ∷ pairs) zero h = let t : bytes_eq first w.code ≡ false = h in rw t refl
+step_false first list (w ∷ pairs) (suc n) h = step_false first list pairs n h
+
+at_end : (pairs : List Written) (n : ℕ) → n ≤ length pairs → (n == length pairs) ≡ is_in_order [] (codes_of (drop n pairs))
+at_end [] zero h = refl
+at_end [] (suc n) h = absurd (omega arith)
+at_end (w ∷ pairs) zero h = let e : (0 == suc (length pairs)) ≡ false = grind (arith, nat_tests) in e
+at_end (w ∷ pairs) (suc n) h = let e : (suc n == suc (length pairs)) ≡ (n == length pairs) = grind (arith, nat_tests) in e ∙ at_end pairs n (omega arith)
+
+-- the codes from `next` on have to stand in the list from `index` on
+pub record Ordered (list : List (List ℕ)) (pairs : List Written) (index next : ℕ) : Type 0 where
+  pub within : next ≤ length pairs
+  pub left : is_in_order list (codes_of pairs) ≡ is_in_order (drop index list) (codes_of (drop next pairs))
+
+pub order_begins : (list : List (List ℕ)) (pairs : List Written) → Ordered list pairs 0 0
+order_begins list pairs = record { within = omega arith; left = refl }
+
+code_within : (pairs : List Written) (n : ℕ) (code : List ℕ) → is_code_at pairs n code ≡ true → n < length pairs
+code_within [] n code h = absurd (true≢false (sym h))
+code_within (w ∷ pairs) zero code h = omega arith
+code_within (w ∷ pairs) (suc n) code h = omega (arith, code_within pairs n code h)
+
+module _ (list : List (List ℕ)) (pairs : List Written) (index next : ℕ) (first : List ℕ) (ordered : Ordered list pairs index next) (low : index < length list) (here : first ≡ get_or list index first) where
+  cut : drop index list ≡ first ∷ drop (index + 1) list
+  cut = rw add-one (drop-cons list index first low ∙ ap (λ c. c ∷ drop (suc index) list) (sym here))
+
+  pub code_met : is_code_at pairs next first ≡ true → Ordered list pairs (index + 1) (next + 1)
+  code_met h = record { within = omega (arith, code_within pairs next first h); left = ordered.left ∙ rw cut (step_true first (drop (index + 1) list) pairs next h) }
+
+  pub code_passed : is_code_at pairs next first ≡ false → Ordered list pairs (index + 1) next
+  code_passed h = record { within = ordered.within; left = ordered.left ∙ rw cut (step_false first (drop (index + 1) list) pairs next h) }
+
+drop_all : {X : Type 0} (xs : List X) (n : ℕ) → length xs ≤ n → drop n xs ≡ []
+drop_all [] zero h = refl
+drop_all [] (suc n) h = refl
+drop_all (x ∷ xs) zero h = absurd (omega arith)
+drop_all (x ∷ xs) (suc n) h = drop_all xs n (omega arith)
+
+pub order_ends : (list : List (List ℕ)) (pairs : List Written) (index next size : ℕ) → Ordered list pairs index next → length list ≤ index → length pairs ≡ size → (next == size) ≡ is_in_order list (codes_of pairs)
+order_ends list pairs index next size ordered all e = ap (λ (n : ℕ). next == n) (sym e) ∙ at_end pairs next ordered.within ∙ sym (ordered.left ∙ rw (drop_all list index all) refl)
+
+-- ---- escapes
+
+escape_at : (text : List ℕ) (i : ℕ) → i < length text → are_escapes (drop i text) ≡ ((not (get_or text i 0 == 37) || begins_hex (drop (i + 1) text)) && are_escapes (drop (i + 1) text))
+escape_at text i low = rw (drop-cons text i 0 low, add-one) refl
+
+pub escape_missing : (text : List ℕ) (i : ℕ) → i < length text → get_or text i 0 ≡ 37 → begins_hex (drop (i + 1) text) ≡ false → are_escapes text ≡ are_escapes (drop i text) → false ≡ are_escapes text
+escape_missing text i low percent other so_far = sym (so_far ∙ escape_at text i low ∙ rw (percent, other) refl)
+
+pub plain_passed : (text : List ℕ) (i : ℕ) → i < length text → (get_or text i 0 ≡ 37 → ⊥) → are_escapes text ≡ are_escapes (drop i text) → are_escapes text ≡ are_escapes (drop (i + 1) text)
+plain_passed text i low plain so_far =
+    let t : (get_or text i 0 == 37) ≡ false = grind (arith, nat_tests) in
+    so_far ∙ escape_at text i low ∙ rw t refl
+
+pub escape_passed : (text : List ℕ) (i : ℕ) → i < length text → begins_hex (drop (i + 1) text) ≡ true → are_escapes text ≡ are_escapes (drop i text) → are_escapes text ≡ are_escapes (drop (i + 1) text)
+escape_passed text i low hex so_far = so_far ∙ escape_at text i low ∙ rw hex (by (not (get_or text i 0 == 37)))
+  where
+    by : (b : Bool) → ((b || true) && are_escapes (drop (i + 1) text)) ≡ are_escapes (drop (i + 1) text)
+    by true = refl
+    by false = refl
+
+pub escapes_end : (text : List ℕ) (i : ℕ) → length text ≤ i → are_escapes text ≡ are_escapes (drop i text) → true ≡ are_escapes text
+escapes_end text i all so_far = sym (so_far ∙ rw (drop_all text i all) refl)

@@ -1,0 +1,7 @@
+use Rattle.gs_dlink.specs.Values.{written_of}
+use Rattle.std.proofs.Common.{map}
+use Rattle.gs_dlink.proofs.OrderLemmas.{Ordered}
+use Rattle.gs_dlink.proofs.path.are_in_order.Given as goal
+
+abbrev pub invariant-loop-code : goal.invariant-loop-code
+invariant-loop-code l = Ordered l.list (map written_of l.pairs) l.code-index l.next

@@ -1,0 +1,5 @@
+pub mod Uris
+pub mod Paths
+pub mod Values
+pub mod Answers
+pub mod Stems

@@ -1,0 +1,108 @@
+ghost use Rattle.std.specs.Prelude.{◌≡◌, ◌+◌, ◌<◌, ◌^◌, ◌∷◌, true, IfOk, MatchOption, None, Some, map, option_map, length, reverse};
+ghost use Rattle.gs_ai.specs.Tables.{is_key_of};
+ghost use Rattle.gs_dlink.specs.Paths.{codes_of, is_code_at, is_in_order, key_path, listed_of, path_or};
+ghost use Rattle.gs_dlink.specs.Uris.{LastSlash, NoSlash, segments};
+ghost use Rattle.gs_dlink.specs.Values.{written_of};
+
+use crate::written::WrittenPair;
+use gs_ai::AiTable;
+use gs_chars::{Memory, Text};
+use memchr::memrchr;
+use std::alloc::Global;
+
+/// The place of the last slash.
+#[tactic(auto, using(crate::proofs::CutLemmas::slash_answer))]
+fn last_slash(text: &[u8]) -> Option<usize>
+    ensures { MatchOption result (NoSlash text.now) (LastSlash text.now) }
+{
+    memrchr(b'/', text)
+}
+
+/// Whether the pair at an index has the code.
+fn is_code_at(pairs: &[WrittenPair<'_>], index: usize, code: &[u8]) -> bool
+    ensures { result ≡ is_code_at (map written_of pairs.now) index code.now }
+{
+    match pairs.get(index) {
+        Some(pair) => code == pair.code,
+        None => false,
+    }
+}
+
+/// Whether the codes of the pairs stand in the list in its order, each at most once.
+fn are_in_order(list: &[Text], pairs: &[WrittenPair<'_>]) -> bool
+    ensures { result ≡ is_in_order list.now (codes_of (map written_of pairs.now)) }
+{
+    let mut next = 0;
+    for code in list {
+        if is_code_at(pairs, next, code.as_bytes()) {
+            next += 1;
+        }
+    }
+    next == pairs.len()
+}
+
+/// The codes that the row of a key lists as qualifiers.
+fn listed<'a>(table: &'a AiTable, key: &[u8]) -> &'a [Text]
+    ensures { result.now ≡ listed_of table.now key.now }
+{
+    match table.row_with(key) {
+        Some(row) => row.qualifiers.items(),
+        None => &[],
+    }
+}
+
+/// The key path of a key and of the pairs behind it, last pair first, where they are one.
+fn with_key<'a>(
+    table: &AiTable,
+    key: WrittenPair<'a>,
+    pairs: Vec<WrittenPair<'a>>,
+) -> Result<Option<Vec<WrittenPair<'a>>>, Memory>
+    requires { is_key_of table.now key.code.now ≡ true }
+    ensures { IfOk result (λ found. option_map (λ path. map written_of path.items) found
+        ≡ path_or table.now (Some (written_of key.entry ∷ map written_of (reverse pairs.entry.items))) None) }
+{
+    let mut path = pairs;
+    path.reverse();
+    if !are_in_order(listed(table, key.code), path.as_slice()) {
+        return Ok(None);
+    }
+    path.insert(0, key)?;
+    Ok(Some(path))
+}
+
+/// The pairs of the key path in which the path ends: the segments are looked at from the end, two at a time, up to the code
+/// of a key.
+pub(crate) fn key_path<'a>(
+    alloc: Global,
+    table: &AiTable,
+    at: usize,
+    path: &'a [u8],
+) -> Result<Option<Vec<WrittenPair<'a>>>, Memory>
+    requires { at + length path.now < 2 ^ 63 }
+    ensures { IfOk result (λ pairs. option_map (λ found. map written_of found.items) pairs
+        ≡ key_path table.now (segments at path.now)) }
+{
+    // For the proof alone: the rows keep the rules.
+    let _ = table.rows();
+    let mut pairs = Vec::new(alloc);
+    let mut front = path;
+    loop {
+        let Some(value) = last_slash(front) else {
+            return Ok(None);
+        };
+        let before = &front[..value];
+        let Some(code) = last_slash(before) else {
+            return Ok(None);
+        };
+        let pair = WrittenPair {
+            at: at + code + 1,
+            code: &before[code + 1..],
+            value: &front[value + 1..],
+        };
+        if table.is_key(pair.code) {
+            return with_key(table, pair, pairs);
+        }
+        pairs.push(pair)?;
+        front = &before[..code];
+    }
+}

@@ -1,0 +1,123 @@
+ghost use Rattle.std.specs.Prelude.{◌≡◌, ◌≢◌, All, ◌+◌, ◌<◌, ◌≤◌, ◌^◌, IfOk, IfErr, IfSome, IsTrue, Some, map, length};
+ghost use Rattle.std.specs.Char.{to_ascii_lowercase};
+ghost use Rattle.gs_ident.specs.Identities.{IsInOrder};
+ghost use Rattle.gs_dlink.specs.Answers.{IsLink, IsTarget, OrMemory, is_rooted, link_fault, target_answer, target_fault, written_answer};
+ghost use Rattle.gs_dlink.specs.Uris.{authority_end, has_scheme, scheme_end};
+ghost use Rattle.gs_dlink.specs.Values.{written_of};
+
+use crate::cuts::{authority_len, place_of};
+use crate::fault::LinkFault;
+use crate::path::key_path;
+use crate::query::{behind, push_query};
+use crate::value::read_pair;
+use crate::written::WrittenPair;
+use gs_ai::{AiTable, Pair};
+use gs_chars::List;
+use std::alloc::Global;
+
+/// The pairs that a link names: those of its key path, then those of its query (GS1 Digital Link URI Syntax, section 3). The
+/// first fault is the answer: `NotHttp`, `NoKeyPath`, then pair by pair `Unknown`, `Escape` and the faults of the value, at
+/// the place of the pair's code in the text. `Memory` may come in place of any answer.
+pub fn read_link(alloc: Global, table: &AiTable, uri: &[u8]) -> Result<Vec<Pair>, LinkFault>
+    ensures pairs { IfOk result (λ pairs. IsLink table.now uri.now pairs.items) }
+    ensures in_order { IfOk result (λ pairs. All (IsInOrder table.now) pairs.items) }
+    ensures fault { IfErr result (λ e. e ≢ LinkFault.Memory → link_fault table.now uri.now ≡ Some e) }
+{
+    let Some(at) = authority_end(uri) else {
+        return Err(LinkFault::NotHttp);
+    };
+    let pairs = read_at(alloc, table, at, &uri[at..])?;
+    Ok(pairs.into_vec())
+}
+
+/// The same for the target of a request: a path with its query (RFC 9112, section 3.2.1). It never answers `NotHttp`.
+pub fn read_target(alloc: Global, table: &AiTable, target: &[u8]) -> Result<Vec<Pair>, LinkFault>
+    ensures pairs { IfOk result (λ pairs. IsTarget table.now target.now pairs.items) }
+    ensures in_order { IfOk result (λ pairs. All (IsInOrder table.now) pairs.items) }
+    ensures fault { IfErr result (λ e. e ≢ LinkFault.Memory
+        → target_fault table.now target.now ≡ Some e) }
+{
+    let pairs = read_at(alloc, table, 0, target)?;
+    Ok(pairs.into_vec())
+}
+
+/// Whether the text begins with the scheme, whose letters are lower case, in letters of either case.
+fn has_scheme(text: &[u8], scheme: &[u8]) -> bool
+    requires { map to_ascii_lowercase scheme.now ≡ scheme.now }
+    ensures test { result ≡ has_scheme scheme.now text.now }
+    ensures within { IsTrue result → length scheme.now ≤ length text.now }
+{
+    scheme.len() <= text.len() && text[..scheme.len()].eq_ignore_ascii_case(scheme)
+}
+
+/// The place behind `http://` or `https://`, with which the text begins.
+fn scheme_end(text: &[u8]) -> Option<usize>
+    ensures end { result ≡ scheme_end text.now }
+    ensures within { IfSome result (λ end. end ≤ length text.now) }
+{
+    if has_scheme(text, b"http://") {
+        Some(7)
+    } else if has_scheme(text, b"https://") {
+        Some(8)
+    } else {
+        None
+    }
+}
+
+/// The place behind the authority of a text that begins with `http://` or `https://` and an authority.
+#[tactic(auto, unfolding(crate::specs::Uris::authority_end))]
+fn authority_end(text: &[u8]) -> Option<usize>
+    ensures end { result ≡ authority_end text.now }
+    ensures within { IfSome result (λ end. end ≤ length text.now) }
+{
+    let scheme = scheme_end(text)?;
+    let len = authority_len(&text[scheme..]);
+    if len == 0 { None } else { Some(scheme + len) }
+}
+
+/// Whether the path is empty or begins with a slash.
+fn is_rooted(path: &[u8]) -> bool
+    ensures { result ≡ is_rooted path.now }
+{
+    match path {
+        [first, ..] => *first == b'/',
+        [] => true,
+    }
+}
+
+/// The pairs of a path with its query that stand at a place in the whole text, or the first fault.
+#[tactic(auto, unfolding(crate::specs::Answers::target_answer))]
+fn read_at(alloc: Global, table: &AiTable, at: usize, text: &[u8]) -> Result<List<Pair>, LinkFault>
+    requires { at + length text.now < 2 ^ 63 }
+    ensures { OrMemory result (target_answer table.now at text.now) }
+{
+    let text = &text[..place_of(text, b'#')];
+    let end = place_of(text, b'?');
+    let path = &text[..end];
+    if !is_rooted(path) {
+        return Err(LinkFault::NoKeyPath);
+    }
+    let Some(mut written) = key_path(alloc, table, at, path)? else {
+        return Err(LinkFault::NoKeyPath);
+    };
+    push_query(&mut written, at + end + 1, behind(text, end))?;
+    read_pairs(alloc, table, written.as_slice())
+}
+
+/// The pairs that are written so, or the first fault of one.
+fn read_pairs(
+    alloc: Global,
+    table: &AiTable,
+    written: &[WrittenPair<'_>],
+) -> Result<List<Pair>, LinkFault>
+    ensures { OrMemory result (written_answer table.now (map written_of written.now)) }
+{
+    let mut pairs = Vec::new(alloc);
+    for pair in written {
+        let pair = read_pair(alloc, table, pair)?;
+        let Ok(()) = pairs.push(pair) else {
+            return Err(LinkFault::Memory);
+        };
+    }
+    Ok(List::from_vec(pairs))
+}

@@ -1,0 +1,86 @@
+ghost use Rattle.std.specs.Prelude.{◌≡◌, IfOk};
+ghost use Rattle.gs_dlink.specs.Answers.{OrMemory};
+ghost use Rattle.gs_chars.specs.Characters.{are_digits};
+ghost use Rattle.percent_encoding.specs.Percent.{percent_decode};
+ghost use Rattle.gs_dlink.specs.Values.{is_short_gtin, padded, pair_answer, written_of};
+
+use crate::escapes::are_escapes;
+use crate::fault::LinkFault;
+use crate::written::WrittenPair;
+use gs_ai::{AiTable, ElementFault, ElementWhy, Pair, ValueFault};
+use gs_chars::{Memory, Text};
+use percent_encoding::percent_decode;
+use std::alloc::Global;
+
+/// The zeros that a GTIN of 8 digits lacks.
+const ZEROS: &[u8] = b"000000";
+
+/// Whether each byte is a digit.
+pub(crate) fn are_digits(text: &[u8]) -> bool
+    ensures { result ≡ are_digits text.now }
+{
+    text.iter().all(|c| c.is_ascii_digit())
+}
+
+/// Whether the text is a GTIN of 8, 12 or 13 digits.
+fn is_short_gtin(text: &[u8]) -> bool
+    ensures { result ≡ is_short_gtin text.now }
+{
+    (text.len() == 8 || text.len() == 12 || text.len() == 13) && are_digits(text)
+}
+
+/// The text without its escapes.
+fn decoded(alloc: Global, text: &[u8]) -> Result<Vec<u8>, Memory>
+    ensures { IfOk result (λ out. out.items ≡ percent_decode text.now) }
+{
+    let mut out = Vec::new(alloc);
+    percent_decode(text).append_to(&mut out)?;
+    Ok(out)
+}
+
+/// The value with zeros in front up to 14 digits, where it is a short GTIN and its row allows one.
+fn padded(alloc: Global, short: bool, value: Vec<u8>) -> Result<Vec<u8>, Memory>
+    ensures { IfOk result (λ out. out.items ≡ padded short value.items) }
+{
+    if !short || !is_short_gtin(value.as_slice()) {
+        return Ok(value);
+    }
+    let mut out = Vec::from_slice(alloc, &ZEROS[..14 - value.len()])?;
+    out.extend_from_slice(value.as_slice())?;
+    Ok(out)
+}
+
+/// The fault of a pair at the place of its code.
+fn fault_of(written: &WrittenPair<'_>, why: ElementWhy) -> LinkFault
+    ensures { result ≡ LinkFault.Element (record { at = written.now.at; why = why }) }
+{
+    LinkFault::Element(ElementFault {
+        at: written.at,
+        why,
+    })
+}
+
+/// The pair that is written so, or its first fault: `Unknown`, `Escape`, a fault of the value.
+pub(crate) fn read_pair(
+    alloc: Global,
+    table: &AiTable,
+    written: &WrittenPair<'_>,
+) -> Result<Pair, LinkFault>
+    ensures { OrMemory result (pair_answer table.now (written_of written.now)) }
+{
+    let Some(row) = table.row_with(written.code) else {
+        return Err(fault_of(written, ElementWhy::Value(ValueFault::Unknown)));
+    };
+    if !are_escapes(written.value) {
+        return Err(fault_of(written, ElementWhy::Escape));
+    }
+    let value = decoded(alloc, written.value)?;
+    let value = padded(alloc, row.short, value)?;
+    match table.value_ok(written.code, value.as_slice()) {
+        Ok(()) => Ok(Pair {
+            code: Text::from_bytes(alloc, written.code)?,
+            value: Text::from_vec(value),
+        }),
+        Err(fault) => Err(fault_of(written, ElementWhy::Value(fault))),
+    }
+}

@@ -1,0 +1,98 @@
+-- Answers to some of the lines of an input.
+use Rattle.std.proofs.Common.{◌≡◌, ℕ, ◌||◌, Bool, false, List, [], ◌∷◌, ◌++◌, length, take, refl, sym, ◌∙◌, ap, arith, append_assoc, append-nil}
+use Rattle.std.specs.List.{list_any}
+use Rattle.std.proofs.lemmas.List.{take_all}
+use Rattle.std.proofs.lemmas.List.Folds.{list_any-append}
+use Rattle.std.proofs.lemmas.List.Concat.{flat_map-append}
+use Rattle.gs_chars.proofs.TruthsAndLists.{or_false}
+use Rattle.gs_lines.specs.Lines.{lines_of, text_of}
+use Rattle.gs_lines.specs.Outputs.{AddsAnswer, AnswersEach, LineAnswer, no_line, one_line, printed, is_refused, printed_lines, AnswersAll, AnswersFront, BeginsAnswers}
+
+-- lines and more lines have their answers
+pub each-append : {Is : List ℕ → LineAnswer → Type 0} (lines more : List (List ℕ)) (answers others : List LineAnswer) → AnswersEach Is lines answers → AnswersEach Is more others → AnswersEach Is (lines ++ more) (answers ++ others)
+each-append [] more [] others no_line b = b
+each-append [] more (answer ∷ answers) others a b = elim a [ ]
+each-append (line ∷ lines) more [] others a b = elim a [ ]
+each-append (line ∷ lines) more (answer ∷ answers) others (one_line _ _ _ _ first rest) b = one_line line answer (lines ++ more) (answers ++ others) first (each-append lines more answers others rest b)
+
+pub printed_lines-append : (answers others : List LineAnswer) → printed_lines (answers ++ others) ≡ printed_lines answers ++ printed_lines others
+printed_lines-append answers others = flat_map-append printed answers others
+
+-- nothing was done at the start
+pub front_start : {Is : List ℕ → LineAnswer → Type 0} (bytes before : List ℕ) → AnswersFront Is bytes bytes before before false
+front_start bytes before = record { lines = []; answers = []; split = refl; each = no_line; written = sym (append-nil before); told = refl }
+
+-- one part was done after another
+pub front_join : {Is : List ℕ → LineAnswer → Type 0} (bytes mid rest a b c : List ℕ) (first second : Bool) → AnswersFront Is bytes mid a b first → AnswersFront Is mid rest b c second → AnswersFront Is bytes rest a c (first || second)
+front_join bytes mid rest a b c first second x y = record {
+  lines = x.lines ++ y.lines;
+  answers = x.answers ++ y.answers;
+  split = x.split ∙ ap (λ ls. x.lines ++ ls) y.split ∙ sym (append_assoc x.lines y.lines (lines_of rest));
+  each = each-append x.lines y.lines x.answers y.answers x.each y.each;
+  written = y.written ∙ ap (λ w. w ++ printed_lines y.answers) x.written ∙ append_assoc a (printed_lines x.answers) (printed_lines y.answers) ∙ ap (λ w. a ++ w) (sym (printed_lines-append x.answers y.answers));
+  told = ap (λ r. r || second) x.told ∙ ap (λ r. list_any is_refused x.answers || r) y.told ∙ sym (list_any-append is_refused x.answers y.answers);
+}
+
+-- one line was done
+pub front_line : {Is : List ℕ → LineAnswer → Type 0} (rest behind line before now : List ℕ) (answer : LineAnswer) → lines_of rest ≡ line ∷ lines_of behind → Is (text_of line) answer → now ≡ before ++ printed answer → AnswersFront Is rest behind before now (is_refused answer)
+front_line rest behind line before now answer split is written = record {
+  lines = line ∷ [];
+  answers = answer ∷ [];
+  split = split;
+  each = one_line line answer [] [] is no_line;
+  written = written ∙ ap (λ w. before ++ w) (sym (append-nil (printed answer)));
+  told = sym (or_false (is_refused answer));
+}
+
+-- one line more was done
+pub front_more : {Is : List ℕ → LineAnswer → Type 0} (bytes rest behind line text before now after : List ℕ) (refused done all : Bool) → AnswersFront Is bytes rest before now refused → lines_of rest ≡ line ∷ lines_of behind → text ≡ text_of line → AddsAnswer Is text now after done → all ≡ (refused || done) → AnswersFront Is bytes behind before after all
+front_more {Is = Is} bytes rest behind line text before now after refused done all x split same added a =
+    let answered : Is (text_of line) added.answer = rw same at added.is in
+    let more : AnswersFront Is rest behind now after (is_refused added.answer) = front_line rest behind line now after added.answer split answered added.written in
+    let joined : AnswersFront Is bytes behind before after (refused || is_refused added.answer) = front_join bytes rest behind before now after refused (is_refused added.answer) x more in
+    let is_all : all ≡ (refused || is_refused added.answer) = a ∙ ap (λ (b : Bool). refused || b) added.told in
+    rw is_all joined
+
+-- what is done where nothing is left is all
+pub front_all : {Is : List ℕ → LineAnswer → Type 0} (bytes rest output : List ℕ) (refused : Bool) → rest ≡ [] → AnswersFront Is bytes rest [] output refused → AnswersAll Is bytes output refused
+front_all bytes rest output refused none x = record {
+  answers = x.answers;
+  each = rw x.split (rw none (rw (append-nil x.lines) x.each));
+  written = x.written;
+  told = x.told;
+}
+
+-- what was done, and what was written of it, begins the answers
+pub front_begins : {Is : List ℕ → LineAnswer → Type 0} (bytes rest output : List ℕ) (refused : Bool) (n : ℕ) → AnswersFront Is bytes rest [] output refused → BeginsAnswers Is bytes (take n output)
+front_begins bytes rest output refused n x = record {
+  lines = x.lines;
+  others = lines_of rest;
+  first = x.split;
+  answers = x.answers;
+  each = x.each;
+  len = n;
+  begun = ap (take n) x.written;
+}
+
+pub all_begins : {Is : List ℕ → LineAnswer → Type 0} (bytes output : List ℕ) (refused : Bool) → AnswersAll Is bytes output refused → BeginsAnswers Is bytes output
+all_begins bytes output refused x = record {
+  lines = lines_of bytes;
+  others = [];
+  first = sym (append-nil (lines_of bytes));
+  answers = x.answers;
+  each = x.each;
+  len = length output;
+  begun = sym (take_all (length output) output (omega arith)) ∙ ap (take (length output)) x.written;
+}
+
+-- a front of the answers to bytes whose lines come first among others is one of those too
+pub begins_more : {Is : List ℕ → LineAnswer → Type 0} (bytes more output : List ℕ) (others : List (List ℕ)) → lines_of more ≡ lines_of bytes ++ others → BeginsAnswers Is bytes output → BeginsAnswers Is more output
+begins_more bytes more output others e x = record {
+  lines = x.lines;
+  others = x.others ++ others;
+  first = e ∙ ap (λ ls. ls ++ others) x.first ∙ append_assoc x.lines x.others others;
+  answers = x.answers;
+  each = x.each;
+  len = x.len;
+  begun = x.begun;
+}

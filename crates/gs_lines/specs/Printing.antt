@@ -1,0 +1,14 @@
+-- One line that is written, with a status.
+use Rattle.std.specs.Prelude.{◌≡◌, ℕ, List, take}
+use Rattle.gs_lines.specs.declared.status.Status.{Status}
+use Rattle.gs_lines.specs.declared.status.Status.TheVariants.{WriteFault, Memory}
+
+-- an initial part of a text
+abbrev pub IsInitialPart : List ℕ → List ℕ → Type 0
+IsInitialPart part whole = (len : ℕ) × (part ≡ take len whole)
+
+-- the line was written whole, and this is the status, or an initial part of it was written
+abbrev pub PrintedAs : Status → List ℕ → List ℕ → Status → Type 0
+PrintedAs status line output WriteFault = IsInitialPart output line
+PrintedAs status line output Memory = IsInitialPart output line
+PrintedAs status line output ended = (ended ≡ status) × (output ≡ line)

@@ -1,0 +1,16 @@
+ghost use Rattle.std.specs.Prelude.{ℕ, List, IfOk};
+ghost use Rattle.gs_lines.specs.Outputs.{AddsAnswer, LineAnswer};
+
+use gs_chars::Memory;
+use std::alloc::Global;
+
+/// What answers the texts of lines.
+pub trait Answerer {
+    /// What is an answer to a text.
+    ghost is_answer: { Self → List ℕ → LineAnswer → Type 0 };
+
+    /// Appends the line of the answer to a text, `ok TEXT` or `no REASON` with a line feed, and answers whether it is a
+    /// refusal. After want of memory `out` may have a part of a line more.
+    fn append_answer(&self, alloc: Global, text: &[u8], out: &mut Vec<u8>) -> Result<bool, Memory>
+        ensures { IfOk result (λ refused. AddsAnswer (is_answer self.now) text.now out.old.items out.new.items refused) };
+}

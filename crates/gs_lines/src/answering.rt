@@ -1,0 +1,168 @@
+ghost use Rattle.std.specs.Prelude.{◌≡◌, ◌≢◌, ◌+◌, ◌<◌, ◌≤◌, ◌^◌, ◌||◌, IfOk, length};
+ghost use Rattle.gs_port.specs.Counts.{Rises};
+ghost use Rattle.gs_lines.specs.Answering.{OnSinkFault, OfLines, OfStatus, status_of_end};
+ghost use Rattle.gs_lines.specs.Inputs.{IsAtEnd, TakesAtMost, TakesMoreThan};
+ghost use Rattle.gs_lines.specs.Outputs.{AnswersFront, Appends, WritesAnswers};
+ghost use Rattle.gs_lines.specs.Statuses.{OnAnswered, OnInputLong, OnReadFault, OnWriteFault};
+
+use crate::answerer::Answerer;
+use crate::gathering::{End, gather, part};
+use crate::lines::{first_line, without_return};
+use crate::status::Status;
+use gs_chars::Memory;
+use gs_port::{Sink, Source, Whole, write_whole};
+use std::alloc::Global;
+
+/// How many bytes of answers are handed to the output at a time, and those of one answer more.
+const BLOCK: usize = 65536;
+
+/// What is left of the bytes, and whether an answer is a refusal.
+#[derive(Clone, Copy)]
+struct Answered<'a> {
+    rest: &'a [u8],
+    refused: bool,
+}
+
+/// Whether one of two holds.
+fn either(a: bool, b: bool) -> bool
+    ensures { result ≡ (a || b) }
+{
+    a || b
+}
+
+/// Adds the answers to the first lines, until they are a block or nothing is left.
+fn answer_block<'a, A: Answerer>(
+    alloc: Global,
+    answerer: &A,
+    bytes: &'a [u8],
+    out: &mut Vec<u8>,
+) -> Result<Answered<'a>, Memory>
+    requires some { 0 < length bytes.now }
+    ensures front { IfOk result (λ a. AnswersFront (A.is_answer answerer.now) bytes.now a.rest.now out.old.items out.new.items a.refused) }
+    ensures shorter { IfOk result (λ a. length a.rest.now < length bytes.now) }
+{
+    let mut rest = bytes;
+    let mut refused = false;
+    loop {
+        let (line, behind) = first_line(rest);
+        let is_refused = answerer.append_answer(alloc, without_return(line), out)?;
+        refused = either(refused, is_refused);
+        rest = behind;
+        if rest.is_empty() || out.len() >= BLOCK {
+            return Ok(Answered { rest, refused });
+        }
+    }
+}
+
+/// How the answering of lines ended.
+#[derive(Clone, Copy, Debug, PartialEq, Eq)]
+enum Answering {
+    /// All lines were answered, and an answer is a refusal or not.
+    Whole { refused: bool },
+    /// A fault of the output was counted.
+    SinkFault,
+    /// Memory ran out.
+    Memory,
+}
+
+/// Writes the answers to the lines of the bytes.
+fn write_answers<A: Answerer, K: Sink>(
+    alloc: Global,
+    answerer: &A,
+    bytes: &[u8],
+    output: &mut K,
+) -> Answering
+    ensures written { Appends (K.held output.old) (K.held output.new) (λ out. OfLines (A.is_answer answerer.now) bytes.now out result) }
+    ensures fault { OnSinkFault result (Rises (K.faults output.old) (K.faults output.new)) }
+    ensures counts { K.faults output.old ≤ K.faults output.new }
+{
+    let mut out = Vec::new(alloc);
+    let mut rest = bytes;
+    let mut refused = false;
+    while !rest.is_empty() {
+        let Ok(block) = answer_block(alloc, answerer, rest, &mut out) else {
+            return Answering::Memory;
+        };
+        match write_whole(output, out.as_slice()) {
+            Whole::Done => {}
+            Whole::SinkFault => return Answering::SinkFault,
+            Whole::Memory => return Answering::Memory,
+        }
+        out.clear();
+        refused = either(refused, block.refused);
+        rest = block.rest;
+    }
+    Answering::Whole { refused }
+}
+
+/// The status after the lines of what was gathered were answered.
+fn status_after(end: End, answering: Answering) -> Status
+    ensures { result ≡ status_of_end end answering }
+{
+    match (end, answering) {
+        (_, Answering::SinkFault) => Status::WriteFault,
+        (_, Answering::Memory) => Status::Memory,
+        (End::Fault, Answering::Whole { refused: _ }) => Status::ReadFault,
+        (End::Long, Answering::Whole { refused: _ }) => Status::InputLong,
+        (End::Whole, Answering::Whole { refused: true }) => Status::SomeRefused,
+        (End::Whole, Answering::Whole { refused: false }) => Status::Done,
+    }
+}
+
+/// Answers the lines of what was gathered, and writes the answers.
+fn answer_gathered<A: Answerer, K: Sink>(
+    alloc: Global,
+    answerer: &A,
+    end: End,
+    limit: u64,
+    bytes: &[u8],
+    output: &mut K,
+) -> Status
+    requires long { end ≡ End.Long → limit < length bytes.now }
+    ensures written { Appends (K.held output.old) (K.held output.new) (λ out. OfStatus (A.is_answer answerer.now) limit end bytes.now out result) }
+    ensures fault { OnWriteFault result (Rises (K.faults output.old) (K.faults output.new)) }
+    ensures counts { K.faults output.old ≤ K.faults output.new }
+{
+    let answering = write_answers(alloc, answerer, part(end, limit, bytes), output);
+    status_after(end, answering)
+}
+
+/// Answers each line of the input, in one block of lines after the other. A line goes up to a line feed or to the end of
+/// the input, and loses one carriage return at its end. At most `limit` bytes are answered, those of the lines that end
+/// within them where the input has more, and at most one byte more is taken.
+///
+/// `ReadFault` comes only where the input's count of faults rose in this call; the lines that had ended are answered then.
+/// `WriteFault` comes only where the output's count rose. `InputLong` comes exactly where more than `limit` bytes were
+/// taken. After each of these and after `Memory`, what was written is an initial part of the answer lines.
+pub fn answer_lines<A: Answerer, S: Source, K: Sink>(
+    alloc: Global,
+    answerer: &A,
+    input: &mut S,
+    output: &mut K,
+    limit: u64,
+) -> Status
+    requires { limit < 2 ^ 63 }
+
+    // What was written: all answers with their status, whatever count rose, or what was done before a fault.
+    ensures written { Appends (K.held output.old) (K.held output.new) (λ out.
+        WritesAnswers (A.is_answer answerer.now) limit (S.left input.old) (S.left input.new) out result) }
+    ensures no_usage { result ≢ Status.Usage }
+    ensures no_refusal { result ≢ Status.Refused }
+
+    // What was taken.
+    ensures read_to_end { OnAnswered result (IsAtEnd (S.left input.new)) }
+    ensures input_long { OnInputLong result (TakesMoreThan limit (S.left input.old) (S.left input.new)) }
+    ensures few { TakesAtMost (limit + 1) (S.left input.old) (S.left input.new) }
+
+    // Each fault.
+    ensures read_fault { OnReadFault result (Rises (S.faults input.old) (S.faults input.new)) }
+    ensures write_fault { OnWriteFault result (Rises (K.faults output.old) (K.faults output.new)) }
+    ensures input_counts { S.faults input.old ≤ S.faults input.new }
+    ensures output_counts { K.faults output.old ≤ K.faults output.new }
+{
+    let mut bytes = Vec::new(alloc);
+    match gather(alloc, input, limit, &mut bytes) {
+        Ok(end) => answer_gathered(alloc, answerer, end, limit, bytes.as_slice(), output),
+        Err(Memory) => Status::Memory,
+    }
+}

@@ -1,0 +1,24 @@
+ghost use Rattle.std.specs.Prelude.{◌≡◌, ◌≢◌, ◌≤◌};
+ghost use Rattle.gs_port.specs.Counts.{Rises};
+ghost use Rattle.gs_lines.specs.Outputs.{Appends};
+ghost use Rattle.gs_lines.specs.Printing.{PrintedAs};
+ghost use Rattle.gs_lines.specs.Statuses.{OnWriteFault};
+
+use crate::status::Status;
+use gs_port::{Sink, Whole, write_whole};
+
+/// Writes a line, and answers this status where it was written whole. `WriteFault` comes only where the output's count
+/// rose; after it and after `Memory` an initial part of the line was written.
+pub fn print_line<K: Sink>(output: &mut K, line: &[u8], status: Status) -> Status
+    requires ends { status ≢ Status.WriteFault }
+    requires written { status ≢ Status.Memory }
+    ensures written { Appends (K.held output.old) (K.held output.new) (λ out. PrintedAs status line.now out result) }
+    ensures fault { OnWriteFault result (Rises (K.faults output.old) (K.faults output.new)) }
+    ensures counts { K.faults output.old ≤ K.faults output.new }
+{
+    match write_whole(output, line) {
+        Whole::Done => status,
+        Whole::SinkFault => Status::WriteFault,
+        Whole::Memory => Status::Memory,
+    }
+}

@@ -1,0 +1,41 @@
+ghost use Rattle.std.specs.Prelude.{◌≡◌};
+ghost use Rattle.gs_lines.specs.Statuses.{number_of};
+
+/// How a run ends.
+#[derive(Clone, Copy, Debug, PartialEq, Eq)]
+pub enum Status {
+    /// The input was read to its end, and each answer is `ok`.
+    Done,
+    /// The input was read to its end, and an answer is `no`.
+    SomeRefused,
+    /// The words are not in order.
+    Usage,
+    /// A file is refused.
+    Refused,
+    /// A fault of the input or of a file was counted, or a file is not there.
+    ReadFault,
+    /// A fault of the output was counted.
+    WriteFault,
+    /// The input has more bytes than the limit.
+    InputLong,
+    /// Memory ran out.
+    Memory,
+}
+
+impl Status {
+    /// The number that the process ends with.
+    pub fn number(self) -> u8
+        ensures { result ≡ number_of self }
+    {
+        match self {
+            Status::Done => 0,
+            Status::SomeRefused => 1,
+            Status::Usage => 2,
+            Status::Refused => 3,
+            Status::ReadFault => 4,
+            Status::WriteFault => 5,
+            Status::InputLong => 6,
+            Status::Memory => 9,
+        }
+    }
+}

@@ -1,0 +1,144 @@
+-- What was done of what is asked, by how its files were loaded and what its command did.
+use Rattle.std.proofs.Common.{◌≡◌, ◌≢◌, ◌⊎◌, inl, inr, ℕ, ◌+◌, ◌≤◌, List, [], Option, refl, arith}
+use Rattle.std.specs.Prelude.{Result, Ok, Err}
+use Rattle.gs_lines.specs.declared.status.Status.{Status}
+use Rattle.gs_lines.specs.declared.status.Status.TheVariants as status
+use Rattle.gs_lines.specs.Outputs.{Appends}
+use Rattle.gs_lines.specs.Printing.{IsInitialPart, PrintedAs}
+use Rattle.gs_lines.specs.Statuses.{OnCutShort, OnReadFault, OnRefused, OnWriteFault, OnWritten, is_cut_short, is_read_fault, is_written}
+use Rattle.gs_lines.proofs.OneOutcome.{some_outcome}
+use Rattle.gs_lines.proofs.StatusLemmas.{when_map}
+use Rattle.gs_port.specs.Counts.{Rises}
+use Rattle.gs_tables.specs.Tables.{IsShaped}
+use Rattle.gs_translate.specs.Steps.{HasSome}
+use Rattle.gs_program.specs.declared.command.Command.{Command}
+use Rattle.gs_program.specs.declared.command.Command.TheVariants.{Canon, Check}
+use Rattle.gs_program.specs.declared.loading.Loaded.{Loaded}
+use Rattle.gs_program.specs.declared.loading.Unloaded.TheVariants as unloaded
+use Rattle.gs_program.specs.declared.refusal.Refusal.{Refusal}
+use Rattle.gs_program.specs.Asking.{AskedRan, Counts}
+use Rattle.gs_program.specs.LineAnswers.{IsCanonLine}
+use Rattle.gs_program.specs.Loads.{FilesGive, LoadedBy, Stop, missing, refused}
+use Rattle.gs_program.specs.Ran.{BeginsOne, Moment, Ran}
+use Rattle.gs_program.specs.Refusals.{refused_line}
+use Rattle.gs_program.specs.Requests.{Asked}
+use Rattle.gs_program.specs.Runs.{AskedEnded, AskedRun, World, ran, stopped, stops}
+use Rattle.gs_program.specs.Works.{CommandRun, Outcome, counts_line, input_limit}
+use Rattle.gs_program.proofs.LineLemmas.{some_line}
+use Rattle.gs_program.proofs.LoadLemmas.{files_some}
+use Rattle.gs_program.proofs.RanLemmas.{PrintedCase, fault, no_memory, printed_case, takes_nothing, whole}
+use Rattle.gs_program.proofs.ReadLemmas.{shaped_of}
+
+-- ---- what is asked has an outcome
+
+command_some : (command : Command) (loaded : Loaded) (input : Option (List ℕ)) → IsShaped loaded.tables → HasSome (CommandRun command loaded input)
+command_some (Canon form) loaded input shaped =
+    let o = some_outcome (IsCanonLine loaded.tables form) input_limit input (some_line loaded.tables form shaped) in
+    (record { output = o.output; status = o.status }, o.answers)
+command_some Check loaded input shaped = (record { output = counts_line loaded; status = status.Done }, refl)
+
+asked_from : (asked : Asked) (world : World) (answer : Result Loaded Stop) → FilesGive world.files asked.files answer → HasSome (AskedRun asked world)
+asked_from asked world (Ok loaded) gives =
+    let c = command_some asked.command loaded world.input (shaped_of world.files asked.files loaded gives) in
+    (c.0, ran loaded gives c.1)
+asked_from asked world (Err stop) gives = (stopped stop, stops stop gives refl)
+
+pub asked_some : (asked : Asked) (world : World) → HasSome (AskedRun asked world)
+asked_some asked world = let f = files_some world.files asked.files in asked_from asked world f.0 f.1
+
+begins_nothing : (asked : Asked) (world : World) → BeginsOne (AskedRun asked world) []
+begins_nothing asked world = let o = asked_some asked world in record { outcome = o.0; is = o.1; begins = (0, refl) }
+
+-- ---- a command ran
+
+never_refused : (s : Status) (fact : Type 0) → s ≢ status.Refused → OnRefused s fact
+never_refused status.Done fact un = tt
+never_refused status.SomeRefused fact un = tt
+never_refused status.Usage fact un = tt
+never_refused status.Refused fact un = absurd (un refl)
+never_refused status.ReadFault fact un = tt
+never_refused status.WriteFault fact un = tt
+never_refused status.InputLong fact un = tt
+never_refused status.Memory fact un = tt
+
+begins_asked : (asked : Asked) (world : World) (loaded : Loaded) (output : List ℕ) → FilesGive world.files asked.files (Ok loaded) → BeginsOne (CommandRun asked.command loaded world.input) output → BeginsOne (AskedRun asked world) output
+begins_asked asked world loaded output gives b = record { outcome = b.outcome; is = ran loaded gives b.is; begins = b.begins }
+
+pub asked_of_command : (asked : Asked) (world : World) (before now : Counts) (left : Option (List ℕ)) (loaded : Loaded) (outcome : Outcome) → FilesGive world.files asked.files (Ok loaded) → before.file_faults ≤ now.file_faults → Ran asked.command loaded (record { input = world.input; input_faults = before.input_faults; output_faults = before.output_faults }) (record { input = left; input_faults = now.input_faults; output_faults = now.output_faults }) outcome → AskedRan asked world before now left outcome
+asked_of_command asked world before now left loaded outcome gives counts r = record {
+  written = when_map (is_written outcome.status) (λ run. ran loaded gives run) r.written;
+  begun = when_map (is_cut_short outcome.status) (begins_asked asked world loaded outcome.output gives) r.begun;
+  read_fault = when_map (is_read_fault outcome.status) (λ rises. inl rises) r.read_fault;
+  write_fault = r.write_fault;
+  refusal = never_refused outcome.status _ r.no_refusal;
+  to_end = r.to_end;
+  long = r.long;
+  few = r.few;
+  file_counts = counts;
+  input_counts = r.input_counts;
+  output_counts = r.output_counts;
+  no_usage = r.no_usage;
+}
+
+pub refusal_of_command : (s : Status) (fact : Type 0) (command : Command) (loaded : Loaded) (before now : Moment) (output : List ℕ) → Ran command loaded before now (record { output = output; status = s }) → OnRefused s fact
+refusal_of_command s fact command loaded before now output r = never_refused s fact r.no_refusal
+
+when_both : (A B : Type 0) (s : Status) → OnReadFault s A → OnReadFault s B → OnReadFault s (A × B)
+when_both A B status.Done a b = tt
+when_both A B status.SomeRefused a b = tt
+when_both A B status.Usage a b = tt
+when_both A B status.Refused a b = tt
+when_both A B status.ReadFault a b = (a, b)
+when_both A B status.WriteFault a b = tt
+when_both A B status.InputLong a b = tt
+when_both A B status.Memory a b = tt
+
+-- after a fault of the input the lines that had ended were answered
+pub ended_of_command : (nothing : Type 0) (asked : Asked) (world : World) (before now : Moment) (held holds : Option (List ℕ)) (loaded : Loaded) (s : Status) → FilesGive world.files asked.files (Ok loaded) → before.input ≡ world.input → Appends held holds (λ out. Ran asked.command loaded before now (record { output = out; status = s })) → OnReadFault s (nothing ⊎ (Rises before.input_faults now.input_faults × Appends held holds (AskedEnded asked world.files world.input now.input)))
+ended_of_command nothing asked world before now held holds loaded s gives same a =
+    when_map (is_read_fault s) (λ both. inr (both.0, (a.0, a.1, rw (← same) (record { loaded = loaded; loads = gives; ended = both.1 }))))
+    (when_both _ _ s a.2.read_fault a.2.ended)
+
+-- ---- a file is refused
+
+begins_refusal : (asked : Asked) (world : World) (refusal : Refusal) (output : List ℕ) → FilesGive world.files asked.files (Err (refused refusal)) → IsInitialPart output (refused_line refusal) → BeginsOne (AskedRun asked world) output
+begins_refusal asked world refusal output gives part =
+    record { outcome = stopped (refused refusal); is = stops (refused refusal) gives refl; begins = part }
+
+-- the facts of a run that leaves its input
+asked_by : (asked : Asked) (world : World) (before now : Counts) (output : List ℕ) (s : Status) → OnWritten s (AskedRun asked world (record { output = output; status = s })) → OnCutShort s (BeginsOne (AskedRun asked world) output) → OnReadFault s (Rises before.file_faults now.file_faults ⊎ FilesGive world.files asked.files (Err missing)) → OnWriteFault s (Rises before.output_faults now.output_faults) → OnRefused s ((refusal : Refusal) × FilesGive world.files asked.files (Err (refused refusal))) → s ≢ status.Done → s ≢ status.SomeRefused → s ≢ status.InputLong → s ≢ status.Usage → before.file_faults ≤ now.file_faults → before.input_faults ≡ now.input_faults → before.output_faults ≤ now.output_faults → AskedRan asked world before now world.input (record { output = output; status = s })
+asked_by asked world before now output status.Done written begun read write refusal done some long usage files inputs outputs = absurd (done refl)
+asked_by asked world before now output status.SomeRefused written begun read write refusal done some long usage files inputs outputs = absurd (some refl)
+asked_by asked world before now output status.InputLong written begun read write refusal done some long usage files inputs outputs = absurd (long refl)
+asked_by asked world before now output status.Usage written begun read write refusal done some long usage files inputs outputs = absurd (usage refl)
+asked_by asked world before now output status.Refused written begun read write refusal done some long usage files inputs outputs = record { written = written; begun = tt; read_fault = tt; write_fault = tt; refusal = refusal; to_end = tt; long = tt; few = takes_nothing (input_limit + 1) world.input; file_counts = files; input_counts = omega arith; output_counts = outputs; no_usage = usage }
+asked_by asked world before now output status.ReadFault written begun read write refusal done some long usage files inputs outputs = record { written = tt; begun = begun; read_fault = inr read; write_fault = tt; refusal = tt; to_end = tt; long = tt; few = takes_nothing (input_limit + 1) world.input; file_counts = files; input_counts = omega arith; output_counts = outputs; no_usage = usage }
+asked_by asked world before now output status.WriteFault written begun read write refusal done some long usage files inputs outputs = record { written = tt; begun = begun; read_fault = tt; write_fault = write; refusal = tt; to_end = tt; long = tt; few = takes_nothing (input_limit + 1) world.input; file_counts = files; input_counts = omega arith; output_counts = outputs; no_usage = usage }
+asked_by asked world before now output status.Memory written begun read write refusal done some long usage files inputs outputs = record { written = tt; begun = begun; read_fault = tt; write_fault = tt; refusal = tt; to_end = tt; long = tt; few = takes_nothing (input_limit + 1) world.input; file_counts = files; input_counts = omega arith; output_counts = outputs; no_usage = usage }
+
+pub asked_of_refusal : (asked : Asked) (world : World) (before now : Counts) (refusal : Refusal) (output : List ℕ) (s : Status) → FilesGive world.files asked.files (Err (refused refusal)) → PrintedAs status.Refused (refused_line refusal) output s → OnWriteFault s (Rises before.output_faults now.output_faults) → before.file_faults ≤ now.file_faults → before.input_faults ≡ now.input_faults → before.output_faults ≤ now.output_faults → AskedRan asked world before now world.input (record { output = output; status = s })
+asked_of_refusal asked world before now refusal output s gives printed write files inputs outputs = by (printed_case status.Refused (refused_line refusal) output s printed)
+  where
+    by : PrintedCase status.Refused (refused_line refusal) output s → AskedRan asked world before now world.input (record { output = output; status = s })
+    by (whole e f) = rw (e, f) (asked_by asked world before now (refused_line refusal) status.Refused (stops (refused refusal) gives refl) tt tt tt (refusal, gives) (λ e. cc) (λ e. cc) (λ e. cc) (λ e. cc) files inputs outputs)
+    by (fault e p) = let w : Rises before.output_faults now.output_faults = rw e at write in rw e (asked_by asked world before now output status.WriteFault tt (begins_refusal asked world refusal output gives p) tt w tt (λ e. cc) (λ e. cc) (λ e. cc) (λ e. cc) files inputs outputs)
+    by (no_memory e p) = rw e (asked_by asked world before now output status.Memory tt (begins_refusal asked world refusal output gives p) tt tt tt (λ e. cc) (λ e. cc) (λ e. cc) (λ e. cc) files inputs outputs)
+
+-- a refusal that is printed is no read fault
+pub no_read_fault : (fact : Type 0) (line output : List ℕ) (s : Status) → PrintedAs status.Refused line output s → OnReadFault s fact
+no_read_fault fact line output s printed = by (printed_case status.Refused line output s printed)
+  where
+    by : PrintedCase status.Refused line output s → OnReadFault s fact
+    by (whole e f) = rw e tt
+    by (fault e p) = rw e tt
+    by (no_memory e p) = rw e tt
+
+-- ---- nothing was loaded
+
+pub asked_of_fault : (asked : Asked) (world : World) (before now : Counts) → LoadedBy (FilesGive world.files asked.files) before.file_faults now.file_faults (Err unloaded.ReadFault) → before.file_faults ≤ now.file_faults → before.input_faults ≡ now.input_faults → before.output_faults ≡ now.output_faults → AskedRan asked world before now world.input (record { output = []; status = status.ReadFault })
+asked_of_fault asked world before now cause files inputs outputs =
+    asked_by asked world before now [] status.ReadFault tt (begins_nothing asked world) cause tt tt (λ e. cc) (λ e. cc) (λ e. cc) (λ e. cc) files inputs (omega arith)
+
+pub asked_of_memory : (asked : Asked) (world : World) (before now : Counts) → before.file_faults ≤ now.file_faults → before.input_faults ≡ now.input_faults → before.output_faults ≡ now.output_faults → AskedRan asked world before now world.input (record { output = []; status = status.Memory })
+asked_of_memory asked world before now files inputs outputs =
+    asked_by asked world before now [] status.Memory tt (begins_nothing asked world) tt tt tt (λ e. cc) (λ e. cc) (λ e. cc) (λ e. cc) files inputs (omega arith)

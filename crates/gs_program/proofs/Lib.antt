@@ -1,0 +1,11 @@
+pub mod WordLemmas
+pub mod PairLemmas
+pub mod RequestLemmas
+pub mod LoadLemmas
+pub mod ReadLemmas
+pub mod RanLemmas
+pub mod LineLemmas
+pub mod AskedLemmas
+pub mod RunLemmas
+pub mod DecidedWords
+pub mod RunLaws

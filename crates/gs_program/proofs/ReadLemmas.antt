@@ -1,0 +1,107 @@
+-- What is loaded, by how files were read.
+use Rattle.std.proofs.Common.{◌≡◌, ℕ, ◌≤◌, List, Option, Some, None, length, refl, sym, ◌∙◌, ap, inl, inr, append-nil}
+use Rattle.std.specs.Prelude.{Result, Ok, Err, option_to_list, not, ◌==◌}
+use Rattle.gs_document.specs.declared.fault.LoadFault.{LoadFault}
+use Rattle.gs_port.specs.Files.{IsFile, MayHaveName}
+use Rattle.gs_tables.specs.Shapes.{BuiltInAnswer, HasMemory, LoadAnswer}
+use Rattle.gs_tables.specs.Tables.{IsShaped, TableRows, refusals, refuse_if, row_refusals}
+use Rattle.gs_builtin.specs.BuiltIn.{builtin_document}
+use Rattle.gs_chars.proofs.TruthsAndLists.{none_behind}
+use Rattle.gs_document.specs.declared.fault.LoadFault.TheVariants.{Version}
+use Rattle.gs_translate.specs.Steps.{goes_on, refuses}
+use Rattle.gs_program.specs.declared.file_kind.FileKind.TheVariants as kind
+use Rattle.gs_program.specs.declared.loading.Loaded.{Loaded}
+use Rattle.gs_program.specs.declared.loading.Unloaded.{Unloaded}
+use Rattle.gs_program.specs.declared.loading.Unloaded.TheVariants as unloaded
+use Rattle.gs_program.specs.declared.refusal.FileFault.{FileFault}
+use Rattle.gs_program.specs.declared.refusal.FileFault.TheVariants.{Over, Tables}
+use Rattle.gs_program.specs.Loads.{FilesGive, JudgesTables, LoadedBy, OpensFirst, Stop, TablesGive, absent, judged, missing, of_verdict, refused, tables_verdict, too_large}
+use Rattle.gs_program.specs.Reads.{ReadBy, UnloadedAs}
+use Rattle.gs_program.specs.Refusals.{file_limit}
+use Rattle.gs_program.specs.Requests.{FileNames}
+
+-- ---- the tables of a file
+
+-- tables that were judged are loaded, or refused, or there was want of memory
+told_tables : (Give : Result TableRows Stop → Type 0) (before now : ℕ) (answer : Result TableRows LoadFault) (result : Result TableRows Unloaded) → UnloadedAs answer result → (HasMemory answer → Give (of_verdict kind.Tables (tables_verdict answer))) → LoadedBy Give before now result
+told_tables Give before now answer (Ok set) u give =
+    let enough : HasMemory answer = λ e. let f : Ok set ≡ Err _ = sym u ∙ e in cc in
+    let g = give enough in
+    let same : Give (of_verdict kind.Tables (tables_verdict (Ok set))) = rw u at g in
+    same
+told_tables Give before now answer (Err unloaded.Memory) u give = tt
+told_tables Give before now answer (Err unloaded.ReadFault) u give = absurd u
+told_tables Give before now answer (Err (unloaded.Refused refusal)) u give = let g = give u.0 in rw u.1 at g
+
+pub file_loaded : (files : Option (List (List ℕ × List ℕ))) (name bytes : List ℕ) (before now : ℕ) (answer : Result TableRows LoadFault) (result : Result TableRows Unloaded) → IsFile files name bytes → length bytes ≤ file_limit kind.Tables → LoadAnswer bytes answer → UnloadedAs answer result → LoadedBy (TablesGive files (Some name)) before now result
+file_loaded files name bytes before now answer result is few load u =
+    told_tables (TablesGive files (Some name)) before now answer result u
+    (λ enough. judged bytes (tables_verdict answer) is few (record { answer = answer; enough = enough; is_answer = load; is = refl }) refl)
+
+pub own_loaded : (files : Option (List (List ℕ × List ℕ))) (before now : ℕ) (answer : Result TableRows LoadFault) (result : Result TableRows Unloaded) → BuiltInAnswer answer → UnloadedAs answer result → LoadedBy (TablesGive files None) before now result
+own_loaded files before now answer result load u =
+    told_tables (TablesGive files None) before now answer result u
+    (λ enough. record { verdict = tables_verdict answer; judged = record { answer = answer; enough = enough; is_answer = load; is = refl }; is = refl })
+
+-- a file that was not read
+pub file_unloaded : (files : Option (List (List ℕ × List ℕ))) (name : List ℕ) (before now : ℕ) (u : Unloaded) → ReadBy files kind.Tables name before now (Err u) → LoadedBy (TablesGive files (Some name)) before now (Err u)
+file_unloaded files name before now unloaded.Memory r = tt
+file_unloaded files name before now unloaded.ReadFault (inl rises) = inl rises
+file_unloaded files name before now unloaded.ReadFault (inr none) = inr (absent none refl)
+file_unloaded files name before now (unloaded.Refused refusal) r = too_large r.0 r.1 r.2 (ap (λ x. Err (refused x)) r.3)
+
+-- ---- all files
+
+pub all_loaded : (files : Option (List (List ℕ × List ℕ))) (names : FileNames) (before now : ℕ) (set : TableRows) → LoadedBy (TablesGive files names.tables) before now (Ok set) → LoadedBy (FilesGive files names) before now (Ok (record { tables = set }))
+all_loaded files names before now set gives = goes_on set gives refl
+
+pub not_loaded : (files : Option (List (List ℕ × List ℕ))) (names : FileNames) (before now : ℕ) (u : Unloaded) → LoadedBy (TablesGive files names.tables) before now (Err u) → LoadedBy (FilesGive files names) before now (Err u)
+not_loaded files names before now unloaded.Memory g = tt
+not_loaded files names before now unloaded.ReadFault (inl rises) = inl rises
+not_loaded files names before now unloaded.ReadFault (inr none) = inr (refuses missing none refl)
+not_loaded files names before now (unloaded.Refused refusal) g = refuses (refused refusal) g refl
+
+-- ---- what was opened
+
+pub opens_one : (name : List ℕ) (before now : List (List ℕ)) → MayHaveName before name now → OpensFirst (option_to_list (Some name)) before now
+opens_one name before now (inl same) = (0, same ∙ sym (append-nil before))
+opens_one name before now (inr more) = (1, more)
+
+pub opens_none : (names before : List (List ℕ)) → OpensFirst names before before
+opens_none names before = (0, sym (append-nil before))
+
+-- ---- what is loaded keeps the rules
+
+shaped_tables : (Answer : Result TableRows LoadFault → Type 0) (verdict : Result TableRows FileFault) (set : TableRows) → ((set : TableRows) → Answer (Ok set) → IsShaped set) → JudgesTables Answer verdict → Ok set ≡ of_verdict kind.Tables verdict → IsShaped set
+shaped_tables Answer verdict set shaped j e = by j.answer j.is_answer (e ∙ ap (of_verdict kind.Tables) j.is)
+  where
+    by : (answer : Result TableRows LoadFault) → Answer answer → Ok set ≡ of_verdict kind.Tables (tables_verdict answer) → IsShaped set
+    by (Ok other) a f = let same : set ≡ other = cc in rw same (shaped other a)
+    by (Err fault) a f = absurd (let g : Ok set ≡ Err (refused (record { kind = kind.Tables; fault = Tables fault })) = f in cc)
+
+shaped_load : (bytes : List ℕ) (set : TableRows) → LoadAnswer bytes (Ok set) → IsShaped set
+unfolding refusals
+shaped_load bytes set (inl form) = absurd form
+shaped_load bytes set (inr rows) = record {
+  document = rows.0;
+  in_order = none_behind (refuse_if (not (rows.0.version == 1)) Version) (row_refusals rows.0) rows.2.0;
+  made = rows.2.1;
+}
+
+shaped_own : (set : TableRows) → BuiltInAnswer (Ok set) → IsShaped set
+shaped_own set answer = record { document = builtin_document; in_order = answer.0; made = answer.1 }
+
+shaped_file : (files : Option (List (List ℕ × List ℕ))) (name : List ℕ) (set : TableRows) → TablesGive files (Some name) (Ok set) → IsShaped set
+shaped_file files name set (absent none e) = absurd (let f : Ok set ≡ Err missing = e in cc)
+shaped_file files name set (too_large bytes is more e) = absurd (let f : Ok set ≡ Err (refused (record { kind = kind.Tables; fault = Over })) = e in cc)
+shaped_file files name set (judged bytes verdict is few j e) = shaped_tables (LoadAnswer bytes) verdict set (shaped_load bytes) j e
+
+shaped_named : (files : Option (List (List ℕ × List ℕ))) (name : Option (List ℕ)) (set : TableRows) → TablesGive files name (Ok set) → IsShaped set
+shaped_named files None set gives = shaped_tables BuiltInAnswer gives.verdict set shaped_own gives.judged gives.is
+shaped_named files (Some name) set gives = shaped_file files name set gives
+
+pub shaped_of : (files : Option (List (List ℕ × List ℕ))) (names : FileNames) (loaded : Loaded) → FilesGive files names (Ok loaded) → IsShaped loaded.tables
+shaped_of files names loaded (refuses stop gives e) = absurd (let f : Ok loaded ≡ Err stop = e in cc)
+shaped_of files names loaded (goes_on set gives e) =
+    let same : loaded ≡ record { tables = set } = cc in
+    rw same (shaped_named files names.tables set gives)

@@ -1,0 +1,68 @@
+-- A run has one outcome over files and an input that are told, and no other.
+use Rattle.std.proofs.Common.{◌≡◌, inl, inr, ℕ, List, Some, refl, sym, ◌∙◌, ap}
+use Rattle.std.specs.Prelude.{Ok, Err}
+use Rattle.gs_lines.specs.declared.status.Status.{Status}
+use Rattle.gs_lines.specs.declared.status.Status.TheVariants as status
+use Rattle.gs_lines.proofs.OneOutcome.{one_outcome}
+use Rattle.gs_tables.specs.Tables.{IsShaped}
+use Rattle.gs_translate.specs.Steps.{HasOne, HasSome}
+use Rattle.gs_program.specs.declared.command.Command.{Command}
+use Rattle.gs_program.specs.declared.command.Command.TheVariants.{Canon, Check}
+use Rattle.gs_program.specs.declared.loading.Loaded.{Loaded}
+use Rattle.gs_program.specs.LineAnswers.{IsCanonLine}
+use Rattle.gs_program.specs.Requests.{Asked, WordsInOrder, usage_line}
+use Rattle.gs_program.specs.Runs.{AskedRun, DefinedRun, World, by_request, by_usage, ran, stopped, stops}
+use Rattle.gs_program.specs.Works.{CommandRun, Outcome, input_limit}
+use Rattle.gs_program.proofs.AskedLemmas.{asked_some}
+use Rattle.gs_program.proofs.DecidedWords.{Decided, order_or_not}
+use Rattle.gs_program.proofs.LineLemmas.{one_line}
+use Rattle.gs_program.proofs.LoadLemmas.{files_one}
+use Rattle.gs_program.proofs.ReadLemmas.{shaped_of}
+use Rattle.gs_program.proofs.RequestLemmas.{one_request}
+
+-- files and an input that are told
+abbrev pub told : List (List ℕ × List ℕ) → List ℕ → World
+told files input = record { files = Some files; input = Some input }
+
+same_outcome : (one other : Outcome) → one.output ≡ other.output → one.status ≡ other.status → one ≡ other
+same_outcome one other e f =
+    let by_output : List ℕ → Outcome = λ o. record { output = o; status = one.status } in
+    let by_status : Status → Outcome = λ s. record { output = other.output; status = s } in
+    ap by_output e ∙ ap by_status f
+
+command_one : (command : Command) (loaded : Loaded) (input : List ℕ) → IsShaped loaded.tables → HasOne (CommandRun command loaded (Some input))
+command_one (Canon form) loaded input shaped one other a b =
+    let same = one_outcome (IsCanonLine loaded.tables form) input_limit input one.output other.output one.status other.status (one_line loaded.tables form shaped) a b in
+    same_outcome one other same.0 same.1
+command_one Check loaded input shaped one other a b = a ∙ sym b
+
+pub asked_one : (asked : Asked) (files : List (List ℕ × List ℕ)) (input : List ℕ) → HasOne (AskedRun asked (told files input))
+asked_one asked files input one other (ran loaded gives a) (ran loaded' gives' b) =
+    let answers : Ok loaded ≡ Ok loaded' = files_one files asked.files (Ok loaded) (Ok loaded') gives gives' in
+    let same : loaded ≡ loaded' = cc in
+    let moved : CommandRun asked.command loaded (Some input) other = rw same b in
+    command_one asked.command loaded input (shaped_of (Some files) asked.files loaded gives) one other a moved
+asked_one asked files input one other (ran loaded gives a) (stops stop gives' b) =
+    absurd (let answers : Ok loaded ≡ Err stop = files_one files asked.files (Ok loaded) (Err stop) gives gives' in cc)
+asked_one asked files input one other (stops stop gives a) (ran loaded gives' b) =
+    absurd (let answers : Err stop ≡ Ok loaded = files_one files asked.files (Err stop) (Ok loaded) gives gives' in cc)
+asked_one asked files input one other (stops stop gives a) (stops stop' gives' b) =
+    let answers : Err stop ≡ Err stop' = files_one files asked.files (Err stop) (Err stop') gives gives' in
+    let same : stop ≡ stop' = cc in
+    a ∙ ap stopped same ∙ sym b
+
+pub run_one : (words : List (List ℕ)) (files : List (List ℕ × List ℕ)) (input : List ℕ) → HasOne (DefinedRun words (told files input))
+run_one words files input one other (by_request asked order a) (by_request asked' order' b) =
+    let same : asked ≡ asked' = one_request words asked asked' order order' in
+    let moved : AskedRun asked (told files input) other = rw same b in
+    asked_one asked files input one other a moved
+run_one words files input one other (by_request asked order a) (by_usage not b) = absurd (not asked order)
+run_one words files input one other (by_usage not a) (by_request asked order b) = absurd (not asked order)
+run_one words files input one other (by_usage not a) (by_usage not' b) = a ∙ sym b
+
+run_by : (words : List (List ℕ)) (world : World) → Decided (WordsInOrder words) → HasSome (DefinedRun words world)
+run_by words world (inl asked) = let a = asked_some asked.0 world in (a.0, by_request asked.0 asked.1 a.1)
+run_by words world (inr not) = (record { output = usage_line; status = status.Usage }, by_usage not refl)
+
+pub run_some : (words : List (List ℕ)) (world : World) → HasSome (DefinedRun words world)
+run_some words world = run_by words world (order_or_not words)

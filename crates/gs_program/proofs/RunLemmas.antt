@@ -1,0 +1,150 @@
+-- Each clause of a run, by what was done of what the words ask for.
+use Rattle.std.proofs.Common.{◌≡◌, ◌≢◌, ◌⊎◌, inl, inr, ℕ, Bool, true, false, List, [], ◌∷◌, Option, refl, ◌∙◌, ap}
+use Rattle.std.specs.Prelude.{option_to_list, None, Some}
+use Rattle.gs_lines.specs.declared.status.Status.{Status}
+use Rattle.gs_lines.specs.declared.status.Status.TheVariants as status
+use Rattle.gs_lines.specs.Inputs.{IsAtEnd}
+use Rattle.gs_lines.specs.Outputs.{Appends}
+use Rattle.gs_lines.specs.Printing.{IsInitialPart, PrintedAs}
+use Rattle.gs_lines.specs.Statuses.{OnAnswered, OnCutShort, OnInputLong, OnReadFault, OnRefused, OnUsage, OnWritten, is_answered, is_cut_short, is_read_fault, is_refusal, is_written}
+use Rattle.gs_lines.proofs.StatusLemmas.{when_map}
+use Rattle.gs_port.specs.Counts.{Rises}
+use Rattle.gs_program.specs.declared.command.Command.{Command}
+use Rattle.gs_program.specs.Asking.{AskedRan, Counts, ReadCause}
+use Rattle.gs_program.specs.Commands.{answers_lines}
+use Rattle.gs_program.specs.Ran.{BeginsOne}
+use Rattle.gs_program.specs.Requests.{Asked, AsksForLines, NamesFile, NotInOrder, WordsInOrder, names_in_order, usage_line}
+use Rattle.gs_program.specs.Runs.{AskedEnded, AskedRun, BeginsRun, DefinedRun, EndedRun, IsMissing, IsRefused, World, by_request, by_usage}
+use Rattle.gs_program.proofs.RanLemmas.{PrintedCase, fault, no_memory, printed_case, whole}
+use Rattle.gs_program.proofs.RequestLemmas.{one_request}
+
+-- ---- words that ask for something
+
+pub defined_of : (words : List (List ℕ)) (asked : Asked) (world : World) (before now : Counts) (left held holds : Option (List ℕ)) (s : Status) → WordsInOrder words asked → Appends held holds (λ out. AskedRan asked world before now left (record { output = out; status = s })) → OnWritten s (Appends held holds (λ out. DefinedRun words world (record { output = out; status = s })))
+defined_of words asked world before now left held holds s order a = when_map (is_written s) (λ run. (a.0, a.1, by_request asked order run)) a.2.written
+
+begins_words : (words : List (List ℕ)) (asked : Asked) (world : World) (output : List ℕ) → WordsInOrder words asked → BeginsOne (AskedRun asked world) output → BeginsRun words world output
+begins_words words asked world output order b = record { outcome = b.outcome; is = by_request asked order b.is; begins = b.begins }
+
+pub begun_of : (words : List (List ℕ)) (asked : Asked) (world : World) (before now : Counts) (left held holds : Option (List ℕ)) (s : Status) → WordsInOrder words asked → Appends held holds (λ out. AskedRan asked world before now left (record { output = out; status = s })) → OnCutShort s (Appends held holds (BeginsRun words world))
+begun_of words asked world before now left held holds s order a = when_map (is_cut_short s) (λ b. (a.0, a.1, begins_words words asked world a.0 order b)) a.2.begun
+
+same_lines : (words : List (List ℕ)) (asked : Asked) → WordsInOrder words asked → AsksForLines words → answers_lines asked.command ≡ true
+same_lines words asked order lines =
+    let same : asked ≡ lines.asked = one_request words asked lines.asked order lines.order in
+    ap (λ (x : Asked). answers_lines x.command) same ∙ lines.lines
+
+pub to_end_of : (words : List (List ℕ)) (asked : Asked) (left : Option (List ℕ)) (s : Status) → WordsInOrder words asked → OnAnswered s (answers_lines asked.command ≡ true → IsAtEnd left) → AsksForLines words → OnAnswered s (IsAtEnd left)
+to_end_of words asked left s order end lines = when_map (is_answered s) (λ e. e (same_lines words asked order lines)) end
+
+never_usage : (s : Status) (fact : Type 0) → s ≢ status.Usage → OnUsage s fact
+never_usage status.Done fact un = tt
+never_usage status.SomeRefused fact un = tt
+never_usage status.Usage fact un = absurd (un refl)
+never_usage status.Refused fact un = tt
+never_usage status.ReadFault fact un = tt
+never_usage status.WriteFault fact un = tt
+never_usage status.InputLong fact un = tt
+never_usage status.Memory fact un = tt
+
+pub usage_of : (fact : Type 0) (asked : Asked) (world : World) (before now : Counts) (left : Option (List ℕ)) (output : List ℕ) (s : Status) → AskedRan asked world before now left (record { output = output; status = s }) → OnUsage s fact
+usage_of fact asked world before now left output s r = never_usage s fact r.no_usage
+
+pub refused_of : (words : List (List ℕ)) (asked : Asked) (world : World) (before now : Counts) (left : Option (List ℕ)) (output : List ℕ) (s : Status) → WordsInOrder words asked → AskedRan asked world before now left (record { output = output; status = s }) → OnRefused s (IsRefused words world.files)
+refused_of words asked world before now left output s order r = when_map (is_refusal s) (λ x. record { asked = asked; order = order; refusal = x.0; gives = x.1 }) r.refusal
+
+cause_of : (words : List (List ℕ)) (asked : Asked) (world : World) (before now : Counts) → WordsInOrder words asked → ReadCause asked world before now → Rises before.input_faults now.input_faults ⊎ (Rises before.file_faults now.file_faults ⊎ IsMissing words world.files)
+cause_of words asked world before now order (inl rises) = inl rises
+cause_of words asked world before now order (inr (inl rises)) = inr (inl rises)
+cause_of words asked world before now order (inr (inr gives)) = inr (inr (record { asked = asked; order = order; gives = gives }))
+
+pub read_fault_of : (words : List (List ℕ)) (asked : Asked) (world : World) (before now : Counts) (left : Option (List ℕ)) (output : List ℕ) (s : Status) → WordsInOrder words asked → AskedRan asked world before now left (record { output = output; status = s }) → OnReadFault s (Rises before.input_faults now.input_faults ⊎ (Rises before.file_faults now.file_faults ⊎ IsMissing words world.files))
+read_fault_of words asked world before now left output s order r = when_map (is_read_fault s) (cause_of words asked world before now order) r.read_fault
+
+ended_words : (nothing rises : Type 0) (words : List (List ℕ)) (asked : Asked) (files : Option (List (List ℕ × List ℕ))) (old left held holds : Option (List ℕ)) → WordsInOrder words asked → nothing ⊎ (rises × Appends held holds (AskedEnded asked files old left)) → nothing ⊎ (rises × Appends held holds (EndedRun words files old left))
+ended_words nothing rises words asked files old left held holds order (inl n) = inl n
+ended_words nothing rises words asked files old left held holds order (inr e) = inr (e.0, (e.1.0, e.1.1, record { asked = asked; order = order; ended = e.1.2 }))
+
+pub ended_of : (nothing rises : Type 0) (words : List (List ℕ)) (asked : Asked) (files : Option (List (List ℕ × List ℕ))) (old left held holds : Option (List ℕ)) (s : Status) → WordsInOrder words asked → OnReadFault s (nothing ⊎ (rises × Appends held holds (AskedEnded asked files old left))) → OnReadFault s (nothing ⊎ (rises × Appends held holds (EndedRun words files old left)))
+ended_of nothing rises words asked files old left held holds s order e = when_map (is_read_fault s) (ended_words nothing rises words asked files old left held holds order) e
+
+-- a command that does not answer lines
+not_lines : (command : Command) → (answers_lines command ≡ true → ⊥) → answers_lines command ≡ false
+not_lines command none = by (answers_lines command) none
+  where
+    by : (b : Bool) → (b ≡ true → ⊥) → b ≡ false
+    by true f = absurd (f refl)
+    by false f = refl
+
+pub unread_of : (words : List (List ℕ)) (asked : Asked) → WordsInOrder words asked → (AsksForLines words → ⊥) → answers_lines asked.command ≡ false
+unread_of words asked order none = not_lines asked.command (λ lines. none (record { asked = asked; order = order; lines = lines }))
+
+-- no file is named
+no_names : (tables : Option (List ℕ)) → ((name : List ℕ) → option_to_list tables ≡ name ∷ [] → ⊥) → option_to_list tables ≡ []
+no_names None none = refl
+no_names (Some name) none = absurd (none name refl)
+
+pub unopened_of : (words : List (List ℕ)) (asked : Asked) → WordsInOrder words asked → ((name : List ℕ) → NamesFile words name → ⊥) → names_in_order asked.files ≡ []
+unopened_of words asked order none = no_names asked.files.tables (λ name same. none name (record { asked = asked; order = order; files = same }))
+
+-- ---- the usage line
+
+pub usage_defined : (words : List (List ℕ)) (world : World) (held holds : Option (List ℕ)) (s : Status) → NotInOrder words → Appends held holds (λ out. PrintedAs status.Usage usage_line out s) → OnWritten s (Appends held holds (λ out. DefinedRun words world (record { output = out; status = s })))
+usage_defined words world held holds s not a = by (printed_case status.Usage usage_line a.0 s a.2)
+  where
+    by : PrintedCase status.Usage usage_line a.0 s → OnWritten s (Appends held holds (λ out. DefinedRun words world (record { output = out; status = s })))
+    by (whole e f) = rw e (a.0, a.1, by_usage not (rw f refl))
+    by (fault e p) = rw e tt
+    by (no_memory e p) = rw e tt
+
+begins_usage : (words : List (List ℕ)) (world : World) (output : List ℕ) → NotInOrder words → IsInitialPart output usage_line → BeginsRun words world output
+begins_usage words world output not part = record { outcome = record { output = usage_line; status = status.Usage }; is = by_usage not refl; begins = part }
+
+pub usage_begun : (words : List (List ℕ)) (world : World) (held holds : Option (List ℕ)) (s : Status) → NotInOrder words → Appends held holds (λ out. PrintedAs status.Usage usage_line out s) → OnCutShort s (Appends held holds (BeginsRun words world))
+usage_begun words world held holds s not a = by (printed_case status.Usage usage_line a.0 s a.2)
+  where
+    by : PrintedCase status.Usage usage_line a.0 s → OnCutShort s (Appends held holds (BeginsRun words world))
+    by (whole e f) = rw e tt
+    by (fault e p) = rw e (a.0, a.1, begins_usage words world a.0 not p)
+    by (no_memory e p) = rw e (a.0, a.1, begins_usage words world a.0 not p)
+
+-- the statuses that a usage line may end with
+pub usage_answered : (fact : Type 0) (output : List ℕ) (s : Status) → PrintedAs status.Usage usage_line output s → OnAnswered s fact
+usage_answered fact output s p = by (printed_case status.Usage usage_line output s p)
+  where
+    by : PrintedCase status.Usage usage_line output s → OnAnswered s fact
+    by (whole e f) = rw e tt
+    by (fault e p) = rw e tt
+    by (no_memory e p) = rw e tt
+
+pub usage_refused : (fact : Type 0) (output : List ℕ) (s : Status) → PrintedAs status.Usage usage_line output s → OnRefused s fact
+usage_refused fact output s p = by (printed_case status.Usage usage_line output s p)
+  where
+    by : PrintedCase status.Usage usage_line output s → OnRefused s fact
+    by (whole e f) = rw e tt
+    by (fault e p) = rw e tt
+    by (no_memory e p) = rw e tt
+
+pub usage_read_fault : (fact : Type 0) (output : List ℕ) (s : Status) → PrintedAs status.Usage usage_line output s → OnReadFault s fact
+usage_read_fault fact output s p = by (printed_case status.Usage usage_line output s p)
+  where
+    by : PrintedCase status.Usage usage_line output s → OnReadFault s fact
+    by (whole e f) = rw e tt
+    by (fault e p) = rw e tt
+    by (no_memory e p) = rw e tt
+
+pub usage_long : (fact : Type 0) (output : List ℕ) (s : Status) → PrintedAs status.Usage usage_line output s → OnInputLong s fact
+usage_long fact output s p = by (printed_case status.Usage usage_line output s p)
+  where
+    by : PrintedCase status.Usage usage_line output s → OnInputLong s fact
+    by (whole e f) = rw e tt
+    by (fault e p) = rw e tt
+    by (no_memory e p) = rw e tt
+
+pub usage_is : (output : List ℕ) (s : Status) → PrintedAs status.Usage usage_line output s → OnWritten s (s ≡ status.Usage)
+usage_is output s p = by (printed_case status.Usage usage_line output s p)
+  where
+    by : PrintedCase status.Usage usage_line output s → OnWritten s (s ≡ status.Usage)
+    by (whole e f) = rw e refl
+    by (fault e p) = rw e tt
+    by (no_memory e p) = rw e tt

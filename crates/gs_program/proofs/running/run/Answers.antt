@@ -1,0 +1,50 @@
+use Rattle.std.proofs.Common.{map, string_bytes}
+use Rattle.gs_program.specs.Requests.{told_request}
+use Rattle.gs_program.specs.Runs.{named}
+use Rattle.gs_program.proofs.RunLemmas.{begun_of, defined_of, read_fault_of, refused_of, unopened_of, usage_begun}
+use Rattle.gs_program.proofs.running.run.Goals as goal
+
+pub returns-in-Some-clause-defined : goal.returns-in-Some-clause-defined
+returns-in-Some-clause-defined g c =
+    defined_of (map string_bytes c.args.words.now) (told_request c.in-Some.request)
+    (record { files = g.F.Files.files c.args.files.now; input = g.S.Source.left c.args.input.now })
+    (record { file_faults = g.F.Files.faults c.args.files.now; input_faults = g.S.Source.faults c.args.input.now; output_faults = g.K.Sink.faults c.args.output.now })
+    (record { file_faults = g.F.Files.faults c.run_request.new.files; input_faults = g.S.Source.faults c.run_request.new.input; output_faults = g.K.Sink.faults c.run_request.new.output })
+    (g.S.Source.left c.run_request.new.input) (g.K.Sink.held c.args.output.now) (g.K.Sink.held c.run_request.new.output) c.run_request.result c.in-Some.ensures.request c.run_request.ensures.ran
+
+pub returns-in-Some-clause-refused : goal.returns-in-Some-clause-refused
+returns-in-Some-clause-refused g c =
+    let w = c.run_request.ensures.ran in refused_of (map string_bytes c.args.words.now) (told_request c.in-Some.request)
+    (record { files = g.F.Files.files c.args.files.now; input = g.S.Source.left c.args.input.now })
+    (record { file_faults = g.F.Files.faults c.args.files.now; input_faults = g.S.Source.faults c.args.input.now; output_faults = g.K.Sink.faults c.args.output.now })
+    (record { file_faults = g.F.Files.faults c.run_request.new.files; input_faults = g.S.Source.faults c.run_request.new.input; output_faults = g.K.Sink.faults c.run_request.new.output })
+    (g.S.Source.left c.run_request.new.input) w.0 c.run_request.result c.in-Some.ensures.request w.2
+
+pub returns-in-Some-clause-unopened : goal.returns-in-Some-clause-unopened
+returns-in-Some-clause-unopened g c =
+    λ none. c.run_request.ensures.unopened (unopened_of (map string_bytes c.args.words.now) (told_request c.in-Some.request) c.in-Some.ensures.request none)
+
+pub returns-in-Some-clause-opened : goal.returns-in-Some-clause-opened
+returns-in-Some-clause-opened g c =
+    named (told_request c.in-Some.request) c.in-Some.ensures.request c.run_request.ensures.opened
+
+pub returns-in-Some-clause-read_fault : goal.returns-in-Some-clause-read_fault
+returns-in-Some-clause-read_fault g c =
+    let w = c.run_request.ensures.ran in read_fault_of (map string_bytes c.args.words.now) (told_request c.in-Some.request)
+    (record { files = g.F.Files.files c.args.files.now; input = g.S.Source.left c.args.input.now })
+    (record { file_faults = g.F.Files.faults c.args.files.now; input_faults = g.S.Source.faults c.args.input.now; output_faults = g.K.Sink.faults c.args.output.now })
+    (record { file_faults = g.F.Files.faults c.run_request.new.files; input_faults = g.S.Source.faults c.run_request.new.input; output_faults = g.K.Sink.faults c.run_request.new.output })
+    (g.S.Source.left c.run_request.new.input) w.0 c.run_request.result c.in-Some.ensures.request w.2
+
+pub returns-in-Some-clause-begun : goal.returns-in-Some-clause-begun
+returns-in-Some-clause-begun g c =
+    begun_of (map string_bytes c.args.words.now) (told_request c.in-Some.request)
+    (record { files = g.F.Files.files c.args.files.now; input = g.S.Source.left c.args.input.now })
+    (record { file_faults = g.F.Files.faults c.args.files.now; input_faults = g.S.Source.faults c.args.input.now; output_faults = g.K.Sink.faults c.args.output.now })
+    (record { file_faults = g.F.Files.faults c.run_request.new.files; input_faults = g.S.Source.faults c.run_request.new.input; output_faults = g.K.Sink.faults c.run_request.new.output })
+    (g.S.Source.left c.run_request.new.input) (g.K.Sink.held c.args.output.now) (g.K.Sink.held c.run_request.new.output) c.run_request.result c.in-Some.ensures.request c.run_request.ensures.ran
+
+pub returns-in-None-clause-begun : goal.returns-in-None-clause-begun
+returns-in-None-clause-begun g c =
+    usage_begun (map string_bytes c.args.words.now) (record { files = g.F.Files.files c.args.files.now; input = g.S.Source.left c.args.input.now })
+    (g.K.Sink.held c.args.output.now) (g.K.Sink.held c.print_line.new.output) c.print_line.result c.in-None.ensures.none c.print_line.ensures.written

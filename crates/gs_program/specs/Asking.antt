@@ -1,0 +1,40 @@
+-- What was done of what is asked.
+use Rattle.std.specs.Prelude.{◌≡◌, ◌≢◌, ◌⊎◌, ℕ, ◌+◌, ◌≤◌, true, List, Option, Err}
+use Rattle.gs_lines.specs.declared.status.Status.TheVariants.{Usage}
+use Rattle.gs_lines.specs.Inputs.{IsAtEnd, TakesAtMost, TakesMoreThan}
+use Rattle.gs_lines.specs.Statuses.{OnAnswered, OnCutShort, OnInputLong, OnReadFault, OnRefused, OnWriteFault, OnWritten}
+use Rattle.gs_port.specs.Counts.{Rises}
+use Rattle.gs_program.specs.declared.refusal.Refusal.{Refusal}
+use Rattle.gs_program.specs.Commands.{answers_lines}
+use Rattle.gs_program.specs.Loads.{FilesGive, missing, refused}
+use Rattle.gs_program.specs.Ran.{BeginsOne}
+use Rattle.gs_program.specs.Requests.{Asked}
+use Rattle.gs_program.specs.Runs.{AskedRun, World}
+use Rattle.gs_program.specs.Works.{Outcome, input_limit}
+
+-- the counts of faults at a moment
+pub record Counts : Type 0 where
+  pub file_faults : ℕ
+  pub input_faults : ℕ
+  pub output_faults : ℕ
+
+-- The causes of a read fault: the input counted a fault, the files counted one, or the first file that is not loaded is not
+-- there.
+abbrev pub ReadCause : Asked → World → Counts → Counts → Type 0
+ReadCause asked world before now = Rises before.input_faults now.input_faults
+    ⊎ (Rises before.file_faults now.file_faults ⊎ FilesGive world.files asked.files (Err missing))
+
+-- What a run ensures of what it is asked: what it wrote and its status, and the cause of each.
+pub record AskedRan (asked : Asked) (world : World) (before now : Counts) (left : Option (List ℕ)) (outcome : Outcome) : Type 0 where
+  pub written : OnWritten outcome.status (AskedRun asked world outcome)
+  pub begun : OnCutShort outcome.status (BeginsOne (AskedRun asked world) outcome.output)
+  pub read_fault : OnReadFault outcome.status (ReadCause asked world before now)
+  pub write_fault : OnWriteFault outcome.status (Rises before.output_faults now.output_faults)
+  pub refusal : OnRefused outcome.status ((refusal : Refusal) × FilesGive world.files asked.files (Err (refused refusal)))
+  pub to_end : OnAnswered outcome.status (answers_lines asked.command ≡ true → IsAtEnd left)
+  pub long : OnInputLong outcome.status (TakesMoreThan input_limit world.input left)
+  pub few : TakesAtMost (input_limit + 1) world.input left
+  pub file_counts : before.file_faults ≤ now.file_faults
+  pub input_counts : before.input_faults ≤ now.input_faults
+  pub output_counts : before.output_faults ≤ now.output_faults
+  pub no_usage : outcome.status ≢ Usage

@@ -1,0 +1,11 @@
+pub mod Names
+pub mod Commands
+pub mod Requests
+pub mod Refusals
+pub mod Loads
+pub mod Reads
+pub mod LineAnswers
+pub mod Works
+pub mod Ran
+pub mod Runs
+pub mod Asking

@@ -1,0 +1,82 @@
+-- What files give, and the rows in their place where they are not named.
+use Rattle.std.specs.Prelude.{◌≡◌, ◌⊎◌, ℕ, ◌<◌, ◌≤◌, List, ◌++◌, length, take, Option, Some, None, Result, Ok, Err}
+use Rattle.gs_document.specs.declared.fault.LoadFault.{LoadFault}
+use Rattle.gs_port.specs.Counts.{Rises}
+use Rattle.gs_port.specs.Files.{IsAbsent, IsFile}
+use Rattle.gs_tables.specs.Shapes.{BuiltInAnswer, HasMemory, LoadAnswer}
+use Rattle.gs_tables.specs.Tables.{TableRows}
+use Rattle.gs_translate.specs.Steps.{Then}
+use Rattle.gs_program.specs.declared.file_kind.FileKind.{FileKind}
+use Rattle.gs_program.specs.declared.file_kind.FileKind.TheVariants as kind
+use Rattle.gs_program.specs.declared.loading.Loaded.{Loaded}
+use Rattle.gs_program.specs.declared.loading.Unloaded.{Unloaded}
+use Rattle.gs_program.specs.declared.loading.Unloaded.TheVariants.{Refused, ReadFault, Memory}
+use Rattle.gs_program.specs.declared.refusal.FileFault.{FileFault}
+use Rattle.gs_program.specs.declared.refusal.FileFault.TheVariants.{Over, Tables}
+use Rattle.gs_program.specs.declared.refusal.Refusal.{Refusal}
+use Rattle.gs_program.specs.Refusals.{file_limit}
+use Rattle.gs_program.specs.Requests.{FileNames}
+
+-- why a run goes no further than its files: one is not there, or is refused
+pub data Stop : Type 0 where
+  missing : Stop
+  refused : Refusal → Stop
+
+-- what a verdict on a kind of file is for a run
+abbrev pub of_verdict : {A : Type 0} → FileKind → Result A FileFault → Result A Stop
+of_verdict kind (Ok a) = Ok a
+of_verdict kind (Err fault) = Err (refused (record { kind = kind; fault = fault }))
+
+-- A step: what a named file of a kind gives, whose bytes are judged so. It is not there, or has more bytes than its kind may
+-- have, or is as it is judged.
+pub data FileGives {A : Type 0} (files : Option (List (List ℕ × List ℕ))) (kind : FileKind) (Judges : List ℕ → Result A FileFault → Type 0) (name : List ℕ) (answer : Result A Stop) : Type 0 where
+  absent : IsAbsent files name → answer ≡ Err missing → FileGives files kind Judges name answer
+  too_large : (bytes : List ℕ) → IsFile files name bytes → file_limit kind < length bytes → answer ≡ of_verdict kind (Err Over) → FileGives files kind Judges name answer
+  judged : (bytes : List ℕ) (verdict : Result A FileFault) → IsFile files name bytes → length bytes ≤ file_limit kind → Judges bytes verdict → answer ≡ of_verdict kind verdict → FileGives files kind Judges name answer
+
+-- the verdict is that of what stands in the place of a file that is not named
+pub record StandsFor {A : Type 0} (kind : FileKind) (Unnamed : Result A FileFault → Type 0) (answer : Result A Stop) : Type 0 where
+  pub verdict : Result A FileFault
+  pub judged : Unnamed verdict
+  pub is : answer ≡ of_verdict kind verdict
+
+-- what a file of a kind gives, be it named or not
+abbrev pub Gives : {A : Type 0} → Option (List (List ℕ × List ℕ)) → FileKind → (List ℕ → Result A FileFault → Type 0) → (Result A FileFault → Type 0) → Option (List ℕ) → Result A Stop → Type 0
+Gives files kind Judges Unnamed None answer = StandsFor kind Unnamed answer
+Gives files kind Judges Unnamed (Some name) answer = FileGives files kind Judges name answer
+
+-- the verdict on tables by an answer of their load
+abbrev pub tables_verdict : Result TableRows LoadFault → Result TableRows FileFault
+tables_verdict (Ok set) = Ok set
+tables_verdict (Err fault) = Err (Tables fault)
+
+-- the verdict on tables by what is an answer of their load
+pub record JudgesTables (Answer : Result TableRows LoadFault → Type 0) (verdict : Result TableRows FileFault) : Type 0 where
+  pub answer : Result TableRows LoadFault
+  pub enough : HasMemory answer
+  pub is_answer : Answer answer
+  pub is : verdict ≡ tables_verdict answer
+
+-- the tables of the named file, or the built-in ones where none is named
+abbrev pub TablesGive : Option (List (List ℕ × List ℕ)) → Option (List ℕ) → Result TableRows Stop → Type 0
+TablesGive files name answer = Gives files kind.Tables (λ bytes. JudgesTables (LoadAnswer bytes)) (JudgesTables BuiltInAnswer) name answer
+
+-- what is loaded of these tables
+abbrev pub IsLoadedOf : TableRows → Result Loaded Stop → Type 0
+IsLoadedOf set answer = answer ≡ Ok (record { tables = set })
+
+-- What the files give, in their order, of what is asked of each, or the first that is not there, is too large or is refused.
+abbrev pub FilesGive : Option (List (List ℕ × List ℕ)) → FileNames → Result Loaded Stop → Type 0
+FilesGive files names answer = Then (TablesGive files names.tables) IsLoadedOf answer
+
+-- The answer of a load, by what the files give: a fault comes only where the files counted one, or where the first that is
+-- not loaded is not there.
+abbrev pub LoadedBy : {A : Type 0} → (Result A Stop → Type 0) → ℕ → ℕ → Result A Unloaded → Type 0
+LoadedBy Give before now (Ok a) = Give (Ok a)
+LoadedBy Give before now (Err (Refused refusal)) = Give (Err (refused refusal))
+LoadedBy Give before now (Err ReadFault) = Rises before now ⊎ Give (Err missing)
+LoadedBy Give before now (Err Memory) = Unit {0}
+
+-- the first of these names were opened, in their order
+abbrev pub OpensFirst : List (List ℕ) → List (List ℕ) → List (List ℕ) → Type 0
+OpensFirst names before now = (count : ℕ) × (now ≡ before ++ take count names)

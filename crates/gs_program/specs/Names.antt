@@ -1,0 +1,48 @@
+-- Pairs of a name and its value, as they stand among the words of the command line.
+use Rattle.std.specs.Prelude.{◌≡◌, ℕ, ◌&&◌, ◌||◌, Bool, true, not, List, [], ◌∷◌, codes, Option, None, is_some, bytes_eq}
+use Rattle.std.specs.List.{find, list_all, list_any}
+use Rattle.std.specs.Option.{option_map}
+use Rattle.gs_program.specs.declared.name.Name.{Name}
+use Rattle.gs_program.specs.declared.name.Name.TheVariants.{Tables, Prefixes, Links, Describe}
+use Rattle.gs_program.specs.declared.name.NameRow.{NameRow}
+
+-- the word of a name
+abbrev pub name_word : Name → List ℕ
+name_word Tables = codes "--tables"
+name_word Prefixes = codes "--prefixes"
+name_word Links = codes "--links"
+name_word Describe = codes "--describe"
+
+-- the values that a name may have: a file may have any name
+abbrev pub in_range : Name → List ℕ → Bool
+in_range Tables value = true
+in_range Prefixes value = true
+in_range Links value = true
+in_range Describe value = true
+
+-- a row takes this name with this value
+abbrev pub takes : List NameRow → List ℕ → List ℕ → Bool
+takes rows name value = list_any (λ (row : NameRow). bytes_eq (name_word row.name) name && in_range row.name value) rows
+
+-- the value of the first pair with the name
+abbrev pub look_up : List ℕ → List (List ℕ × List ℕ) → Option (List ℕ)
+look_up name pairs = option_map (λ (pair : List ℕ × List ℕ). pair.1) (find (λ (pair : List ℕ × List ℕ). bytes_eq pair.0 name) pairs)
+
+-- the words are these pairs, each a name and its value
+pub data ArePairs : List (List ℕ) → List (List ℕ × List ℕ) → Type 0 where
+  no_pair : ArePairs [] []
+  one_pair : (name value : List ℕ) (words : List (List ℕ)) (pairs : List (List ℕ × List ℕ)) → ArePairs words pairs → ArePairs (name ∷ value ∷ words) ((name, value) ∷ pairs)
+
+-- the rows take each of the pairs, and each name stands at most once
+pub data AreTaken (rows : List NameRow) : List (List ℕ × List ℕ) → Type 0 where
+  none_taken : AreTaken rows []
+  one_taken : (name value : List ℕ) (pairs : List (List ℕ × List ℕ)) → takes rows name value ≡ true → look_up name pairs ≡ None → AreTaken rows pairs → AreTaken rows ((name, value) ∷ pairs)
+
+-- the words are pairs that the rows take, each name at most once
+pub record AreOfRows (rows : List NameRow) (words : List (List ℕ)) (pairs : List (List ℕ × List ℕ)) : Type 0 where
+  pub are : ArePairs words pairs
+  pub taken : AreTaken rows pairs
+
+-- each name that must be there is there
+abbrev pub has_required : List NameRow → List (List ℕ × List ℕ) → Bool
+has_required rows pairs = list_all (λ (row : NameRow). not row.required || is_some (look_up (name_word row.name) pairs)) rows

@@ -1,0 +1,28 @@
+-- How the reading of a file and the load of tables end, for a run.
+use Rattle.std.specs.Prelude.{◌≡◌, ◌⊎◌, ℕ, ◌<◌, ◌≤◌, List, length, Option, Result, Ok, Err}
+use Rattle.gs_document.specs.declared.fault.LoadFault.{LoadFault}
+use Rattle.gs_port.specs.Counts.{Rises}
+use Rattle.gs_port.specs.Files.{IsAbsent, IsFile}
+use Rattle.gs_tables.specs.Shapes.{HasMemory}
+use Rattle.gs_tables.specs.Tables.{TableRows}
+use Rattle.gs_program.specs.declared.file_kind.FileKind.{FileKind}
+use Rattle.gs_program.specs.declared.file_kind.FileKind.TheVariants as kind
+use Rattle.gs_program.specs.declared.loading.Unloaded.{Unloaded}
+use Rattle.gs_program.specs.declared.loading.Unloaded.TheVariants.{Refused, ReadFault, Memory}
+use Rattle.gs_program.specs.declared.refusal.FileFault.TheVariants.{Over}
+use Rattle.gs_program.specs.Loads.{of_verdict, tables_verdict, refused}
+use Rattle.gs_program.specs.Refusals.{file_limit}
+
+-- the bytes of a named file, that it has too many, or a fault
+abbrev pub ReadBy : Option (List (List ℕ × List ℕ)) → FileKind → List ℕ → ℕ → ℕ → Result (List ℕ) Unloaded → Type 0
+ReadBy files kind name before now (Ok bytes) = IsFile files name bytes × (length bytes ≤ file_limit kind)
+ReadBy files kind name before now (Err (Refused refusal)) = (bytes : List ℕ) × IsFile files name bytes × (file_limit kind < length bytes) × (refusal ≡ record { kind = kind; fault = Over })
+ReadBy files kind name before now (Err ReadFault) = Rises before now ⊎ IsAbsent files name
+ReadBy files kind name before now (Err Memory) = Unit {0}
+
+-- the answer of a load of tables, with want of memory as no refusal
+abbrev pub UnloadedAs : Result TableRows LoadFault → Result TableRows Unloaded → Type 0
+UnloadedAs answer (Ok set) = answer ≡ Ok set
+UnloadedAs answer (Err Memory) = Unit {0}
+UnloadedAs answer (Err ReadFault) = ⊥
+UnloadedAs answer (Err (Refused refusal)) = HasMemory answer × (of_verdict kind.Tables (tables_verdict answer) ≡ Err (refused refusal))

@@ -1,0 +1,91 @@
+-- Refusals of files, as they are printed.
+use Rattle.std.specs.Prelude.{ℕ, ◌&&◌, nat_le, if◌then◌else◌, List, [], ◌∷◌, ◌++◌, map, codes, decimal}
+use Rattle.gs_ai.specs.declared.faults.AiFault.{AiFault}
+use Rattle.gs_ai.specs.declared.faults.AiFault.TheVariants as ai
+use Rattle.gs_document.specs.declared.fault.LimitName.{LimitName}
+use Rattle.gs_document.specs.declared.fault.LimitName.TheVariants.{Ais, Kinds, Options, Items, Size}
+use Rattle.gs_document.specs.declared.fault.LoadFault.{LoadFault}
+use Rattle.gs_document.specs.declared.fault.LoadFault.TheVariants.{Json, Version, Limit, Ai, BadKind, BadItem, Mismatch, Duplicate, Memory}
+use Rattle.gs_document.specs.declared.level_name.LevelName.{LevelName}
+use Rattle.gs_document.specs.declared.level_name.LevelName.TheVariants.{Binary, Tag, Pure}
+use Rattle.gs_json.specs.declared.fault.JsonFault.{JsonFault}
+use Rattle.gs_json.specs.declared.fault.JsonFault.TheVariants as json
+use Rattle.gs_program.specs.declared.file_kind.FileKind.{FileKind}
+use Rattle.gs_program.specs.declared.file_kind.FileKind.TheVariants as kind
+use Rattle.gs_program.specs.declared.refusal.Refusal.{Refusal}
+use Rattle.gs_program.specs.declared.refusal.FileFault.{FileFault}
+use Rattle.gs_program.specs.declared.refusal.FileFault.TheVariants.{Over, Tables}
+
+-- the word that a refusal of a kind of file is printed with
+abbrev pub file_word : FileKind → List ℕ
+file_word kind.Tables = codes "tables"
+
+-- the most bytes of a kind of file
+abbrev pub file_limit : FileKind → ℕ
+file_limit kind.Tables = 1048576
+
+-- a place as it is printed: a question mark for each byte that is no visible character of ISO 646
+abbrev pub shown_byte : ℕ → ℕ
+shown_byte c = if nat_le 33 c && nat_le c 126 then c else 63
+
+abbrev pub shown : List ℕ → List ℕ
+shown place = map shown_byte place
+
+-- why a document has not its form
+abbrev pub json_text : JsonFault → List ℕ
+json_text json.Syntax = codes "syntax"
+json_text (json.Lacks place) = codes "lacks " ++ shown place
+json_text (json.Kind place) = codes "kind " ++ shown place
+json_text (json.Unknown place) = codes "unknown " ++ shown place
+json_text json.Memory = codes "memory"
+
+abbrev pub limit_text : LimitName → List ℕ
+limit_text Ais = codes "ais"
+limit_text Kinds = codes "kinds"
+limit_text Options = codes "options"
+limit_text Items = codes "items"
+limit_text Size = codes "size"
+
+abbrev pub level_text : LevelName → List ℕ
+level_text Binary = codes "binary"
+level_text Tag = codes "tag"
+level_text Pure = codes "pure"
+
+-- a word and a number, and two numbers
+abbrev pub numbered : List ℕ → ℕ → List ℕ
+numbered word i = word ++ 32 ∷ decimal i
+
+abbrev pub numbered_twice : List ℕ → ℕ → ℕ → List ℕ
+numbered_twice word i j = numbered (numbered word i) j
+
+-- a word and a level
+abbrev pub of_level : List ℕ → LevelName → List ℕ
+of_level word level = word ++ 32 ∷ level_text level
+
+abbrev pub ai_text : AiFault → List ℕ
+ai_text (ai.BadAi i) = numbered (codes "ai") i
+ai_text (ai.CodePrefix j i) = numbered_twice (codes "code-prefix") j i
+ai_text (ai.KeyIsQualifier i) = numbered (codes "key-is-qualifier") i
+ai_text (ai.PredefinedLength i) = numbered (codes "predefined") i
+ai_text ai.Memory = codes "memory"
+
+-- a fault of tables
+abbrev pub tables_text : LoadFault → List ℕ
+tables_text (Json fault) = codes "json " ++ json_text fault
+tables_text Version = codes "version"
+tables_text (Limit name) = codes "limit " ++ limit_text name
+tables_text (Ai fault) = ai_text fault
+tables_text (BadKind i) = numbered (codes "bad-kind") i
+tables_text (BadItem level i k) = numbered_twice (of_level (codes "bad-item") level) i k
+tables_text (Mismatch level i) = numbered (of_level (codes "mismatch") level) i
+tables_text (Duplicate level j i) = numbered_twice (of_level (codes "duplicate") level) j i
+tables_text Memory = codes "memory"
+
+-- why a file is refused
+abbrev pub fault_text : FileFault → List ℕ
+fault_text Over = codes "over"
+fault_text (Tables fault) = tables_text fault
+
+-- the line of a refused file: `refused WHICH REASON`, and a line feed
+abbrev pub refused_line : Refusal → List ℕ
+refused_line refusal = codes "refused " ++ file_word refusal.kind ++ 32 ∷ fault_text refusal.fault ++ 10 ∷ []

@@ -1,0 +1,91 @@
+-- What the words of the command line ask for.
+use Rattle.std.specs.Prelude.{◌≡◌, ℕ, true, List, [], ◌∷◌, ◌++◌, codes, Option, Some, None, option_to_list}
+use Rattle.std.specs.Borrow.{Bor}
+use Rattle.gs_translate.specs.declared.form.Form.{Form}
+use Rattle.gs_program.specs.declared.command.Command.{Command}
+use Rattle.gs_program.specs.declared.command.Command.TheVariants.{Canon}
+use Rattle.gs_program.specs.declared.name.Name.TheVariants.{Tables, Prefixes, Links, Describe}
+use Rattle.gs_program.specs.declared.request.NamedFiles.{NamedFiles}
+use Rattle.gs_program.specs.declared.request.Request.{Request}
+use Rattle.gs_program.specs.Commands.{answers_lines, command_words, form_word, names_of}
+use Rattle.gs_program.specs.Names.{AreOfRows, has_required, look_up, name_word}
+
+-- the names of the files that are asked for
+pub record FileNames : Type 0 where
+  pub tables : Option (List ℕ)
+  pub prefixes : Option (List ℕ)
+  pub links : Option (List ℕ)
+  pub describe : Option (List ℕ)
+
+-- what is asked: a command with its operands, over these files
+pub record Asked : Type 0 where
+  pub command : Command
+  pub files : FileNames
+
+-- the files that pairs name
+abbrev pub named_files : List (List ℕ × List ℕ) → FileNames
+named_files pairs = record {
+  tables = look_up (name_word Tables) pairs;
+  prefixes = look_up (name_word Prefixes) pairs;
+  links = look_up (name_word Links) pairs;
+  describe = look_up (name_word Describe) pairs;
+}
+
+-- Words behind a command and its operands ask for this: they are pairs that the command takes, each name at most once and
+-- those there that it must have, and what is asked is the look-up of the names.
+pub record Asks (command : Command) (words : List (List ℕ)) (asked : Asked) : Type 0 where
+  pub pairs : List (List ℕ × List ℕ)
+  pub of_rows : AreOfRows (names_of command) words pairs
+  pub required : has_required (names_of command) pairs ≡ true
+  pub is : asked ≡ record { command = command; files = named_files pairs }
+
+-- The words are in order, and ask for this: a command, its operands, and pairs.
+pub record WordsInOrder (words : List (List ℕ)) (asked : Asked) : Type 0 where
+  pub command : Command
+  pub behind : List (List ℕ)
+  pub spelled : words ≡ command_words command ++ behind
+  pub asks : Asks command behind asked
+
+-- words behind `canon` ask for this
+pub record AsksForCanon (words : List (List ℕ)) (asked : Asked) : Type 0 where
+  pub form : Form
+  pub behind : List (List ℕ)
+  pub spelled : words ≡ form_word form ∷ behind
+  pub asks : Asks (Canon form) behind asked
+
+-- no request has these words
+abbrev pub NotInOrder : List (List ℕ) → Type 0
+NotInOrder words = (asked : Asked) → WordsInOrder words asked → ⊥
+
+-- the words ask for a command that answers the lines of the input
+pub record AsksForLines (words : List (List ℕ)) : Type 0 where
+  pub asked : Asked
+  pub order : WordsInOrder words asked
+  pub lines : answers_lines asked.command ≡ true
+
+-- the names of the files that are read, in their order
+abbrev pub names_in_order : FileNames → List (List ℕ)
+names_in_order files = option_to_list files.tables
+
+-- the words name a file
+pub record NamesFile (words : List (List ℕ)) (name : List ℕ) : Type 0 where
+  pub asked : Asked
+  pub order : WordsInOrder words asked
+  pub files : names_in_order asked.files ≡ name ∷ []
+
+-- what is printed where the words are not in order
+abbrev pub usage_line : List ℕ
+usage_line = codes "usage: tdl canon FORM | translate FROM TO | check | resolve | serve | gen N, then --name value pairs" ++ 10 ∷ []
+
+-- the name of a file in a request
+abbrev pub told_name : Option (Bor (List ℕ)) → Option (List ℕ)
+told_name None = None
+told_name (Some name) = Some name.now
+
+-- the files of a request
+abbrev pub told_files : NamedFiles → FileNames
+told_files files = record { tables = told_name files.tables; prefixes = told_name files.prefixes; links = told_name files.links; describe = told_name files.describe }
+
+-- what a request asks for
+abbrev pub told_request : Request → Asked
+told_request request = record { command = request.command; files = told_files request.files }

@@ -1,0 +1,64 @@
+ghost use Rattle.std.specs.Prelude.{◌≡◌, ◌⊎◌, ◌≤◌, [], false};
+ghost use Rattle.gs_lines.specs.Outputs.{Appends};
+ghost use Rattle.gs_lines.specs.Printing.{PrintedAs};
+ghost use Rattle.gs_lines.specs.Statuses.{OnReadFault, OnRefused, OnWriteFault};
+ghost use Rattle.gs_port.specs.Counts.{Rises};
+ghost use Rattle.gs_program.specs.Asking.{AskedRan};
+ghost use Rattle.gs_program.specs.Commands.{answers_lines};
+ghost use Rattle.gs_program.specs.Loads.{OpensFirst};
+ghost use Rattle.gs_program.specs.Refusals.{refused_line};
+ghost use Rattle.gs_program.specs.Requests.{names_in_order, told_request};
+ghost use Rattle.gs_program.specs.Runs.{AskedEnded};
+
+use crate::commands::run_command;
+use crate::loading::{Unloaded, load_files};
+use crate::refusal::Refusal;
+use crate::refusals::refused_line;
+use crate::request::Request;
+use gs_chars::Memory;
+use gs_lines::{Status, print_line};
+use gs_port::{Files, Sink, Source};
+use std::alloc::Global;
+
+/// Writes the line of a refused file.
+fn print_refusal<K: Sink>(alloc: Global, refusal: &Refusal, output: &mut K) -> Status
+    ensures written { Appends (K.held output.old) (K.held output.new) (λ out. PrintedAs Status.Refused (refused_line refusal.now) out result) }
+    ensures fault { OnWriteFault result (Rises (K.faults output.old) (K.faults output.new)) }
+    ensures counts { K.faults output.old ≤ K.faults output.new }
+{
+    match refused_line(alloc, refusal) {
+        Ok(line) => print_line(output, line.as_slice(), Status::Refused),
+        Err(Memory) => Status::Memory,
+    }
+}
+
+/// Does what is asked: loads the files, and runs the command. Where a file is refused one line says why, and where one is
+/// not there or cannot be read nothing is written; in both cases the input is not read.
+pub fn run_request<F: Files, S: Source, K: Sink>(
+    alloc: Global,
+    request: Request<'_>,
+    files: &mut F,
+    input: &mut S,
+    output: &mut K,
+) -> Status
+    ensures ran { Appends (K.held output.old) (K.held output.new) (λ out. AskedRan (told_request request.entry)
+        (record { files = F.files files.old; input = S.left input.old })
+        (record { file_faults = F.faults files.old; input_faults = S.faults input.old; output_faults = K.faults output.old })
+        (record { file_faults = F.faults files.new; input_faults = S.faults input.new; output_faults = K.faults output.new })
+        (S.left input.new) (record { output = out; status = result })) }
+    ensures read_fault { OnReadFault result ((input.new ≡ input.old × Appends (K.held output.old) (K.held output.new) (λ out. out ≡ []))
+        ⊎ (Rises (S.faults input.old) (S.faults input.new)
+        × Appends (K.held output.old) (K.held output.new) (AskedEnded (told_request request.entry) (F.files files.old) (S.left input.old) (S.left input.new)))) }
+    ensures unread { answers_lines (told_request request.entry).command ≡ false → input.new ≡ input.old }
+    ensures unread_refused { OnRefused result (input.new ≡ input.old) }
+    ensures opened { OpensFirst (names_in_order (told_request request.entry).files) (F.opened files.old) (F.opened files.new) }
+    ensures unopened { names_in_order (told_request request.entry).files ≡ [] → files.new ≡ files.old }
+    ensures told { F.files files.new ≡ F.files files.old }
+{
+    match load_files(alloc, request.files, files) {
+        Ok(loaded) => run_command(alloc, request.command, &loaded, input, output),
+        Err(Unloaded::Refused(refusal)) => print_refusal(alloc, &refusal, output),
+        Err(Unloaded::ReadFault) => Status::ReadFault,
+        Err(Unloaded::Memory) => Status::Memory,
+    }
+}

@@ -1,0 +1,56 @@
+ghost use Rattle.std.specs.Prelude.{◌≡◌, ◌≤◌, ◌++◌, IfOk, OnOk, decimal};
+ghost use Rattle.gs_port.specs.Counts.{Rises};
+ghost use Rattle.gs_lines.specs.Outputs.{Appends};
+ghost use Rattle.gs_lines.specs.Printing.{PrintedAs};
+ghost use Rattle.gs_lines.specs.Statuses.{OnWriteFault};
+ghost use Rattle.gs_program.specs.Works.{counts_line};
+
+use crate::loading::Loaded;
+use gs_chars::Memory;
+use gs_lines::{Status, print_line};
+use gs_port::Sink;
+use gs_tables::LevelName;
+use std::alloc::Global;
+
+/// Appends a word and a number.
+fn append_count(alloc: Global, line: &mut Vec<u8>, word: &[u8], count: usize) -> Result<(), Memory>
+    ensures { OnOk result (line.new.items ≡ line.old.items ++ word.now ++ decimal count) }
+{
+    let number = format!(in alloc; "{count}")?;
+    line.extend_from_slice(word)?;
+    line.extend_from_slice(number.as_bytes())?;
+    Ok(())
+}
+
+/// The line of counts: the numbers of application identifiers, of kinds and of the options of each level.
+fn counts_line(alloc: Global, loaded: &Loaded) -> Result<Vec<u8>, Memory>
+    ensures { IfOk result (λ line. line.items ≡ counts_line loaded.now) }
+{
+    let set = &loaded.tables;
+    let mut line = b"ok".to_vec(alloc)?;
+    append_count(alloc, &mut line, b" ais ", set.ais().rows().len())?;
+    append_count(alloc, &mut line, b" kinds ", set.kinds().len())?;
+    append_count(
+        alloc,
+        &mut line,
+        b" binary ",
+        set.info(LevelName::Binary).len(),
+    )?;
+    append_count(alloc, &mut line, b" tag ", set.info(LevelName::Tag).len())?;
+    append_count(alloc, &mut line, b" pure ", set.info(LevelName::Pure).len())?;
+    line.extend_from_slice(b" prefixes 0 links 0")?;
+    line.push(b'\n')?;
+    Ok(line)
+}
+
+/// Writes the line of counts of what is loaded.
+pub fn check<K: Sink>(alloc: Global, loaded: &Loaded, output: &mut K) -> Status
+    ensures written { Appends (K.held output.old) (K.held output.new) (λ out. PrintedAs Status.Done (counts_line loaded.now) out result) }
+    ensures fault { OnWriteFault result (Rises (K.faults output.old) (K.faults output.new)) }
+    ensures counts { K.faults output.old ≤ K.faults output.new }
+{
+    match counts_line(alloc, loaded) {
+        Ok(line) => print_line(output, line.as_slice(), Status::Done),
+        Err(Memory) => Status::Memory,
+    }
+}

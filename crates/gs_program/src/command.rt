@@ -1,0 +1,32 @@
+ghost use Rattle.std.specs.Prelude.{◌≡◌};
+ghost use Rattle.gs_program.specs.Commands.{names_of};
+
+use crate::name::{Name, NameRow};
+use gs_translate::Form;
+
+/// A command with its operands.
+#[derive(Clone, Copy, Debug)]
+pub enum Command {
+    /// Answers each line of the input, a text of the form, by the canonical link of what it names.
+    Canon(Form),
+    /// Loads the files, and counts what they have.
+    Check,
+}
+
+/// The name of the file of tables, which may be absent.
+const TABLES: NameRow = NameRow {
+    name: Name::Tables,
+    required: false,
+};
+
+impl Command {
+    /// The names that the command takes.
+    pub fn names(self) -> &'static [NameRow]
+        ensures { result.now ≡ names_of self }
+    {
+        match self {
+            Command::Canon(_) => &[TABLES],
+            Command::Check => &[TABLES],
+        }
+    }
+}

@@ -1,0 +1,29 @@
+ghost use Rattle.std.specs.Prelude.{◌≡◌};
+ghost use Rattle.gs_program.specs.Refusals.{file_limit, file_word};
+
+/// A kind of file that the words may name.
+#[derive(Clone, Copy, Debug, PartialEq, Eq)]
+pub enum FileKind {
+    /// The tables.
+    Tables,
+}
+
+impl FileKind {
+    /// The word that a refusal of such a file is printed with.
+    pub fn word(self) -> &'static [u8]
+        ensures { result.now ≡ file_word self }
+    {
+        match self {
+            FileKind::Tables => b"tables",
+        }
+    }
+
+    /// The most bytes that such a file may have.
+    pub fn limit(self) -> usize
+        ensures { result ≡ file_limit self }
+    {
+        match self {
+            FileKind::Tables => 1_048_576,
+        }
+    }
+}

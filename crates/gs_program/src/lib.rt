@@ -1,0 +1,23 @@
+//! The program: what its words ask for, the files that they name, its commands, and whole runs.
+#![tactic(auto)]
+
+mod arguments;
+mod asking;
+mod canon;
+mod checking;
+mod command;
+mod commands;
+mod file_kind;
+mod laws;
+mod line_answers;
+mod loading;
+mod name;
+mod pairs;
+mod refusal;
+mod refusals;
+mod request;
+mod running;
+mod tables;
+
+pub use gs_lines::Status;
+pub use running::run;

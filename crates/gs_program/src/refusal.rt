@@ -1,0 +1,20 @@
+use crate::file_kind::FileKind;
+use gs_tables::LoadFault;
+
+/// Why a file, or the rows in its place, are refused.
+#[derive(Debug, Drop)]
+pub enum FileFault {
+    /// The file has more bytes than its kind may have.
+    Over,
+    /// The tables break a rule, which is never want of memory.
+    Tables(LoadFault),
+}
+
+/// A file that is refused.
+#[derive(Debug, Drop)]
+pub struct Refusal {
+    /// The kind of the file.
+    pub kind: FileKind,
+    /// Why it is refused.
+    pub fault: FileFault,
+}

@@ -1,0 +1,17 @@
+-- The answer to a text.
+use Rattle.std.specs.Prelude.{◌≡◌, ℕ, List, Result, Ok}
+use Rattle.gs_ident.specs.Links.{canonical_link}
+use Rattle.gs_tables.specs.Tables.{TableRows}
+use Rattle.gs_translate.specs.declared.form.Form.{Form}
+use Rattle.gs_translate.specs.declared.meaning.Meaning.{Meaning}
+use Rattle.gs_translate.specs.declared.reason.Reason.{Reason}
+use Rattle.gs_translate.specs.Meanings.{IsRead}
+use Rattle.gs_translate.specs.Steps.{Then}
+
+-- the canonical link of what a text means
+abbrev pub IsCanonical : Meaning → Result (List ℕ) Reason → Type 0
+IsCanonical meaning answer = answer ≡ Ok (canonical_link meaning.identity)
+
+-- The answer to a text of a form: why it is refused, else the canonical link of what it means.
+abbrev pub IsAnswer : TableRows → Form → List ℕ → Result (List ℕ) Reason → Type 0
+IsAnswer set form text answer = Then (IsRead set form text) IsCanonical answer

@@ -1,0 +1,4 @@
+pub mod Steps
+pub mod Meanings
+pub mod Answers
+pub mod Reasons

@@ -1,0 +1,15 @@
+use gs_chars::Text;
+use gs_ident::Identity;
+
+/// What a text means.
+#[derive(Debug, Drop)]
+pub struct Meaning {
+    /// The identity that it names.
+    pub identity: Identity,
+    /// The digits of the GS1 Company Prefix, where the form tells them.
+    pub gcp: Option<u8>,
+    /// The filter value, where the form tells it.
+    pub filter: Option<u8>,
+    /// The name of the encoding, empty where the form has none.
+    pub encoding: Text,
+}

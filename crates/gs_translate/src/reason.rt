@@ -1,0 +1,66 @@
+use gs_ai::ElementFault;
+use gs_chars::Memory;
+use gs_dlink::LinkFault;
+use gs_element::ElementsFault;
+use gs_epc::EpcFault;
+use gs_ident::IdentFault;
+
+/// Why a text is refused.
+#[derive(Debug, Drop)]
+pub enum Reason {
+    /// The text has more than 2,048 bytes.
+    Long,
+    /// The text says no EPC, for this reason, which is never want of memory.
+    Epc(EpcFault),
+    /// An element of the text is not in order: where, and why.
+    Element(ElementFault),
+    /// The text does not begin with `http://` or `https://` and an authority.
+    NotHttp,
+    /// The path of the link ends in no key with its qualifiers.
+    NoKeyPath,
+    /// The elements of the text have no identity, for this reason, which is never want of memory.
+    Ident(IdentFault),
+    /// Want of memory.
+    Memory,
+}
+
+impl From<Memory> for Reason {
+    ghost use Rattle.std.specs.Prelude.{◌≡◌};
+    ghost use Rattle.gs_translate.specs.declared.reason.Reason.TheVariants.{Memory as WantOfMemory};
+
+    ghost from_gives = { λ _ e. e ≡ WantOfMemory };
+
+    fn from(_refused: Memory) -> Reason {
+        Reason::Memory
+    }
+}
+
+impl From<ElementsFault> for Reason {
+    ghost use Rattle.std.specs.Prelude.{◌≡◌};
+    ghost use Rattle.gs_translate.specs.Meanings.{elements_reason};
+
+    ghost from_gives = { λ fault reason. reason ≡ elements_reason fault };
+
+    fn from(fault: ElementsFault) -> Reason {
+        match fault {
+            ElementsFault::Element(fault) => Reason::Element(fault),
+            ElementsFault::Memory => Reason::Memory,
+        }
+    }
+}
+
+impl From<LinkFault> for Reason {
+    ghost use Rattle.std.specs.Prelude.{◌≡◌};
+    ghost use Rattle.gs_translate.specs.Meanings.{link_reason};
+
+    ghost from_gives = { λ fault reason. reason ≡ link_reason fault };
+
+    fn from(fault: LinkFault) -> Reason {
+        match fault {
+            LinkFault::NotHttp => Reason::NotHttp,
+            LinkFault::NoKeyPath => Reason::NoKeyPath,
+            LinkFault::Element(fault) => Reason::Element(fault),
+            LinkFault::Memory => Reason::Memory,
+        }
+    }
+}
