@@ -1,8 +1,12 @@
 -- The states of decimal texts that were added to a table.
-use Rattle.std.proofs.Common.{◌≡◌, ℕ, ◌<◌, ◌≤◌, ◌+◌, ◌-◌, ◌*◌, ◌/◌, ◌%◌, ◌^◌, List, [], ◌∷◌, ◌++◌, length, zero, suc, refl, sym, ◌∙◌, ap, arith, length-append, decimal}
+use Rattle.std.proofs.Common.{◌≡◌, ℕ, ◌<◌, ◌≤◌, ◌+◌, ◌-◌, ◌/◌, ◌%◌, ◌^◌, List, [], ◌∷◌, ◌++◌, length, suc, sym, ◌∙◌, ap, arith, length-append, decimal}
 use Rattle.std.proofs.lemmas.List.{append_assoc}
 use Rattle.std.proofs.Math.Nat.{one-le-pow}
+use Rattle.std.proofs.lemmas.Fmt.{decimal_nonempty}
+use Rattle.gs_grammar.specs.declared.item.Item.{Item}
+use Rattle.gs_grammar.specs.declared.item.Item.TheVariants.{Int}
 use Rattle.gs_machine.specs.declared.edge.Edge.{Edge}
+use Rattle.gs_compile.specs.ItemTables.{item_table}
 use Rattle.gs_compile.specs.NumeralTables.{free_edges, free_table, tight_edges, tight_table, numeral_table}
 use Rattle.gs_compile.proofs.AddedRows.{one_more, next_row}
 use Rattle.gs_compile.proofs.DecimalTexts.{length_tight, digit_small, rest_small, text_high}
@@ -67,3 +71,9 @@ numeral_added greatest behind power end n table first tight new l p e f g h m =
     ∙ ap (λ (k : ℕ). table ++ tight_edges 49 behind (greatest / k) (length table + 1) end ∷ (tight_table behind (greatest % k) (length table + 1) end ++ free_table behind (length table + 1 + behind))) p
     ∙ ap (λ (k : ℕ). table ++ tight_edges 49 behind (greatest / 10 ^ behind) (length table + 1) k ∷ (tight_table behind (greatest % 10 ^ behind) (length table + 1) k ++ free_table behind (length table + 1 + behind))) place
     ∙ ap (λ (k : ℕ). table ++ numeral_table k greatest (length table)) same
+
+pub int_added : (item : Item) (greatest : ℕ) (table new : List (List Edge)) → item ≡ Int greatest → greatest < 2 ^ 64 → ((n : ℕ) → n + 1 ≡ length (decimal greatest) → new ≡ table ++ numeral_table n greatest (length table)) → new ≡ table ++ item_table item (length table)
+int_added item greatest table new i small h =
+    let some = decimal_nonempty greatest small in
+    let here : new ≡ table ++ item_table (Int greatest) (length table) = h (length (decimal greatest) - 1) (omega arith) in
+    rw i here

@@ -1,5 +1,5 @@
 -- Rows that were added to a table, one after the other.
-use Rattle.std.proofs.Common.{◌≡◌, ℕ, ◌<◌, ◌≤◌, ◌+◌, ◌-◌, List, [], ◌∷◌, ◌++◌, length, zero, suc, Result, Ok, Err, IfOk, refl, sym, ◌∙◌, ap, arith, length-append}
+use Rattle.std.proofs.Common.{◌≡◌, ℕ, ◌<◌, ◌+◌, ◌-◌, List, [], ◌∷◌, ◌++◌, length, zero, suc, Result, Ok, Err, IfOk, refl, sym, ◌∙◌, ap, arith, length-append}
 use Rattle.std.proofs.lemmas.List.{append_assoc}
 use Rattle.gs_machine.specs.declared.edge.Edge.{Edge}
 use Rattle.gs_compile.specs.Tables.{edge, run_table, fill_table, lower_state, bound_rest, bound_edges, bound_table}
@@ -35,7 +35,7 @@ fill_parts : (n more base place : ℕ) → place ≡ base + n → fill_table (su
 fill_parts zero more base place e = let same : place ≡ base = omega arith in rw same refl
 fill_parts (suc n) more base place e = ap (λ (rows : List (List Edge)). (edge 0 0 (base + 1) ∷ []) ∷ rows) (fill_parts n more (base + 1) place (omega arith))
 
-run_count : (lo hi n base : ℕ) → length (run_table lo hi n base) ≡ n
+pub run_count : (lo hi n base : ℕ) → length (run_table lo hi n base) ≡ n
 run_count lo hi zero base = refl
 run_count lo hi (suc n) base = ap suc (run_count lo hi n (base + 1))
 

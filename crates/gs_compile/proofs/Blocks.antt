@@ -1,5 +1,5 @@
 -- A block of rows that stands in a table.
-use Rattle.std.proofs.Common.{◌≡◌, ℕ, ◌<◌, ◌≤◌, ◌+◌, List, [], ◌∷◌, ◌++◌, length, get_or, zero, suc, refl, sym, ◌∙◌, ap, arith, length-append}
+use Rattle.std.proofs.Common.{◌≡◌, ℕ, ◌<◌, ◌+◌, List, [], ◌∷◌, ◌++◌, length, zero, suc, refl, ◌∙◌, ap, arith, length-append}
 use Rattle.gs_machine.specs.declared.edge.Edge.{Edge}
 use Rattle.gs_machine.specs.Walks.{edges_at}
 

@@ -1,8 +1,8 @@
 -- Numbers in bits up to a greatest.
-use Rattle.std.proofs.Common.{◌≡◌, ◌⊎◌, ℕ, ◌<◌, ◌≤◌, ◌+◌, ◌-◌, ◌*◌, ◌^◌, Bool, true, false, if◌then◌else◌, List, [], ◌∷◌, ◌++◌, length, zero, suc, refl, sym, ◌∙◌, ap, subst, inl, inr, arith}
+use Rattle.std.proofs.Common.{◌≡◌, ℕ, ◌<◌, ◌≤◌, ◌+◌, ◌-◌, ◌*◌, ◌^◌, Bool, true, false, List, [], ◌∷◌, length, zero, suc, refl, ◌∙◌, ap, subst, inl, inr, arith}
 use Rattle.std.specs.Prelude.{nat_le}
 use Rattle.std.proofs.lemmas.Bool.{leb-true}
-use Rattle.std.proofs.lemmas.Bool.Decides.{nat_tests, leb_tells}
+use Rattle.std.proofs.lemmas.Bool.Decides.{nat_tests}
 use Rattle.std.proofs.lemmas.List.Elements.{All-cons, All-nil, All-head, All-tail}
 use Rattle.gs_bits.specs.Bits.{AreBits, number_of}
 use Rattle.gs_bits.specs.BitLaws.{number_of-below}
@@ -11,7 +11,7 @@ use Rattle.gs_machine.specs.Walks.{edges_at}
 use Rattle.gs_compile.specs.Readers.{Reads}
 use Rattle.gs_compile.specs.Tables.{edge, lower_state, bound_rest, bound_edges, bound_table}
 use Rattle.gs_compile.proofs.Walking.{Ascends}
-use Rattle.gs_compile.proofs.Arms.{Arms, Begins, ByEdge, Either, IsEmpty, reads_end, reads_state, reads_as, arms_one, arms_cons}
+use Rattle.gs_compile.proofs.Arms.{Begins, ByEdge, Either, IsEmpty, reads_end, reads_state, reads_as, arms_one, arms_cons}
 use Rattle.gs_compile.proofs.Blocks.{Has, has_head, has_tail}
 use Rattle.gs_compile.proofs.Runs.{IsRun, reads_edge}
 
@@ -106,11 +106,11 @@ low_back n greatest next g (zero ∷ w) h =
     let number : number_of (0 ∷ w) ≡ number_of w = e ∙ omega arith in
     (omega arith, omega arith, (h.0.2, omega arith))
 low_back n greatest next g (suc s ∷ w) h = absurd (
-  let e = number_cons n (suc s) w h.0.2 in
-  let top = h.1 in
-  let product : suc s * 2 ^ n ≡ s * 2 ^ n + 2 ^ n = omega arith in
-  omega arith
-)
+    let e = number_cons n (suc s) w h.0.2 in
+    let top = h.1 in
+    let product : suc s * 2 ^ n ≡ s * 2 ^ n + 2 ^ n = omega arith in
+    omega arith
+    )
 
 -- both states, where n bits are left
 pub record ReadsBound (table : List (List Edge)) (n greatest base q : ℕ) : Type 0 where

@@ -1,5 +1,5 @@
 -- The tree of the seven bits of a character.
-use Rattle.std.proofs.Common.{◌≡◌, ◌⊎◌, ℕ, ◌<◌, ◌≤◌, ◌+◌, ◌-◌, ◌*◌, ◌^◌, Bool, true, false, if◌then◌else◌, List, [], ◌∷◌, ◌++◌, length, zero, suc, refl, sym, ◌∙◌, ap, subst, inl, inr, arith, length-append}
+use Rattle.std.proofs.Common.{◌≡◌, ◌⊎◌, ℕ, ◌<◌, ◌≤◌, ◌+◌, ◌*◌, ◌^◌, Bool, true, false, List, [], ◌∷◌, ◌++◌, length, zero, suc, refl, sym, ◌∙◌, ap, subst, inl, inr, arith, length-append}
 use Rattle.std.proofs.Math.Nat.{pow-succ', one-le-pow}
 use Rattle.std.proofs.lemmas.List.Elements.{All-cons, All-nil, All-head, All-tail}
 use Rattle.gs_chars.specs.Characters.{is_in_set82}
@@ -9,7 +9,6 @@ use Rattle.gs_machine.specs.Walks.{edges_at}
 use Rattle.gs_compile.specs.Readers.{Reads}
 use Rattle.gs_compile.specs.Tables.{edge}
 use Rattle.gs_compile.specs.CodeTables.{edge_where, leaf_edges, trie_table}
-use Rattle.gs_compile.proofs.Walking.{Ascends}
 use Rattle.gs_compile.proofs.Arms.{Arms, Begins, ByEdge, Either, NoArm, reads_state, reads_as, arms_as, arms_none, arms_one, arms_cons}
 use Rattle.gs_compile.proofs.Blocks.{Has, has_head, has_tail, has_left, has_right}
 use Rattle.gs_compile.proofs.Spread.{arms_both}

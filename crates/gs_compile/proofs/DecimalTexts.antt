@@ -1,5 +1,5 @@
 -- The table of decimal texts up to a greatest number reads them.
-use Rattle.std.proofs.Common.{◌≡◌, ◌⊎◌, ℕ, ◌<◌, ◌≤◌, ◌+◌, ◌-◌, ◌*◌, ◌/◌, ◌%◌, ◌^◌, Bool, true, false, IsTrue, List, [], ◌∷◌, ◌++◌, length, get_or, zero, suc, refl, sym, ◌∙◌, ap, subst, inl, inr, arith, decimal}
+use Rattle.std.proofs.Common.{◌≡◌, ℕ, ◌<◌, ◌≤◌, ◌+◌, ◌-◌, ◌*◌, ◌/◌, ◌%◌, ◌^◌, List, [], ◌∷◌, ◌++◌, length, get_or, zero, suc, refl, sym, ◌∙◌, ap, subst, inl, inr, arith, decimal}
 use Rattle.std.proofs.Math.Nat.{pow-le-pow_right, pow-succ', one-le-pow, mul-le-mul_right}
 use Rattle.std.proofs.lemmas.Bool.{cases_eq, cases_lt}
 use Rattle.std.proofs.lemmas.Fmt.{length-decimal-le, decimal_nonempty, decimal-digits_value}
@@ -14,9 +14,9 @@ use Rattle.gs_compile.specs.Readers.{Reads}
 use Rattle.gs_compile.specs.Tables.{edge}
 use Rattle.gs_compile.specs.NumeralTables.{free_table, tight_edges, tight_table, numeral_table}
 use Rattle.gs_compile.proofs.Walking.{Ascends}
-use Rattle.gs_compile.proofs.Arms.{IsEmpty, reads_end, reads_as}
+use Rattle.gs_compile.proofs.Arms.{reads_end, reads_as}
 use Rattle.gs_compile.proofs.Blocks.{Has, has_head, has_tail, has_left, has_right}
-use Rattle.gs_compile.proofs.Numerals.{IsFree, IsTight, FreeOrEnd, FirstFrom, reads_free, reads_tight_more, reads_tight_last, first_digit}
+use Rattle.gs_compile.proofs.Numerals.{IsTight, FreeOrEnd, FirstFrom, reads_free, reads_tight_more, reads_tight_last, first_digit}
 
 -- the states at which any digits may follow
 

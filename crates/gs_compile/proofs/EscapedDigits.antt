@@ -1,10 +1,9 @@
 -- Which symbols spell a character.
-use Rattle.std.proofs.Common.{◌≡◌, ◌⊎◌, ℕ, ◌<◌, ◌≤◌, ◌+◌, ◌/◌, ◌%◌, ◌||◌, ◌&&◌, eqb, leb, not, Bool, true, false, List, [], ◌∷◌, Some, refl, sym, ◌∙◌, ap, subst, inl, inr, arith}
-use Rattle.std.specs.List.{list_any}
+use Rattle.std.proofs.Common.{◌≡◌, ◌⊎◌, ℕ, ◌<◌, ◌/◌, ◌%◌, ◌||◌, ◌&&◌, eqb, leb, not, Bool, true, false, [], ◌∷◌, Some, refl, sym, ◌∙◌, subst, inl, inr, arith}
 use Rattle.std.proofs.lemmas.Bool.{cases_eq, agree_below, agree_below_at}
-use Rattle.std.proofs.lemmas.Bool.Decides.{nat_tests, eqb_tells}
+use Rattle.std.proofs.lemmas.Bool.Decides.{nat_tests}
 use Rattle.gs_chars.specs.Characters.{is_in_set82}
-use Rattle.gs_chars.specs.Escapes.{is_plain, is_escaped, hex_value, Spells, IsEscape}
+use Rattle.gs_chars.specs.Escapes.{is_plain, is_escaped, hex_value, Spells}
 use Rattle.gs_chars.proofs.TruthsAndLists.{and_first}
 use Rattle.gs_grammar.proofs.Packs.{set82_bounds}
 use Rattle.gs_compile.specs.EscapeTables.{plain_ranges, two_ranges, three_ranges}
@@ -113,28 +112,40 @@ escape_digits c h l (inr (inr (inl e))) a b =
     inl (hex_2 h d.0, inr (inl (omega arith, omega arith)))
 escape_digits c h l (inr (inr (inr (inl e)))) a b =
     let d = digits_at c 47 h l e a b in
-    inl (hex_2 h d.0, elim (hex_15 l d.1) as (λ _. InRanges two_ranges l) [
-      | inl f ↦ inr (inr (inl (omega arith, omega arith)))
-      | inr f ↦ inr (inr (inr (inl (omega arith, omega arith))))
-    ])
+    inl (
+      hex_2 h d.0,
+      elim (hex_15 l d.1) as (λ _. InRanges two_ranges l) [
+        | inl f ↦ inr (inr (inl (omega arith, omega arith)))
+        | inr f ↦ inr (inr (inr (inl (omega arith, omega arith))))
+      ],
+    )
 escape_digits c h l (inr (inr (inr (inr (inl e))))) a b =
     let d = digits_at c 60 h l e a b in
-    inr (hex_3 h d.0, elim (hex_12 l d.1) as (λ _. InRanges three_ranges l) [
-      | inl f ↦ inl (omega arith, omega arith)
-      | inr f ↦ inr (inr (inl (omega arith, omega arith)))
-    ])
+    inr (
+      hex_3 h d.0,
+      elim (hex_12 l d.1) as (λ _. InRanges three_ranges l) [
+        | inl f ↦ inl (omega arith, omega arith)
+        | inr f ↦ inr (inr (inl (omega arith, omega arith)))
+      ],
+    )
 escape_digits c h l (inr (inr (inr (inr (inr (inl e)))))) a b =
     let d = digits_at c 62 h l e a b in
-    inr (hex_3 h d.0, elim (hex_14 l d.1) as (λ _. InRanges three_ranges l) [
-      | inl f ↦ inr (inl (omega arith, omega arith))
-      | inr f ↦ inr (inr (inr (inl (omega arith, omega arith))))
-    ])
+    inr (
+      hex_3 h d.0,
+      elim (hex_14 l d.1) as (λ _. InRanges three_ranges l) [
+        | inl f ↦ inr (inl (omega arith, omega arith))
+        | inr f ↦ inr (inr (inr (inl (omega arith, omega arith))))
+      ],
+    )
 escape_digits c h l (inr (inr (inr (inr (inr (inr e)))))) a b =
     let d = digits_at c 63 h l e a b in
-    inr (hex_3 h d.0, elim (hex_15 l d.1) as (λ _. InRanges three_ranges l) [
-      | inl f ↦ inr (inl (omega arith, omega arith))
-      | inr f ↦ inr (inr (inr (inl (omega arith, omega arith))))
-    ])
+    inr (
+      hex_3 h d.0,
+      elim (hex_15 l d.1) as (λ _. InRanges three_ranges l) [
+        | inl f ↦ inr (inl (omega arith, omega arith))
+        | inr f ↦ inr (inr (inr (inl (omega arith, omega arith))))
+      ],
+    )
 
 pub escaped_digits : (c h l : ℕ) → is_escaped c ≡ true → hex_value h ≡ Some (c / 16) → hex_value l ≡ Some (c % 16) → AreDigits h l
 escaped_digits c h l p a b = escape_digits c h l (escaped_one c p) a b

@@ -1,10 +1,10 @@
 -- The tables of items read their words.
-use Rattle.std.proofs.Common.{◌≡◌, ◌⊎◌, ℕ, ◌<◌, ◌≤◌, ◌+◌, ◌-◌, ◌*◌, ◌^◌, min, List, [], ◌∷◌, length, replicate, zero, suc, refl, sym, ◌∙◌, ap, subst, inl, inr, arith}
+use Rattle.std.proofs.Common.{◌≡◌, ℕ, ◌<◌, ◌≤◌, ◌+◌, ◌-◌, ◌*◌, ◌^◌, List, length, zero, suc, arith}
 use Rattle.std.proofs.Math.Nat.{one-le-pow}
 use Rattle.gs_bits.specs.Bits.{number_of}
 use Rattle.gs_grammar.specs.declared.item.Item.TheVariants.{Lit, Pad, NumPad, Num, Fill}
 use Rattle.gs_grammar.specs.Words.{IsWord, WritesNumber}
-use Rattle.gs_grammar.specs.Languages.{IsNumberWithin, IsNumberOfDigits}
+use Rattle.gs_grammar.specs.Languages.{IsNumberWithin}
 use Rattle.gs_grammar.proofs.ItemWords.{lit_word, pad_word, numpad_word, num_word, fill_word}
 use Rattle.gs_grammar.proofs.Packs.{writes_length, writes_bits, writes_number, written_number}
 use Rattle.gs_machine.specs.declared.edge.Edge.{Edge}
@@ -14,7 +14,7 @@ use Rattle.gs_compile.proofs.Walking.{Ascends}
 use Rattle.gs_compile.proofs.Arms.{reads_as}
 use Rattle.gs_compile.proofs.Blocks.{Has}
 use Rattle.gs_compile.proofs.Runs.{IsRun, IsFill, reads_lit, reads_run, reads_fill, digits_run, run_digits, fill_words, words_fill}
-use Rattle.gs_compile.proofs.Bounds.{IsBounded, ReadsBound, reads_bound, run_length, run_bits, bits_run}
+use Rattle.gs_compile.proofs.Bounds.{IsBounded, reads_bound, run_length, run_bits, bits_run}
 
 pub reads_literal : (table : List (List Edge)) (symbols : List ℕ) (base q : ℕ) → Has table base (lit_table symbols base) → Ascends table → q ≡ base + length symbols → Reads table base q (IsWord (Lit symbols))
 reads_literal table symbols base q h a e =

@@ -15,3 +15,7 @@ pub mod SpelledTexts
 pub mod Codes
 pub mod PackedTexts
 pub mod AddedNumerals
+pub mod AddedCodes
+pub mod InsideItems
+pub mod WholeMachines
+pub mod AddedItems

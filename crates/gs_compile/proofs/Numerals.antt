@@ -1,23 +1,20 @@
 -- Decimal texts up to a greatest number.
-use Rattle.std.proofs.Common.{◌≡◌, ◌⊎◌, ℕ, ◌<◌, ◌≤◌, ◌+◌, ◌-◌, ◌*◌, ◌/◌, ◌%◌, ◌^◌, ◌&&◌, Bool, true, false, IsTrue, List, [], ◌∷◌, ◌++◌, length, get_or, zero, suc, refl, sym, ◌∙◌, ap, subst, inl, inr, arith, decimal}
-use Rattle.std.proofs.Math.Nat.{pow-le-pow_right, pow-succ', one-le-pow, mul-le-mul_right, mod-lt}
+use Rattle.std.proofs.Common.{◌≡◌, ℕ, ◌<◌, ◌≤◌, ◌+◌, ◌-◌, ◌*◌, ◌^◌, true, IsTrue, List, [], ◌∷◌, length, get_or, zero, suc, refl, ◌∙◌, ap, inl, inr, arith}
+use Rattle.std.proofs.Math.Nat.{one-le-pow, mul-le-mul_right}
 use Rattle.std.proofs.lemmas.Bool.{cases_eq, cases_lt}
 use Rattle.std.proofs.lemmas.Bool.Decides.{nat_tests}
-use Rattle.std.proofs.lemmas.Fmt.{length-decimal-le, decimal_nonempty, decimal-digits_value}
 use Rattle.gs_chars.specs.Characters.{are_digits, is_digit}
 use Rattle.gs_chars.proofs.TruthsAndLists.{and_first, and_second}
-use Rattle.gs_grammar.specs.declared.item.Item.TheVariants.{Int}
-use Rattle.gs_grammar.specs.Words.{IsWord, IsNumeral, decimal_value}
-use Rattle.gs_grammar.proofs.Numbers.{own, value_below, value_decimal, digits_of_decimal, count_order, no_leading_zero}
-use Rattle.gs_grammar.proofs.ItemWords.{int_word}
+use Rattle.gs_grammar.specs.Words.{decimal_value}
+use Rattle.gs_grammar.proofs.Numbers.{value_below}
 use Rattle.gs_machine.specs.declared.edge.Edge.{Edge}
 use Rattle.gs_machine.specs.Walks.{edges_at}
 use Rattle.gs_compile.specs.Readers.{Reads}
 use Rattle.gs_compile.specs.Tables.{edge}
-use Rattle.gs_compile.specs.NumeralTables.{free_table, above_digit, tight_edges, tight_table, numeral_table}
+use Rattle.gs_compile.specs.NumeralTables.{free_table, above_digit, tight_edges}
 use Rattle.gs_compile.proofs.Walking.{Ascends}
-use Rattle.gs_compile.proofs.Arms.{Arms, Begins, ByEdge, Either, IsEmpty, reads_end, reads_state, reads_as, arms_one, arms_cons}
-use Rattle.gs_compile.proofs.Blocks.{Has, has_head, has_tail, has_left, has_right}
+use Rattle.gs_compile.proofs.Arms.{Begins, ByEdge, Either, IsEmpty, reads_end, reads_state, reads_as, arms_one, arms_cons}
+use Rattle.gs_compile.proofs.Blocks.{Has, has_head, has_tail}
 use Rattle.gs_compile.proofs.Runs.{reads_edge}
 
 -- from one to n digits

@@ -1,5 +1,5 @@
 -- The table of packed characters reads what packs so many.
-use Rattle.std.proofs.Common.{◌≡◌, ◌⊎◌, ℕ, ◌<◌, ◌≤◌, ◌+◌, ◌-◌, ◌*◌, ◌^◌, ◌&&◌, Bool, true, false, IsTrue, List, [], ◌∷◌, ◌++◌, length, replicate, zero, suc, refl, sym, ◌∙◌, ap, subst, inl, inr, arith, length-append}
+use Rattle.std.proofs.Common.{◌≡◌, ℕ, ◌<◌, ◌≤◌, ◌+◌, ◌-◌, ◌*◌, ◌^◌, true, List, [], ◌∷◌, ◌++◌, length, replicate, zero, suc, refl, sym, ◌∙◌, ap, subst, inl, inr, arith, length-append}
 use Rattle.std.specs.List.{flat_map}
 use Rattle.std.proofs.lemmas.Bool.{cases_eq}
 use Rattle.std.proofs.lemmas.List.{length-replicate, append_assoc}
@@ -11,14 +11,14 @@ use Rattle.gs_grammar.specs.declared.item.Item.TheVariants.{Ascii7}
 use Rattle.gs_grammar.specs.Words.{IsWord, IsPacked}
 use Rattle.gs_grammar.specs.Languages.{PacksWithin}
 use Rattle.gs_grammar.proofs.ItemWords.{ascii_word}
-use Rattle.gs_grammar.proofs.Packs.{pack_cons, packed_fixes, packed_nil, set82_bounds, written_number, writes_number}
+use Rattle.gs_grammar.proofs.Packs.{pack_cons, packed_fixes, packed_nil, set82_bounds, writes_number}
 use Rattle.gs_machine.specs.declared.edge.Edge.{Edge}
 use Rattle.gs_machine.specs.Walks.{edges_at}
 use Rattle.gs_compile.specs.Readers.{Reads}
 use Rattle.gs_compile.specs.Tables.{edge, run_table}
 use Rattle.gs_compile.specs.CodeTables.{trie_table, root_edges, next_character, characters_table, ascii_table}
 use Rattle.gs_compile.proofs.Walking.{Ascends}
-use Rattle.gs_compile.proofs.Arms.{Arms, Begins, ByEdge, Either, reads_state, reads_as, arms_one, arms_cons}
+use Rattle.gs_compile.proofs.Arms.{Begins, ByEdge, Either, reads_state, reads_as, arms_one, arms_cons}
 use Rattle.gs_compile.proofs.Blocks.{Has, has_head, has_tail, has_left, has_right}
 use Rattle.gs_compile.proofs.Runs.{IsRun, reads_run, zeros_run, run_zeros}
 use Rattle.gs_compile.proofs.Codes.{Code, Coded, Fork, arms_fork, reads_trie, length_trie, code_there, code_back}
@@ -240,7 +240,7 @@ reads_zeros table lo bits n q z none l =
     subst (λ (k : ℕ). Reads table (q - bits) q (PacksIn k 0 bits)) (sym none)
     (reads_as table (q - bits) q (IsRun 0 0 bits) (PacksIn 0 0 bits) (z bits l) (λ w r. zeros_packed 0 bits w (run_zeros bits w r)) (λ w p. zeros_run bits w (packed_zeros bits w p)))
 
-length_characters_row : (next base : ℕ) → length (trie_table 6 0 (base + 1) next ++ trie_table 6 1 (base + 64) next) ≡ 126
+pub length_characters_row : (next base : ℕ) → length (trie_table 6 0 (base + 1) next ++ trie_table 6 1 (base + 64) next) ≡ 126
 length_characters_row next base =
     let l = length_trie 5 0 (base + 1) next in
     let r = length_trie 5 1 (base + 64) next in

@@ -1,5 +1,5 @@
 -- Literals, runs of one range, and fillings.
-use Rattle.std.proofs.Common.{◌≡◌, ◌⊎◌, ℕ, ◌<◌, ◌≤◌, ◌+◌, Bool, true, false, IsTrue, List, [], ◌∷◌, ◌++◌, length, replicate, zero, suc, refl, sym, ◌∙◌, ap, subst, inl, inr, arith}
+use Rattle.std.proofs.Common.{◌≡◌, ◌⊎◌, ℕ, ◌<◌, ◌≤◌, ◌+◌, true, IsTrue, List, [], ◌∷◌, length, replicate, zero, suc, refl, inl, inr, arith}
 use Rattle.std.proofs.lemmas.Bool.Decides.{nat_tests}
 use Rattle.gs_chars.specs.Characters.{are_digits, is_digit}
 use Rattle.gs_chars.proofs.TruthsAndLists.{and_first, and_second}
@@ -8,7 +8,7 @@ use Rattle.gs_machine.specs.Walks.{edges_at}
 use Rattle.gs_compile.specs.Readers.{Reads}
 use Rattle.gs_compile.specs.Tables.{edge, lit_table, run_table, fill_table}
 use Rattle.gs_compile.proofs.Walking.{Ascends}
-use Rattle.gs_compile.proofs.Arms.{Arms, Begins, ByEdge, Either, IsEmpty, reads_end, reads_state, reads_as, arms_one, arms_cons}
+use Rattle.gs_compile.proofs.Arms.{Begins, ByEdge, Either, IsEmpty, reads_end, reads_state, reads_as, arms_one, arms_cons}
 use Rattle.gs_compile.proofs.Blocks.{Has, has_head, has_tail}
 
 -- one state with one edge

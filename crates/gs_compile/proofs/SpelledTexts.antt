@@ -1,12 +1,11 @@
 -- The table of characters in the spellings of EPC URIs reads what spells so many.
-use Rattle.std.proofs.Common.{◌≡◌, ◌⊎◌, ℕ, ◌<◌, ◌≤◌, ◌+◌, ◌-◌, ◌*◌, Bool, true, false, if◌then◌else◌, List, [], ◌∷◌, ◌++◌, length, zero, suc, refl, sym, ◌∙◌, ap, subst, inl, inr, arith}
+use Rattle.std.proofs.Common.{◌≡◌, ℕ, ◌<◌, ◌≤◌, ◌+◌, ◌-◌, ◌*◌, Bool, true, false, List, [], ◌∷◌, ◌++◌, length, zero, suc, refl, sym, ◌∙◌, ap, subst, inl, inr, arith}
 use Rattle.std.specs.Prelude.{nat_le}
 use Rattle.std.proofs.lemmas.Bool.{leb-true}
 use Rattle.std.proofs.lemmas.Bool.Decides.{nat_tests}
-use Rattle.gs_chars.specs.Escapes.{Spells, IsEscape}
+use Rattle.gs_chars.specs.Escapes.{Spells}
 use Rattle.gs_grammar.specs.declared.item.Item.TheVariants.{Esc}
 use Rattle.gs_grammar.specs.Words.{IsWord, SpellsEach, no_more, one_more}
-use Rattle.gs_grammar.specs.Languages.{SpellsWithin}
 use Rattle.gs_grammar.proofs.ItemWords.{esc_word}
 use Rattle.gs_machine.specs.declared.edge.Edge.{Edge}
 use Rattle.gs_machine.specs.Walks.{edges_at}
@@ -17,7 +16,7 @@ use Rattle.gs_compile.proofs.Walking.{Ascends}
 use Rattle.gs_compile.proofs.Arms.{Arms, Begins, ByEdge, Either, IsEmpty, reads_end, reads_state, reads_as, arms_as, arms_one, arms_cons}
 use Rattle.gs_compile.proofs.Blocks.{Has, has_head, has_tail}
 use Rattle.gs_compile.proofs.Spread.{InRanges, ByRanges, arms_spread, arms_both}
-use Rattle.gs_compile.proofs.EscapedDigits.{AreDigits, Spelt, digits_spelt, escaped_digits, range_plain, plain_range, percent_not_plain}
+use Rattle.gs_compile.proofs.EscapedDigits.{AreDigits, digits_spelt, escaped_digits, range_plain, plain_range, percent_not_plain}
 
 -- the list spells at least one character, at least lo and at most n
 pub record SpellsSome (lo n : ℕ) (w : List ℕ) : Type 0 where

@@ -52,7 +52,7 @@ border_at all border next borders state h l e =
     let same : eqb next state ≡ true = grind (arith, nat_tests) in
     from_next all border next borders h l state (omega arith) ∙ rw same refl
 
-no_border : (all : List ℕ) (border next : ℕ) (borders : List ℕ) (state : ℕ) → From all border (next ∷ borders) → Rises next borders → border < state → state < next → is_border all state ≡ false
+pub no_border : (all : List ℕ) (border next : ℕ) (borders : List ℕ) (state : ℕ) → From all border (next ∷ borders) → Rises next borders → border < state → state < next → is_border all state ≡ false
 no_border all border next borders state h r l m =
     let here : eqb border state ≡ false = grind (arith, nat_tests) in
     let rest = none_below next borders state r m in

@@ -31,11 +31,16 @@ abbrev pub next_character : ℕ → ℕ → ℕ → ℕ → ℕ
 next_character zero left base end = end - (left - 7)
 next_character (suc more) left base end = base + 127
 
+-- the states of a character, of which with it at least lo are to come, and so many more may follow
+abbrev pub code_rows : ℕ → ℕ → ℕ → ℕ → ℕ → List (List Edge)
+code_rows lo more left base end =
+    root_edges lo left base end ∷ (trie_table 6 0 (base + 1) (next_character more left base end) ++ trie_table 6 1 (base + 64) (next_character more left base end))
+
 -- the states of characters, of which at least lo are to come, and at most so many
 abbrev pub characters_table : ℕ → ℕ → ℕ → ℕ → ℕ → List (List Edge)
 characters_table lo zero left base end = []
 characters_table lo (suc more) left base end =
-    root_edges lo left base end ∷ ((trie_table 6 0 (base + 1) (next_character more left base end) ++ trie_table 6 1 (base + 64) (next_character more left base end)) ++ characters_table (lo - 1) more (left - 7) (base + 127) end)
+    code_rows lo more left base end ++ characters_table (lo - 1) more (left - 7) (base + 127) end
 
 -- the characters, and the zeros
 abbrev pub ascii_table : ℕ → ℕ → ℕ → ℕ → List (List Edge)

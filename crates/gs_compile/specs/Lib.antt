@@ -4,3 +4,4 @@ pub mod Tables
 pub mod NumeralTables
 pub mod EscapeTables
 pub mod CodeTables
+pub mod ItemTables

@@ -2,7 +2,12 @@
 #![tactic(auto)]
 
 mod adding;
+mod compiling;
+mod escaped;
+mod items;
 mod laws;
 mod numeral;
+mod packed;
 
+pub use compiling::compile;
 pub use laws::cuts_of_runs_are_those_of_derivations;

@@ -59,7 +59,13 @@ fn above(left: usize, digit: u8) -> u8
 }
 
 /// Adds a state at which the digits so far are those of the greatest number, this is its next digit, and so many follow it.
-fn add_tight_state(table: Table, low: u8, left: usize, digit: u8, end: usize) -> Result<Table, Memory>
+fn add_tight_state(
+    table: Table,
+    low: u8,
+    left: usize,
+    digit: u8,
+    end: usize,
+) -> Result<Table, Memory>
     requires digit { digit ≤ 9 }
     requires room { left ≤ end }
     ensures { IfOk result (λ new. new ≡ table ++ tight_edges low left digit (length table + 1) end ∷ []) }

@@ -65,7 +65,15 @@ impl Auto {
             return Ok(None);
         }
         let table = table_of(alloc, rows)?;
-        Ok(Some(Auto { table, borders }))
+        Ok(Some(Auto::of_table(table, borders)))
+    }
+
+    /// The machine of a table and borders that keep the rules. It takes no memory.
+    pub fn of_table(table: Table, borders: Vec<usize>) -> Auto
+        requires { IsMachine (record { table = table; borders = borders.items }) }
+        ensures { result ≡ record { table = table; borders = borders.items } }
+    {
+        Auto { table, borders }
     }
 
     /// The number of states.

@@ -1,4 +1,4 @@
-use Rattle.std.proofs.Common.{arith, ◌<◌, ◌≤◌, ◌^◌, ◌/◌}
+use Rattle.std.proofs.Common.{arith, ◌<◌, ◌^◌}
 use Rattle.gs_compile.proofs.AddedRows.{ok_follows}
 use Rattle.gs_compile.proofs.AddedNumerals.{some_power, first_digit_small, next_rest, numeral_added}
 use Rattle.gs_compile.proofs.numeral.add_numeral.Goals as goal

@@ -1,5 +1,5 @@
 use Rattle.std.proofs.Common.{arith, refl}
-use Rattle.gs_compile.proofs.AddedNumerals.{tight_step, next_rest, next_digit, some_power}
+use Rattle.gs_compile.proofs.AddedNumerals.{tight_step, next_rest}
 use Rattle.gs_compile.proofs.numeral.add_tight.Goals as goal
 
 pub loop-left-preserved : goal.loop-left-preserved

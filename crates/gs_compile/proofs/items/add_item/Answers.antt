@@ -1,0 +1,9 @@
+use Rattle.std.proofs.Common.{arith, ◌<◌, ◌^◌}
+use Rattle.gs_compile.proofs.AddedRows.{ok_follows}
+use Rattle.gs_compile.proofs.AddedNumerals.{int_added}
+use Rattle.gs_compile.proofs.items.add_item.Goals as goal
+
+pub returns-in-Int : goal.returns-in-Int
+returns-in-Int c =
+    let small : c.in-Int.max < 2 ^ 64 = omega arith in
+    ok_follows _ _ (λ new. int_added _ _ _ new c.in-Int.is small) c.add_numeral.result c.add_numeral.ensures
