@@ -26,7 +26,7 @@ fn answer_of(alloc: Global, set: &TableSet, path: &str, args: &[Text]) -> Answer
         "gs_prefix" => prefixes::answer(alloc, call, args),
         "gs_epc" => epcs::answer(alloc, set, call, args),
         "gs_translate" => translations::answer(alloc, set, call, args),
-        "gs_machine" | "gs_ambig" => machines::answer(alloc, call, args),
+        "gs_machine" | "gs_ambig" | "gs_compile" => machines::answer(alloc, call, args),
         "gs_lines" => lines::answer(alloc, call, args),
         "gs_program" => runs::answer(alloc, call, args),
         _ => Err(Refusal::NoCase),

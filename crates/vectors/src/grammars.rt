@@ -81,7 +81,7 @@ fn option(alloc: Global, level: &[u8], words: &[Text]) -> Answer {
 }
 
 /// The options of the words.
-fn options_of(alloc: Global, bit_level: bool, words: &[Text]) -> Result<Vec<Opt>, Refusal>
+pub fn options_of(alloc: Global, bit_level: bool, words: &[Text]) -> Result<Vec<Opt>, Refusal>
     ensures { IfOk result (λ options. AreOfKind bit_level options.items) }
 {
     let mut options = Vec::new(alloc);

@@ -1,20 +1,25 @@
-//! Calls of gs_machine and gs_ambig. A MACHINE is `BORDERS/ROW/ROW..`: the borders with commas between, and the edges that leave
+//! Calls of gs_machine, gs_ambig and gs_compile. A MACHINE is `BORDERS/ROW/ROW..`: the borders with commas between, and the edges that leave
 //! each state, `LO-HI>STATE` with `+` between.
 //!
 //! - `machine MACHINE`: the number of states and the start, or `None` where it is no machine.
 //! - `check MACHINE..`: `Clear`, or the two machines and a list of symbols that they share.
+//! - `share LEVEL ITEM.. | ITEM..`, with LEVEL `text` or `bits`: `Clear`, or the two options that share a list of symbols; the
+//!   machines are compiled of the options.
 
-use crate::case::{Answer, Refusal, arg, number_of, numbers_of, shown, text_of};
+use crate::case::{Answer, Refusal, arg, behind, number_of, numbers_of, shown, text_of};
+use crate::grammars::options_of;
 use gs_ambig::{Verdict, check};
 use gs_chars::{List, Text};
+use gs_compile::compile;
 use gs_machine::{Auto, Edge};
 use std::alloc::Global;
 
-/// The answer to a call of gs_machine or gs_ambig.
+/// The answer to a call of gs_machine, gs_ambig or gs_compile.
 pub fn answer(alloc: Global, call: &str, args: &[Text]) -> Answer {
     match call {
         "machine" => machine(alloc, arg(args, 0)?),
         "check" => checked(alloc, args),
+        "share" => shared(alloc, arg(args, 0)?, behind(args, 1)),
         _ => Err(Refusal::NoCase),
     }
 }
@@ -105,5 +110,22 @@ fn checked(alloc: Global, words: &[Text]) -> Answer {
             let word = shown(alloc, word.as_bytes())?;
             Ok(format!(in alloc; "{i} {j} {word}")?)
         }
+    }
+}
+
+/// The machines of the options of the words.
+fn compiled(alloc: Global, bit_level: bool, words: &[Text]) -> Result<Vec<Auto>, Refusal> {
+    let mut machines = Vec::new(alloc);
+    for option in options_of(alloc, bit_level, words)?.iter() {
+        machines.push(compile(alloc, option)?)?;
+    }
+    Ok(machines)
+}
+
+fn shared(alloc: Global, level: &[u8], words: &[Text]) -> Answer {
+    let machines = compiled(alloc, level == b"bits".as_slice(), words)?;
+    match check(alloc, machines.as_slice())? {
+        Verdict::Clear => Ok(String::from_str(alloc, "Clear")?),
+        Verdict::Double { i, j, word: _ } => Ok(format!(in alloc; "{i} {j}")?),
     }
 }
