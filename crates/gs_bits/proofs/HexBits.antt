@@ -6,6 +6,7 @@ use Rattle.std.proofs.lemmas.Bool.{agree_below, agree_below_at, cases_lt, eqb-tr
 use Rattle.std.proofs.lemmas.List.{get_or-take, length-take-le}
 use Rattle.std.proofs.lemmas.List.Elements.{All-head, All-tail}
 use Rattle.std.proofs.lemmas.Nat.{shr_high}
+use Rattle.gs_chars.proofs.TruthsAndLists.{no_value}
 use Rattle.gs_chars.specs.Escapes.{hex_value, hex_digit}
 use Rattle.hex.specs.Hex.{decode_pairs, decode_sized, encode_with, encode_upper, hex_digit_value, pair_value, upper_digits, IsBytes}
 use Rattle.hex.specs.declared.error.FromHexError.{FromHexError}
@@ -23,10 +24,6 @@ same_value c = grind arith
 some_value : (o : Option ℕ) → is_some o ≡ true → (v : ℕ) × (o ≡ Some v)
 some_value (Some v) h = (v, refl)
 some_value None h = cc h
-
-no_value : (o : Option ℕ) → is_some o ≡ false → o ≡ None
-no_value (Some v) h = cc h
-no_value None h = refl
 
 cons_ok : (v : ℕ) (r : Result (List ℕ) FromHexError) (bytes : List ℕ) → cons_byte v r ≡ Ok bytes → (tail : List ℕ) × (r ≡ Ok tail) × (bytes ≡ v ∷ tail)
 cons_ok v (Ok tail) bytes h = (tail, refl, cc)

@@ -1,8 +1,9 @@
 -- Ambiguous levels: lists of symbols with two different derivations, and how a text shows such a list. What a load of tables
 -- refuses as ambiguous is told by these.
-use Rattle.std.specs.Prelude.{◌≡◌, ℕ, ◌+◌, Bool, if◌then◌else◌, List, map}
+use Rattle.std.specs.Prelude.{◌≡◌, ℕ, ◌+◌, ◌<◌, ◌≤◌, ◌⊎◌, Bool, if◌then◌else◌, List, map}
 use Rattle.gs_grammar.specs.declared.item.Item.{Item}
 use Rattle.gs_grammar.specs.Derivations.{Derivation, AreSame, TwoDerivations}
+use Rattle.gs_grammar.specs.Levels.{LevelForm, item_lists}
 
 -- the level is ambiguous: some list of symbols has two different derivations in it
 pub record IsAmbiguous (level : List (List Item)) : Type 0 where
@@ -21,3 +22,19 @@ pub record ShareList (level : List (List Item)) (i j : ℕ) (w : List ℕ) : Typ
 -- a text that shows symbols: the bytes `0` and `1` for the numbers of a bit level, and the symbols of any other as they are
 abbrev pub shown_symbols : Bool → List ℕ → List ℕ
 shown_symbols bit_level w = if bit_level then map (λ bit. bit + 48) w else w
+
+-- the pair k, l stands before the pair i, j: in the order of the first option, and then of the second
+abbrev pub StandsBefore : ℕ → ℕ → ℕ → ℕ → Type 0
+StandsBefore k l i j = (k < i) ⊎ ((k ≡ i) × (l < j))
+
+-- Options i and j, i at most j, are the first pair of the level that shares a list, and they share this one.
+pub record IsFirstShare (level : List (List Item)) (i j : ℕ) (w : List ℕ) : Type 0 where
+  pub order : i ≤ j
+  pub share : ShareList level i j w
+  pub first : (k l : ℕ) (v : List ℕ) → k ≤ l → StandsBefore k l i j → ShareList level k l v → ⊥
+
+-- Options i and j are the first pair of the level that shares a list, and the text shows one that they share.
+pub record ShowsFirstShare (level : LevelForm) (i j : ℕ) (text : List ℕ) : Type 0 where
+  pub w : List ℕ
+  pub share : IsFirstShare (item_lists level.options) i j w
+  pub shown : text ≡ shown_symbols level.bit_level w
