@@ -1,8 +1,8 @@
 -- What is loaded, by how files were read.
-use Rattle.std.proofs.Common.{◌≡◌, ℕ, ◌≤◌, List, Option, Some, None, length, refl, sym, ◌∙◌, ap, inl, inr, append-nil}
+use Rattle.std.proofs.Common.{◌≡◌, ℕ, ◌≤◌, List, Option, Some, None, length, [], ◌∷◌, refl, sym, ◌∙◌, ap, inl, inr, append-nil}
 use Rattle.std.specs.Prelude.{Result, Ok, Err, option_to_list, not, ◌==◌}
 use Rattle.gs_document.specs.declared.fault.LoadFault.{LoadFault}
-use Rattle.gs_port.specs.Files.{IsFile, MayHaveName}
+use Rattle.gs_port.specs.Files.{AddsNames, IsFile, with_names}
 use Rattle.gs_tables.specs.Shapes.{BuiltInAnswer, HasMemory, LoadAnswer}
 use Rattle.gs_tables.specs.Tables.{IsShaped, TableRows, refusals, refuse_if, row_refusals}
 use Rattle.gs_builtin.specs.BuiltIn.{builtin_document}
@@ -63,12 +63,15 @@ not_loaded files names before now (unloaded.Refused refusal) g = refuses (refuse
 
 -- ---- what was opened
 
-pub opens_one : (name : List ℕ) (before now : List (List ℕ)) → MayHaveName before name now → OpensFirst (option_to_list (Some name)) before now
-opens_one name before now (inl same) = (0, same ∙ sym (append-nil before))
-opens_one name before now (inr more) = (1, more)
+pub opens_one : (name : List ℕ) (before now : Option (List (List ℕ))) → AddsNames before (name ∷ []) now → OpensFirst (option_to_list (Some name)) before now
+opens_one name before now adds = (1, adds)
 
-pub opens_none : (names before : List (List ℕ)) → OpensFirst names before before
-opens_none names before = (0, sym (append-nil before))
+no_names_more : (names : Option (List (List ℕ))) → names ≡ with_names names []
+no_names_more None = refl
+no_names_more (Some names) = ap Some (sym (append-nil names))
+
+pub opens_none : (names : List (List ℕ)) (before : Option (List (List ℕ))) → OpensFirst names before before
+opens_none names before = (0, inr (no_names_more before))
 
 -- ---- what is loaded keeps the rules
 

@@ -1,8 +1,8 @@
 -- What files give, and the rows in their place where they are not named.
-use Rattle.std.specs.Prelude.{◌≡◌, ◌⊎◌, ℕ, ◌<◌, ◌≤◌, List, ◌++◌, length, take, Option, Some, None, Result, Ok, Err}
+use Rattle.std.specs.Prelude.{◌≡◌, ◌⊎◌, ℕ, ◌<◌, ◌≤◌, List, length, take, Option, Some, None, Result, Ok, Err}
 use Rattle.gs_document.specs.declared.fault.LoadFault.{LoadFault}
 use Rattle.gs_port.specs.Counts.{Rises}
-use Rattle.gs_port.specs.Files.{IsAbsent, IsFile}
+use Rattle.gs_port.specs.Files.{AddsNames, IsAbsent, IsFile}
 use Rattle.gs_tables.specs.Shapes.{BuiltInAnswer, HasMemory, LoadAnswer}
 use Rattle.gs_tables.specs.Tables.{TableRows}
 use Rattle.gs_translate.specs.Steps.{Then}
@@ -77,6 +77,6 @@ LoadedBy Give before now (Err (Refused refusal)) = Give (Err (refused refusal))
 LoadedBy Give before now (Err ReadFault) = Rises before now ⊎ Give (Err missing)
 LoadedBy Give before now (Err Memory) = Unit {0}
 
--- the first of these names were opened, in their order
-abbrev pub OpensFirst : List (List ℕ) → List (List ℕ) → List (List ℕ) → Type 0
-OpensFirst names before now = (count : ℕ) × (now ≡ before ++ take count names)
+-- the first of these names were opened, in their order, where it is told
+abbrev pub OpensFirst : List (List ℕ) → Option (List (List ℕ)) → Option (List (List ℕ)) → Type 0
+OpensFirst names before now = (count : ℕ) × AddsNames before (take count names) now

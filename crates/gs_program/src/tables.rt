@@ -1,5 +1,5 @@
-ghost use Rattle.std.specs.Prelude.{◌≡◌, ◌≤◌, ℕ, List, Option, Some, None, option_to_list};
-ghost use Rattle.gs_port.specs.Files.{MayHaveName};
+ghost use Rattle.std.specs.Prelude.{◌≡◌, ◌≤◌, ℕ, List, [], ◌∷◌, Option, Some, None, option_to_list};
+ghost use Rattle.gs_port.specs.Files.{AddsNames};
 ghost use Rattle.gs_program.specs.Loads.{LoadedBy, OpensFirst, TablesGive};
 ghost use Rattle.gs_program.specs.Reads.{ReadBy, UnloadedAs};
 ghost use Rattle.gs_program.specs.Requests.{told_name};
@@ -20,7 +20,7 @@ fn read_named<F: Files>(
     files: &mut F,
 ) -> Result<Text, Unloaded>
     ensures read { ReadBy (F.files files.old) kind name.now (F.faults files.old) (F.faults files.new) result }
-    ensures opened { MayHaveName (F.opened files.old) name.now (F.opened files.new) }
+    ensures opened { AddsNames (F.opened files.old) (name.now ∷ []) (F.opened files.new) }
     ensures told { F.files files.new ≡ F.files files.old }
     ensures counts { F.faults files.old ≤ F.faults files.new }
 {
@@ -52,7 +52,7 @@ fn tables_of(answer: Result<TableSet, LoadFault>) -> Result<TableSet, Unloaded>
 /// The tables of the named file.
 fn load_named<F: Files>(alloc: Global, name: &str, files: &mut F) -> Result<TableSet, Unloaded>
     ensures loaded { LoadedBy (TablesGive (F.files files.old) (Some name.now)) (F.faults files.old) (F.faults files.new) result }
-    ensures opened { MayHaveName (F.opened files.old) name.now (F.opened files.new) }
+    ensures opened { AddsNames (F.opened files.old) (name.now ∷ []) (F.opened files.new) }
     ensures told { F.files files.new ≡ F.files files.old }
     ensures counts { F.faults files.old ≤ F.faults files.new }
 {
