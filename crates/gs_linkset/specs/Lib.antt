@@ -1,0 +1,4 @@
+pub mod Attributes
+pub mod Documents
+pub mod Answers
+pub mod LinkShapes
