@@ -135,6 +135,12 @@ pub fn add(answer: &mut String, word: &str) -> Result<(), AllocError> {
     answer.push_str(word)
 }
 
+/// Appends the word that stands for some bytes, behind a space where it is not the first.
+pub fn add_shown(alloc: Global, answer: &mut String, bytes: &[u8]) -> Result<(), AllocError> {
+    let word = shown(alloc, bytes)?;
+    add(answer, word.as_str())
+}
+
 /// The argument at a place.
 pub fn arg(args: &[Text], i: usize) -> Result<&[u8], Refusal> {
     match args.get(i) {
@@ -173,7 +179,7 @@ pub fn behind(args: &[Text], count: usize) -> &[Text] {
 pub fn shown_all(alloc: Global, texts: &[Text]) -> Result<String, AllocError> {
     let mut words = String::new(alloc);
     for text in texts {
-        add(&mut words, shown(alloc, text.as_bytes())?.as_str())?;
+        add_shown(alloc, &mut words, text.as_bytes())?;
     }
     Ok(words)
 }

@@ -19,7 +19,8 @@ mod objects;
 
 pub use answering::{Calls, answer_cases};
 pub use case::{
-    Answer, Refusal, add, arg, behind, number, number_of, numbers_of, shown, shown_all, text_of,
+    Answer, Refusal, add, add_shown, arg, behind, number, number_of, numbers_of, shown, shown_all,
+    text_of,
 };
 pub use item_words::{item_of, item_word};
 pub use json_words::fault_word;

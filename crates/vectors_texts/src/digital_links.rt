@@ -4,7 +4,7 @@
 //! - `stem_ok STEM`: whether a link may be written under it.
 //! - `write_link STEM CODE VALUE ..`: the link of the identity of the pairs under the stem, or the refusal.
 
-use crate::elements::listed;
+use crate::elements::{listed, text_word};
 use crate::identities::{first_fault, pairs_of, refusal};
 use gs_ai::{AiTable, Pair};
 use gs_chars::Text;
@@ -12,7 +12,7 @@ use gs_dlink::{LinkFault, read_link, read_target, stem_ok, write_link};
 use gs_ident::make;
 use gs_tables::TableSet;
 use std::alloc::Global;
-use vector_cases::{Answer, Refusal, arg, behind, shown};
+use vector_cases::{Answer, Refusal, arg, behind};
 
 /// The answer to a call of gs_dlink.
 pub fn answer(alloc: Global, set: &TableSet, call: &str, args: &[Text]) -> Answer {
@@ -48,10 +48,7 @@ fn written(alloc: Global, table: &AiTable, stem: &[u8], words: &[Text]) -> Answe
     }
     let pairs = pairs_of(alloc, table, words)?;
     match make(alloc, table, pairs) {
-        Ok(identity) => {
-            let link = write_link(alloc, stem, &identity)?;
-            Ok(shown(alloc, link.as_bytes())?)
-        }
+        Ok(identity) => text_word(alloc, write_link(alloc, stem, &identity)),
         Err(fault) => refusal(alloc, fault),
     }
 }

@@ -6,12 +6,12 @@
 
 use crate::identities::{first_fault, pairs_of, refusal};
 use gs_ai::{AiTable, Pair};
-use gs_chars::Text;
+use gs_chars::{Memory, Text};
 use gs_element::{ElementsFault, read_bracketed, read_raw, write_bracketed, write_raw};
 use gs_ident::make;
 use gs_tables::TableSet;
 use std::alloc::Global;
-use vector_cases::{Answer, Refusal, add, arg, shown};
+use vector_cases::{Answer, Refusal, add_shown, arg, shown};
 
 /// The answer to a call of gs_element.
 pub fn answer(alloc: Global, set: &TableSet, call: &str, args: &[Text]) -> Answer {
@@ -43,8 +43,8 @@ pub fn listed(alloc: Global, pairs: &[Pair]) -> Answer {
     }
     let mut answer = String::new(alloc);
     for pair in pairs {
-        add(&mut answer, shown(alloc, pair.code.as_bytes())?.as_str())?;
-        add(&mut answer, shown(alloc, pair.value.as_bytes())?.as_str())?;
+        add_shown(alloc, &mut answer, pair.code.as_bytes())?;
+        add_shown(alloc, &mut answer, pair.value.as_bytes())?;
     }
     Ok(answer)
 }
@@ -54,14 +54,15 @@ fn written(alloc: Global, table: &AiTable, words: &[Text], raw: bool) -> Answer 
         return Ok(fault);
     }
     let pairs = pairs_of(alloc, table, words)?;
-    let identity = match make(alloc, table, pairs) {
-        Ok(identity) => identity,
-        Err(fault) => return refusal(alloc, fault),
-    };
-    let text = if raw {
-        write_raw(alloc, table, &identity)?
-    } else {
-        write_bracketed(alloc, &identity)?
-    };
+    match make(alloc, table, pairs) {
+        Ok(identity) if raw => text_word(alloc, write_raw(alloc, table, &identity)),
+        Ok(identity) => text_word(alloc, write_bracketed(alloc, &identity)),
+        Err(fault) => refusal(alloc, fault),
+    }
+}
+
+/// The word of a text.
+pub fn text_word(alloc: Global, written: Result<Text, Memory>) -> Answer {
+    let text = written?;
     Ok(shown(alloc, text.as_bytes())?)
 }

@@ -15,7 +15,7 @@ use gs_epc::{Epc, EpcFault, identity_of, read_hex, read_pure, read_tag};
 use gs_ident::canonical;
 use gs_tables::TableSet;
 use std::alloc::Global;
-use vector_cases::{Answer, Refusal, arg, shown};
+use vector_cases::{Answer, Refusal, add, add_shown, arg, shown};
 
 /// The answer to a call of gs_epc.
 pub fn answer(alloc: Global, set: &TableSet, call: &str, args: &[Text]) -> Answer {
@@ -47,15 +47,20 @@ fn epc_words(alloc: Global, set: &TableSet, epc: &Epc) -> Answer {
     let Some(kind) = set.kinds().get(epc.kind) else {
         return Err(Refusal::NoCase);
     };
-    let name = shown(alloc, kind.name.as_bytes())?;
-    let encoding = shown(alloc, epc.encoding.as_bytes())?;
+    let mut answer = shown(alloc, kind.name.as_bytes())?;
+    add_shown(alloc, &mut answer, epc.encoding.as_bytes())?;
+    add(&mut answer, numbers_word(alloc, epc)?.as_str())?;
+    add_shown(alloc, &mut answer, epc.prefix.as_bytes())?;
+    add_shown(alloc, &mut answer, epc.rest.as_bytes())?;
+    add_shown(alloc, &mut answer, epc.serial.as_bytes())?;
+    Ok(answer)
+}
+
+/// The filter value and the prefix length.
+fn numbers_word(alloc: Global, epc: &Epc) -> Answer {
     let filter = epc.filter;
     let gcp = epc.gcp;
-    let head = format!(in alloc; "{name} {encoding} {filter:?} {gcp}")?;
-    let prefix = shown(alloc, epc.prefix.as_bytes())?;
-    let rest = shown(alloc, epc.rest.as_bytes())?;
-    let serial = shown(alloc, epc.serial.as_bytes())?;
-    Ok(format!(in alloc; "{head} {prefix} {rest} {serial}")?)
+    Ok(format!(in alloc; "{filter:?} {gcp}")?)
 }
 
 /// What a text of a form says.
@@ -63,12 +68,12 @@ fn read(alloc: Global, set: &TableSet, form: &[u8], text: &[u8]) -> Result<Epc, 
     ensures { IfOk result (IsOfSet set.now) }
 {
     if form == b"hex".as_slice() {
-        read_hex(alloc, set, text)
-    } else if form == b"tag".as_slice() {
-        read_tag(alloc, set, text)
-    } else {
-        read_pure(alloc, set, text)
+        return read_hex(alloc, set, text);
     }
+    if form == b"tag".as_slice() {
+        return read_tag(alloc, set, text);
+    }
+    read_pure(alloc, set, text)
 }
 
 fn link_of(alloc: Global, set: &TableSet, form: &[u8], text: &[u8]) -> Answer {

@@ -13,7 +13,7 @@ use gs_chars::Text;
 use gs_ident::{IdentFault, Identity, canonical, make, spell};
 use gs_tables::TableSet;
 use std::alloc::Global;
-use vector_cases::{Answer, Refusal, add, arg, behind, number, shown};
+use vector_cases::{Answer, Refusal, add, add_shown, arg, behind, number, shown};
 
 /// The answer to a call of gs_ident.
 pub fn answer(alloc: Global, set: &TableSet, call: &str, args: &[Text]) -> Answer {
@@ -132,8 +132,8 @@ fn told(alloc: Global, identity: &Identity, asked: Asked<'_>) -> Answer {
 }
 
 fn add_pair(alloc: Global, answer: &mut String, pair: &Pair) -> Result<(), Refusal> {
-    add(answer, shown(alloc, pair.code.as_bytes())?.as_str())?;
-    Ok(add(answer, shown(alloc, pair.value.as_bytes())?.as_str())?)
+    add_shown(alloc, answer, pair.code.as_bytes())?;
+    Ok(add_shown(alloc, answer, pair.value.as_bytes())?)
 }
 
 fn add_pairs(alloc: Global, answer: &mut String, pairs: &[Pair]) -> Result<(), Refusal> {

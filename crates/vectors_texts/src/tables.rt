@@ -13,7 +13,7 @@ use gs_tables::{
     Field, ItemFault, Kind, LevelName, LoadFault, OptInfo, SerialAt, TableSet, read_item,
 };
 use std::alloc::Global;
-use vector_cases::{Answer, Refusal, add, arg, fault_word, item_word, number, shown};
+use vector_cases::{Answer, Refusal, add, add_shown, arg, fault_word, item_word, number, shown};
 
 /// The answer to a call of gs_tables.
 pub fn answer(alloc: Global, set: &TableSet, call: &str, args: &[Text]) -> Answer {
@@ -47,12 +47,17 @@ fn level_of(name: &[u8]) -> Result<LevelName, Refusal> {
     }
 }
 
+/// The number of options of a level.
+fn option_count(set: &TableSet, level: LevelName) -> usize {
+    set.level(level).options().len()
+}
+
 fn counts(alloc: Global, set: &TableSet) -> Answer {
     let ais = set.ais().rows().len();
     let kinds = set.kinds().len();
-    let binary = set.level(LevelName::Binary).options().len();
-    let tag = set.level(LevelName::Tag).options().len();
-    let pure = set.level(LevelName::Pure).options().len();
+    let binary = option_count(set, LevelName::Binary);
+    let tag = option_count(set, LevelName::Tag);
+    let pure = option_count(set, LevelName::Pure);
     Ok(format!(in alloc; "{ais} {kinds} {binary} {tag} {pure}")?)
 }
 
@@ -76,13 +81,13 @@ fn load(alloc: Global, document: &[u8]) -> Answer {
 
 fn kind_words(alloc: Global, kind: &Kind) -> Answer {
     let mut answer = shown(alloc, kind.name.as_bytes())?;
-    add(&mut answer, shown(alloc, kind.key.as_bytes())?.as_str())?;
+    add_shown(alloc, &mut answer, kind.key.as_bytes())?;
     let lead = kind.lead;
     add(&mut answer, format!(in alloc; "{lead}")?.as_str())?;
     match &kind.serial {
         SerialAt::Nowhere => add(&mut answer, "Nowhere")?,
         SerialAt::Tail => add(&mut answer, "Tail")?,
-        SerialAt::Ai(code) => add(&mut answer, shown(alloc, code.as_bytes())?.as_str())?,
+        SerialAt::Ai(code) => add_shown(alloc, &mut answer, code.as_bytes())?,
     }
     Ok(answer)
 }
