@@ -4,6 +4,7 @@ use Rattle.std.specs.Prelude.{Result, Ok, Err}
 use Rattle.std.proofs.lemmas.Bool.Decides.{leb_tells}
 use Rattle.gs_document.specs.declared.fault.LoadFault.{LoadFault}
 use Rattle.gs_port.specs.Files.{IsAbsent, IsFile, file_of}
+use Rattle.gs_prefix.specs.Answers.{load_answer}
 use Rattle.gs_tables.specs.Shapes.{BuiltInAnswer, HasMemory, LoadAnswer}
 use Rattle.gs_tables.specs.Tables.{TableRows}
 use Rattle.gs_tables.proofs.OneAnswer.{one_answer, one_of_builtin, some_of_builtin, some_of_bytes}
@@ -13,7 +14,7 @@ use Rattle.gs_program.specs.declared.file_kind.FileKind.{FileKind}
 use Rattle.gs_program.specs.declared.file_kind.FileKind.TheVariants as kind
 use Rattle.gs_program.specs.declared.refusal.FileFault.{FileFault}
 use Rattle.gs_program.specs.declared.refusal.FileFault.TheVariants.{Over}
-use Rattle.gs_program.specs.Loads.{FileGives, FilesGive, Gives, IsLoadedOf, JudgesTables, TablesGive, absent, judged, missing, of_verdict, tables_verdict, too_large}
+use Rattle.gs_program.specs.Loads.{FileGives, FilesGive, Gives, GivesBehind, IsLoadedOf, IsNoPrefix, JudgesPrefixes, JudgesTables, PrefixesGive, TablesGive, prefixes_verdict, absent, judged, missing, of_verdict, tables_verdict, too_large}
 use Rattle.gs_program.specs.Refusals.{file_limit}
 use Rattle.gs_program.specs.Requests.{FileNames}
 
@@ -48,14 +49,17 @@ gives_one files kind Judges Unnamed (Some name) one other a b x y = file_one fil
 tables_one : (Answer : Result TableRows LoadFault → Type 0) → ((a b : Result TableRows LoadFault) → Answer a → Answer b → HasMemory a → HasMemory b → a ≡ b) → HasOne (JudgesTables Answer)
 tables_one Answer one a b x y = x.is ∙ ap tables_verdict (one x.answer y.answer x.is_answer y.is_answer x.enough y.enough) ∙ sym y.is
 
-loaded_one : (set : TableRows) → HasOne (IsLoadedOf set)
-loaded_one set a b x y = x ∙ sym y
+prefixes_one : (files : List (List ℕ × List ℕ)) (name : Option (List ℕ)) → HasOne (PrefixesGive (Some files) name)
+prefixes_one files name = gives_one files kind.Prefixes JudgesPrefixes IsNoPrefix name (λ bytes a b x y. x ∙ sym y) (λ a b x y. x ∙ sym y)
+
+behind_one : (files : List (List ℕ × List ℕ)) (names : FileNames) (set : TableRows) → HasOne (GivesBehind (Some files) names set)
+behind_one files names set = then_one (PrefixesGive (Some files) names.prefixes) (IsLoadedOf set) (prefixes_one files names.prefixes) (λ list a b x y. x ∙ sym y)
 
 pub files_one : (files : List (List ℕ × List ℕ)) (names : FileNames) → HasOne (FilesGive (Some files) names)
-files_one files names = then_one (TablesGive (Some files) names.tables) IsLoadedOf
+files_one files names = then_one (TablesGive (Some files) names.tables) (GivesBehind (Some files) names)
     (gives_one files kind.Tables (λ bytes. JudgesTables (LoadAnswer bytes)) (JudgesTables BuiltInAnswer) names.tables
     (λ bytes. tables_one (LoadAnswer bytes) (one_answer bytes)) (tables_one BuiltInAnswer one_of_builtin))
-    loaded_one
+    (behind_one files names)
 
 -- ---- an answer
 
@@ -81,8 +85,15 @@ gives_some files kind Judges Unnamed (Some name) some other = file_some files ki
 tables_some : (Answer : Result TableRows LoadFault → Type 0) → ((answer : Result TableRows LoadFault) × HasMemory answer × Answer answer) → HasSome (JudgesTables Answer)
 tables_some Answer some = (tables_verdict some.0, record { answer = some.0; enough = some.1; is_answer = some.2; is = refl })
 
+prefixes_some : (files : Option (List (List ℕ × List ℕ))) (name : Option (List ℕ)) → HasSome (PrefixesGive files name)
+prefixes_some files name = gives_some files kind.Prefixes JudgesPrefixes IsNoPrefix name (λ bytes. (prefixes_verdict (load_answer bytes), refl)) (Ok [], refl)
+
+behind_some : (files : Option (List (List ℕ × List ℕ))) (names : FileNames) (set : TableRows) → HasSome (GivesBehind files names set)
+behind_some files names set = then_some (PrefixesGive files names.prefixes) (IsLoadedOf set) (prefixes_some files names.prefixes)
+    (λ list gives. (Ok (record { tables = set; prefixes = list }), refl))
+
 pub files_some : (files : Option (List (List ℕ × List ℕ))) (names : FileNames) → HasSome (FilesGive files names)
-files_some files names = then_some (TablesGive files names.tables) IsLoadedOf
+files_some files names = then_some (TablesGive files names.tables) (GivesBehind files names)
     (gives_some files kind.Tables (λ bytes. JudgesTables (LoadAnswer bytes)) (JudgesTables BuiltInAnswer) names.tables
     (λ bytes. tables_some (LoadAnswer bytes) (some_of_bytes bytes)) (tables_some BuiltInAnswer some_of_builtin))
-    (λ set gives. (Ok (record { tables = set }), refl))
+    (λ set gives. behind_some files names set)
