@@ -4,7 +4,6 @@ use Rattle.std.proofs.lemmas.Bool.Decides.{nat_tests}
 use Rattle.std.proofs.lemmas.List.{append-nil, append_assoc, drop_all, drop_more}
 use Rattle.std.proofs.lemmas.Option.{slice_get-map, slice_get_within}
 use Rattle.gs_ai.specs.declared.row.AiRow.{AiRow}
-use Rattle.gs_chars.proofs.TruthsAndLists.{read_at}
 use Rattle.gs_document.specs.declared.document.KindRow.{KindRow}
 use Rattle.gs_document.specs.declared.document.OptionRow.{OptionRow}
 use Rattle.gs_document.specs.declared.level_name.LevelName.{LevelName}
