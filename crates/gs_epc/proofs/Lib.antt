@@ -17,3 +17,4 @@ pub mod Refusals
 pub mod HexRead
 pub mod ReadBack
 pub mod ReadLaws
+pub mod NumberWalks

@@ -2,28 +2,21 @@ ghost use Rattle.std.specs.Prelude.{◌≡◌, [], IfOk, decimal, map};
 ghost use Rattle.std.specs.List.{list_any};
 ghost use Rattle.std.specs.Option.{option_map_or};
 ghost use Rattle.gs_tables.specs.Rules.{is_field};
-ghost use Rattle.gs_epc.specs.Candidates.{HasFilter, HasFilterOn, filter_text, is_asked, is_candidate, is_left_out, left_out, value_for};
+ghost use Rattle.gs_epc.specs.Candidates.{HasFilter, HasFilterOn, filter_text, is_asked, is_left_out, left_out, value_for};
 
 use crate::epc::Epc;
 use gs_chars::{Memory, Text};
-use gs_tables::{Field, LevelName, OptInfo};
+use gs_tables::{Field, LevelName};
 use std::alloc::Global;
 
 /// Whether the name of an encoding is the one that is asked for.
-fn is_asked(level: LevelName, asked: &Text, name: &Text) -> bool
+pub(crate) fn is_asked(level: LevelName, asked: &Text, name: &Text) -> bool
     ensures { result ≡ is_asked level asked.now name.now }
 {
     match level {
         LevelName::Pure => true,
         LevelName::Binary | LevelName::Tag => asked.as_bytes().is_empty() || asked == name,
     }
-}
-
-/// Whether an option is of the EPC's kind and prefix length, and of the encoding that is asked for.
-pub(crate) fn is_candidate(level: LevelName, epc: &Epc, info: &OptInfo) -> bool
-    ensures { result ≡ is_candidate level epc.now info.now }
-{
-    info.kind == epc.kind && info.gcp == epc.gcp && is_asked(level, &epc.encoding, &info.encoding)
 }
 
 /// The text of a filter value.

@@ -7,7 +7,7 @@ ghost use Rattle.gs_grammar.specs.Writing.{AreHeld, IsWriteFault, written};
 ghost use Rattle.gs_epc.specs.Candidates.{Candidate, HasFilter, HasFilterOn};
 ghost use Rattle.gs_epc.specs.Writes.{IsTried, WritesAs, text_on};
 
-use crate::candidates::{is_candidate, left_out, values_for};
+use crate::candidates::{is_asked, left_out, values_for};
 use crate::epc::Epc;
 use crate::write_fault::EpcWriteFault;
 use gs_bits::BitBuf;
@@ -104,9 +104,12 @@ fn write_level(
     requires { HasFilterOn level epc.now.filter }
     ensures { WritesAs set.now level epc.now result }
 {
+    let info = set.info(level);
+    let numbers = set.candidates(level, epc.kind, epc.gcp);
     let mut refusal = EpcWriteFault::NoOption;
-    for (i, info) in set.info(level).iter().enumerate() {
-        if !is_candidate(level, epc, info) {
+    for number in numbers {
+        let i = *number;
+        if !is_asked(level, &epc.encoding, &info[i].encoding) {
             continue;
         }
         match try_candidate(alloc, set, level, epc, i) {
