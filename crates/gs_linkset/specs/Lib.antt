@@ -2,3 +2,4 @@ pub mod Attributes
 pub mod Documents
 pub mod Answers
 pub mod LinkShapes
+pub mod Written

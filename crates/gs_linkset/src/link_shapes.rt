@@ -2,7 +2,8 @@ ghost use Rattle.std.specs.Prelude.{◌≡◌, map, not, position};
 ghost use Rattle.std.specs.List.{list_all};
 ghost use Rattle.std.specs.Str.{is_utf8};
 ghost use Rattle.gs_linkset.specs.Attributes.{is_single, is_tagged};
-ghost use Rattle.gs_linkset.specs.LinkShapes.{ascend, is_attr, is_below, is_context, is_relation, is_tagged_text, is_target, is_value};
+ghost use Rattle.gs_linkset.specs.LinkShapes.{ascend, is_attr, is_below, is_context, is_relation};
+ghost use Rattle.gs_linkset.specs.LinkShapes.{is_tagged_text, is_target, is_value};
 
 use crate::link_types::{Attr, AttrValue, Context, Relation, Target};
 use gs_chars::Text;

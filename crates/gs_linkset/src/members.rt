@@ -4,9 +4,7 @@ ghost use Rattle.serde_json.specs.Find.{as_str, get};
 ghost use Rattle.serde_json.specs.View.{view};
 ghost use Rattle.gs_json.specs.Answers.{AscendByBytes, count_of, names_of};
 ghost use Rattle.gs_json.specs.Places.{member_place};
-ghost use Rattle.gs_json.specs.declared.plan.Sort.TheVariants as sort;
-ghost use Rattle.gs_linkset.specs.Answers.{OrMemory, first_or};
-ghost use Rattle.gs_linkset.specs.Documents.{count_in, member_faults, text_in};
+ghost use Rattle.gs_linkset.specs.Answers.{OrMemory, count_answer, text_answer};
 
 use gs_chars::{List, Memory, Text};
 use gs_json::{JsonFault, Node};
@@ -14,7 +12,7 @@ use std::alloc::Global;
 
 /// The text of a member that the object must have.
 pub(crate) fn must_text(alloc: Global, object: &Node<'_>, name: &str) -> Result<Text, JsonFault>
-    ensures answer { OrMemory result (first_or (member_faults sort.Text name.now object.now.place (view object.now.tree)) (text_in name.now (view object.now.tree))) }
+    ensures answer { OrMemory result (text_answer name.now object.now.place (view object.now.tree)) }
     ensures utf8 { IfOk result (λ text. is_utf8 text ≡ true) }
 {
     let member = object.member(alloc, name)?;
@@ -23,7 +21,7 @@ pub(crate) fn must_text(alloc: Global, object: &Node<'_>, name: &str) -> Result<
 
 /// The number of items of an array that the object must have.
 pub(crate) fn must_array(alloc: Global, object: &Node<'_>, name: &str) -> Result<usize, JsonFault>
-    ensures { OrMemory result (first_or (member_faults sort.Array name.now object.now.place (view object.now.tree)) (count_in name.now (view object.now.tree))) }
+    ensures { OrMemory result (count_answer name.now object.now.place (view object.now.tree)) }
 {
     let member = object.member(alloc, name)?;
     member.count(alloc)
@@ -36,8 +34,10 @@ pub(crate) fn member_of<'a>(
     object: &Node<'a>,
     name: &str,
 ) -> Result<Option<Node<'a>>, Memory>
-    ensures part { IfOk result (λ member. option_map (λ part. view part.tree) member ≡ get name.now (view object.now.tree)) }
-    ensures place { IfOk result (λ member. IfSome member (λ part. part.place ≡ member_place object.now.place name.now)) }
+    ensures part { IfOk result (λ member.
+        option_map (λ part. view part.tree) member ≡ get name.now (view object.now.tree)) }
+    ensures place { IfOk result (λ member.
+        IfSome member (λ part. part.place ≡ member_place object.now.place name.now)) }
 {
     match object.maybe(alloc, name) {
         Ok(member) => Ok(member),
@@ -48,8 +48,10 @@ pub(crate) fn member_of<'a>(
 
 /// The names of the members, in ascending order, where this is an object.
 pub(crate) fn names_of<'a>(alloc: Global, part: &Node<'a>) -> Result<Option<List<&'a str>>, Memory>
-    ensures names { IfOk result (λ names. option_map (map (λ name. name.now)) names ≡ names_of (view part.now.tree)) }
-    ensures ascending { IfOk result (λ names. IfSome names (λ names. AscendByBytes (map (λ name. name.now) names))) }
+    ensures names { IfOk result (λ names.
+        option_map (map (λ name. name.now)) names ≡ names_of (view part.now.tree)) }
+    ensures ascending { IfOk result (λ names.
+        IfSome names (λ names. AscendByBytes (map (λ name. name.now) names))) }
 {
     match part.names(alloc) {
         Ok(names) => Ok(Some(names)),
@@ -87,7 +89,8 @@ pub(crate) fn member_text(
     object: &Node<'_>,
     name: &str,
 ) -> Result<Option<Text>, Memory>
-    ensures text { IfOk result (λ text. text ≡ option_and_then as_str (get name.now (view object.now.tree))) }
+    ensures text { IfOk result (λ text.
+        text ≡ option_and_then as_str (get name.now (view object.now.tree))) }
     ensures utf8 { IfOk result (λ text. IfSome text (λ text. is_utf8 text ≡ true)) }
 {
     match member_of(alloc, object, name)? {

@@ -134,7 +134,8 @@ fn read_attr(alloc: Global, target: &Node<'_>, name: &str) -> Result<Option<Attr
 
 /// The attributes of a target, in ascending order of their names.
 pub(crate) fn read_attrs(alloc: Global, target: &Node<'_>) -> Result<List<Attr>, Memory>
-    ensures attrs { IfOk result (λ attrs. attrs ≡ filter_map (attr_of (view target.now.tree)) (names_in (view target.now.tree))) }
+    ensures attrs { IfOk result (λ attrs.
+        attrs ≡ filter_map (attr_of (view target.now.tree)) (names_in (view target.now.tree))) }
     ensures ascending { IfOk result (λ attrs. ascend (map (λ attr. attr.name) attrs) ≡ true) }
     ensures shape { IfOk result (λ attrs. list_all is_attr attrs ≡ true) }
 {

@@ -1,11 +1,10 @@
 ghost use Rattle.std.specs.Prelude.{◌≡◌, ◌∷◌, ◌++◌, [], Some, IfOk, IfSome, codes, map, true};
-ghost use Rattle.std.specs.List.{filter_map, flat_map, list_all};
+ghost use Rattle.std.specs.List.{list_all};
 ghost use Rattle.std.specs.Str.{bytes_eq};
 ghost use Rattle.serde_json.specs.View.{view};
 ghost use Rattle.gs_json.specs.Answers.{count_of};
-ghost use Rattle.gs_linkset.specs.Answers.{OrMemory, document_answer, first_or, read_answer};
-ghost use Rattle.gs_linkset.specs.Attributes.{items_of};
-ghost use Rattle.gs_linkset.specs.Documents.{context_faults, context_of, item_faults, names_in, relation_faults, relation_of, target_faults, target_of};
+ghost use Rattle.gs_linkset.specs.Answers.{OrMemory, context_answer, contexts_answer, document_answer, read_answer};
+ghost use Rattle.gs_linkset.specs.Answers.{relation_answer, relations_answer, target_answer, targets_answer};
 ghost use Rattle.gs_linkset.specs.LinkShapes.{ascend, is_context, is_relation, is_target};
 
 use crate::doc::LinkDoc;
@@ -27,7 +26,7 @@ fn push<T: Drop>(items: &mut Vec<T>, item: T) -> Result<(), Memory>
 /// A target.
 #[tactic(auto, unfolding(crate::specs::Documents::target_faults, crate::specs::Documents::target_of))]
 fn read_target(alloc: Global, object: &Node<'_>) -> Result<Target, JsonFault>
-    ensures answer { OrMemory result (first_or (target_faults object.now.place (view object.now.tree)) (target_of (view object.now.tree))) }
+    ensures answer { OrMemory result (target_answer object.now.place (view object.now.tree)) }
     ensures shape { IfOk result (λ target. is_target target ≡ true) }
 {
     let href = must_text(alloc, object, "href")?;
@@ -38,7 +37,7 @@ fn read_target(alloc: Global, object: &Node<'_>) -> Result<Target, JsonFault>
 /// The targets of an array, in their order.
 fn read_targets(alloc: Global, array: &Node<'_>, count: usize) -> Result<List<Target>, JsonFault>
     requires { Some count ≡ count_of (view array.now.tree) }
-    ensures answer { OrMemory result (first_or (item_faults target_faults array.now.place (items_of (view array.now.tree))) (map target_of (items_of (view array.now.tree)))) }
+    ensures answer { OrMemory result (targets_answer array.now.place (view array.now.tree)) }
     ensures shape { IfOk result (λ targets. list_all is_target targets ≡ true) }
 {
     let mut targets = Vec::new(alloc);
@@ -65,7 +64,7 @@ fn read_relation(
     context: &Node<'_>,
     name: &str,
 ) -> Result<Option<Relation>, JsonFault>
-    ensures answer { OrMemory result (first_or (relation_faults context.now.place (view context.now.tree) name.now) (relation_of (view context.now.tree) name.now)) }
+    ensures answer { OrMemory result (relation_answer context.now.place (view context.now.tree) name.now) }
     ensures shape { IfOk result (λ relation. IfSome relation (λ relation. is_relation relation ≡ true)) }
 {
     if is_anchor(name.as_bytes()) {
@@ -86,7 +85,7 @@ fn read_relation(
 
 /// The relations of a context, in ascending order of their names.
 fn read_relations(alloc: Global, context: &Node<'_>) -> Result<List<Relation>, JsonFault>
-    ensures answer { OrMemory result (first_or (flat_map (relation_faults context.now.place (view context.now.tree)) (names_in (view context.now.tree))) (filter_map (relation_of (view context.now.tree)) (names_in (view context.now.tree)))) }
+    ensures answer { OrMemory result (relations_answer context.now.place (view context.now.tree)) }
     ensures shape { IfOk result (λ relations. list_all is_relation relations ≡ true) }
     ensures ascending { IfOk result (λ relations. ascend (map (λ relation. relation.name) relations) ≡ true) }
 {
@@ -107,7 +106,7 @@ fn read_relations(alloc: Global, context: &Node<'_>) -> Result<List<Relation>, J
 /// A context: its anchor, and then its relations.
 #[tactic(auto, unfolding(crate::specs::Documents::context_faults, crate::specs::Documents::context_of))]
 fn read_context(alloc: Global, object: &Node<'_>) -> Result<Context, JsonFault>
-    ensures answer { OrMemory result (first_or (context_faults object.now.place (view object.now.tree)) (context_of (view object.now.tree))) }
+    ensures answer { OrMemory result (context_answer object.now.place (view object.now.tree)) }
     ensures shape { IfOk result (λ context. is_context context ≡ true) }
 {
     let anchor = must_text(alloc, object, "anchor")?;
@@ -118,7 +117,7 @@ fn read_context(alloc: Global, object: &Node<'_>) -> Result<Context, JsonFault>
 /// The contexts of an array, in their order.
 fn read_contexts(alloc: Global, array: &Node<'_>, count: usize) -> Result<List<Context>, JsonFault>
     requires { Some count ≡ count_of (view array.now.tree) }
-    ensures answer { OrMemory result (first_or (item_faults context_faults array.now.place (items_of (view array.now.tree))) (map context_of (items_of (view array.now.tree)))) }
+    ensures answer { OrMemory result (contexts_answer array.now.place (view array.now.tree)) }
     ensures shape { IfOk result (λ contexts. list_all is_context contexts ≡ true) }
 {
     let mut contexts = Vec::new(alloc);
@@ -148,12 +147,12 @@ fn read_document(alloc: Global, root: &Node<'_>) -> Result<List<Context>, JsonFa
     read_contexts(alloc, &array, count)
 }
 
-/// The linkset that a document in JSON is (RFC 9264, section 4.2): an object with the array `linkset` of objects with the text
-/// `anchor`, whose other arrays are relations of objects with the text `href`. Members of other kinds are ignored. Of the
-/// faults the first in the order of the document is the answer, depth first, `anchor` before the relations, and these in
-/// ascending order of name. `Syntax`: the bytes are no JSON text. `Lacks`: the document has no `linkset`, a context no
-/// `anchor`, or a target no `href`. `Kind`: one of these, the document, a context or a target is of another kind. `Unknown`
-/// never comes. `Memory` may come in place of any answer.
+/// The linkset that a document in JSON is (RFC 9264, section 4.2): an object with the array `linkset` of objects
+/// with the text `anchor`, whose other arrays are relations of objects with the text `href`. Members of other kinds
+/// are ignored. Of the faults the first in the order of the document is the answer, depth first, `anchor` before
+/// the relations, and these in ascending order of name. `Syntax`: the bytes are no JSON text. `Lacks`: the document
+/// has no `linkset`, a context no `anchor`, or a target no `href`. `Kind`: one of these, the document, a context or
+/// a target is of another kind. `Unknown` never comes. `Memory` may come in place of any answer.
 pub fn read(alloc: Global, bytes: &[u8]) -> Result<LinkDoc, JsonFault>
     ensures { OrMemory result (read_answer bytes.now) }
 {
