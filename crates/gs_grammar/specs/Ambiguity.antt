@@ -10,6 +10,10 @@ pub record IsAmbiguous (level : List (List Item)) : Type 0 where
   pub w : List ℕ
   pub two : TwoDerivations level w
 
+-- the level is not ambiguous: no list of symbols has two different derivations in it
+abbrev pub IsUnambiguous : List (List Item) → Type 0
+IsUnambiguous level = IsAmbiguous level → ⊥
+
 -- The two options share the list: it has a derivation by each. Two derivations by different options are different; an option
 -- shares a list with itself where the list has two different derivations by it.
 pub record ShareList (level : List (List Item)) (i j : ℕ) (w : List ℕ) : Type 0 where
