@@ -14,3 +14,4 @@ pub mod Written
 pub mod Options
 pub mod Counting
 pub mod DecidedWords
+pub mod DecidedShares

@@ -1,7 +1,7 @@
-ghost use Rattle.std.specs.Prelude.{◌≡◌, ◌↔◌, ◌<◌, ◌^◌, ℕ, All, Bool, List, IsTrue, Some, length, slice_get};
+ghost use Rattle.std.specs.Prelude.{◌≡◌, ◌↔◌, ◌⊎◌, ◌<◌, ◌^◌, ℕ, All, Bool, List, IsTrue, Some, length, slice_get};
 ghost use Rattle.gs_grammar.specs.declared.item.Item.{Item};
 ghost use Rattle.gs_grammar.specs.Items.{IsItem, is_in_bounds};
-ghost use Rattle.gs_grammar.specs.Ambiguity.{IsUnambiguous};
+ghost use Rattle.gs_grammar.specs.Ambiguity.{AreItems, HasFirstShare, IsUnambiguous};
 ghost use Rattle.gs_grammar.specs.Derivations.{Derives, Derivation, OneDerivation, TwoDerivations};
 ghost use Rattle.gs_grammar.specs.Words.{IsWord, Word, decimal_value, number_of_word};
 ghost use Rattle.gs_grammar.specs.Languages.{Language};
@@ -57,4 +57,10 @@ pub fn one_derivation_is_alone()
 pub fn unambiguous_levels_read_alone()
     ensures { (level : List (List Item)) (w : List ℕ) → IsUnambiguous level → (one : Derivation level w) →
         OneDerivation level w one.option one.values }
+{}
+
+/// It can be told of each level of items in their bounds whether it is ambiguous: it is not, or some pair of its options is
+/// the first that shares a list.
+pub fn each_level_is_judged()
+    ensures { (level : List (List Item)) → AreItems level → IsUnambiguous level ⊎ HasFirstShare level }
 {}
