@@ -6,3 +6,9 @@ pub mod OneAnswer
 pub mod OptionLemmas
 pub mod RefusalLists
 pub mod SetLemmas
+pub mod KeptSets
+pub mod RuledRefusals
+pub mod JudgedLevels
+pub mod JudgedAnswers
+pub mod OneAnswer
+pub mod OptionLemmas

@@ -8,4 +8,5 @@ pub mod Founds
 pub mod Tables
 pub mod KeptRules
 pub mod Numbers
+pub mod Judged
 pub mod Shapes
