@@ -95,7 +95,7 @@ kept test (other ∷ fields) (old ∷ values) (suc k) field value at fails = by 
     by true rest = refl
     by false rest = rest
 
-named : (field : Field) (name : Option Field) → is_field field name ≡ true → name ≡ Some field
+pub named : (field : Field) (name : Option Field) → is_field field name ≡ true → name ≡ Some field
 named Filter (Some Filter) h = refl
 named Gcp (Some Gcp) h = refl
 named Rest (Some Rest) h = refl

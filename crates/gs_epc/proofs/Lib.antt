@@ -9,3 +9,12 @@ pub mod LayoutLaws
 pub mod LayoutParts
 pub mod LayoutValues
 pub mod ReadingFacts
+pub mod TakenKeys
+pub mod TakenSets
+pub mod WrittenSizes
+pub mod Tries
+pub mod Refusals
+pub mod HexRead
+pub mod ReadBack
+pub mod ReadLaws
+pub mod NumberWalks

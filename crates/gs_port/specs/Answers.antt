@@ -94,12 +94,6 @@ OnOpenFailed opening.Opened fact = Unit {0}
 OnOpenFailed opening.Failed fact = fact
 OnOpenFailed opening.Memory fact = Unit {0}
 
--- a fact for an open that was answered, be the file there or not
-abbrev pub OnOpenAnswered : OpenAnswer → Type 0 → Type 0
-OnOpenAnswered opening.Opened fact = fact
-OnOpenAnswered opening.Failed fact = fact
-OnOpenAnswered opening.Memory fact = Unit {0}
-
 -- the count of faults after an open: one more where it failed
 abbrev pub count_after_open : OpenAnswer → ℕ → ℕ
 count_after_open opening.Opened count = count
@@ -118,13 +112,6 @@ IfOver (Ok text) fact = Unit {0}
 IfOver (Err (file.Over text)) fact = fact text
 IfOver (Err file.Failed) fact = Unit {0}
 IfOver (Err file.Memory) fact = Unit {0}
-
--- a fact for a reading of a file that did not end for want of memory
-abbrev pub OnFileAnswered : Result (List ℕ) FileFault → Type 0 → Type 0
-OnFileAnswered (Ok text) fact = fact
-OnFileAnswered (Err (file.Over text)) fact = fact
-OnFileAnswered (Err file.Failed) fact = fact
-OnFileAnswered (Err file.Memory) fact = Unit {0}
 
 -- a fact for a file that could not be read
 abbrev pub OnFileFailed : Result (List ℕ) FileFault → Type 0 → Type 0

@@ -1,5 +1,5 @@
 -- Files, each a name and its bytes.
-use Rattle.std.specs.Prelude.{◌≡◌, ℕ, List, [], ◌∷◌, ◌++◌, ◌⊎◌, Option, Some, None, bytes_eq, find, option_map}
+use Rattle.std.specs.Prelude.{◌≡◌, ℕ, List, ◌++◌, ◌⊎◌, Option, Some, None, bytes_eq, find, option_map}
 use Rattle.gs_port.specs.Counts.{counted}
 
 -- the bytes of the first file with the name
@@ -21,13 +21,13 @@ abbrev pub IsFile : Option (List (List ℕ × List ℕ)) → List ℕ → List �
 IsFile None name bytes = Unit {0}
 IsFile (Some files) name bytes = file_of files name ≡ Some bytes
 
--- the names that were opened, and then one more
-abbrev pub with_name : List (List ℕ) → List ℕ → List (List ℕ)
-with_name names name = names ++ (name ∷ [])
+-- the names that were opened, where they are told, and then these
+abbrev pub with_names : Option (List (List ℕ)) → List (List ℕ) → Option (List (List ℕ))
+with_names names more = option_map (λ before. before ++ more) names
 
--- the names that were opened are after as before, or with this name in addition
-abbrev pub MayHaveName : List (List ℕ) → List ℕ → List (List ℕ) → Type 0
-MayHaveName before name after = (after ≡ before) ⊎ (after ≡ with_name before name)
+-- the names that were opened are told as before and then these, or they are told no more
+abbrev pub AddsNames : Option (List (List ℕ)) → List (List ℕ) → Option (List (List ℕ)) → Type 0
+AddsNames before more after = (after ≡ None) ⊎ (after ≡ with_names before more)
 
 -- the count after a fault at a file, where one was found
 abbrev pub counted_if_found : Option (List ℕ) → ℕ → ℕ

@@ -30,10 +30,10 @@ pub record MemOutput : Type 0 where
   pub count : ℕ
 
 -- files in memory: each a name and its bytes, what is left of the current one, the plan of the calls, the count of faults,
--- and the names that were opened, in order
+-- and the names that were opened, in order, where they are told
 pub record MemFolder : Type 0 where
   pub files : List (List ℕ × List ℕ)
   pub current : Option (List ℕ)
   pub plan : Plan
   pub count : ℕ
-  pub opened : List (List ℕ)
+  pub opened : Option (List (List ℕ))

@@ -1,8 +1,8 @@
-ghost use Rattle.std.specs.Prelude.{◌≡◌, ◌<◌, ◌≤◌, ◌↔◌, ◌⊎◌, ℕ, Bool, true, false, List, [], Option, IfSome, length, take};
+ghost use Rattle.std.specs.Prelude.{◌≡◌, ◌<◌, ◌≤◌, ◌↔◌, ◌⊎◌, ℕ, Bool, true, false, List, [], ◌∷◌, Option, IfSome, length, take};
 ghost use Rattle.gs_port.specs.Contents.{prepend_known};
 ghost use Rattle.gs_port.specs.Counts.{Rises};
-ghost use Rattle.gs_port.specs.Files.{IsAbsent, MayHaveName, told_file, with_name};
-ghost use Rattle.gs_port.specs.Answers.{IfGot, OnNotOpened, OnOpenAnswered, OnOpenFailed, OnOpened, OnReadFailed, count_after_named, count_after_read};
+ghost use Rattle.gs_port.specs.Files.{AddsNames, IsAbsent, told_file};
+ghost use Rattle.gs_port.specs.Answers.{IfGot, OnNotOpened, OnOpenFailed, OnOpened, OnReadFailed, count_after_named, count_after_read};
 
 use crate::source::ReadAnswer;
 
@@ -32,12 +32,13 @@ pub trait Files {
     /// stands still at 2^64 - 1.
     ghost faults: { Self → ℕ };
 
-    /// The names that were opened, in order, whether or not there was a file.
-    ghost opened: { Self → List (List ℕ) };
+    /// The names that were opened, in order, whether or not there was a file, where they are told. What tells them may end
+    /// to tell them for want of memory, and nothing begins to.
+    ghost opened: { Self → Option (List (List ℕ)) };
 
     /// Makes the named file the current one, with all its bytes left. `Failed` comes only where a fault was counted, or
     /// where the files are told and the named one is not among them, which is no fault. After any answer but `Opened` no
-    /// file is current. The name is then the last of those that were opened, but that it may be missing after `Memory`.
+    /// file is current. After any answer the name is the last of those that were opened, where they are still told.
     fn open(&mut self, name: &str) -> OpenAnswer
         ensures opened { OnOpened result (is_open self.new ≡ true) }
         ensures whole { OnOpened result (left self.new ≡ told_file (files self.old) name.now) }
@@ -48,8 +49,7 @@ pub trait Files {
         ensures files { files self.new ≡ files self.old }
         ensures counts { faults self.old ≤ faults self.new }
         ensures count { faults self.new ≡ count_after_named result (files self.old) name.now (faults self.old) }
-        ensures named { OnOpenAnswered result (opened self.new ≡ with_name (opened self.old) name.now) }
-        ensures no_other { MayHaveName (opened self.old) name.now (opened self.new) };
+        ensures named { AddsNames (opened self.old) (name.now ∷ []) (opened self.new) };
 
     /// Moves the next bytes of what is left of the current file into the front of `buf`, at most as many as `buf` is
     /// long, and 0 exactly where nothing is left. `Failed` comes only where a fault was counted, and moves nothing.

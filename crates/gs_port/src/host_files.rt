@@ -1,4 +1,4 @@
-ghost use Rattle.std.specs.Prelude.{◌≡◌, false, [], None, is_some};
+ghost use Rattle.std.specs.Prelude.{◌≡◌, false, [], None, Some, is_some};
 
 use crate::files::{Files, OpenAnswer};
 use crate::opened_names::OpenedNames;
@@ -22,7 +22,7 @@ impl HostFiles {
     pub fn new(rt: HostRuntime) -> HostFiles
         ensures closed { ⟦<HostFiles as Files>⟧.is_open result ≡ false }
         ensures faults { ⟦<HostFiles as Files>⟧.faults result ≡ 0 }
-        ensures opened { ⟦<HostFiles as Files>⟧.opened result ≡ [] }
+        ensures opened { ⟦<HostFiles as Files>⟧.opened result ≡ Some [] }
     {
         let opened = OpenedNames::new(rt.alloc());
         HostFiles {
@@ -47,9 +47,7 @@ impl Files for HostFiles {
 
     fn open(&mut self, name: &str) -> OpenAnswer {
         self.current = None;
-        if self.opened.add(name).is_err() {
-            return OpenAnswer::Memory;
-        }
+        self.opened.add(name);
         match File::open(&self.rt, name) {
             Ok(file) => {
                 self.current = Some(file);

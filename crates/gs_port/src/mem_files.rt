@@ -1,10 +1,10 @@
-ghost use Rattle.std.specs.Prelude.{◌≡◌, ◌<◌, ◌≤◌, ◌↔◌, ◌⊎◌, false, true, [], IfSome, MatchOption, None, Some, is_some, length, min, take};
+ghost use Rattle.std.specs.Prelude.{◌≡◌, ◌<◌, ◌≤◌, ◌↔◌, ◌⊎◌, false, true, [], ◌∷◌, IfSome, MatchOption, None, Some, is_some, length, min, take};
 ghost use Rattle.gs_port.specs.Contents.{prepend_known};
 ghost use Rattle.gs_port.specs.Counts.{Rises};
-ghost use Rattle.gs_port.specs.Files.{IsAbsent, MayHaveName, file_of, told_file, with_name};
+ghost use Rattle.gs_port.specs.Files.{AddsNames, IsAbsent, file_of, told_file};
 ghost use Rattle.gs_port.specs.Memory.{FailsNow, after_call};
 ghost use Rattle.gs_port.specs.Folder.{bytes_at, told_files};
-ghost use Rattle.gs_port.specs.Answers.{IfGot, OnNotOpened, OnOpenAnswered, OnOpenFailed, OnOpened, OnReadFailed, count_after_named, count_after_read};
+ghost use Rattle.gs_port.specs.Answers.{IfGot, OnNotOpened, OnOpenFailed, OnOpened, OnReadFailed, count_after_named, count_after_read};
 
 use crate::files::{Files, OpenAnswer};
 use crate::opened_names::OpenedNames;
@@ -63,10 +63,11 @@ fn contents_at(files: &[(String, Vec<u8>)], i: usize) -> &[u8]
 }
 
 impl MemFiles {
-    /// The files, each with its name, and none of them open. The calls of either method whose numbers, from 0, are in
+    /// The files, each with its name, and none of them open. No open answers `Memory`: where memory is wanting for a name,
+    /// the names that were opened are told no more. The calls of either method whose numbers, from 0, are in
     /// `fails` fail, but for an open of a name that is not there.
     pub fn new(alloc: Global, files: Vec<(String, Vec<u8>)>, fails: Vec<u64>) -> MemFiles
-        ensures { result ≡ record { files = told_files files.items; current = None; plan = record { fails = fails.items; next = 0 }; count = 0; opened = [] } }
+        ensures { result ≡ record { files = told_files files.items; current = None; plan = record { fails = fails.items; next = 0 }; count = 0; opened = Some [] } }
     {
         MemFiles {
             files,
@@ -99,8 +100,8 @@ impl Files for MemFiles {
         ensures files { Some self.new.files ≡ Some self.old.files }
         ensures counts { self.old.count ≤ self.new.count }
         ensures count { self.new.count ≡ count_after_named result (Some self.old.files) name.now self.old.count }
-        ensures named { OnOpenAnswered result (self.new.opened ≡ with_name self.old.opened name.now) }
-        ensures no_other { MayHaveName self.old.opened name.now self.new.opened }
+        ensures named { AddsNames self.old.opened (name.now ∷ []) self.new.opened }
+        ensures enough { result ≡ OpenAnswer.Memory → ⊥ }
         ensures planned { OnOpenFailed result (FailsNow self.old.plan ⊎ IsAbsent (Some self.old.files) name.now) }
         ensures unplanned { OnOpened result (¬ FailsNow self.old.plan) }
         ensures plan { self.new.plan ≡ after_call self.old.plan }
@@ -108,9 +109,7 @@ impl Files for MemFiles {
         let fails = self.plan.next_fails();
         let found = place_of(self.files.as_slice(), name);
         self.current = None;
-        if self.opened.add(name).is_err() {
-            return OpenAnswer::Memory;
-        }
+        self.opened.add(name);
         match found {
             Some(_) if fails => {
                 self.faults = self.faults.saturating_add(1);

@@ -1,43 +1,53 @@
-ghost use Rattle.std.specs.Prelude.{◌≡◌, [], IfErr, IfOk};
-ghost use Rattle.gs_port.specs.Files.{with_name};
+ghost use Rattle.std.specs.Prelude.{◌≡◌, [], ◌∷◌, ◌++◌, IfOk, Some};
+ghost use Rattle.gs_port.specs.Files.{AddsNames};
 
-use gs_chars::{Memory, Text};
+use gs_chars::{List, Memory, Text};
 use std::alloc::Global;
 use std::marker::Model;
 
-/// The names that were opened, in order.
+/// The names that were opened, in order, until memory was wanting for one: from then on they are told no more.
 #[derive(Debug, Drop)]
 pub(crate) struct OpenedNames {
     alloc: Global,
-    names: Vec<Text>,
+    names: Option<List<Text>>,
 }
 
 impl Model for OpenedNames {
-    ghost use Rattle.std.specs.Prelude.{List, ℕ};
+    ghost use Rattle.std.specs.Prelude.{List, Option, ℕ};
 
-    ghost Value = { List (List ℕ) };
+    ghost Value = { Option (List (List ℕ)) };
 
-    ghost view = { λ a. a.names.items };
+    ghost view = { λ a. a.names };
+}
+
+/// The names and one more behind them.
+fn with_name(alloc: Global, names: List<Text>, name: &str) -> Result<List<Text>, Memory>
+    ensures { IfOk result (λ more. more ≡ names ++ name.now ∷ []) }
+{
+    let mut more = names.into_vec();
+    more.push(Text::from_bytes(alloc, name.as_bytes())?)?;
+    Ok(List::from_vec(more))
 }
 
 impl OpenedNames {
     /// No names.
     pub(crate) fn new(alloc: Global) -> OpenedNames
-        ensures { result ≡ [] }
+        ensures { result ≡ Some [] }
     {
         OpenedNames {
             alloc,
-            names: Vec::new(alloc),
+            names: Some(List::from_vec(Vec::new(alloc))),
         }
     }
 
-    /// Adds a name. For want of memory it adds none.
-    pub(crate) fn add(&mut self, name: &str) -> Result<(), Memory>
-        ensures added { IfOk result (λ _. self.new ≡ with_name self.old name.now) }
-        ensures not_added { IfErr result (λ _. self.new ≡ self.old) }
+    /// Adds a name.
+    pub(crate) fn add(&mut self, name: &str)
+        ensures { AddsNames self.old (name.now ∷ []) self.new }
     {
-        let name = Text::from_bytes(self.alloc, name.as_bytes())?;
-        self.names.push(name)?;
-        Ok(())
+        let told = self.names.take();
+        self.names = match told {
+            Some(names) => with_name(self.alloc, names, name).ok(),
+            None => None,
+        };
     }
 }

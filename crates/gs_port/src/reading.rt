@@ -1,8 +1,8 @@
-ghost use Rattle.std.specs.Prelude.{◌≡◌, ◌≤◌, ◌+◌, ◌++◌, ◌⊎◌, ℕ, true, List, IfOk, IfSome, length, vec_len};
+ghost use Rattle.std.specs.Prelude.{◌≡◌, ◌≤◌, ◌+◌, ◌++◌, ◌⊎◌, ℕ, true, List, [], ◌∷◌, IfOk, IfSome, length, vec_len};
 ghost use Rattle.gs_port.specs.Contents.{prepend_known};
 ghost use Rattle.gs_port.specs.Counts.{Rises};
-ghost use Rattle.gs_port.specs.Files.{IsAbsent, IsFile, MayHaveName, told_file, with_name};
-ghost use Rattle.gs_port.specs.Answers.{IfOver, OnFileAnswered, OnFileFailed, count_after_file, count_after_rest};
+ghost use Rattle.gs_port.specs.Files.{AddsNames, IsAbsent, IsFile, told_file};
+ghost use Rattle.gs_port.specs.Answers.{IfOver, OnFileFailed, count_after_file, count_after_rest};
 
 use crate::files::{Files, OpenAnswer};
 use crate::source::ReadAnswer;
@@ -35,7 +35,7 @@ const BLOCK: usize = 65_536;
 
 /// Reads the named file whole, if it has at most `max` bytes. `Over` comes exactly where `max + 1` bytes could be read,
 /// and carries them. `Failed` comes only where the files counted a fault, or where they are told and the named one is
-/// not among them. The name is then the last of those that were opened, but that it may be missing after `Memory`.
+/// not among them. After any answer the name is the last of those that were opened, where they are still told.
 pub fn read_file<F: Files>(
     alloc: Global,
     files: &mut F,
@@ -53,8 +53,7 @@ pub fn read_file<F: Files>(
     ensures files { F.files files.new ≡ F.files files.old }
     ensures counts { F.faults files.old ≤ F.faults files.new }
     ensures count { F.faults files.new ≡ count_after_file result (F.files files.old) name.now (F.faults files.old) }
-    ensures named { OnFileAnswered result (F.opened files.new ≡ with_name (F.opened files.old) name.now) }
-    ensures no_other { MayHaveName (F.opened files.old) name.now (F.opened files.new) }
+    ensures named { AddsNames (F.opened files.old) (name.now ∷ []) (F.opened files.new) }
 {
     match files.open(name) {
         OpenAnswer::Opened => read_current(alloc, files, max),

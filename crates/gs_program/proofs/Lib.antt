@@ -1,6 +1,7 @@
 pub mod WordLemmas
 pub mod PairLemmas
 pub mod RequestLemmas
+pub mod PrefixLoads
 pub mod LoadLemmas
 pub mod ReadLemmas
 pub mod RanLemmas

@@ -5,6 +5,7 @@ use Rattle.std.proofs.lemmas.Bool.Decides.{leb_tells}
 use Rattle.gs_document.specs.declared.fault.LoadFault.{LoadFault}
 use Rattle.gs_document.specs.declared.level_name.LevelName.{LevelName}
 use Rattle.gs_port.specs.Files.{IsAbsent, IsFile, file_of}
+use Rattle.gs_prefix.specs.Answers.{load_answer}
 use Rattle.gs_tables.specs.Judged.{Judged}
 use Rattle.gs_tables.specs.Shapes.{AreAlike, BuiltInAnswer, HasMemory, LoadAnswer, Shape, but_text, same}
 use Rattle.gs_tables.specs.Tables.{TableRows}
@@ -17,7 +18,7 @@ use Rattle.gs_program.specs.declared.file_kind.FileKind.TheVariants as kind
 use Rattle.gs_program.specs.declared.loading.Loaded.{Loaded}
 use Rattle.gs_program.specs.declared.refusal.FileFault.{FileFault}
 use Rattle.gs_program.specs.declared.refusal.FileFault.TheVariants.{Over}
-use Rattle.gs_program.specs.Loads.{FileGives, FilesGive, Gives, IsLoadedOf, JudgesTables, Stop, TablesGive, absent, judged, missing, of_verdict, tables_verdict, too_large}
+use Rattle.gs_program.specs.Loads.{FileGives, FilesGive, Gives, GivesBehind, IsLoadedOf, IsNoPrefix, JudgesPrefixes, JudgesTables, PrefixesGive, Stop, TablesGive, absent, judged, missing, of_verdict, prefixes_verdict, refused, tables_verdict, too_large}
 use Rattle.gs_program.specs.Refusals.{file_limit}
 use Rattle.gs_program.specs.Requests.{FileNames}
 use Rattle.gs_program.specs.Runs.{ambiguous}
@@ -69,32 +70,49 @@ alike_answers one other (but_text name i j text text' e f) = two_texts name i j 
 tables_one : (Ruled : Result TableRows LoadFault → Type 0) → IsRuling Ruled → AlikeVerdicts kind.Tables (JudgesTables (Judged Ruled))
 tables_one Ruled ruling a b x y = rw (x.is, y.is) (alike_answers x.answer y.answer (judged_alike Ruled ruling x.answer y.answer x.is_answer y.is_answer x.enough y.enough))
 
--- a set and a stop are not alike, and two sets that are alike are one
-not_alike : (stop : Stop) (set : TableRows) → AlikeStops (Ok set) (Err stop) → ⊥
-not_alike stop set (one_stop e) = let f : Ok set ≡ Err stop = e in cc
-not_alike stop set (two_texts name i j text text' e f) = let g : Ok set ≡ Err (ambiguous name i j text) = e in cc
+-- what is given and a stop are not alike, and two that are given and alike are one
+not_alike : {A : Type 0} (stop : Stop) (given : A) → AlikeStops (Ok given) (Err stop) → ⊥
+not_alike stop given (one_stop e) = let f : Ok given ≡ Err stop = e in cc
+not_alike stop given (two_texts name i j text text' e f) = let g : Ok given ≡ Err (ambiguous name i j text) = e in cc
 
-same_set : (set set' : TableRows) → AlikeStops (Ok set) (Ok set') → set ≡ set'
-same_set set set' (one_stop e) = let f : Ok set ≡ Ok set' = e in cc
-same_set set set' (two_texts name i j text text' e f) = absurd (let g : Ok set ≡ Err (ambiguous name i j text) = e in cc)
+same_given : {A : Type 0} (given given' : A) → AlikeStops (Ok given) (Ok given') → given ≡ given'
+same_given given given' (one_stop e) = let f : Ok given ≡ Ok given' = e in cc
+same_given given given' (two_texts name i j text text' e f) = absurd (let g : Ok given ≡ Err (ambiguous name i j text) = e in cc)
 
-then_alike : (First : Result TableRows Stop → Type 0) → ((one other : Result TableRows Stop) → First one → First other → AlikeStops one other) → (a b : Result Loaded Stop) → Then First IsLoadedOf a → Then First IsLoadedOf b → AlikeStops a b
-then_alike First alike a b (refuses stop gives e) (refuses stop' gives' e') = rw (e, e') (same_refusal stop stop' (alike (Err stop) (Err stop') gives gives'))
-  where
-    same_refusal : (stop stop' : Stop) → AlikeStops {A = TableRows} (Err stop) (Err stop') → AlikeStops {A = Loaded} (Err stop) (Err stop')
-    same_refusal stop stop' (one_stop f) = let is : stop ≡ stop' = cc in one_stop (ap Err is)
-    same_refusal stop stop' (two_texts name i j text text' f g) =
-        let is : stop ≡ ambiguous name i j text = cc in
-        let is' : stop' ≡ ambiguous name i j text' = cc in
-        two_texts name i j text text' (ap Err is) (ap Err is')
-then_alike First alike a b (refuses stop gives e) (goes_on set gives' e') = absurd (not_alike stop set (alike (Ok set) (Err stop) gives' gives))
-then_alike First alike a b (goes_on set gives e) (refuses stop gives' e') = absurd (not_alike stop set (alike (Ok set) (Err stop) gives gives'))
-then_alike First alike a b (goes_on set gives e) (goes_on set' gives' e') = one_stop (e ∙ ap (λ (s : TableRows). Ok (record { tables = s })) (same_set set set' (alike (Ok set) (Ok set') gives gives')) ∙ sym e')
+-- stops that are alike are so of whatever would be given
+same_stops : {A B : Type 0} (stop stop' : Stop) → AlikeStops {A = A} (Err stop) (Err stop') → AlikeStops {A = B} (Err stop) (Err stop')
+same_stops stop stop' (one_stop f) = let is : stop ≡ stop' = cc in one_stop (ap Err is)
+same_stops stop stop' (two_texts name i j text text' f g) =
+    let is : stop ≡ ambiguous name i j text = cc in
+    let is' : stop' ≡ ambiguous name i j text' = cc in
+    two_texts name i j text text' (ap Err is) (ap Err is')
+
+-- any two answers of a step are alike
+abbrev AreAllAlike : {A : Type 0} → (Result A Stop → Type 0) → Type 0
+AreAllAlike {A = A} Gives = (one other : Result A Stop) → Gives one → Gives other → AlikeStops one other
+
+then_alike : {A B : Type 0} (First : Result A Stop → Type 0) (Next : A → Result B Stop → Type 0) → AreAllAlike First → ((given : A) → AreAllAlike (Next given)) → AreAllAlike (Then First Next)
+then_alike First Next alike next a b (refuses stop gives e) (refuses stop' gives' e') = rw (e, e') (same_stops stop stop' (alike (Err stop) (Err stop') gives gives'))
+then_alike First Next alike next a b (refuses stop gives e) (goes_on given gives' n) = absurd (not_alike stop given (alike (Ok given) (Err stop) gives' gives))
+then_alike First Next alike next a b (goes_on given gives n) (refuses stop gives' e') = absurd (not_alike stop given (alike (Ok given) (Err stop) gives gives'))
+then_alike First Next alike next a b (goes_on given gives n) (goes_on given' gives' n') =
+    let is = same_given given given' (alike (Ok given) (Ok given') gives gives') in
+    let moved : Next given b = rw is n' in
+    next given a b n moved
+
+prefixes_one : (files : List (List ℕ × List ℕ)) (name : Option (List ℕ)) → AreAllAlike (PrefixesGive (Some files) name)
+prefixes_one files name =
+    gives_one files kind.Prefixes JudgesPrefixes IsNoPrefix name
+    (λ bytes a b x y. one_stop (ap (of_verdict kind.Prefixes) (x ∙ sym y))) (λ a b x y. one_stop (ap (of_verdict kind.Prefixes) (x ∙ sym y)))
+
+behind_one : (files : List (List ℕ × List ℕ)) (names : FileNames) (set : TableRows) → AreAllAlike (GivesBehind (Some files) names set)
+behind_one files names set = then_alike (PrefixesGive (Some files) names.prefixes) (IsLoadedOf set) (prefixes_one files names.prefixes) (λ list a b x y. one_stop (x ∙ sym y))
 
 pub files_one : (files : List (List ℕ × List ℕ)) (names : FileNames) (a b : Result Loaded Stop) → FilesGive (Some files) names a → FilesGive (Some files) names b → AlikeStops a b
-files_one files names = then_alike (TablesGive (Some files) names.tables)
+files_one files names = then_alike (TablesGive (Some files) names.tables) (GivesBehind (Some files) names)
     (gives_one files kind.Tables (λ bytes. JudgesTables (LoadAnswer bytes)) (JudgesTables BuiltInAnswer) names.tables
     (λ bytes. tables_one (Shape bytes) (ruling_of_bytes bytes)) (tables_one RuledRows ruling_of_builtin))
+    (behind_one files names)
 
 -- ---- an answer
 
@@ -120,8 +138,15 @@ gives_some files kind Judges Unnamed (Some name) some other = file_some files ki
 tables_some : (Answer : Result TableRows LoadFault → Type 0) → ((answer : Result TableRows LoadFault) × HasMemory answer × Answer answer) → HasSome (JudgesTables Answer)
 tables_some Answer some = (tables_verdict some.0, record { answer = some.0; enough = some.1; is_answer = some.2; is = refl })
 
+prefixes_some : (files : Option (List (List ℕ × List ℕ))) (name : Option (List ℕ)) → HasSome (PrefixesGive files name)
+prefixes_some files name = gives_some files kind.Prefixes JudgesPrefixes IsNoPrefix name (λ bytes. (prefixes_verdict (load_answer bytes), refl)) (Ok [], refl)
+
+behind_some : (files : Option (List (List ℕ × List ℕ))) (names : FileNames) (set : TableRows) → HasSome (GivesBehind files names set)
+behind_some files names set = then_some (PrefixesGive files names.prefixes) (IsLoadedOf set) (prefixes_some files names.prefixes)
+    (λ list gives. (Ok (record { tables = set; prefixes = list }), refl))
+
 pub files_some : (files : Option (List (List ℕ × List ℕ))) (names : FileNames) → HasSome (FilesGive files names)
-files_some files names = then_some (TablesGive files names.tables) IsLoadedOf
+files_some files names = then_some (TablesGive files names.tables) (GivesBehind files names)
     (gives_some files kind.Tables (λ bytes. JudgesTables (LoadAnswer bytes)) (JudgesTables BuiltInAnswer) names.tables
     (λ bytes. tables_some (LoadAnswer bytes) (judged_some (Shape bytes) (ruling_of_bytes bytes))) (tables_some BuiltInAnswer (judged_some RuledRows ruling_of_builtin)))
-    (λ set gives. (Ok (record { tables = set }), refl))
+    (λ set gives. behind_some files names set)

@@ -1,14 +1,17 @@
 -- What is loaded, by how files were read.
-use Rattle.std.proofs.Common.{◌≡◌, ℕ, ◌≤◌, List, Option, Some, None, length, refl, sym, ◌∙◌, ap, inl, inr, append-nil}
-use Rattle.std.specs.Prelude.{Result, Ok, Err, option_to_list}
+use Rattle.std.proofs.Common.{◌≡◌, ℕ, ◌≤◌, List, Option, Some, None, length, [], refl, sym, ◌∙◌, ap, inl, inr, append-nil, append_assoc, ◌++◌, arith}
+use Rattle.std.proofs.Math.Seq.{take-append_seam, take-length}
+use Rattle.std.proofs.lemmas.Grind.{common_steps}
+use Rattle.std.specs.Prelude.{Result, Ok, Err}
 use Rattle.gs_document.specs.declared.fault.LoadFault.{LoadFault}
-use Rattle.gs_port.specs.Files.{IsFile, MayHaveName}
+use Rattle.gs_port.specs.Counts.{Rises}
+use Rattle.gs_port.specs.Files.{AddsNames, IsFile, with_names}
 use Rattle.gs_tables.specs.Judged.{IsLoaded}
 use Rattle.gs_tables.specs.Shapes.{BuiltInAnswer, HasMemory, LoadAnswer, Shape}
 use Rattle.gs_tables.specs.Tables.{TableRows}
 use Rattle.gs_tables.proofs.JudgedAnswers.{judged_loaded}
 use Rattle.gs_tables.proofs.OneAnswer.{RuledRows, ruling_of_builtin, ruling_of_bytes}
-use Rattle.gs_translate.specs.Steps.{goes_on, refuses}
+use Rattle.gs_translate.specs.Steps.{Then, goes_on, refuses}
 use Rattle.gs_program.specs.declared.file_kind.FileKind.TheVariants as kind
 use Rattle.gs_program.specs.declared.loading.Loaded.{Loaded}
 use Rattle.gs_program.specs.declared.loading.Unloaded.{Unloaded}
@@ -52,23 +55,49 @@ file_unloaded files name before now (unloaded.Refused refusal) r = too_large r.0
 
 -- ---- all files
 
-pub all_loaded : (files : Option (List (List ℕ × List ℕ))) (names : FileNames) (before now : ℕ) (set : TableRows) → LoadedBy (TablesGive files names.tables) before now (Ok set) → LoadedBy (FilesGive files names) before now (Ok (record { tables = set }))
-all_loaded files names before now set gives = goes_on set gives refl
+-- a file that is not loaded ends the load
+pub not_loaded : {A B : Type 0} (First : Result A Stop → Type 0) (Next : A → Result B Stop → Type 0) (before now : ℕ) (u : Unloaded) → LoadedBy First before now (Err u) → LoadedBy (Then First Next) before now (Err u)
+not_loaded First Next before now unloaded.Memory g = tt
+not_loaded First Next before now unloaded.ReadFault (inl rises) = inl rises
+not_loaded First Next before now unloaded.ReadFault (inr none) = inr (refuses missing none refl)
+not_loaded First Next before now (unloaded.Refused refusal) g = refuses (refused refusal) g refl
 
-pub not_loaded : (files : Option (List (List ℕ × List ℕ))) (names : FileNames) (before now : ℕ) (u : Unloaded) → LoadedBy (TablesGive files names.tables) before now (Err u) → LoadedBy (FilesGive files names) before now (Err u)
-not_loaded files names before now unloaded.Memory g = tt
-not_loaded files names before now unloaded.ReadFault (inl rises) = inl rises
-not_loaded files names before now unloaded.ReadFault (inr none) = inr (refuses missing none refl)
-not_loaded files names before now (unloaded.Refused refusal) g = refuses (refused refusal) g refl
+rises_before : (before between now : ℕ) → before ≤ between → Rises between now → Rises before now
+rises_before before between now less rises = grind (arith, common_steps)
+
+-- behind one that is loaded it goes on
+pub loads_on : {A B : Type 0} (First : Result A Stop → Type 0) (Next : A → Result B Stop → Type 0) (before between now : ℕ) (a : A) (result : Result B Unloaded) → First (Ok a) → before ≤ between → LoadedBy (Next a) between now result → LoadedBy (Then First Next) before now result
+loads_on First Next before between now a (Ok b) f less g = goes_on a f g
+loads_on First Next before between now a (Err unloaded.Memory) f less g = tt
+loads_on First Next before between now a (Err unloaded.ReadFault) f less (inl rises) = inl (rises_before before between now less rises)
+loads_on First Next before between now a (Err unloaded.ReadFault) f less (inr none) = inr (goes_on a f none)
+loads_on First Next before between now a (Err (unloaded.Refused refusal)) f less g = goes_on a f g
 
 -- ---- what was opened
 
-pub opens_one : (name : List ℕ) (before now : List (List ℕ)) → MayHaveName before name now → OpensFirst (option_to_list (Some name)) before now
-opens_one name before now (inl same) = (0, same ∙ sym (append-nil before))
-opens_one name before now (inr more) = (1, more)
+no_names_more : (names : Option (List (List ℕ))) → names ≡ with_names names []
+no_names_more None = refl
+no_names_more (Some names) = ap Some (sym (append-nil names))
 
-pub opens_none : (names before : List (List ℕ)) → OpensFirst names before before
-opens_none names before = (0, sym (append-nil before))
+pub adds_none : (before : Option (List (List ℕ))) → AddsNames before [] before
+adds_none before = inr (no_names_more before)
+
+names_twice : (names : Option (List (List ℕ))) (one other : List (List ℕ)) → with_names (with_names names one) other ≡ with_names names (one ++ other)
+names_twice None one other = refl
+names_twice (Some names) one other = ap Some (append_assoc names one other)
+
+-- names that were added, and then others
+pub adds_both : (before between now : Option (List (List ℕ))) (one other : List (List ℕ)) → AddsNames before one between → AddsNames between other now → AddsNames before (one ++ other) now
+adds_both before between now one other first (inl none) = inl none
+adds_both before between now one other (inl none) (inr more) = inl (more ∙ ap (λ names. with_names names other) none)
+adds_both before between now one other (inr first) (inr more) =
+    inr (more ∙ ap (λ names. with_names names other) first ∙ names_twice before one other)
+
+pub opens_all : (names : List (List ℕ)) (before now : Option (List (List ℕ))) → AddsNames before names now → OpensFirst names before now
+opens_all names before now adds = (length names, rw (take-length names) adds)
+
+pub opens_front : (one other : List (List ℕ)) (before now : Option (List (List ℕ))) → AddsNames before one now → OpensFirst (one ++ other) before now
+opens_front one other before now adds = (length one, rw (take-append_seam one other) adds)
 
 -- ---- tables that are loaded keep the rules, and none of their levels is ambiguous
 
@@ -90,6 +119,7 @@ loaded_named files (Some name) set gives = loaded_file files name set gives
 
 pub loaded_of : (files : Option (List (List ℕ × List ℕ))) (names : FileNames) (loaded : Loaded) → FilesGive files names (Ok loaded) → IsLoaded loaded.tables
 loaded_of files names loaded (refuses stop gives e) = absurd (let f : Ok loaded ≡ Err stop = e in cc)
-loaded_of files names loaded (goes_on set gives e) =
-    let same : loaded ≡ record { tables = set } = cc in
+loaded_of files names loaded (goes_on set gives (refuses stop g e)) = absurd (let f : Ok loaded ≡ Err stop = e in cc)
+loaded_of files names loaded (goes_on set gives (goes_on list g e)) =
+    let same : loaded ≡ record { tables = set; prefixes = list } = cc in
     rw same (loaded_named files names.tables set gives)

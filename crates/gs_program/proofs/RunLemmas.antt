@@ -1,6 +1,6 @@
 -- Each clause of a run, by what was done of what the words ask for.
-use Rattle.std.proofs.Common.{◌≡◌, ◌≢◌, ◌⊎◌, inl, inr, ℕ, Bool, true, false, List, [], ◌∷◌, Option, refl, ◌∙◌, ap}
-use Rattle.std.specs.Prelude.{option_to_list, None, Some}
+use Rattle.std.proofs.Common.{◌≡◌, ◌≢◌, ◌⊎◌, inl, inr, ℕ, Bool, true, false, List, [], ◌∷◌, Option, refl, ◌∙◌, ap, arith}
+use Rattle.std.specs.List.{Contains}
 use Rattle.gs_lines.specs.declared.status.Status.{Status}
 use Rattle.gs_lines.specs.declared.status.Status.TheVariants as status
 use Rattle.gs_lines.specs.Inputs.{IsAtEnd}
@@ -80,12 +80,12 @@ pub unread_of : (words : List (List ℕ)) (asked : Asked) → WordsInOrder words
 unread_of words asked order none = not_lines asked.command (λ lines. none (record { asked = asked; order = order; lines = lines }))
 
 -- no file is named
-no_names : (tables : Option (List ℕ)) → ((name : List ℕ) → option_to_list tables ≡ name ∷ [] → ⊥) → option_to_list tables ≡ []
-no_names None none = refl
-no_names (Some name) none = absurd (none name refl)
+no_names : (names : List (List ℕ)) → ((name : List ℕ) → Contains names name → ⊥) → names ≡ []
+no_names [] none = refl
+no_names (name ∷ names) none = absurd (none name (0, omega arith, refl))
 
 pub unopened_of : (words : List (List ℕ)) (asked : Asked) → WordsInOrder words asked → ((name : List ℕ) → NamesFile words name → ⊥) → names_in_order asked.files ≡ []
-unopened_of words asked order none = no_names asked.files.tables (λ name same. none name (record { asked = asked; order = order; files = same }))
+unopened_of words asked order none = no_names (names_in_order asked.files) (λ name named. none name (record { asked = asked; order = order; named = named }))
 
 -- ---- the usage line
 

@@ -1,8 +1,11 @@
 -- What files give, and the rows in their place where they are not named.
-use Rattle.std.specs.Prelude.{◌≡◌, ◌⊎◌, ℕ, ◌<◌, ◌≤◌, List, ◌++◌, length, take, Option, Some, None, Result, Ok, Err}
+use Rattle.std.specs.Prelude.{◌≡◌, ◌⊎◌, ℕ, ◌<◌, ◌≤◌, List, [], length, take, Option, Some, None, Result, Ok, Err}
 use Rattle.gs_document.specs.declared.fault.LoadFault.{LoadFault}
 use Rattle.gs_port.specs.Counts.{Rises}
-use Rattle.gs_port.specs.Files.{IsAbsent, IsFile}
+use Rattle.gs_port.specs.Files.{AddsNames, IsAbsent, IsFile}
+use Rattle.gs_prefix.specs.Answers.{load_answer}
+use Rattle.gs_prefix.specs.declared.entry.PrefixEntry.{PrefixEntry}
+use Rattle.gs_prefix.specs.declared.fault.PrefixFault.{PrefixFault}
 use Rattle.gs_tables.specs.Shapes.{BuiltInAnswer, HasMemory, LoadAnswer}
 use Rattle.gs_tables.specs.Tables.{TableRows}
 use Rattle.gs_translate.specs.Steps.{Then}
@@ -12,7 +15,7 @@ use Rattle.gs_program.specs.declared.loading.Loaded.{Loaded}
 use Rattle.gs_program.specs.declared.loading.Unloaded.{Unloaded}
 use Rattle.gs_program.specs.declared.loading.Unloaded.TheVariants.{Refused, ReadFault, Memory}
 use Rattle.gs_program.specs.declared.refusal.FileFault.{FileFault}
-use Rattle.gs_program.specs.declared.refusal.FileFault.TheVariants.{Over, Tables}
+use Rattle.gs_program.specs.declared.refusal.FileFault.TheVariants.{Over, Tables, Prefixes}
 use Rattle.gs_program.specs.declared.refusal.Refusal.{Refusal}
 use Rattle.gs_program.specs.Refusals.{file_limit}
 use Rattle.gs_program.specs.Requests.{FileNames}
@@ -61,13 +64,33 @@ pub record JudgesTables (Answer : Result TableRows LoadFault → Type 0) (verdic
 abbrev pub TablesGive : Option (List (List ℕ × List ℕ)) → Option (List ℕ) → Result TableRows Stop → Type 0
 TablesGive files name answer = Gives files kind.Tables (λ bytes. JudgesTables (LoadAnswer bytes)) (JudgesTables BuiltInAnswer) name answer
 
--- what is loaded of these tables
-abbrev pub IsLoadedOf : TableRows → Result Loaded Stop → Type 0
-IsLoadedOf set answer = answer ≡ Ok (record { tables = set })
+-- the verdict on a list of company prefix lengths by the answer of its load
+abbrev pub prefixes_verdict : Result (List PrefixEntry) PrefixFault → Result (List PrefixEntry) FileFault
+prefixes_verdict (Ok list) = Ok list
+prefixes_verdict (Err fault) = Err (Prefixes fault)
+
+abbrev pub JudgesPrefixes : List ℕ → Result (List PrefixEntry) FileFault → Type 0
+JudgesPrefixes bytes verdict = verdict ≡ prefixes_verdict (load_answer bytes)
+
+-- the list of no entry
+abbrev pub IsNoPrefix : Result (List PrefixEntry) FileFault → Type 0
+IsNoPrefix verdict = verdict ≡ Ok []
+
+-- the company prefix lengths of the named file, or none where none is named
+abbrev pub PrefixesGive : Option (List (List ℕ × List ℕ)) → Option (List ℕ) → Result (List PrefixEntry) Stop → Type 0
+PrefixesGive files name answer = Gives files kind.Prefixes JudgesPrefixes IsNoPrefix name answer
+
+-- what is loaded of these tables and this list
+abbrev pub IsLoadedOf : TableRows → List PrefixEntry → Result Loaded Stop → Type 0
+IsLoadedOf set list answer = answer ≡ Ok (record { tables = set; prefixes = list })
+
+-- what the files behind the tables give
+abbrev pub GivesBehind : Option (List (List ℕ × List ℕ)) → FileNames → TableRows → Result Loaded Stop → Type 0
+GivesBehind files names set answer = Then (PrefixesGive files names.prefixes) (IsLoadedOf set) answer
 
 -- What the files give, in their order, of what is asked of each, or the first that is not there, is too large or is refused.
 abbrev pub FilesGive : Option (List (List ℕ × List ℕ)) → FileNames → Result Loaded Stop → Type 0
-FilesGive files names answer = Then (TablesGive files names.tables) IsLoadedOf answer
+FilesGive files names answer = Then (TablesGive files names.tables) (GivesBehind files names) answer
 
 -- The answer of a load, by what the files give: a fault comes only where the files counted one, or where the first that is
 -- not loaded is not there.
@@ -77,6 +100,6 @@ LoadedBy Give before now (Err (Refused refusal)) = Give (Err (refused refusal))
 LoadedBy Give before now (Err ReadFault) = Rises before now ⊎ Give (Err missing)
 LoadedBy Give before now (Err Memory) = Unit {0}
 
--- the first of these names were opened, in their order
-abbrev pub OpensFirst : List (List ℕ) → List (List ℕ) → List (List ℕ) → Type 0
-OpensFirst names before now = (count : ℕ) × (now ≡ before ++ take count names)
+-- the first of these names were opened, in their order, where it is told
+abbrev pub OpensFirst : List (List ℕ) → Option (List (List ℕ)) → Option (List (List ℕ)) → Type 0
+OpensFirst names before now = (count : ℕ) × AddsNames before (take count names) now

@@ -1,8 +1,11 @@
 -- How the reading of a file and the load of tables end, for a run.
-use Rattle.std.specs.Prelude.{◌≡◌, ◌⊎◌, ℕ, ◌<◌, ◌≤◌, List, length, Option, Result, Ok, Err}
+use Rattle.std.specs.Prelude.{◌≡◌, ◌≢◌, ◌⊎◌, ℕ, ◌<◌, ◌≤◌, List, length, Option, Result, Ok, Err}
 use Rattle.gs_document.specs.declared.fault.LoadFault.{LoadFault}
 use Rattle.gs_port.specs.Counts.{Rises}
 use Rattle.gs_port.specs.Files.{IsAbsent, IsFile}
+use Rattle.gs_prefix.specs.declared.entry.PrefixEntry.{PrefixEntry}
+use Rattle.gs_prefix.specs.declared.fault.PrefixFault.{PrefixFault}
+use Rattle.gs_prefix.specs.declared.fault.PrefixFault.TheVariants as prefix
 use Rattle.gs_tables.specs.Shapes.{HasMemory}
 use Rattle.gs_tables.specs.Tables.{TableRows}
 use Rattle.gs_program.specs.declared.file_kind.FileKind.{FileKind}
@@ -10,7 +13,7 @@ use Rattle.gs_program.specs.declared.file_kind.FileKind.TheVariants as kind
 use Rattle.gs_program.specs.declared.loading.Unloaded.{Unloaded}
 use Rattle.gs_program.specs.declared.loading.Unloaded.TheVariants.{Refused, ReadFault, Memory}
 use Rattle.gs_program.specs.declared.refusal.FileFault.TheVariants.{Over}
-use Rattle.gs_program.specs.Loads.{of_verdict, tables_verdict, refused}
+use Rattle.gs_program.specs.Loads.{of_verdict, prefixes_verdict, refused, tables_verdict}
 use Rattle.gs_program.specs.Refusals.{file_limit}
 
 -- the bytes of a named file, that it has too many, or a fault
@@ -26,3 +29,11 @@ UnloadedAs answer (Ok set) = answer ≡ Ok set
 UnloadedAs answer (Err Memory) = Unit {0}
 UnloadedAs answer (Err ReadFault) = ⊥
 UnloadedAs answer (Err (Refused refusal)) = HasMemory answer × (of_verdict kind.Tables (tables_verdict answer) ≡ Err (refused refusal))
+
+-- the answer of a load of company prefix lengths, with want of memory as no refusal
+abbrev pub PrefixesUnloadedAs : Result (List PrefixEntry) PrefixFault → Result (List PrefixEntry) Unloaded → Type 0
+PrefixesUnloadedAs answer (Ok list) = answer ≡ Ok list
+PrefixesUnloadedAs answer (Err Memory) = Unit {0}
+PrefixesUnloadedAs answer (Err ReadFault) = ⊥
+PrefixesUnloadedAs answer (Err (Refused refusal)) =
+    (answer ≢ Err prefix.Memory) × (of_verdict kind.Prefixes (prefixes_verdict answer) ≡ Err (refused refusal))

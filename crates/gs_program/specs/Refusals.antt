@@ -10,19 +10,23 @@ use Rattle.gs_document.specs.declared.level_name.LevelName.{LevelName}
 use Rattle.gs_document.specs.declared.level_name.LevelName.TheVariants.{Binary, Tag, Pure}
 use Rattle.gs_json.specs.declared.fault.JsonFault.{JsonFault}
 use Rattle.gs_json.specs.declared.fault.JsonFault.TheVariants as json
+use Rattle.gs_prefix.specs.declared.fault.PrefixFault.{PrefixFault}
+use Rattle.gs_prefix.specs.declared.fault.PrefixFault.TheVariants as prefix
 use Rattle.gs_program.specs.declared.file_kind.FileKind.{FileKind}
 use Rattle.gs_program.specs.declared.file_kind.FileKind.TheVariants as kind
 use Rattle.gs_program.specs.declared.refusal.Refusal.{Refusal}
 use Rattle.gs_program.specs.declared.refusal.FileFault.{FileFault}
-use Rattle.gs_program.specs.declared.refusal.FileFault.TheVariants.{Over, Tables}
+use Rattle.gs_program.specs.declared.refusal.FileFault.TheVariants.{Over, Tables, Prefixes}
 
 -- the word that a refusal of a kind of file is printed with
 abbrev pub file_word : FileKind → List ℕ
 file_word kind.Tables = codes "tables"
+file_word kind.Prefixes = codes "prefixes"
 
 -- the most bytes of a kind of file
 abbrev pub file_limit : FileKind → ℕ
 file_limit kind.Tables = 1048576
+file_limit kind.Prefixes = 4194304
 
 -- a place as it is printed: a question mark for each byte that is no visible character of ISO 646
 abbrev pub shown_byte : ℕ → ℕ
@@ -86,10 +90,20 @@ tables_text (Duplicate level j i) = numbered_twice (of_level (codes "duplicate")
 tables_text (Ambiguous level i j text) = ambiguous_text level i j text
 tables_text Memory = codes "memory"
 
+-- a fault of a list of company prefix lengths
+abbrev pub prefixes_text : PrefixFault → List ℕ
+prefixes_text (prefix.Json fault) = codes "json " ++ json_text fault
+prefixes_text (prefix.BadPrefix i) = numbered (codes "bad-prefix") i
+prefixes_text (prefix.BadLength i) = numbered (codes "bad-length") i
+prefixes_text (prefix.Twice i) = numbered (codes "twice") i
+prefixes_text prefix.Limit = codes "limit"
+prefixes_text prefix.Memory = codes "memory"
+
 -- why a file is refused
 abbrev pub fault_text : FileFault → List ℕ
 fault_text Over = codes "over"
 fault_text (Tables fault) = tables_text fault
+fault_text (Prefixes fault) = prefixes_text fault
 
 -- the line of a refused file: `refused WHICH REASON`, and a line feed
 abbrev pub refused_line : Refusal → List ℕ

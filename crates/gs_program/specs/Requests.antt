@@ -1,6 +1,7 @@
 -- What the words of the command line ask for.
 use Rattle.std.specs.Prelude.{◌≡◌, ℕ, true, List, [], ◌∷◌, ◌++◌, codes, Option, Some, None, option_to_list}
 use Rattle.std.specs.Borrow.{Bor}
+use Rattle.std.specs.List.{Contains}
 use Rattle.gs_translate.specs.declared.form.Form.{Form}
 use Rattle.gs_program.specs.declared.command.Command.{Command}
 use Rattle.gs_program.specs.declared.command.Command.TheVariants.{Canon}
@@ -65,13 +66,13 @@ pub record AsksForLines (words : List (List ℕ)) : Type 0 where
 
 -- the names of the files that are read, in their order
 abbrev pub names_in_order : FileNames → List (List ℕ)
-names_in_order files = option_to_list files.tables
+names_in_order files = option_to_list files.tables ++ option_to_list files.prefixes
 
 -- the words name a file
 pub record NamesFile (words : List (List ℕ)) (name : List ℕ) : Type 0 where
   pub asked : Asked
   pub order : WordsInOrder words asked
-  pub files : names_in_order asked.files ≡ name ∷ []
+  pub named : Contains (names_in_order asked.files) name
 
 -- what is printed where the words are not in order
 abbrev pub usage_line : List ℕ

@@ -72,7 +72,7 @@ pub record IsRefused (words : List (List ℕ)) (files : Option (List (List ℕ �
   pub refusal : Refusal
   pub gives : FilesGive files asked.files (Err (refused refusal))
 
--- no file but the first of those that the words name were opened, in their order
-pub data OpensNamed (words : List (List ℕ)) (before now : List (List ℕ)) : Type 0 where
+-- no file but the first of those that the words name were opened, in their order, where it is told
+pub data OpensNamed (words : List (List ℕ)) (before now : Option (List (List ℕ))) : Type 0 where
   named : (asked : Asked) → WordsInOrder words asked → OpensFirst (names_in_order asked.files) before now → OpensNamed words before now
   none_named : NotInOrder words → now ≡ before → OpensNamed words before now

@@ -22,7 +22,7 @@ fn append_count(alloc: Global, line: &mut Vec<u8>, word: &[u8], count: usize) ->
     Ok(())
 }
 
-/// The line of counts: the numbers of application identifiers, of kinds and of the options of each level.
+/// The line of counts: the numbers of application identifiers, of kinds, of the options of each level and of company prefixes.
 fn counts_line(alloc: Global, loaded: &Loaded) -> Result<Vec<u8>, Memory>
     ensures { IfOk result (λ line. line.items ≡ counts_line loaded.now) }
 {
@@ -38,7 +38,8 @@ fn counts_line(alloc: Global, loaded: &Loaded) -> Result<Vec<u8>, Memory>
     )?;
     append_count(alloc, &mut line, b" tag ", set.info(LevelName::Tag).len())?;
     append_count(alloc, &mut line, b" pure ", set.info(LevelName::Pure).len())?;
-    line.extend_from_slice(b" prefixes 0 links 0")?;
+    append_count(alloc, &mut line, b" prefixes ", loaded.prefixes.len())?;
+    line.extend_from_slice(b" links 0")?;
     line.push(b'\n')?;
     Ok(line)
 }

@@ -19,6 +19,12 @@ const TABLES: NameRow = NameRow {
     required: false,
 };
 
+/// The name of the file of company prefix lengths, which may be absent.
+const PREFIXES: NameRow = NameRow {
+    name: Name::Prefixes,
+    required: false,
+};
+
 impl Command {
     /// The names that the command takes.
     pub fn names(self) -> &'static [NameRow]
@@ -26,7 +32,7 @@ impl Command {
     {
         match self {
             Command::Canon(_) => &[TABLES],
-            Command::Check => &[TABLES],
+            Command::Check => &[TABLES, PREFIXES],
         }
     }
 }

@@ -6,6 +6,8 @@ ghost use Rattle.gs_program.specs.Refusals.{file_limit, file_word};
 pub enum FileKind {
     /// The tables.
     Tables,
+    /// The company prefix lengths.
+    Prefixes,
 }
 
 impl FileKind {
@@ -15,6 +17,7 @@ impl FileKind {
     {
         match self {
             FileKind::Tables => b"tables",
+            FileKind::Prefixes => b"prefixes",
         }
     }
 
@@ -24,6 +27,7 @@ impl FileKind {
     {
         match self {
             FileKind::Tables => 1_048_576,
+            FileKind::Prefixes => 4_194_304,
         }
     }
 }

@@ -1,11 +1,14 @@
-ghost use Rattle.std.specs.Prelude.{◌≡◌, ◌≤◌, []};
-ghost use Rattle.gs_program.specs.Loads.{FilesGive, LoadedBy, OpensFirst};
-ghost use Rattle.gs_program.specs.Requests.{names_in_order, told_files};
+ghost use Rattle.std.specs.Prelude.{◌≡◌, ◌≤◌, [], None, option_to_list};
+ghost use Rattle.gs_port.specs.Files.{AddsNames};
+ghost use Rattle.gs_program.specs.Loads.{FilesGive, GivesBehind, LoadedBy, OpensFirst};
+ghost use Rattle.gs_program.specs.Requests.{names_in_order, told_files, told_name};
 
+use crate::prefixes::load_prefixes;
 use crate::refusal::Refusal;
 use crate::request::NamedFiles;
 use crate::tables::load_tables;
 use gs_port::Files;
+use gs_prefix::PrefixList;
 use gs_tables::TableSet;
 use std::alloc::Global;
 
@@ -14,6 +17,8 @@ use std::alloc::Global;
 pub struct Loaded {
     /// The tables.
     pub tables: TableSet,
+    /// The company prefix lengths.
+    pub prefixes: PrefixList,
 }
 
 /// Why a run has not loaded its files.
@@ -27,8 +32,27 @@ pub enum Unloaded {
     Memory,
 }
 
-/// Loads the files in their order, up to the first that is not there, cannot be read or is refused. What is not named is
-/// the built-in tables.
+/// Loads the files behind the tables.
+fn load_behind<F: Files>(
+    alloc: Global,
+    tables: TableSet,
+    names: NamedFiles<'_>,
+    files: &mut F,
+) -> Result<Loaded, Unloaded>
+    ensures loaded { LoadedBy (GivesBehind (F.files files.old) (told_files names.entry) tables) (F.faults files.old) (F.faults files.new) result }
+    ensures opened { AddsNames (F.opened files.old) (option_to_list (told_name names.entry.prefixes)) (F.opened files.new) }
+    ensures unopened { told_name names.entry.prefixes ≡ None → files.new ≡ files.old }
+    ensures told { F.files files.new ≡ F.files files.old }
+    ensures counts { F.faults files.old ≤ F.faults files.new }
+{
+    match load_prefixes(alloc, names.prefixes, files) {
+        Ok(prefixes) => Ok(Loaded { tables, prefixes }),
+        Err(unloaded) => Err(unloaded),
+    }
+}
+
+/// Loads the files in their order, tables and then company prefix lengths, up to the first that is not there, cannot be read
+/// or is refused. What is not named is the built-in tables, and no prefix.
 pub fn load_files<F: Files>(
     alloc: Global,
     names: NamedFiles<'_>,
@@ -41,7 +65,7 @@ pub fn load_files<F: Files>(
     ensures counts { F.faults files.old ≤ F.faults files.new }
 {
     match load_tables(alloc, names.tables, files) {
-        Ok(tables) => Ok(Loaded { tables }),
+        Ok(tables) => load_behind(alloc, tables, names, files),
         Err(unloaded) => Err(unloaded),
     }
 }

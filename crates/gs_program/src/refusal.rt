@@ -1,4 +1,5 @@
 use crate::file_kind::FileKind;
+use gs_prefix::PrefixFault;
 use gs_tables::LoadFault;
 
 /// Why a file, or the rows in its place, are refused.
@@ -8,6 +9,8 @@ pub enum FileFault {
     Over,
     /// The tables break a rule, which is never want of memory.
     Tables(LoadFault),
+    /// The list of company prefix lengths breaks a rule, which is never want of memory.
+    Prefixes(PrefixFault),
 }
 
 /// A file that is refused.

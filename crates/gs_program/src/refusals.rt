@@ -1,10 +1,11 @@
 ghost use Rattle.std.specs.Prelude.{◌≡◌, ◌∷◌, ◌++◌, IfOk, OnOk, codes, decimal};
-ghost use Rattle.gs_program.specs.Refusals.{ai_text, ambiguous_text, fault_text, json_text, level_text, limit_text, numbered, numbered_twice, of_level, refused_line, shown, shown_byte, tables_text};
+ghost use Rattle.gs_program.specs.Refusals.{ai_text, ambiguous_text, fault_text, json_text, level_text, limit_text, numbered, numbered_twice, of_level, prefixes_text, refused_line, shown, shown_byte, tables_text};
 
 use crate::refusal::{FileFault, Refusal};
 use gs_ai::AiFault;
 use gs_chars::Memory;
 use gs_json::JsonFault;
+use gs_prefix::PrefixFault;
 use gs_tables::{LevelName, LimitName, LoadFault};
 use std::alloc::Global;
 
@@ -211,6 +212,20 @@ fn append_tables(alloc: Global, out: &mut Vec<u8>, fault: &LoadFault) -> Result<
     }
 }
 
+/// Appends a fault of a list of company prefix lengths.
+fn append_prefixes(alloc: Global, out: &mut Vec<u8>, fault: &PrefixFault) -> Result<(), Memory>
+    ensures { OnOk result (out.new.items ≡ out.old.items ++ prefixes_text fault.now) }
+{
+    match fault {
+        PrefixFault::Json(fault) => append_form(out, fault),
+        PrefixFault::BadPrefix(i) => append_numbered(alloc, out, b"bad-prefix", *i),
+        PrefixFault::BadLength(i) => append_numbered(alloc, out, b"bad-length", *i),
+        PrefixFault::Twice(i) => append_numbered(alloc, out, b"twice", *i),
+        PrefixFault::Limit => Ok(out.extend_from_slice(b"limit")?),
+        PrefixFault::Memory => Ok(out.extend_from_slice(b"memory")?),
+    }
+}
+
 /// Appends why a file is refused.
 fn append_fault(alloc: Global, out: &mut Vec<u8>, fault: &FileFault) -> Result<(), Memory>
     ensures { OnOk result (out.new.items ≡ out.old.items ++ fault_text fault.now) }
@@ -218,6 +233,7 @@ fn append_fault(alloc: Global, out: &mut Vec<u8>, fault: &FileFault) -> Result<(
     match fault {
         FileFault::Over => Ok(out.extend_from_slice(b"over")?),
         FileFault::Tables(fault) => append_tables(alloc, out, fault),
+        FileFault::Prefixes(fault) => append_prefixes(alloc, out, fault),
     }
 }
 

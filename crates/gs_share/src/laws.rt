@@ -1,8 +1,11 @@
-ghost use Rattle.std.specs.Prelude.{◌↔◌, ℕ, List};
+ghost use Rattle.std.specs.Prelude.{◌≡◌, ◌↔◌, ℕ, All, List, Option};
 ghost use Rattle.gs_grammar.specs.declared.item.Item.{Item};
+ghost use Rattle.gs_grammar.specs.Items.{IsItem};
+ghost use Rattle.gs_grammar.specs.Levels.{LevelForm, item_lists};
 ghost use Rattle.gs_grammar.specs.Ambiguity.{IsAmbiguous, IsFirstShare};
 ghost use Rattle.gs_grammar.specs.Derivations.{Derivation, OneDerivation};
-ghost use Rattle.gs_share.specs.FirstShares.{HasShare};
+ghost use Rattle.gs_share.specs.declared.shared.Shared.{Shared};
+ghost use Rattle.gs_share.specs.FirstShares.{HasShare, IsFirstShared};
 
 /// A level is ambiguous exactly where two of its options, or one with itself, share a list of symbols. So a level that has a
 /// first such pair is ambiguous.
@@ -16,4 +19,13 @@ pub fn ambiguous_exactly_where_options_share()
 pub fn no_list_has_two_readings()
     ensures { (level : List (List Item)) (w : List ℕ) (derivation : Derivation level w) →
         (IsAmbiguous level → ⊥) → OneDerivation level w derivation.option derivation.values }
+{}
+
+/// Each level whose items keep their bounds has an answer: it is not ambiguous, or it has a first pair of options that shares
+/// a list. Only one pair can be the first, so that two answers differ at most in the text.
+pub fn each_level_has_an_answer()
+    ensures some { (level : LevelForm) → All (All IsItem) (item_lists level.options) →
+        (answer : Option Shared) × IsFirstShared level answer }
+    ensures one_pair { (level : List (List Item)) (i j k l : ℕ) (v w : List ℕ) →
+        IsFirstShare level i j v → IsFirstShare level k l w → (i ≡ k) × (j ≡ l) }
 {}

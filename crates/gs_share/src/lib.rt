@@ -6,6 +6,8 @@ mod machines;
 mod shared;
 mod sharing;
 
-pub use laws::{ambiguous_exactly_where_options_share, no_list_has_two_readings};
+pub use laws::{
+    ambiguous_exactly_where_options_share, each_level_has_an_answer, no_list_has_two_readings,
+};
 pub use shared::Shared;
 pub use sharing::first_share;

@@ -185,7 +185,7 @@ gcp_short : (form : KeyForm) (lead n : ℕ) → is_gcp form lead n ≡ true → 
 gcp_short (Digits digits _) lead n h = let g = and_parts (is_between 1 12 n) (nat_le n (digits - lead)) h in let k = and_parts (nat_le 1 n) (nat_le n 12) g.0 in let m = k.1 in grind (arith, nat_tests)
 gcp_short (Characters _) lead n h = let k = and_parts (nat_le 1 n) (nat_le n 12) h in let m = k.1 in grind (arith, nat_tests)
 
-gcp_kept : (form : KeyForm) (lead n : ℕ) (items : List FieldItem) → keeps_gcp form lead n (items_of_field Gcp items) ≡ true → n ≤ 12
+pub gcp_kept : (form : KeyForm) (lead n : ℕ) (items : List FieldItem) → keeps_gcp form lead n (items_of_field Gcp items) ≡ true → n ≤ 12
 unfolding keeps_gcp
 gcp_kept form lead n items h = gcp_short form lead n (and_parts (is_gcp form lead n) (is_one (is_digits n) (items_of_field Gcp items)) h).0
 

@@ -1,5 +1,6 @@
 pub mod FoundItems
 pub mod KeptRows
+pub mod NumberLemmas
 pub mod RefusalLists
 pub mod SetLemmas
 pub mod KeptSets

@@ -7,5 +7,6 @@ pub mod Rules
 pub mod Founds
 pub mod Tables
 pub mod KeptRules
+pub mod Numbers
 pub mod Judged
 pub mod Shapes

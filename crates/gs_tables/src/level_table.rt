@@ -1,10 +1,9 @@
-use gs_chars::List;
-use gs_document::OptInfo;
+use crate::indexed_info::IndexedInfo;
 use gs_grammar::Level;
 
 /// A level of a table set: its options, and what is said of each beside its items, in the same order.
 #[derive(Drop)]
 pub struct LevelTable {
     pub level: Level,
-    pub info: List<OptInfo>,
+    pub info: IndexedInfo,
 }

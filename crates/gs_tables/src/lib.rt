@@ -6,6 +6,7 @@ mod builtin_set;
 mod field_items;
 mod form;
 mod forms;
+mod indexed_info;
 mod kind_rules;
 mod laws;
 mod level_table;

@@ -8,6 +8,7 @@ ghost use Rattle.gs_document.specs.Documents.{is_bits};
 ghost use Rattle.gs_tables.specs.Tables.{IsAnswer, info_of, items_alone, kind_of, kinds_refusals, level_of, level_refusals, option_form};
 ghost use Rattle.gs_document.specs.declared.fault.LoadFault.TheVariants.{Ai};
 
+use crate::indexed_info::IndexedInfo;
 use crate::level_table::LevelTable;
 use gs_ai::{AiFault, AiRow, AiTable};
 use gs_chars::{List, Memory, Text};
@@ -142,6 +143,6 @@ pub(crate) fn make_level(
     }
     Ok(LevelTable {
         level: Level::new(alloc, level.is_bits(), options)?,
-        info: List::from_vec(info),
+        info: IndexedInfo::new(alloc, kinds.len(), info)?,
     })
 }

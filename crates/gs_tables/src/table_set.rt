@@ -1,6 +1,7 @@
 ghost use Rattle.std.specs.Prelude.{◌≡◌};
 ghost use Rattle.gs_tables.specs.Judged.{IsClear, IsLoaded, Judged};
 ghost use Rattle.gs_tables.specs.Tables.{level_rows, IsShaped, IsAnswer, row_refusals, set_of};
+ghost use Rattle.gs_tables.specs.Numbers.{numbers_of};
 ghost use Rattle.gs_tables.specs.Shapes.{LoadAnswer};
 
 use crate::ambiguity::judge_levels;
@@ -119,6 +120,13 @@ impl TableSet {
         // the proof alone reads it: what holds of the set
         let _ = &self.kinds;
         self.table(name).info.items()
+    }
+
+    /// The numbers of the options of a level that are of a kind, named by its index, and of a prefix length, ascending.
+    pub fn candidates(&self, name: LevelName, kind: usize, gcp: u8) -> &[usize]
+        ensures { result.now ≡ numbers_of kind gcp (level_rows name self.now).info }
+    {
+        self.table(name).info.numbers(kind, gcp)
     }
 
     /// A level with what is said of its options.

@@ -1,0 +1,150 @@
+-- Taking apart the value of a key that was laid out.
+use Rattle.std.proofs.Common.{◌≡◌, ℕ, ◌-◌, ◌≤◌, ◌&&◌, not, true, false, List, [], ◌∷◌, ◌++◌, length, take, drop, Option, Some, None, bytes_eq, find, is_some, refl, sym, ap, subst, ◌∙◌, inl, inr, arith, length-append, append_assoc}
+use Rattle.std.specs.Option.{option_map_or}
+use Rattle.std.proofs.lemmas.List.{drop_at, length-take, take-append-drop, take_at}
+use Rattle.gs_ai.specs.declared.pair.Pair.{Pair}
+use Rattle.gs_ai.specs.declared.part.Part.{Part}
+use Rattle.gs_ai.specs.declared.part.Part.TheVariants.{Zero, NumCheck, Set, SetOpt}
+use Rattle.gs_ai.specs.declared.row.AiRow.{AiRow}
+use Rattle.gs_ai.specs.Tables.{is_empty}
+use Rattle.gs_ai.specs.Values.{has_code}
+use Rattle.gs_ai.proofs.Searches.{equal_bytes, same_bytes}
+use Rattle.gs_chars.proofs.TruthsAndLists.{and_parts, true_or_false}
+use Rattle.gs_chars.specs.CheckDigits.{check_digit_of}
+use Rattle.gs_document.specs.declared.kind.Kind.{Kind}
+use Rattle.gs_document.specs.declared.kind.SerialAt.{SerialAt}
+use Rattle.gs_document.specs.declared.kind.SerialAt.TheVariants.{Nowhere, Tail, Ai}
+use Rattle.gs_ident.specs.Identities.{stands_for_none}
+use Rattle.gs_tables.specs.declared.form.KeyForm.{KeyForm}
+use Rattle.gs_tables.specs.declared.form.KeyForm.TheVariants.{Digits, Characters}
+use Rattle.gs_tables.specs.Forms.{key_form, serial_room, tail_of}
+use Rattle.gs_tables.specs.Rules.{is_serial_of}
+use Rattle.gs_epc.specs.Kept.{FitForm, FitKind, FitsRoom}
+use Rattle.gs_epc.specs.Layout.{key_digits, key_value, lay, parts_at, serial_elements, tail_of_key, with_check}
+use Rattle.gs_epc.specs.Taking.{prefix_in, rest_in, serial_in, tail_in, take_apart, unless_empty}
+use Rattle.gs_epc.proofs.LayoutValues.{have_digits}
+
+-- ---- prefix and rest from the digits of a key
+
+-- prefix and rest are those that were laid out
+pub record AreBack (prefix rest prefix' rest' : List ℕ) : Type 0 where
+  pub prefix_back : prefix' ≡ prefix
+  pub rest_back : rest' ≡ rest
+
+from_digits : (lead n : ℕ) (prefix rest digits : List ℕ) → digits ≡ key_digits lead prefix rest → lead ≤ length rest → length prefix ≡ n → AreBack prefix rest (take n (drop lead digits)) (take lead digits ++ drop n (drop lead digits))
+from_digits lead n prefix rest digits are within count =
+    let first = take lead rest in
+    let others = drop lead rest in
+    let long : length first ≡ lead = let l = length-take lead rest in omega arith in
+    let grouped : digits ≡ first ++ (prefix ++ others) = are ∙ append_assoc first prefix others in
+    let front : take lead digits ≡ first = ap (take lead) grouped ∙ take_at first (prefix ++ others) lead long in
+    let behind : drop lead digits ≡ prefix ++ others = ap (drop lead) grouped ∙ drop_at first (prefix ++ others) lead long in
+    let left : drop n (prefix ++ others) ≡ others = drop_at prefix others n count in
+    let whole : first ++ others ≡ rest = take-append-drop lead rest in
+    record {
+      prefix_back = ap (take n) behind ∙ take_at prefix others n count;
+      rest_back = rw (front, behind, left) whole;
+    }
+
+-- the digits in front of their check digit, and what follows it
+checked_front : (k : ℕ) (digits tail : List ℕ) → length digits ≡ k - 1 → take (k - 1) (with_check digits ++ tail) ≡ digits
+checked_front k digits tail long =
+    let check = check_digit_of digits ∷ [] in
+    ap (take (k - 1)) (append_assoc digits check tail) ∙ take_at digits (check ++ tail) (k - 1) long
+
+checked_behind : (k : ℕ) (digits tail : List ℕ) → 1 ≤ k → length digits ≡ k - 1 → drop k (with_check digits ++ tail) ≡ tail
+checked_behind k digits tail one long =
+    let check = check_digit_of digits ∷ [] in
+    drop_at (digits ++ check) tail k (length-append digits check ∙ omega arith)
+
+-- ---- the value of a key
+
+-- prefix and rest are back, and so is the tail where the key has one
+pub record IsTakenBack (parts : List Part) (form : KeyForm) (kind : Kind) (n : ℕ) (prefix rest serial : List ℕ) : Type 0 where
+  pub back : AreBack prefix rest (prefix_in parts kind.lead n (key_value parts kind prefix rest serial)) (rest_in parts kind.lead n (key_value parts kind prefix rest serial))
+  pub tail : is_some (tail_of form) ≡ true → tail_in parts (key_value parts kind prefix rest serial) ≡ tail_of_key kind.serial serial
+
+-- the digits of a key with k of them, its check digit among them
+record FitDigits (k lead : ℕ) (prefix rest : List ℕ) : Type 0 where
+  count : length (key_digits lead prefix rest) ≡ k - 1
+  some : 1 ≤ k
+  within : lead ≤ length rest
+
+fit_digits : (k : ℕ) (tail : Option ℕ) (form : KeyForm) (lead : ℕ) (prefix rest : List ℕ) → Digits (k - 1) tail ≡ form → 1 ≤ length prefix → FitForm form lead prefix rest → FitDigits k lead prefix rest
+fit_digits k tail form lead prefix rest same some fits =
+    let are = have_digits (k - 1) tail lead prefix rest some (subst (λ f. FitForm f lead prefix rest) (sym same) fits) in
+    let one = are.some_digit in
+    record { count = are.together; some = omega arith; within = are.lead_within }
+
+-- what parts with a check digit say of digits that fit, with a zero in front or without
+module _ (k : ℕ) (lead n : ℕ) (prefix rest tail : List ℕ) (fit : FitDigits k lead prefix rest) (count : length prefix ≡ n) where
+  abbrev front : List ℕ
+  front = take (k - 1) (with_check (key_digits lead prefix rest) ++ tail)
+
+  digits_back : AreBack prefix rest (take n (drop lead front)) (take lead front ++ drop n (drop lead front))
+  digits_back = from_digits lead n prefix rest front (checked_front k (key_digits lead prefix rest) tail fit.count) fit.within count
+
+  tail_back : drop k (with_check (key_digits lead prefix rest) ++ tail) ≡ tail
+  tail_back = checked_behind k (key_digits lead prefix rest) tail fit.some fit.count
+
+key_back : (parts : List Part) (form : KeyForm) (kind : Kind) (n : ℕ) (prefix rest serial : List ℕ) → key_form parts ≡ Some form → 1 ≤ length prefix → length prefix ≡ n → FitForm form kind.lead prefix rest → IsTakenBack parts form kind n prefix rest serial
+key_back (Zero ∷ NumCheck k ∷ []) form kind n prefix rest serial formed some count fits =
+    let fit = fit_digits k None form kind.lead prefix rest (let same : Digits (k - 1) None ≡ form = cc in same) some fits in
+    record { back = digits_back k kind.lead n prefix rest (tail_of_key kind.serial serial) fit count; tail = λ _. tail_back k kind.lead n prefix rest (tail_of_key kind.serial serial) fit count }
+key_back (Zero ∷ NumCheck k ∷ SetOpt most ∷ []) form kind n prefix rest serial formed some count fits =
+    let fit = fit_digits k (Some most) form kind.lead prefix rest (let same : Digits (k - 1) (Some most) ≡ form = cc in same) some fits in
+    record { back = digits_back k kind.lead n prefix rest (tail_of_key kind.serial serial) fit count; tail = λ _. tail_back k kind.lead n prefix rest (tail_of_key kind.serial serial) fit count }
+key_back (NumCheck k ∷ []) form kind n prefix rest serial formed some count fits =
+    let fit = fit_digits k None form kind.lead prefix rest (let same : Digits (k - 1) None ≡ form = cc in same) some fits in
+    record { back = digits_back k kind.lead n prefix rest (tail_of_key kind.serial serial) fit count; tail = λ _. tail_back k kind.lead n prefix rest (tail_of_key kind.serial serial) fit count }
+key_back (NumCheck k ∷ SetOpt most ∷ []) form kind n prefix rest serial formed some count fits =
+    let fit = fit_digits k (Some most) form kind.lead prefix rest (let same : Digits (k - 1) (Some most) ≡ form = cc in same) some fits in
+    record { back = digits_back k kind.lead n prefix rest (tail_of_key kind.serial serial) fit count; tail = λ _. tail_back k kind.lead n prefix rest (tail_of_key kind.serial serial) fit count }
+key_back (Set most ∷ []) form kind n prefix rest serial formed some count fits =
+    let same : form ≡ Characters most = cc in
+    record {
+      back = record { prefix_back = take_at prefix rest n count; rest_back = drop_at prefix rest n count };
+      tail = λ h. absurd (let e : false ≡ true = rw same at h in cc);
+    }
+key_back parts form kind n prefix rest serial formed some count fits = absurd (let e : None ≡ Some form = formed in cc)
+
+-- ---- the serial
+
+some_text : (text : List ℕ) → 1 ≤ length text → unless_empty text ≡ Some text
+some_text [] one = absurd (omega arith)
+some_text (c ∷ text) one = refl
+
+some_room : (room : Option ℕ) (serial : List ℕ) → is_some room ≡ true → FitsRoom room serial → unless_empty serial ≡ Some serial
+some_room None serial some fits = absurd (let e : false ≡ true = some in cc)
+some_room (Some most) serial some fits = some_text serial fits.least
+
+-- the text for none is the serial, where the serial stands for none
+none_is : (row : Option AiRow) (serial : List ℕ) → option_map_or (λ (r : AiRow). not (is_empty r.none) && bytes_eq r.none serial) row false ≡ true → unless_empty (option_map_or (λ (r : AiRow). r.none) row []) ≡ Some serial
+none_is None serial h = absurd (let e : false ≡ true = h in cc)
+none_is (Some row) serial h =
+    let parts = and_parts (not (is_empty row.none)) (bytes_eq row.none serial) h in
+    filled row.none parts.0 ∙ ap (λ (t : List ℕ). Some t) (equal_bytes row.none serial parts.1)
+  where
+    filled : (text : List ℕ) → not (is_empty text) ≡ true → unless_empty text ≡ Some text
+    filled [] e = absurd (let f : false ≡ true = e in cc)
+    filled (c ∷ text) e = refl
+
+serial_back : (ais : List AiRow) (row : AiRow) (parts : List Part) (form : KeyForm) (at : SerialAt) (key : Pair) (serial : List ℕ) → is_serial_of ais row form at ≡ true → FitsRoom (serial_room ais form at) serial
+    → (is_some (tail_of form) ≡ true → tail_in parts key.value ≡ tail_of_key at serial) → serial_in ais parts at (record { key = key; qualifiers = serial_elements ais at serial; attributes = [] }) ≡ Some serial
+serial_back ais row parts form Nowhere key serial rule room tail = let none : serial ≡ [] = room in rw none refl
+serial_back ais row parts form Tail key serial rule room tail = rw (tail rule) (some_room (tail_of form) serial rule room)
+serial_back ais row parts form (Ai code) key serial rule room tail = elim (true_or_false (stands_for_none ais (record { code = code; value = serial }))) [
+  | inl none ↦ rw none (none_is (find (has_code code) ais) serial none)
+  | inr some ↦ rw (some, same_bytes code) refl
+]
+
+-- ---- the fields
+
+pub taken_back : (ais : List AiRow) (kind : Kind) (n : ℕ) (prefix rest serial : List ℕ) → FitKind ais kind prefix rest serial → length prefix ≡ n → take_apart ais kind (lay ais kind prefix rest serial) n ≡ Some (record { prefix = prefix; rest = rest; serial = serial })
+taken_back ais kind n prefix rest serial fit count =
+    let of_kind = fit.of_kind in
+    let row = of_kind.row in
+    let parts : parts_at ais kind.key ≡ row.parts = rw of_kind.found refl in
+    let back = key_back row.parts of_kind.form kind n prefix rest serial of_kind.formed fit.prefix_least count fit.fits in
+    let its = serial_back ais row row.parts of_kind.form kind.serial (record { code = kind.key; value = key_value row.parts kind prefix rest serial }) serial of_kind.serial fit.room back.tail in
+    rw (parts, its, back.back.prefix_back, back.back.rest_back) refl

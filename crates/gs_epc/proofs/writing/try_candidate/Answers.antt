@@ -1,0 +1,28 @@
+use Rattle.std.proofs.Common.{refl}
+use Rattle.gs_epc.proofs.Tries.{holds_all, is_read, leaves_out, of_bytes, one_each, refuses_at}
+use Rattle.gs_epc.proofs.writing.try_candidate.Goals as goal
+
+pub write_option-requires-clause-one_each : goal.write_option-requires-clause-one_each
+write_option-requires-clause-one_each c =
+    let is = is_read _ _ _ _ c.requires.candidate _ _ _ _ _ _ _ _ c.level.ensures.rows c.options.ensures.options c.index-options-i.is c.info.ensures.rows c.index-info-i.is c.items-fields.ensures c.in_ok-values.ensures c.deref.ensures.value in
+    one_each _ _ _ _ _ _ _ _ is c.info.ensures.shaped
+
+pub write_option-requires-clause-whole_bytes : goal.write_option-requires-clause-whole_bytes
+write_option-requires-clause-whole_bytes c =
+    let is = is_read _ _ _ _ c.requires.candidate _ _ _ _ _ _ _ _ c.level.ensures.rows c.options.ensures.options c.index-options-i.is c.info.ensures.rows c.index-info-i.is c.items-fields.ensures c.in_ok-values.ensures c.deref.ensures.value in
+    of_bytes _ _ _ _ _ _ _ _ is c.info.ensures.shaped
+
+pub returns-in-Some : goal.returns-in-Some
+returns-in-Some c = λ candidate.
+    let is = is_read _ _ _ _ candidate _ _ _ _ _ _ _ _ c.level.ensures.rows c.options.ensures.options c.index-options-i.is c.info.ensures.rows c.index-info-i.is c.items-fields.ensures c.in_ok-values.ensures c.deref.ensures.value in
+    leaves_out _ _ _ _ _ _ _ _ is _ (c.in-Ok.ensures.held refl) c.in-Some.ensures
+
+pub returns-in-Ok : goal.returns-in-Ok
+returns-in-Ok c = λ candidate.
+    let is = is_read _ _ _ _ candidate _ _ _ _ _ _ _ _ c.level.ensures.rows c.options.ensures.options c.index-options-i.is c.info.ensures.rows c.index-info-i.is c.items-fields.ensures c.in_ok-values.ensures c.deref.ensures.value in
+    holds_all _ _ _ _ _ _ _ _ is _ (c.in-Ok.ensures.held refl) c.in-None.ensures c.in-Ok.ensures.written
+
+pub returns-in-Err-CannotHold : goal.returns-in-Err-CannotHold
+returns-in-Err-CannotHold c = λ candidate.
+    let is = is_read _ _ _ _ candidate _ _ _ _ _ _ _ _ c.level.ensures.rows c.options.ensures.options c.index-options-i.is c.info.ensures.rows c.index-info-i.is c.items-fields.ensures c.in_ok-values.ensures c.deref.ensures.value in
+    refuses_at _ _ _ _ _ _ _ _ is _ _ _ (rw c.in-Err-CannotHold.field-0-is at c.in-Err-CannotHold.ensures.refused) c.field_at.ensures

@@ -1,0 +1,103 @@
+ghost use Rattle.std.specs.Prelude.{◌≡◌, [], IfOk, decimal, map};
+ghost use Rattle.std.specs.List.{list_any};
+ghost use Rattle.std.specs.Option.{option_map_or};
+ghost use Rattle.gs_tables.specs.Rules.{is_field};
+ghost use Rattle.gs_epc.specs.Candidates.{HasFilter, HasFilterOn, filter_text, is_asked, is_left_out, left_out, value_for};
+
+use crate::epc::Epc;
+use gs_chars::{Memory, Text};
+use gs_tables::{Field, LevelName};
+use std::alloc::Global;
+
+/// Whether the name of an encoding is the one that is asked for.
+pub(crate) fn is_asked(level: LevelName, asked: &Text, name: &Text) -> bool
+    ensures { result ≡ is_asked level asked.now name.now }
+{
+    match level {
+        LevelName::Pure => true,
+        LevelName::Binary | LevelName::Tag => asked.as_bytes().is_empty() || asked == name,
+    }
+}
+
+/// The text of a filter value.
+fn filter_digit(alloc: Global, filter: Option<u8>) -> Result<Text, Memory>
+    requires { HasFilter filter }
+    ensures { IfOk result (λ text. text ≡ option_map_or decimal filter []) }
+{
+    match filter {
+        Some(filter) => Text::from_bytes(alloc, &[b'0' + filter]),
+        None => unreachable!(),
+    }
+}
+
+/// The text of the filter value, empty on the level of pure identities.
+fn filter_text(alloc: Global, level: LevelName, filter: Option<u8>) -> Result<Text, Memory>
+    requires { HasFilterOn level filter }
+    ensures { IfOk result (λ text. text ≡ filter_text level filter) }
+{
+    match level {
+        LevelName::Pure => Ok(Text::from_vec(Vec::new(alloc))),
+        LevelName::Tag => filter_digit(alloc, filter),
+        LevelName::Binary => filter_digit(alloc, filter),
+    }
+}
+
+/// The value of the items that stand for a field.
+fn value_for<'a>(epc: &'a Epc, filter: &'a Text, field: Option<Field>) -> &'a [u8]
+    ensures { (level : LevelName) → filter.now ≡ filter_text level epc.now.filter
+        → result.now ≡ value_for level epc.now field }
+{
+    match field {
+        None => &[],
+        Some(Field::Filter) => filter.as_bytes(),
+        Some(Field::Gcp) => epc.prefix.as_bytes(),
+        Some(Field::Rest) => epc.rest.as_bytes(),
+        Some(Field::Serial) => epc.serial.as_bytes(),
+    }
+}
+
+/// The values of the items that stand for these fields.
+pub(crate) fn values_for(
+    alloc: Global,
+    level: LevelName,
+    epc: &Epc,
+    fields: &[Option<Field>],
+) -> Result<Vec<Text>, Memory>
+    requires { HasFilterOn level epc.now.filter }
+    ensures { IfOk result (λ values. values.items ≡ map (value_for level epc.now) fields.now) }
+{
+    let filter = filter_text(alloc, level, epc.filter)?;
+    let mut values = Vec::with_capacity(alloc, fields.len())?;
+    for field in fields {
+        values.push(Text::from_bytes(alloc, value_for(epc, &filter, *field))?)?;
+    }
+    Ok(values)
+}
+
+/// Whether an item stands for the field.
+fn has_item(field: Field, fields: &[Option<Field>]) -> bool
+    ensures { result ≡ list_any (is_field field) fields.now }
+{
+    fields.iter().any(|named| *named == Some(field))
+}
+
+/// Whether a text is not empty, and no item stands for its field.
+fn is_left_out(field: Field, fields: &[Option<Field>], text: &Text) -> bool
+    ensures { result ≡ is_left_out field fields.now text.now }
+{
+    !has_item(field, fields) && !text.as_bytes().is_empty()
+}
+
+/// The first of the rest and the serial that an option leaves out.
+pub(crate) fn left_out(fields: &[Option<Field>], epc: &Epc) -> Option<Field>
+    ensures { result ≡ left_out fields.now epc.now }
+{
+    if is_left_out(Field::Rest, fields, &epc.rest) {
+        return Some(Field::Rest);
+    }
+    if is_left_out(Field::Serial, fields, &epc.serial) {
+        Some(Field::Serial)
+    } else {
+        None
+    }
+}

@@ -1,0 +1,45 @@
+use gs_chars::Memory;
+use gs_grammar::Why;
+use gs_tables::Field;
+
+/// Why an identity is not taken apart.
+#[derive(Clone, Copy, Debug, PartialEq, Eq)]
+pub enum FieldsFault {
+    /// The kind has a serial, the identity lacks it, and no text stands for its absence.
+    MissingSerial,
+    /// Want of memory.
+    Memory,
+}
+
+impl From<Memory> for FieldsFault {
+    ghost use Rattle.std.specs.Prelude.{◌≡◌};
+    ghost use Rattle.gs_epc.specs.declared.write_fault.FieldsFault.TheVariants.{Memory as WantOfMemory};
+
+    ghost from_gives = { λ _ e. e ≡ WantOfMemory };
+
+    fn from(_refused: Memory) -> FieldsFault {
+        FieldsFault::Memory
+    }
+}
+
+/// Why an EPC is not written.
+#[derive(Clone, Copy, Debug, PartialEq, Eq)]
+pub enum EpcWriteFault {
+    /// The level has no option of this kind and prefix length and of the encoding that is asked for.
+    NoOption,
+    /// No such option holds every field. The last one does not hold this field, for this reason.
+    CannotHold(Field, Why),
+    /// Want of memory.
+    Memory,
+}
+
+impl From<Memory> for EpcWriteFault {
+    ghost use Rattle.std.specs.Prelude.{◌≡◌};
+    ghost use Rattle.gs_epc.specs.declared.write_fault.EpcWriteFault.TheVariants.{Memory as WantOfMemory};
+
+    ghost from_gives = { λ _ e. e ≡ WantOfMemory };
+
+    fn from(_refused: Memory) -> EpcWriteFault {
+        EpcWriteFault::Memory
+    }
+}

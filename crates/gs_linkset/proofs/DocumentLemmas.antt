@@ -1,0 +1,53 @@
+-- The answer to a document by its parts, and to bytes by their document.
+use Rattle.std.proofs.Common.{◌≡◌, ◌⊎◌, ℕ, List, [], map, codes, Some, None, refl, sym, ap, ◌∙◌, inl, inr}
+use Rattle.std.specs.Prelude.{Result, Ok, Err, option_and_then, unwrap_or}
+use Rattle.std.specs.Str.{IsUtf8, is_utf8}
+use Rattle.std.proofs.lemmas.Str.{IsUtf8-from_is_utf8, is_utf8-from_IsUtf8}
+use Rattle.serde_json.specs.Data.{Data}
+use Rattle.serde_json.specs.Find.{get}
+use Rattle.serde_json.specs.Read.{read as read_text}
+use Rattle.gs_chars.proofs.TruthsAndLists.{true_or_false}
+use Rattle.gs_json.specs.Answers.{count_of}
+use Rattle.gs_json.specs.Places.{member_place}
+use Rattle.gs_json.specs.declared.fault.JsonFault.{JsonFault}
+use Rattle.gs_json.specs.declared.fault.JsonFault.TheVariants as json
+use Rattle.gs_json.specs.declared.plan.Sort.TheVariants.{Array}
+use Rattle.gs_linkset.specs.Answers.{OrMemory, document_answer, document_of, first_or, read_answer}
+use Rattle.gs_linkset.specs.Attributes.{array_in, items_of}
+use Rattle.gs_linkset.specs.Documents.{context_faults, context_of, contexts_of, document_faults, item_faults, items_in, member_faults}
+use Rattle.gs_linkset.specs.declared.link_types.Context.{Context}
+use Rattle.gs_linkset.proofs.Parts.{no_array}
+use Rattle.gs_linkset.proofs.ReadLemmas.{fault_in_front, no_fault}
+
+module _ (d : Data) (n : ℕ) where
+  pub document_refused : (e : JsonFault) → OrMemory (Err e) (first_or (member_faults Array (codes "linkset") [] d) n) → OrMemory (Err e) (document_answer d)
+  unfolding document_answer document_faults
+  document_refused e h = fault_in_front (member_faults Array (codes "linkset") [] d) (item_faults context_faults (member_place [] (codes "linkset")) (items_in (codes "linkset") d)) n (contexts_of d) e h
+
+  pub document_read : (z : ℕ) (items : List Data) (r : Result (List Context) JsonFault) → OrMemory (Ok z) (first_or (member_faults Array (codes "linkset") [] d) n) → items_in (codes "linkset") d ≡ items
+      → OrMemory r (first_or (item_faults context_faults (member_place [] (codes "linkset")) items) (map context_of items)) → OrMemory r (document_answer d)
+  unfolding document_answer document_faults contexts_of
+  document_read z items r none is h =
+      let own = no_fault (member_faults Array (codes "linkset") [] d) n z none in
+      rw (own.0, is) h
+
+pub no_contexts : (d : Data) → None ≡ get (codes "linkset") d → items_in (codes "linkset") d ≡ []
+no_contexts d h = rw (← h) refl
+
+pub other_contexts : (d e : Data) → Some e ≡ get (codes "linkset") d → None ≡ count_of e → items_in (codes "linkset") d ≡ []
+other_contexts d e h none = ap (λ o. unwrap_or (option_and_then array_in o) []) (sym h) ∙ ap (λ o. unwrap_or o []) (no_array e none)
+
+pub array_contexts : (d e : Data) → Some e ≡ get (codes "linkset") d → items_in (codes "linkset") d ≡ items_of e
+array_contexts d e h = ap (λ o. unwrap_or (option_and_then array_in o) []) (sym h)
+
+pub document_is : (bytes : List ℕ) (d : Data) (r : Result (List Context) JsonFault) → IsUtf8 bytes × (read_text bytes ≡ Some d) → OrMemory r (document_answer d) → OrMemory r (read_answer bytes)
+unfolding read_answer document_of
+document_is bytes d r is h = let t = is_utf8-from_IsUtf8 bytes is.0 in rw (t, is.1) h
+
+pub not_json : (bytes : List ℕ) (fault : JsonFault) → (fault ≡ json.Syntax → IsUtf8 bytes → read_text bytes ≡ None) → (fault ≡ json.Syntax) ⊎ (fault ≡ json.Memory) → OrMemory {X = List Context} (Err fault) (read_answer bytes)
+unfolding read_answer document_of
+not_json bytes fault none (inr m) = rw m (inl refl)
+not_json bytes fault none (inl s) = elim (true_or_false (is_utf8 bytes)) [
+  | inl t ↦ let e = none s (IsUtf8-from_is_utf8 bytes t) in rw (s, t, e) (inr refl)
+  | inr t ↦ rw (s, t) (inr refl)
+]

@@ -1,0 +1,77 @@
+-- The parts of a document.
+use Rattle.std.proofs.Common.{◌≡◌, ℕ, zero, suc, List, [], ◌∷◌, length, refl, slice_get, ap, Some, None, Option, Bor, map, get_or, sym, ◌∙◌, ◌<◌, arith}
+use Rattle.std.specs.Option.{option_and_then}
+use Rattle.serde_json.specs.Data.{Data, null, boolean, number, string, array, object, Items, no_items, item}
+use Rattle.serde_json.specs.Events.{items_len}
+use Rattle.serde_json.specs.Find.{as_object, at, get, get_item, get_member}
+use Rattle.gs_json.specs.Answers.{count_of}
+use Rattle.gs_json.specs.Shapes.{items_list}
+use Rattle.gs_linkset.specs.Attributes.{array_in, every, items_of}
+
+-- the member of a name, by the members
+pub get_by_members : (name : List ℕ) (d : Data) → option_and_then (get_member name) (as_object d) ≡ get name d
+get_by_members name null = refl
+get_by_members name (boolean b) = refl
+get_by_members name (number n) = refl
+get_by_members name (string s) = refl
+get_by_members name (array items) = refl
+get_by_members name (object _) = refl
+
+listed_length : (items : Items) → length (items_list items) ≡ items_len items
+listed_length no_items = refl
+listed_length (item d items) = ap suc (listed_length items)
+
+listed_at : (items : Items) (i : ℕ) → slice_get (items_list items) i ≡ get_item i items
+listed_at no_items zero = refl
+listed_at no_items (suc i) = refl
+listed_at (item d items) zero = refl
+listed_at (item d items) (suc i) = listed_at items i
+
+-- what is no array has no items
+pub no_array : (d : Data) → None ≡ count_of d → array_in d ≡ None
+no_array null h = refl
+no_array (boolean b) h = refl
+no_array (number n) h = refl
+no_array (string s) h = refl
+no_array (array items) h = absurd (cc)
+no_array (object _) h = refl
+
+-- an array has as many items as it says
+pub is_array : (d : Data) (n : ℕ) → Some n ≡ count_of d → array_in d ≡ Some (items_of d)
+is_array null n h = absurd (cc)
+is_array (boolean b) n h = absurd (cc)
+is_array (number m) n h = absurd (cc)
+is_array (string s) n h = absurd (cc)
+is_array (array items) n h = refl
+is_array (object _) n h = absurd (cc)
+
+pub items_length : (d : Data) (n : ℕ) → Some n ≡ count_of d → length (items_of d) ≡ n
+items_length null n h = absurd (cc)
+items_length (boolean b) n h = absurd (cc)
+items_length (number m) n h = absurd (cc)
+items_length (string s) n h = absurd (cc)
+items_length (array items) n h = let e : n ≡ items_len items = cc in rw e (listed_length items)
+items_length (object _) n h = absurd (cc)
+
+pub items_at : (d : Data) (i : ℕ) → slice_get (items_of d) i ≡ at i d
+items_at null zero = refl
+items_at null (suc i) = refl
+items_at (boolean b) zero = refl
+items_at (boolean b) (suc i) = refl
+items_at (number n) zero = refl
+items_at (number n) (suc i) = refl
+items_at (string s) zero = refl
+items_at (string s) (suc i) = refl
+items_at (array items) i = listed_at items i
+items_at (object _) zero = refl
+items_at (object _) (suc i) = refl
+
+-- what is read of all items of an array
+pub whole_array : {Y : Type 0} (f : Data → Option Y) (d : Data) (n : ℕ) (r : Option (List Y)) → Some n ≡ count_of d → every f (items_of d) ≡ r → r ≡ option_and_then (every f) (array_in d)
+whole_array f d n r h e = sym (ap (option_and_then (every f)) (is_array d n h) ∙ e)
+
+-- the name at a place
+pub name_read : (names : List (Bor (List ℕ))) (i : ℕ) (other : Bor (List ℕ)) → i < length names → slice_get (map (λ name. name.now) names) i ≡ Some (get_or names i other).now
+name_read [] i other h = absurd (omega arith)
+name_read (name ∷ names) zero other h = refl
+name_read (name ∷ names) (suc i) other h = name_read names i other (omega arith)

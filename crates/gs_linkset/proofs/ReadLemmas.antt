@@ -1,0 +1,309 @@
+-- What is read item by item, and name by name.
+use Rattle.std.proofs.Common.{◌≡◌, Bool, true, false, if◌then◌else◌, codes, ℕ, zero, suc, ◌+◌, ◌≤◌, List, [], ◌∷◌, ◌++◌, length, take, map, Option, Some, None, slice_get, refl, sym, ap, inl, inr, arith}
+use Rattle.std.specs.Prelude.{Ok, Err, option_map, option_and_then, unwrap_or}
+use Rattle.std.specs.List.{cons_option, enumerate_from, filter_map, flat_map, list_all}
+use Rattle.std.proofs.lemmas.List.{append-nil, map-append}
+use Rattle.gs_chars.proofs.TruthsAndLists.{and_first, and_second, nil_parts}
+use Rattle.gs_json.specs.declared.fault.JsonFault.{JsonFault}
+use Rattle.gs_json.specs.declared.fault.JsonFault.TheVariants.{Memory}
+use Rattle.gs_linkset.specs.Answers.{OrMemory, first_or}
+use Rattle.std.specs.Str.{bytes_eq, is_utf8}
+use Rattle.serde_json.specs.Data.{Data}
+use Rattle.serde_json.specs.Find.{get}
+use Rattle.gs_linkset.specs.Attributes.{every, items_of, value_of}
+use Rattle.gs_json.specs.Answers.{count_of, names_of}
+use Rattle.gs_json.specs.Places.{item_place, member_place}
+use Rattle.gs_linkset.specs.Documents.{attr_named, attr_of, attr_with, item_faults, relation_faults, relation_of, relation_with, names_in, target_faults, target_of, targets_at}
+use Rattle.gs_linkset.proofs.Parts.{is_array, no_array}
+use Rattle.gs_linkset.specs.LinkShapes.{ascend, is_attr, is_context, is_relation, is_target, is_value}
+use Rattle.gs_linkset.specs.declared.link_types.Attr.{Attr}
+use Rattle.gs_linkset.specs.declared.link_types.AttrValue.{AttrValue}
+use Rattle.gs_linkset.specs.declared.link_types.Relation.{Relation}
+use Rattle.gs_linkset.specs.declared.link_types.Target.{Target}
+
+-- ---- the first fault
+
+pub fault_in_front : {X Y : Type 0} (a b : List JsonFault) (x : X) (y : Y) (e : JsonFault) → OrMemory (Err e) (first_or a x) → OrMemory (Err e) (first_or (a ++ b) y)
+fault_in_front a b x y e (inl h) = inl (let same : e ≡ Memory = cc in ap Err same)
+fault_in_front [] b x y e (inr h) = absurd (let g : Err e ≡ Ok x = h in cc)
+fault_in_front (f ∷ a) b x y e (inr h) = inr (let same : e ≡ f = cc in ap Err same)
+
+-- what a reading without fault says
+pub no_fault : {X : Type 0} (a : List JsonFault) (x z : X) → OrMemory (Ok z) (first_or a x) → (a ≡ []) × (z ≡ x)
+no_fault a x z (inl h) = absurd (let g : Ok z ≡ Err Memory = h in cc)
+no_fault [] x z (inr h) = (refl, let g : Ok z ≡ Ok x = h in cc)
+no_fault (f ∷ a) x z (inr h) = absurd (let g : Ok z ≡ Err f = h in cc)
+
+pub fault_behind : {X Y : Type 0} (a b : List JsonFault) (x : X) (y : Y) (e : JsonFault) → a ≡ [] → OrMemory (Err e) (first_or b x) → OrMemory (Err e) (first_or (a ++ b) y)
+fault_behind a b x y e none h = rw none (other b x y e h)
+  where
+    other : {X Y : Type 0} (b : List JsonFault) (x : X) (y : Y) (e : JsonFault) → OrMemory (Err e) (first_or b x) → OrMemory (Err e) (first_or b y)
+    other b x y e (inl h) = inl (let same : e ≡ Memory = cc in ap Err same)
+    other [] x y e (inr h) = absurd (let g : Err e ≡ Ok x = h in cc)
+    other (f ∷ b) x y e (inr h) = inr (let same : e ≡ f = cc in ap Err same)
+
+-- the same fault, whatever would be read
+pub same_fault : {X Y : Type 0} (a : List JsonFault) (x : X) (y : Y) (e : JsonFault) → OrMemory (Err e) (first_or a x) → OrMemory (Err e) (first_or a y)
+same_fault a x y e (inl h) = inl (let same : e ≡ Memory = cc in ap Err same)
+same_fault [] x y e (inr h) = absurd (let g : Err e ≡ Ok x = h in cc)
+same_fault (f ∷ a) x y e (inr h) = inr (let same : e ≡ f = cc in ap Err same)
+
+pub all_read : {X : Type 0} (a : List JsonFault) (x z : X) → a ≡ [] → z ≡ x → OrMemory (Ok z) (first_or a x)
+all_read a x z none e = rw (none, e) (inr refl)
+
+-- ---- the first items
+
+pub take_all : {X : Type 0} (xs : List X) (i : ℕ) → length xs ≤ i → take i xs ≡ xs
+take_all [] zero h = refl
+take_all [] (suc i) h = refl
+take_all (x ∷ xs) zero h = absurd (omega arith)
+take_all (x ∷ xs) (suc i) h = ap (λ ys. x ∷ ys) (take_all xs i (omega arith))
+
+take_one : {X : Type 0} (xs : List X) (i : ℕ) (x : X) → slice_get xs i ≡ Some x → take (suc i) xs ≡ take i xs ++ x ∷ []
+take_one [] i x at = absurd (let g : None ≡ Some x = at in cc)
+take_one (y ∷ ys) zero x at = let same : y ≡ x = cc in rw same refl
+take_one (y ∷ ys) (suc i) x at = ap (λ zs. y ∷ zs) (take_one ys i x at)
+
+pub take_next : {X : Type 0} (xs : List X) (i : ℕ) (x : X) → slice_get xs i ≡ Some x → take (i + 1) xs ≡ take i xs ++ x ∷ []
+take_next xs i x at = let next : i + 1 ≡ suc i = omega arith in rw next (take_one xs i x at)
+
+-- ---- what each item gives
+
+pub mapped_more : {X Y : Type 0} (f : X → Y) (xs : List X) (i : ℕ) (x : X) (ys : List Y) (y : Y) (zs : List Y) → slice_get xs i ≡ Some x → ys ≡ map f (take i xs) → y ≡ f x → zs ≡ ys ++ y ∷ [] → zs ≡ map f (take (i + 1) xs)
+mapped_more f xs i x ys y zs at so_far own e = rw (e, so_far, own, take_next xs i x at, map-append) refl
+
+pub all_more : {X : Type 0} (t : X → Bool) (xs : List X) (x : X) → list_all t xs ≡ true → t x ≡ true → list_all t (xs ++ x ∷ []) ≡ true
+all_more t [] x h own = rw own refl
+all_more t (y ∷ xs) x h own = rw (and_first (t y) (list_all t xs) h) (all_more t xs x (and_second (t y) (list_all t xs) h) own)
+
+module _ {X Y : Type 0} (f : X → Option Y) where
+  append_by : (z : X) (xs : List X) (x : X) (ys : List Y) (y : Y) (a : Option Y) (b : Option (List Y)) → f z ≡ a → every f xs ≡ b → every f (z ∷ xs) ≡ Some ys → ((zs : List Y) → every f xs ≡ Some zs → every f (xs ++ x ∷ []) ≡ Some (zs ++ y ∷ [])) → every f ((z ∷ xs) ++ x ∷ []) ≡ Some (ys ++ y ∷ [])
+  append_by z xs x ys y None b e g h rest = absurd (let w = rw e at h in let bad : None ≡ Some ys = w in cc)
+  append_by z xs x ys y (Some a) None e g h rest = absurd (let w = rw (e, g) at h in let bad : None ≡ Some ys = w in cc)
+  append_by z xs x ys y (Some a) (Some b) e g h rest =
+      let w = rw (e, g) at h in
+      let same : a ∷ b ≡ ys = (let v : Some (a ∷ b) ≡ Some ys = w in cc) in
+      rw (e, rest b g, ← same) refl
+
+  every_append : (xs : List X) (x : X) (ys : List Y) (y : Y) → every f xs ≡ Some ys → f x ≡ Some y → every f (xs ++ x ∷ []) ≡ Some (ys ++ y ∷ [])
+  every_append [] x ys y h own = let none : [] ≡ ys = (let g : Some [] ≡ Some ys = h in cc) in rw (own, ← none) refl
+  every_append (z ∷ xs) x ys y h own = append_by z xs x ys y (f z) (every f xs) refl refl h (λ zs g. every_append xs x zs y g own)
+
+  pub every_more : (xs : List X) (i : ℕ) (x : X) (ys : List Y) (y : Y) (zs : List Y) → slice_get xs i ≡ Some x → every f (take i xs) ≡ Some ys → Some y ≡ f x → zs ≡ ys ++ y ∷ [] → every f (take (i + 1) xs) ≡ Some zs
+  every_more xs i x ys y zs at so_far own e = rw (e, take_next xs i x at) (every_append (take i xs) x ys y so_far (sym own))
+
+  pub every_stops : (xs : List X) (i : ℕ) (x : X) → slice_get xs i ≡ Some x → None ≡ f x → every f xs ≡ None
+  every_stops [] i x at own = absurd (let g : None ≡ Some x = at in cc)
+  every_stops (z ∷ xs) zero x at own = let same : z ≡ x = cc in rw (same, ← own) refl
+  every_stops (z ∷ xs) (suc i) x at own = rw (every_stops xs i x at own) (by (f z))
+    where
+      by : (o : Option Y) → option_and_then (λ y. option_map (λ ys. y ∷ ys) None) o ≡ None
+      by None = refl
+      by (Some y) = refl
+
+  pub every_all : (xs : List X) (i : ℕ) (ys : List Y) → length xs ≤ i → every f (take i xs) ≡ Some ys → every f xs ≡ Some ys
+  every_all xs i ys all h = rw (take_all xs i all) at h
+
+-- ---- faults, one after the other
+
+module _ {A : Type 0} (faults : A → List JsonFault) where
+  split : (list : List A) (i : ℕ) (a : A) → slice_get list i ≡ Some a → flat_map faults (take i list) ≡ [] → (rest : List JsonFault) × (flat_map faults list ≡ faults a ++ rest)
+  split [] i a at none = absurd (let g : None ≡ Some a = at in cc)
+  split (b ∷ list) zero a at none = let same : b ≡ a = cc in rw same (flat_map faults list, refl)
+  split (b ∷ list) (suc i) a at none =
+      let parts = nil_parts (faults b) (flat_map faults (take i list)) none in
+      let rest = split list i a at parts.1 in
+      rw parts.0 (rest.0, rest.1)
+
+  -- the first fault is that of the item at a place
+  pub fault_at : {X Y : Type 0} (list : List A) (i : ℕ) (a : A) (x : X) (y : Y) (e : JsonFault) → slice_get list i ≡ Some a → flat_map faults (take i list) ≡ [] → OrMemory (Err e) (first_or (faults a) x) → OrMemory (Err e) (first_or (flat_map faults list) y)
+  fault_at list i a x y e at none h =
+      let parts = split list i a at none in
+      rw parts.1 (fault_in_front (faults a) parts.0 x y e h)
+
+  next_none : (list : List A) (i : ℕ) (a : A) → slice_get list i ≡ Some a → flat_map faults (take i list) ≡ [] → faults a ≡ [] → flat_map faults (take (suc i) list) ≡ []
+  next_none [] i a at none h = absurd (let g : None ≡ Some a = at in cc)
+  next_none (b ∷ list) zero a at none h = let same : b ≡ a = cc in rw (same, h) refl
+  next_none (b ∷ list) (suc i) a at none h =
+      let parts = nil_parts (faults b) (flat_map faults (take i list)) none in
+      rw parts.0 (next_none list i a at parts.1 h)
+
+  pub none_more : (list : List A) (i : ℕ) (a : A) → slice_get list i ≡ Some a → flat_map faults (take i list) ≡ [] → faults a ≡ [] → flat_map faults (take (i + 1) list) ≡ []
+  none_more list i a at none h = let next : i + 1 ≡ suc i = omega arith in rw next (next_none list i a at none h)
+
+  pub none_all : (list : List A) (i : ℕ) → length list ≤ i → flat_map faults (take i list) ≡ [] → flat_map faults list ≡ []
+  none_all list i all h = rw (take_all list i all) at h
+
+-- the rows of a list are its items with their numbers
+row_from : {X : Type 0} (n : ℕ) (xs : List X) (i : ℕ) (x : X) → slice_get xs i ≡ Some x → slice_get (enumerate_from n xs) i ≡ Some (n + i, x)
+row_from n [] i x at = absurd (let g : None ≡ Some x = at in cc)
+row_from n (y ∷ ys) zero x at =
+    let same : y ≡ x = cc in
+    let here : n + 0 ≡ n = omega arith in
+    rw (same, here) refl
+row_from n (y ∷ ys) (suc i) x at =
+    let here : n + suc i ≡ n + 1 + i = omega arith in
+    rw here (row_from (n + 1) ys i x at)
+
+pub row_at : {X : Type 0} (xs : List X) (i : ℕ) (x : X) → slice_get xs i ≡ Some x → slice_get (enumerate_from 0 xs) i ≡ Some (i, x)
+row_at xs i x at = let own : 0 + i ≡ i = omega arith in rw own at (row_from 0 xs i x at)
+
+rows_from : {X : Type 0} (n : ℕ) (xs : List X) → length (enumerate_from n xs) ≡ length xs
+rows_from n [] = refl
+rows_from n (x ∷ xs) = ap suc (rows_from (n + 1) xs)
+
+-- ---- what each name gives
+
+map_length : {N A : Type 0} (f : N → A) (ns : List N) → length (map f ns) ≡ length ns
+map_length f [] = refl
+map_length f (n ∷ ns) = ap suc (map_length f ns)
+
+one_option : {X : Type 0} (r : Option X) (xs ys : List X) → cons_option r (xs ++ ys) ≡ cons_option r xs ++ ys
+one_option None xs ys = refl
+one_option (Some x) xs ys = refl
+
+module _ {A X : Type 0} (h : A → Option X) where
+  appended : (list : List A) (a : A) → filter_map h (list ++ a ∷ []) ≡ filter_map h list ++ cons_option (h a) []
+  appended [] a = refl
+  appended (b ∷ list) a = rw (appended list a) (one_option (h b) (filter_map h list) (cons_option (h a) []))
+
+  pub kept_more : (list : List A) (i : ℕ) (a : A) (x : X) (done new : List X) → slice_get list i ≡ Some a → done ≡ filter_map h (take i list) → Some x ≡ h a → new ≡ done ++ x ∷ [] → new ≡ filter_map h (take (i + 1) list)
+  kept_more list i a x done new at so_far own e = rw (e, so_far, take_next list i a at, appended (take i list) a, ← own) refl
+
+  pub left_out : (list : List A) (i : ℕ) (a : A) (done : List X) → slice_get list i ≡ Some a → done ≡ filter_map h (take i list) → None ≡ h a → done ≡ filter_map h (take (i + 1) list)
+  left_out list i a done at so_far own = rw (so_far, take_next list i a at, appended (take i list) a, ← own) (sym (append-nil (filter_map h (take i list))))
+
+  pub kept_all : {N : Type 0} (f : N → A) (ns : List N) (i : ℕ) (done : List X) → length ns ≤ i → done ≡ filter_map h (take i (map f ns)) → done ≡ filter_map h (map f ns)
+  kept_all f ns i done all so_far =
+      let few : length (map f ns) ≤ i = rw (map_length f ns) all in
+      rw (take_all (map f ns) i few) at so_far
+
+-- ---- attributes and relations have their names
+
+attr_by_value : (n : List ℕ) (x : Attr) (v : Option AttrValue) → option_map (attr_with n) v ≡ Some x → x.name ≡ n
+attr_by_value n x None h = absurd (let g : None ≡ Some x = h in cc)
+attr_by_value n x (Some v) h = let g : attr_with n v ≡ x = (let w : Some (attr_with n v) ≡ Some x = h in cc) in sym (ap (λ a. a.name) g)
+
+attr_by : (n : List ℕ) (x : Attr) (b : Bool) (o : Option Data) → (if b then None else option_and_then (attr_named n) o) ≡ Some x → x.name ≡ n
+attr_by n x true o h = absurd (let g : None ≡ Some x = h in cc)
+attr_by n x false None h = absurd (let g : None ≡ Some x = h in cc)
+attr_by n x false (Some d) h = attr_by_value n x (value_of n d) h
+
+pub attr_name : (d : Data) (n : List ℕ) (x : Attr) → attr_of d n ≡ Some x → x.name ≡ n
+unfolding attr_of
+attr_name d n x h = attr_by n x (bytes_eq n (codes "href")) (get n d) h
+
+pub attr_shaped : (name : List ℕ) (value : AttrValue) → bytes_eq name (codes "href") ≡ false → is_utf8 name ≡ true → is_value name value ≡ true → is_attr (attr_with name value) ≡ true
+unfolding is_attr
+attr_shaped name value a b c = rw (a, b, c) refl
+
+relation_by : (n : List ℕ) (x : Relation) (o : Option (List Data)) → option_map (relation_with n) o ≡ Some x → x.name ≡ n
+relation_by n x None h = absurd (let g : None ≡ Some x = h in cc)
+relation_by n x (Some items) h = let g : relation_with n items ≡ x = (let w : Some (relation_with n items) ≡ Some x = h in cc) in sym (ap (λ r. r.name) g)
+
+pub relation_name : (d : Data) (n : List ℕ) (x : Relation) → relation_of d n ≡ Some x → x.name ≡ n
+unfolding relation_of
+relation_name d n x h = relation_by n x (targets_at d n) h
+
+pub relation_shaped : (name : List ℕ) (targets : List Target) → bytes_eq name (codes "anchor") ≡ false → is_utf8 name ≡ true → list_all is_target targets ≡ true → is_relation (record { name = name; targets = targets }) ≡ true
+unfolding is_relation
+relation_shaped name targets a b c = rw (a, b, c) refl
+
+-- ---- items of an array, each with its faults and what it is read as
+
+module _ {Y : Type 0} (faults : List ℕ → Data → List JsonFault) (made : Data → Y) (place : List ℕ) (items : List Data) where
+  abbrev row_faults : ℕ × Data → List JsonFault
+  row_faults row = faults (item_place place row.0) row.1
+
+  -- what is known of the items before a place
+  pub record SoFar (read : List Y) (i : ℕ) : Type 0 where
+    pub none : flat_map row_faults (take i (enumerate_from 0 items)) ≡ []
+    pub read_as : read ≡ map made (take i items)
+
+  pub item_fault : (read : List Y) (i : ℕ) (d : Data) (e : JsonFault) → SoFar read i → slice_get items i ≡ Some d → OrMemory (Err e) (first_or (faults (item_place place i) d) (made d)) → OrMemory (Err e) (first_or (item_faults faults place items) (map made items))
+  item_fault read i d e so_far at h = fault_at row_faults (enumerate_from 0 items) i (i, d) (made d) (map made items) e (row_at items i d at) so_far.none h
+
+  pub item_read : (read : List Y) (i : ℕ) (d : Data) (y : Y) (more : List Y) → SoFar read i → slice_get items i ≡ Some d → OrMemory (Ok y) (first_or (faults (item_place place i) d) (made d)) → more ≡ read ++ y ∷ [] → SoFar more (i + 1)
+  item_read read i d y more so_far at h e =
+      let own = no_fault (faults (item_place place i) d) (made d) y h in
+      record { none = none_more row_faults (enumerate_from 0 items) i (i, d) (row_at items i d at) so_far.none own.0; read_as = mapped_more made items i d read y more at so_far.read_as own.1 e }
+
+  pub items_read : (read : List Y) (i : ℕ) → SoFar read i → length items ≤ i → OrMemory (Ok read) (first_or (item_faults faults place items) (map made items))
+  items_read read i so_far all =
+      let few : length (enumerate_from 0 items) ≤ i = rw (rows_from 0 items) all in
+      all_read (item_faults faults place items) (map made items) read (none_all row_faults (enumerate_from 0 items) i few so_far.none) (rw (take_all items i all) at so_far.read_as)
+
+-- ---- relations of a context, each with its faults and what it is read as
+
+module _ (place : List ℕ) (d : Data) (names : List (List ℕ)) where
+  pub record Found (read : List Relation) (i : ℕ) : Type 0 where
+    pub none : flat_map (relation_faults place d) (take i names) ≡ []
+    pub made : read ≡ filter_map (relation_of d) (take i names)
+    pub shaped : list_all is_relation read ≡ true
+
+  pub relation_fault : (read : List Relation) (i : ℕ) (name : List ℕ) (e : JsonFault) (all : List (List ℕ)) → names ≡ all → Found read i → slice_get names i ≡ Some name → OrMemory (Err e) (first_or (relation_faults place d name) (relation_of d name)) → OrMemory (Err e) (first_or (flat_map (relation_faults place d) all) (filter_map (relation_of d) all))
+  relation_fault read i name e all same so_far at h = rw (← same) (fault_at (relation_faults place d) names i name (relation_of d name) (filter_map (relation_of d) names) e at so_far.none h)
+
+  pub relation_read : (read : List Relation) (i : ℕ) (name : List ℕ) (r : Relation) (more : List Relation) → Found read i → slice_get names i ≡ Some name → OrMemory (Ok (Some r)) (first_or (relation_faults place d name) (relation_of d name)) → is_relation r ≡ true → more ≡ read ++ r ∷ [] → Found more (i + 1)
+  relation_read read i name r more so_far at h shape e =
+      let own = no_fault (relation_faults place d name) (relation_of d name) (Some r) h in
+      record {
+        none = none_more (relation_faults place d) names i name at so_far.none own.0;
+        made = kept_more (relation_of d) names i name r read more at so_far.made own.1 e;
+        shaped = rw e (all_more is_relation read r so_far.shaped shape);
+      }
+
+  pub relation_left_out : (read : List Relation) (i : ℕ) (name : List ℕ) → Found read i → slice_get names i ≡ Some name → OrMemory (Ok None) (first_or (relation_faults place d name) (relation_of d name)) → Found read (i + 1)
+  relation_left_out read i name so_far at h =
+      let own = no_fault (relation_faults place d name) (relation_of d name) None h in
+      record {
+        none = none_more (relation_faults place d) names i name at so_far.none own.0;
+        made = left_out (relation_of d) names i name read at so_far.made own.1;
+        shaped = so_far.shaped;
+      }
+
+pub listed_names : (d : Data) (names : List (List ℕ)) → Some names ≡ names_of d → names ≡ names_in d
+listed_names d names h = ap (λ o. unwrap_or o []) h
+
+-- ---- the relation of a name
+
+module _ (place : List ℕ) (d : Data) (name : List ℕ) where
+  pub no_relation : targets_at d name ≡ None → OrMemory (Ok None) (first_or (relation_faults place d name) (relation_of d name))
+  unfolding relation_faults relation_of
+  no_relation h = rw h (inr refl)
+
+  pub relation_refused : (items : List Data) (e : JsonFault) → targets_at d name ≡ Some items → OrMemory (Err e) (first_or (item_faults target_faults (member_place place name) items) (map target_of items)) → OrMemory (Err e) (first_or (relation_faults place d name) (relation_of d name))
+  unfolding relation_faults relation_of
+  relation_refused items e at h = rw at (same_fault (item_faults target_faults (member_place place name) items) (map target_of items) (Some (relation_with name items)) e h)
+
+  pub relation_made : (items : List Data) (targets : List Target) → targets_at d name ≡ Some items → OrMemory (Ok targets) (first_or (item_faults target_faults (member_place place name) items) (map target_of items)) → OrMemory (Ok (Some (record { name = name; targets = targets }))) (first_or (relation_faults place d name) (relation_of d name))
+  unfolding relation_faults relation_of
+  relation_made items targets at h =
+      let own = no_fault (item_faults target_faults (member_place place name) items) (map target_of items) targets h in
+      rw (at, own.0, own.1) (inr refl)
+
+  pub not_anchor : true ≡ bytes_eq name (codes "anchor") → targets_at d name ≡ None
+  unfolding targets_at
+  not_anchor h = rw (← h) refl
+
+  pub no_member : bytes_eq name (codes "anchor") ≡ false → None ≡ get name d → targets_at d name ≡ None
+  unfolding targets_at
+  no_member other h = rw (other, ← h) refl
+
+  pub other_member : (e : Data) → bytes_eq name (codes "anchor") ≡ false → Some e ≡ get name d → None ≡ count_of e → targets_at d name ≡ None
+  unfolding targets_at
+  other_member e other h none = rw (other, ← h) (no_array e none)
+
+  pub array_member : (e : Data) (n : ℕ) → bytes_eq name (codes "anchor") ≡ false → Some e ≡ get name d → Some n ≡ count_of e → targets_at d name ≡ Some (items_of e)
+  unfolding targets_at
+  array_member e n other h count = rw (other, ← h) (is_array e n count)
+
+-- ---- shapes
+
+pub target_shaped : (href : List ℕ) (attrs : List Attr) → is_utf8 href ≡ true → ascend (map (λ attr. attr.name) attrs) ≡ true → list_all is_attr attrs ≡ true → is_target (record { href = href; attrs = attrs }) ≡ true
+unfolding is_target
+target_shaped href attrs a b c = rw (a, b, c) refl
+
+pub context_shaped : (anchor : List ℕ) (relations : List Relation) → is_utf8 anchor ≡ true → ascend (map (λ relation. relation.name) relations) ≡ true → list_all is_relation relations ≡ true → is_context (record { anchor = anchor; relations = relations }) ≡ true
+unfolding is_context
+context_shaped anchor relations a b c = rw (a, b, c) refl

@@ -1,0 +1,11 @@
+use Rattle.std.proofs.Common.{◌≡◌, true}
+use Rattle.std.specs.List.{list_all}
+use Rattle.serde_json.specs.View.{view}
+use Rattle.gs_linkset.specs.Attributes.{items_of}
+use Rattle.gs_linkset.specs.Documents.{target_faults, target_of}
+use Rattle.gs_linkset.specs.LinkShapes.{is_target}
+use Rattle.gs_linkset.proofs.ReadLemmas.{SoFar}
+use Rattle.gs_linkset.proofs.reading.read_targets.Given as goal
+
+abbrev pub invariant-loop-i : goal.invariant-loop-i
+invariant-loop-i l = SoFar target_faults target_of l.array.place (items_of (view l.array.tree)) l.targets.items l.i × (list_all is_target l.targets.items ≡ true)

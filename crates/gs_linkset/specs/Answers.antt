@@ -1,0 +1,63 @@
+-- The answers of reading and making. Want of memory may come in place of the answer of a reading.
+use Rattle.std.specs.Prelude.{◌≡◌, ◌⊎◌, ℕ, if◌then◌else◌, List, [], ◌∷◌, map, Option, None, Result, Ok, Err}
+use Rattle.std.specs.List.{filter_map, flat_map}
+use Rattle.std.specs.Option.{option_map_or}
+use Rattle.std.specs.Str.{is_utf8}
+use Rattle.serde_json.specs.Data.{Data}
+use Rattle.serde_json.specs.Read.{read as read_text}
+use Rattle.gs_json.specs.declared.fault.JsonFault.{JsonFault}
+use Rattle.gs_json.specs.declared.fault.JsonFault.TheVariants.{Memory, Syntax}
+use Rattle.gs_json.specs.declared.plan.Sort.TheVariants.{Text, Array}
+use Rattle.gs_linkset.specs.Attributes.{items_of}
+use Rattle.gs_linkset.specs.Documents.{context_faults, context_of, contexts_of, count_in, document_faults, item_faults}
+use Rattle.gs_linkset.specs.Documents.{member_faults, names_in, relation_faults, relation_of, target_faults, target_of, text_in}
+use Rattle.gs_linkset.specs.declared.link_types.Context.{Context}
+use Rattle.gs_linkset.specs.declared.link_types.Relation.{Relation}
+use Rattle.gs_linkset.specs.declared.link_types.Target.{Target}
+
+-- the first fault, or what is read where there is none
+abbrev pub first_or : {X : Type 0} → List JsonFault → X → Result X JsonFault
+first_or [] made = Ok made
+first_or (fault ∷ faults) made = Err fault
+
+-- the answer, or want of memory
+abbrev pub OrMemory : {X : Type 0} → Result X JsonFault → Result X JsonFault → Type 0
+OrMemory result answer = (result ≡ Err Memory) ⊎ (result ≡ answer)
+
+-- the answers of reading what stands at a place: the first of its faults, or what it is read as
+abbrev pub text_answer : List ℕ → List ℕ → Data → Result (List ℕ) JsonFault
+text_answer name place d = first_or (member_faults Text name place d) (text_in name d)
+
+abbrev pub count_answer : List ℕ → List ℕ → Data → Result ℕ JsonFault
+count_answer name place d = first_or (member_faults Array name place d) (count_in name d)
+
+abbrev pub target_answer : List ℕ → Data → Result Target JsonFault
+target_answer place d = first_or (target_faults place d) (target_of d)
+
+abbrev pub targets_answer : List ℕ → Data → Result (List Target) JsonFault
+targets_answer place d = first_or (item_faults target_faults place (items_of d)) (map target_of (items_of d))
+
+abbrev pub relation_answer : List ℕ → Data → List ℕ → Result (Option Relation) JsonFault
+relation_answer place d name = first_or (relation_faults place d name) (relation_of d name)
+
+abbrev pub relations_answer : List ℕ → Data → Result (List Relation) JsonFault
+relations_answer place d =
+    first_or (flat_map (relation_faults place d) (names_in d)) (filter_map (relation_of d) (names_in d))
+
+abbrev pub context_answer : List ℕ → Data → Result Context JsonFault
+context_answer place d = first_or (context_faults place d) (context_of d)
+
+abbrev pub contexts_answer : List ℕ → Data → Result (List Context) JsonFault
+contexts_answer place d = first_or (item_faults context_faults place (items_of d)) (map context_of (items_of d))
+
+-- the document that the bytes are (RFC 8259), where they are one
+unfoldable pub document_of : List ℕ → Option Data
+document_of bytes = if is_utf8 bytes then read_text bytes else None
+
+-- the contexts of a document, or its first fault
+unfoldable pub document_answer : Data → Result (List Context) JsonFault
+document_answer d = first_or (document_faults d) (contexts_of d)
+
+-- the answer to the bytes
+unfoldable pub read_answer : List ℕ → Result (List Context) JsonFault
+read_answer bytes = option_map_or document_answer (document_of bytes) (Err Syntax)

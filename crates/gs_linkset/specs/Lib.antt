@@ -1,0 +1,5 @@
+pub mod Attributes
+pub mod Documents
+pub mod Answers
+pub mod LinkShapes
+pub mod Written

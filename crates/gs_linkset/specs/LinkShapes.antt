@@ -1,0 +1,58 @@
+-- The shape of the links of a document: what a document in JSON can say (RFC 9264, section 4.2).
+use Rattle.std.specs.Prelude.{ℕ, Bool, true, not, ◌&&◌, List, [], ◌∷◌, map, codes, position, Result, Ok, Err}
+use Rattle.std.specs.Cmp.Lexicographic.{slice_cmp}
+use Rattle.std.specs.List.{list_all}
+use Rattle.std.specs.Option.{option_map_or}
+use Rattle.std.specs.Ordering.{is_lt, nat_cmp}
+use Rattle.std.specs.Str.{bytes_eq, is_utf8}
+use Rattle.gs_linkset.specs.Attributes.{is_single, is_tagged}
+use Rattle.gs_linkset.specs.declared.link_types.Attr.{Attr}
+use Rattle.gs_linkset.specs.declared.link_types.AttrValue.{AttrValue}
+use Rattle.gs_linkset.specs.declared.link_types.AttrValue.TheVariants.{One, Many, Tagged}
+use Rattle.gs_linkset.specs.declared.link_types.Context.{Context}
+use Rattle.gs_linkset.specs.declared.link_types.Relation.{Relation}
+use Rattle.gs_linkset.specs.declared.link_types.Target.{Target}
+use Rattle.gs_linkset.specs.declared.doc.DocFault.{DocFault}
+use Rattle.gs_linkset.specs.declared.doc.DocFault.TheVariants.{Shape}
+
+-- one name is below another by its bytes
+abbrev pub is_below : List ℕ → List ℕ → Bool
+is_below a b = is_lt (slice_cmp nat_cmp a b)
+
+-- a name is below the first of the names
+abbrev pub is_below_first : List ℕ → List (List ℕ) → Bool
+is_below_first a [] = true
+is_below_first a (b ∷ names) = is_below a b
+
+-- each name is below the next
+abbrev pub ascend : List (List ℕ) → Bool
+ascend [] = true
+ascend (a ∷ names) = is_below_first a names && ascend names
+
+-- a text with its language
+abbrev pub is_tagged_text : List ℕ × List ℕ → Bool
+is_tagged_text pair = is_utf8 pair.0 && is_utf8 pair.1
+
+-- a value is of the kind that the name has
+abbrev pub is_value : List ℕ → AttrValue → Bool
+is_value name (One text) = not (is_tagged name) && (is_single name && is_utf8 text)
+is_value name (Many texts) = not (is_tagged name) && (not (is_single name) && list_all is_utf8 texts)
+is_value name (Tagged pairs) = is_tagged name && list_all is_tagged_text pairs
+
+unfoldable pub is_attr : Attr → Bool
+is_attr attr = not (bytes_eq attr.name (codes "href")) && (is_utf8 attr.name && is_value attr.name attr.value)
+
+unfoldable pub is_target : Target → Bool
+is_target target = is_utf8 target.href && (ascend (map (λ attr. attr.name) target.attrs) && list_all is_attr target.attrs)
+
+unfoldable pub is_relation : Relation → Bool
+is_relation relation = not (bytes_eq relation.name (codes "anchor")) && (is_utf8 relation.name && list_all is_target relation.targets)
+
+unfoldable pub is_context : Context → Bool
+is_context context =
+    is_utf8 context.anchor
+    && (ascend (map (λ relation. relation.name) context.relations) && list_all is_relation context.relations)
+
+-- the document of the contexts, or the number of the first that breaks the shape
+unfoldable pub new_answer : List Context → Result (List Context) DocFault
+new_answer contexts = option_map_or (λ i. Err (Shape i)) (position (λ c. not (is_context c)) contexts) (Ok contexts)

@@ -1,0 +1,77 @@
+ghost use Rattle.std.specs.Prelude.{◌≡◌, true};
+ghost use Rattle.std.specs.List.{list_all};
+ghost use Rattle.gs_linkset.specs.LinkShapes.{is_context, new_answer};
+
+use crate::link_shapes::first_broken;
+use crate::link_types::Context;
+use gs_chars::List;
+use std::marker::Model;
+
+/// Why contexts are no linkset. Contexts are counted from 0.
+#[derive(Debug, Drop, PartialEq, Eq)]
+pub enum DocFault {
+    /// The context at this index has a text that is no UTF-8, names of relations or attributes that do not ascend
+    /// strictly, a relation `anchor`, an attribute `href`, or a value that is not of the kind that the attribute's
+    /// name has.
+    Shape(usize),
+}
+
+/// A linkset (RFC 9264), which contracts see as its contexts in their order. In each context all texts are UTF-8,
+/// the names of relations and of attributes ascend strictly, no relation is `anchor` and no attribute `href`, and
+/// each attribute has a value of the kind that its name has.
+#[derive(Debug, Drop)]
+pub struct LinkDoc {
+    contexts: List<Context>,
+}
+
+impl Model for LinkDoc {
+    ghost use Rattle.std.specs.Prelude.{◌≡◌, List, true};
+    ghost use Rattle.std.specs.List.{list_all};
+    ghost use Rattle.gs_linkset.specs.LinkShapes.{is_context};
+    ghost use Rattle.gs_linkset.specs.declared.link_types.Context.{Context};
+
+    ghost Value = { List Context };
+
+    ghost view = { λ a. a.contexts };
+
+    ghost invariant = { λ a. list_all is_context a.contexts ≡ true };
+}
+
+impl LinkDoc {
+    /// The linkset of the contexts. `Shape` names the first context that breaks the shape of a linkset. It takes no
+    /// memory.
+    #[tactic(auto, unfolding(crate::specs::LinkShapes::new_answer))]
+    pub fn new(contexts: List<Context>) -> Result<LinkDoc, DocFault>
+        ensures { result ≡ new_answer contexts }
+    {
+        match first_broken(contexts.items()) {
+            Some(i) => Err(DocFault::Shape(i)),
+            None => Ok(LinkDoc { contexts }),
+        }
+    }
+
+    /// The linkset of contexts that have the shape. It takes no memory.
+    pub(crate) fn of_contexts(contexts: List<Context>) -> LinkDoc
+        requires { list_all is_context contexts ≡ true }
+        ensures { result ≡ contexts }
+    {
+        LinkDoc { contexts }
+    }
+
+    /// The contexts, in their order.
+    pub fn contexts(&self) -> &[Context]
+        ensures value { result.now ≡ self.now }
+        ensures shape { list_all is_context self.now ≡ true }
+    {
+        self.contexts.items()
+    }
+
+    /// Gives the list of the contexts back. It takes no memory.
+    pub fn into_contexts(self) -> List<Context>
+        ensures value { result ≡ self }
+        ensures shape { list_all is_context self ≡ true }
+    {
+        let LinkDoc { contexts } = self;
+        contexts
+    }
+}

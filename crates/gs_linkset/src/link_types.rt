@@ -1,0 +1,48 @@
+use gs_chars::{List, Text};
+
+/// The value of an attribute of a link target (RFC 9264, section 4.2.4).
+#[derive(Debug, Drop)]
+pub enum AttrValue {
+    /// A text: of `type`, `title` and `media`.
+    One(Text),
+    /// Texts: of `hreflang`, and of every other name that does not end in `*`.
+    Many(List<Text>),
+    /// Texts, each with its language, which is empty where none is said: of a name that ends in `*`.
+    Tagged(List<(Text, Text)>),
+}
+
+/// An attribute of a link target (RFC 9264, section 4.2.4).
+#[derive(Debug, Drop)]
+pub struct Attr {
+    /// The name of the attribute.
+    pub name: Text,
+    /// Its value.
+    pub value: AttrValue,
+}
+
+/// The target of a link (RFC 9264, section 4.2.3).
+#[derive(Debug, Drop)]
+pub struct Target {
+    /// The reference to the target (RFC 3986), as it is written.
+    pub href: Text,
+    /// The attributes, in ascending order of their names.
+    pub attrs: List<Attr>,
+}
+
+/// The links of one relation type (RFC 9264, section 4.2.2).
+#[derive(Debug, Drop)]
+pub struct Relation {
+    /// The relation type, as it is written.
+    pub name: Text,
+    /// The targets, in the order of the document.
+    pub targets: List<Target>,
+}
+
+/// The links of one link context (RFC 9264, section 4.2.2).
+#[derive(Debug, Drop)]
+pub struct Context {
+    /// The reference to the link context (RFC 3986), as it is written.
+    pub anchor: Text,
+    /// The relations, in ascending order of their names.
+    pub relations: List<Relation>,
+}

@@ -1,0 +1,163 @@
+ghost use Rattle.std.specs.Prelude.{◌≡◌, ◌∷◌, ◌++◌, [], Some, IfOk, IfSome, codes, map, true};
+ghost use Rattle.std.specs.List.{list_all};
+ghost use Rattle.std.specs.Str.{bytes_eq};
+ghost use Rattle.serde_json.specs.View.{view};
+ghost use Rattle.gs_json.specs.Answers.{count_of};
+ghost use Rattle.gs_linkset.specs.Answers.{OrMemory, context_answer, contexts_answer, document_answer, read_answer};
+ghost use Rattle.gs_linkset.specs.Answers.{relation_answer, relations_answer, target_answer, targets_answer};
+ghost use Rattle.gs_linkset.specs.LinkShapes.{ascend, is_context, is_relation, is_target};
+
+use crate::doc::LinkDoc;
+use crate::link_types::{Context, Relation, Target};
+use crate::members::{count_in, member_of, must_array, must_text, names_of};
+use crate::read_attrs::read_attrs;
+use gs_chars::{List, Memory, Text};
+use gs_json::{Doc, JsonFault, Node};
+use std::alloc::Global;
+
+/// Adds an item.
+fn push<T: Drop>(items: &mut Vec<T>, item: T) -> Result<(), Memory>
+    ensures { IfOk result (λ _. items.new.items ≡ items.old.items ++ item ∷ []) }
+{
+    items.push(item)?;
+    Ok(())
+}
+
+/// A target.
+#[tactic(auto, unfolding(crate::specs::Documents::target_faults, crate::specs::Documents::target_of))]
+fn read_target(alloc: Global, object: &Node<'_>) -> Result<Target, JsonFault>
+    ensures answer { OrMemory result (target_answer object.now.place (view object.now.tree)) }
+    ensures shape { IfOk result (λ target. is_target target ≡ true) }
+{
+    let href = must_text(alloc, object, "href")?;
+    let attrs = read_attrs(alloc, object)?;
+    Ok(Target { href, attrs })
+}
+
+/// The targets of an array, in their order.
+fn read_targets(alloc: Global, array: &Node<'_>, count: usize) -> Result<List<Target>, JsonFault>
+    requires { Some count ≡ count_of (view array.now.tree) }
+    ensures answer { OrMemory result (targets_answer array.now.place (view array.now.tree)) }
+    ensures shape { IfOk result (λ targets. list_all is_target targets ≡ true) }
+{
+    let mut targets = Vec::new(alloc);
+    for i in 0..count {
+        let Ok(item) = array.item(alloc, i) else {
+            return Err(JsonFault::Memory);
+        };
+        let target = read_target(alloc, &item)?;
+        push(&mut targets, target)?;
+    }
+    Ok(List::from_vec(targets))
+}
+
+/// Whether the name is that of the member that is no relation.
+fn is_anchor(name: &[u8]) -> bool
+    ensures { result ≡ bytes_eq name.now (codes "anchor") }
+{
+    name == b"anchor".as_slice()
+}
+
+/// The relation of a name, where the context has one.
+fn read_relation(
+    alloc: Global,
+    context: &Node<'_>,
+    name: &str,
+) -> Result<Option<Relation>, JsonFault>
+    ensures answer { OrMemory result (relation_answer context.now.place (view context.now.tree) name.now) }
+    ensures shape { IfOk result (λ relation. IfSome relation (λ relation. is_relation relation ≡ true)) }
+{
+    if is_anchor(name.as_bytes()) {
+        return Ok(None);
+    }
+    let Some(member) = member_of(alloc, context, name)? else {
+        return Ok(None);
+    };
+    let Some(count) = count_in(alloc, &member)? else {
+        return Ok(None);
+    };
+    let targets = read_targets(alloc, &member, count)?;
+    Ok(Some(Relation {
+        name: Text::from_bytes(alloc, name.as_bytes())?,
+        targets,
+    }))
+}
+
+/// The relations of a context, in ascending order of their names.
+fn read_relations(alloc: Global, context: &Node<'_>) -> Result<List<Relation>, JsonFault>
+    ensures answer { OrMemory result (relations_answer context.now.place (view context.now.tree)) }
+    ensures shape { IfOk result (λ relations. list_all is_relation relations ≡ true) }
+    ensures ascending { IfOk result (λ relations. ascend (map (λ relation. relation.name) relations) ≡ true) }
+{
+    let Some(names) = names_of(alloc, context)? else {
+        return Ok(List::from_vec(Vec::new(alloc)));
+    };
+    let names = names.items();
+    let mut relations = Vec::new(alloc);
+    for i in 0..names.len() {
+        let Some(relation) = read_relation(alloc, context, names[i])? else {
+            continue;
+        };
+        push(&mut relations, relation)?;
+    }
+    Ok(List::from_vec(relations))
+}
+
+/// A context: its anchor, and then its relations.
+#[tactic(auto, unfolding(crate::specs::Documents::context_faults, crate::specs::Documents::context_of))]
+fn read_context(alloc: Global, object: &Node<'_>) -> Result<Context, JsonFault>
+    ensures answer { OrMemory result (context_answer object.now.place (view object.now.tree)) }
+    ensures shape { IfOk result (λ context. is_context context ≡ true) }
+{
+    let anchor = must_text(alloc, object, "anchor")?;
+    let relations = read_relations(alloc, object)?;
+    Ok(Context { anchor, relations })
+}
+
+/// The contexts of an array, in their order.
+fn read_contexts(alloc: Global, array: &Node<'_>, count: usize) -> Result<List<Context>, JsonFault>
+    requires { Some count ≡ count_of (view array.now.tree) }
+    ensures answer { OrMemory result (contexts_answer array.now.place (view array.now.tree)) }
+    ensures shape { IfOk result (λ contexts. list_all is_context contexts ≡ true) }
+{
+    let mut contexts = Vec::new(alloc);
+    for i in 0..count {
+        let Ok(item) = array.item(alloc, i) else {
+            return Err(JsonFault::Memory);
+        };
+        let context = read_context(alloc, &item)?;
+        push(&mut contexts, context)?;
+    }
+    Ok(List::from_vec(contexts))
+}
+
+/// The contexts of a document.
+fn read_document(alloc: Global, root: &Node<'_>) -> Result<List<Context>, JsonFault>
+    requires { root.now.place ≡ [] }
+    ensures answer { OrMemory result (document_answer (view root.now.tree)) }
+    ensures shape { IfOk result (λ contexts. list_all is_context contexts ≡ true) }
+{
+    must_array(alloc, root, "linkset")?;
+    let Some(array) = member_of(alloc, root, "linkset")? else {
+        return Ok(List::from_vec(Vec::new(alloc)));
+    };
+    let Some(count) = count_in(alloc, &array)? else {
+        return Ok(List::from_vec(Vec::new(alloc)));
+    };
+    read_contexts(alloc, &array, count)
+}
+
+/// The linkset that a document in JSON is (RFC 9264, section 4.2): an object with the array `linkset` of objects
+/// with the text `anchor`, whose other arrays are relations of objects with the text `href`. Members of other kinds
+/// are ignored. Of the faults the first in the order of the document is the answer, depth first, `anchor` before
+/// the relations, and these in ascending order of name. `Syntax`: the bytes are no JSON text. `Lacks`: the document
+/// has no `linkset`, a context no `anchor`, or a target no `href`. `Kind`: one of these, the document, a context or
+/// a target is of another kind. `Unknown` never comes. `Memory` may come in place of any answer.
+pub fn read(alloc: Global, bytes: &[u8]) -> Result<LinkDoc, JsonFault>
+    ensures { OrMemory result (read_answer bytes.now) }
+{
+    let doc = Doc::parse(alloc, bytes)?;
+    let root = doc.root(alloc);
+    let contexts = read_document(alloc, &root)?;
+    Ok(LinkDoc::of_contexts(contexts))
+}

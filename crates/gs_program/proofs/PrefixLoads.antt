@@ -1,0 +1,39 @@
+-- What is loaded of a list of company prefix lengths, by how its file was read.
+use Rattle.std.proofs.Common.{◌≡◌, ℕ, ◌≤◌, List, Option, Some, length, refl, sym, ◌∙◌, ap, inl, inr}
+use Rattle.std.specs.Prelude.{Result, Ok, Err}
+use Rattle.gs_port.specs.Files.{IsFile}
+use Rattle.gs_prefix.specs.Answers.{OrMemory, load_answer}
+use Rattle.gs_prefix.specs.declared.entry.PrefixEntry.{PrefixEntry}
+use Rattle.gs_prefix.specs.declared.fault.PrefixFault.{PrefixFault}
+use Rattle.gs_prefix.specs.declared.fault.PrefixFault.TheVariants as prefix
+use Rattle.gs_program.specs.declared.file_kind.FileKind.TheVariants as kind
+use Rattle.gs_program.specs.declared.loading.Unloaded.{Unloaded}
+use Rattle.gs_program.specs.declared.loading.Unloaded.TheVariants as unloaded
+use Rattle.gs_program.specs.Loads.{LoadedBy, PrefixesGive, Stop, absent, judged, of_verdict, prefixes_verdict, refused, too_large}
+use Rattle.gs_program.specs.Reads.{PrefixesUnloadedAs, ReadBy}
+use Rattle.gs_program.specs.Refusals.{file_limit}
+
+-- a list that was judged is loaded, or refused, or there was want of memory
+told_prefixes : (Give : Result (List PrefixEntry) Stop → Type 0) (before now : ℕ) (answer judgement : Result (List PrefixEntry) PrefixFault) (result : Result (List PrefixEntry) Unloaded) → OrMemory answer judgement → PrefixesUnloadedAs answer result → Give (of_verdict kind.Prefixes (prefixes_verdict judgement)) → LoadedBy Give before now result
+told_prefixes Give before now answer judgement (Ok list) (inl none) u give = absurd (let f : Ok list ≡ Err prefix.Memory = sym u ∙ none in cc)
+told_prefixes Give before now answer judgement (Ok list) (inr same) u give =
+    let is : judgement ≡ Ok list = sym same ∙ u in
+    let g : Give (of_verdict kind.Prefixes (prefixes_verdict (Ok list))) = rw is at give in g
+told_prefixes Give before now answer judgement (Err unloaded.Memory) o u give = tt
+told_prefixes Give before now answer judgement (Err unloaded.ReadFault) o u give = absurd u
+told_prefixes Give before now answer judgement (Err (unloaded.Refused refusal)) (inl none) u give = absurd (u.0 none)
+told_prefixes Give before now answer judgement (Err (unloaded.Refused refusal)) (inr same) u give =
+    let is : of_verdict kind.Prefixes (prefixes_verdict judgement) ≡ Err (refused refusal) = ap (λ a. of_verdict kind.Prefixes (prefixes_verdict a)) (sym same) ∙ u.1 in
+    rw is at give
+
+pub file_loaded : (files : Option (List (List ℕ × List ℕ))) (name bytes : List ℕ) (before now : ℕ) (answer : Result (List PrefixEntry) PrefixFault) (result : Result (List PrefixEntry) Unloaded) → IsFile files name bytes → length bytes ≤ file_limit kind.Prefixes → OrMemory answer (load_answer bytes) → PrefixesUnloadedAs answer result → LoadedBy (PrefixesGive files (Some name)) before now result
+file_loaded files name bytes before now answer result is few load u =
+    told_prefixes (PrefixesGive files (Some name)) before now answer (load_answer bytes) result load u
+    (judged bytes (prefixes_verdict (load_answer bytes)) is few refl refl)
+
+-- a file that was not read
+pub file_unloaded : (files : Option (List (List ℕ × List ℕ))) (name : List ℕ) (before now : ℕ) (u : Unloaded) → ReadBy files kind.Prefixes name before now (Err u) → LoadedBy (PrefixesGive files (Some name)) before now (Err u)
+file_unloaded files name before now unloaded.Memory r = tt
+file_unloaded files name before now unloaded.ReadFault (inl rises) = inl rises
+file_unloaded files name before now unloaded.ReadFault (inr none) = inr (absent none refl)
+file_unloaded files name before now (unloaded.Refused refusal) r = too_large r.0 r.1 r.2 (ap (λ x. Err (refused x)) r.3)

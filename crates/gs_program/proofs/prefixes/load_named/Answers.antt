@@ -1,0 +1,11 @@
+use Rattle.gs_program.proofs.PrefixLoads.{file_loaded, file_unloaded}
+use Rattle.gs_program.proofs.prefixes.load_named.Goals as goal
+
+pub returns-in-Ok-clause-loaded : goal.returns-in-Ok-clause-loaded
+returns-in-Ok-clause-loaded g c =
+    file_loaded (g.F.Files.files c.args.files.now) c.args.name.now c.in-Ok.bytes _ _ c.load.result c.list_of.result
+    c.in-Ok.ensures.read.0 c.in-Ok.ensures.read.1 (rw c.as_bytes.ensures at c.load.ensures) c.list_of.ensures
+
+pub returns-in-Err-clause-loaded : goal.returns-in-Err-clause-loaded
+returns-in-Err-clause-loaded g c =
+    file_unloaded (g.F.Files.files c.args.files.now) c.args.name.now (g.F.Files.faults c.args.files.now) (g.F.Files.faults c.read_named.new.files) c.in-Err.unloaded c.in-Err.ensures.read

@@ -1,0 +1,27 @@
+//! Cases of vectors: what the programs that run public calls of the libraries over data share. Such a program's standard input
+//! has one case a line, and its standard output the answer of each. The cases and their answers come from the standards and from
+//! published examples, never from the program.
+//!
+//! A case is the path of a call, as `gs_chars::check_digit`, and its arguments, with one space between. An argument is its
+//! bytes, where `\xHH` stands for the byte with this number in hexadecimal digits, `\*HH:N;` for so many of that byte, `\\`
+//! for a backslash, and `\e` for nothing, so that an argument may be empty. Answers are written so too. A line that begins with
+//! `#` says where the cases below it come from and is not answered, and neither is an empty line. What is no case is answered
+//! `no case`.
+//!
+//! The head of each file of a library says which arguments its calls take, and what they answer.
+#![tactic(auto)]
+
+mod answering;
+mod case;
+mod item_words;
+mod json_words;
+mod objects;
+
+pub use answering::{Calls, answer_cases};
+pub use case::{
+    Answer, Refusal, add, add_shown, arg, behind, number, number_of, numbers_of, shown, shown_all,
+    text_of,
+};
+pub use item_words::{item_of, item_word};
+pub use json_words::fault_word;
+pub use objects::{cut_of, files_of, section, sink_of, source_of};

@@ -1,0 +1,69 @@
+//! Calls of gs_lines over objects in memory, with each text as its own answer.
+//!
+//! - `answer_lines LIMIT / CUT FAILS BYTES / CUT FAILS`: the status, what the output holds, and what is left of the input.
+//! - `print_line LINE / CUT FAILS`: the status, and what the output holds.
+
+ghost use Rattle.std.specs.Prelude.{◌<◌, ◌^◌};
+
+use crate::runs::outcome;
+use gs_chars::{Memory, Text};
+use gs_lines::{Answerer, Status, answer_lines, print_line};
+use gs_port::{MemSink, MemSource};
+use std::alloc::Global;
+use vector_cases::{Answer, Refusal, arg, number, section, shown, sink_of, source_of};
+
+/// Accepts each text, and answers it by itself.
+struct Echo;
+
+impl Answerer for Echo {
+    ghost use Rattle.std.specs.Prelude.{◌≡◌};
+    ghost use Rattle.gs_lines.specs.Outputs.LineAnswer.{accepted};
+
+    ghost is_answer = { λ _ text answer. answer ≡ accepted text };
+
+    fn append_answer(
+        &self,
+        _alloc: Global,
+        text: &[u8],
+        out: &mut Vec<u8>,
+    ) -> Result<bool, Memory> {
+        out.extend_from_slice(b"ok ")?;
+        out.extend_from_slice(text)?;
+        out.push(b'\n')?;
+        Ok(false)
+    }
+}
+
+/// The answer to a call of gs_lines.
+pub fn answer(alloc: Global, call: &str, args: &[Text]) -> Answer {
+    match call {
+        "answer_lines" => answered(alloc, args),
+        "print_line" => printed(alloc, args),
+        _ => Err(Refusal::NoCase),
+    }
+}
+
+/// How the answering of lines ends. Apart from what becomes of it, since it promises much.
+fn status_of(alloc: Global, input: &mut MemSource, output: &mut MemSink, limit: u64) -> Status
+    requires { limit < 2 ^ 63 }
+{
+    answer_lines(alloc, &Echo, input, output, limit)
+}
+
+fn answered(alloc: Global, args: &[Text]) -> Answer {
+    let limit = number(args, 0)?;
+    if limit > 1_000_000 {
+        return Err(Refusal::NoCase);
+    }
+    let mut input = source_of(alloc, section(args, 1)?)?;
+    let mut output = sink_of(alloc, section(args, 2)?)?;
+    let status = status_of(alloc, &mut input, &mut output, limit);
+    outcome(alloc, status, &mut input, &output)
+}
+
+fn printed(alloc: Global, args: &[Text]) -> Answer {
+    let mut output = sink_of(alloc, section(args, 1)?)?;
+    let status = print_line(&mut output, arg(args, 0)?, Status::Usage);
+    let written = shown(alloc, output.bytes())?;
+    Ok(format!(in alloc; "{status:?} {written}")?)
+}

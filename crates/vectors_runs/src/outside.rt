@@ -1,0 +1,146 @@
+//! Calls of gs_port over objects in memory. FAILS are the numbers of the calls that fail, with commas between, or `-`.
+//!
+//! - `read BYTES CUT FAILS SIZE`: what reads of SIZE bytes, at most 16, move or answer, up to the end.
+//! - `write CUT FAILS PIECE..`: what a write of each piece answers, then the bytes that the sink holds.
+//! - `write_whole CUT FAILS PIECE..`: the same for each piece written whole.
+//! - `open FAILS NAME BYTES .. / NAME..`: what an open of each name answers, and what a read of 4 bytes moves then.
+//! - `read_file FAILS NAME BYTES .. / NAME MAX ..`: what reading each file whole answers.
+
+use gs_chars::Text;
+use gs_port::{
+    FileFault, Files, MemFiles, MemSink, MemSource, OpenAnswer, ReadAnswer, Sink, Source,
+    WriteAnswer, read_file, write_whole,
+};
+use std::alloc::Global;
+use vector_cases::{
+    Answer, Refusal, add, arg, behind, cut_of, files_of, number, numbers_of, section, shown,
+    sink_of, text_of,
+};
+
+/// The answer to a call of gs_port.
+pub fn answer(alloc: Global, call: &str, args: &[Text]) -> Answer {
+    match call {
+        "read" => read(alloc, args),
+        "write" => write(alloc, args),
+        "write_whole" => written_whole(alloc, args),
+        "open" => open(alloc, args),
+        "read_file" => files_read(alloc, args),
+        _ => Err(Refusal::NoCase),
+    }
+}
+
+/// What a read answers: the bytes that it moved to the front of the block, or that it failed.
+fn read_word(alloc: Global, moved: ReadAnswer, block: &[u8]) -> Answer {
+    match moved {
+        ReadAnswer::Got(n) => Ok(shown(alloc, &block[..n.min(block.len())])?),
+        ReadAnswer::Failed => Ok(String::from_str(alloc, "Failed")?),
+    }
+}
+
+fn read(alloc: Global, args: &[Text]) -> Answer {
+    let bytes = arg(args, 0)?.to_vec(alloc)?;
+    let fails = numbers_of(alloc, arg(args, 2)?)?;
+    let mut source = MemSource::new(alloc, bytes, cut_of(args, 1)?, fails);
+    let size = cut_of(args, 3)?.min(16);
+    let mut answer = String::new(alloc);
+    for _ in 0..1000 {
+        let mut block = [0; 16];
+        let moved = source.read(&mut block[..size]);
+        if moved == ReadAnswer::Got(0) {
+            break;
+        }
+        add(&mut answer, read_word(alloc, moved, &block)?.as_str())?;
+    }
+    add(&mut answer, "end")?;
+    Ok(answer)
+}
+
+/// What a write answers: the number of bytes that it took, or that it failed.
+fn write_word(alloc: Global, taken: WriteAnswer) -> Answer {
+    match taken {
+        WriteAnswer::Took(n) => Ok(format!(in alloc; "{n}")?),
+        WriteAnswer::Failed => Ok(String::from_str(alloc, "Failed")?),
+        WriteAnswer::Memory => Err(Refusal::Memory),
+    }
+}
+
+fn write(alloc: Global, args: &[Text]) -> Answer {
+    let mut sink = sink_of(alloc, args)?;
+    let mut answer = String::new(alloc);
+    for piece in behind(args, 2) {
+        let taken = sink.write(piece.as_bytes());
+        add(&mut answer, write_word(alloc, taken)?.as_str())?;
+    }
+    add(&mut answer, shown(alloc, sink.bytes())?.as_str())?;
+    Ok(answer)
+}
+
+fn written_whole(alloc: Global, args: &[Text]) -> Answer {
+    let mut sink = sink_of(alloc, args)?;
+    let mut answer = String::new(alloc);
+    for piece in behind(args, 2) {
+        let whole = write_whole(&mut sink, piece.as_bytes());
+        add(&mut answer, format!(in alloc; "{whole:?}")?.as_str())?;
+    }
+    add(&mut answer, shown(alloc, sink.bytes())?.as_str())?;
+    Ok(answer)
+}
+
+/// What an open answers, and what a read moves then.
+fn opened(alloc: Global, files: &mut MemFiles, name: &str) -> Answer {
+    match files.open(name) {
+        OpenAnswer::Opened => {
+            let mut block = [0; 4];
+            let moved = files.read(&mut block);
+            let word = read_word(alloc, moved, &block)?;
+            Ok(format!(in alloc; "Opened {word}")?)
+        }
+        OpenAnswer::Failed => Ok(String::from_str(alloc, "Failed")?),
+        OpenAnswer::Memory => Err(Refusal::Memory),
+    }
+}
+
+fn open(alloc: Global, args: &[Text]) -> Answer {
+    let mut files = files_of(alloc, section(args, 0)?)?;
+    let mut answer = String::new(alloc);
+    for name in section(args, 1)? {
+        let words = opened(alloc, &mut files, text_of(name.as_bytes())?)?;
+        add(&mut answer, words.as_str())?;
+    }
+    Ok(answer)
+}
+
+/// What reading a file answers.
+fn file_read(alloc: Global, files: &mut MemFiles, name: &str, max: u64) -> Answer {
+    if max > 16_777_216 {
+        return Err(Refusal::NoCase);
+    }
+    file_words(alloc, read_file(alloc, files, name, max as usize))
+}
+
+/// What became of a file, and the bytes that were read of it.
+fn file_words(alloc: Global, read: Result<Text, FileFault>) -> Answer {
+    match read {
+        Ok(text) => behind_word(alloc, "Ok", text.as_bytes()),
+        Err(FileFault::Over(text)) => behind_word(alloc, "Over", text.as_bytes()),
+        Err(FileFault::Failed) => Ok(String::from_str(alloc, "Failed")?),
+        Err(FileFault::Memory) => Err(Refusal::Memory),
+    }
+}
+
+/// A word, and the bytes behind it.
+fn behind_word(alloc: Global, word: &str, bytes: &[u8]) -> Answer {
+    let bytes = shown(alloc, bytes)?;
+    Ok(format!(in alloc; "{word} {bytes}")?)
+}
+
+fn files_read(alloc: Global, args: &[Text]) -> Answer {
+    let mut files = files_of(alloc, section(args, 0)?)?;
+    let mut answer = String::new(alloc);
+    for read in section(args, 1)?.chunks(2) {
+        let name = text_of(arg(read, 0)?)?;
+        let words = file_read(alloc, &mut files, name, number(read, 1)?)?;
+        add(&mut answer, words.as_str())?;
+    }
+    Ok(answer)
+}

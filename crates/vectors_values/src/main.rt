@@ -1,0 +1,36 @@
+//! `vectors_values` runs public calls of the libraries that need no table set over data: the values, the documents and the
+//! machines. The head of vector_cases says how a case and an answer are written.
+#![tactic(auto)]
+
+mod bits;
+mod characters;
+mod documents;
+mod grammars;
+mod machines;
+mod prefixes;
+
+use gs_chars::Text;
+use std::alloc::Global;
+use std::io;
+use vector_cases::{Answer, Calls, Refusal, answer_cases};
+
+/// The libraries that need no table set.
+struct Values;
+
+impl Calls for Values {
+    fn answer(&self, alloc: Global, library: &str, call: &str, args: &[Text]) -> Answer {
+        match library {
+            "gs_chars" => characters::answer(alloc, call, args),
+            "gs_bits" => bits::answer(alloc, call, args),
+            "gs_json" => documents::answer(alloc, call, args),
+            "gs_grammar" => grammars::answer(alloc, call, args),
+            "gs_prefix" => prefixes::answer(alloc, call, args),
+            "gs_machine" | "gs_ambig" | "gs_compile" => machines::answer(alloc, call, args),
+            _ => Err(Refusal::NoCase),
+        }
+    }
+}
+
+fn main(rt: HostRuntime) -> io::Result<()> {
+    answer_cases(&rt, &Values)
+}
