@@ -1,4 +1,4 @@
--- The options that may write an EPC, and the values that it gives their items: TDT 2.0, section 3 (selection of an option).
+-- The options that may write an EPC, and the values that it gives their items: TDT 2.0, section 3 (options).
 use Rattle.std.specs.Prelude.{◌≡◌, ◌≤◌, ℕ, ◌==◌, ◌&&◌, ◌||◌, not, Bool, true, if◌then◌else◌, List, [], map, Option, Some, None, decimal, slice_get}
 use Rattle.std.specs.List.{list_any}
 use Rattle.std.specs.Option.{option_map_or}
@@ -17,7 +17,7 @@ use Rattle.gs_epc.specs.Epcs.{options_of}
 
 -- ---- candidates
 
--- a name of an encoding is the one that is asked for: any where none is asked for, and on the level of pure identities
+-- a name of an encoding is the one that is asked for: any where none is, and on the level of pure identities
 abbrev pub is_asked : LevelName → List ℕ → List ℕ → Bool
 is_asked Pure asked name = true
 is_asked Tag asked name = is_empty asked || bytes_eq asked name

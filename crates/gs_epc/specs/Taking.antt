@@ -1,4 +1,4 @@
--- How a key is taken apart: TDS 2.0, section 7 (correspondence between EPCs and GS1 keys), read from the key to the EPC.
+-- How a key is taken apart: TDS 2.0, section 7 (correspondence between EPCs and GS1 keys), from the key to the EPC.
 use Rattle.std.specs.Prelude.{◌≡◌, ℕ, ◌-◌, List, [], ◌∷◌, ◌++◌, take, drop, find, Option, Some, None, slice_get, Result, Ok, Err}
 use Rattle.std.specs.Option.{option_and_then, option_map, option_map_or}
 use Rattle.gs_ai.specs.declared.pair.Pair.{Pair}
@@ -38,7 +38,7 @@ digits_in parts value = take (checked_count parts - 1) (behind_zero parts value)
 abbrev pub tail_in : List Part → List ℕ → List ℕ
 tail_in parts value = drop (checked_count parts) (behind_zero parts value)
 
--- The company prefix: the first n of the characters, or of the digits behind the lead digits. There may be fewer.
+-- The company prefix: the first n of the characters, or of the digits behind the lead digits, or all of fewer.
 abbrev pub prefix_in : List Part → ℕ → ℕ → List ℕ → List ℕ
 prefix_in (Set _ ∷ []) lead n value = take n value
 prefix_in parts lead n value = take n (drop lead (digits_in parts value))
@@ -59,13 +59,14 @@ unless_empty text = Some text
 abbrev pub none_text : List AiRow → List ℕ → List ℕ
 none_text ais code = option_map_or (λ (row : AiRow). row.none) (find (has_code code) ais) []
 
--- The serial: empty where the kind has none, the tail of the key, or the value of the qualifier that it is, for which its
--- text for none stands in where it is absent. There may be none.
+-- The serial: empty where the kind has none, the tail of the key, or the value of the qualifier that it is. Where that is
+-- absent, its text for none stands for it. There may be none.
 abbrev pub serial_in : List AiRow → List Part → SerialAt → Elements → Option (List ℕ)
 serial_in ais parts Nowhere identity = Some []
 serial_in ais parts Tail identity = unless_empty (tail_in parts identity.key.value)
 serial_in ais parts (Ai code) identity =
-    option_map_or (λ (pair : Pair). Some pair.value) (pair_with identity.qualifiers code) (unless_empty (none_text ais code))
+    option_map_or (λ (pair : Pair). Some pair.value) (pair_with identity.qualifiers code)
+    (unless_empty (none_text ais code))
 
 -- ---- the fields
 
@@ -87,14 +88,24 @@ take_apart ais kind identity n =
 -- an EPC of these fields, without the encoding and the filter of a tag
 abbrev pub epc_of_key : ℕ → ℕ → KeyFields → Epc
 epc_of_key kind n fields =
-    record { kind = kind; encoding = []; filter = None; gcp = n; prefix = fields.prefix; rest = fields.rest; serial = fields.serial }
+    record {
+      kind = kind;
+      encoding = [];
+      filter = None;
+      gcp = n;
+      prefix = fields.prefix;
+      rest = fields.rest;
+      serial = fields.serial;
+    }
 
 -- what an identity says by the kind of this index and a prefix of n, unless its serial is lacking
 abbrev pub epc_at : TableRows → ℕ → Elements → ℕ → Option Epc
 epc_at set kind identity n =
-    option_and_then (λ (row : Kind). option_map (epc_of_key kind n) (take_apart set.ais row identity n)) (slice_get set.kinds kind)
+    option_and_then (λ (row : Kind). option_map (epc_of_key kind n) (take_apart set.ais row identity n))
+    (slice_get set.kinds kind)
 
--- The answer of `fields_of`: what the identity says, or that its serial is lacking. Want of memory may come in place of each.
+-- The answer of `fields_of`: what the identity says, or that its serial is lacking. Want of memory may come in place of
+-- each.
 abbrev pub IsTakenApart : TableRows → ℕ → Elements → ℕ → Result Epc FieldsFault → Type 0
 IsTakenApart set kind identity n (Ok epc) = epc_at set kind identity n ≡ Some epc
 IsTakenApart set kind identity n (Err MissingSerial) = epc_at set kind identity n ≡ None

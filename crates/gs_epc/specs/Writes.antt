@@ -1,5 +1,5 @@
--- What is written of an EPC: TDS 2.0, sections 6 (pure identity URIs), 12 (tag URIs) and 14 (bits), by the options of TDT 2.0,
--- section 3. That the first option which holds every field writes, and which refusal is named, is this project's own.
+-- What is written of an EPC: TDS 2.0, sections 6 (pure identity URIs), 12 (tag URIs) and 14 (bits), by the options of TDT
+-- 2.0, section 3. That the first option which holds every field writes, and which refusal is named, is this project's own.
 use Rattle.std.specs.Prelude.{◌≡◌, ◌<◌, ◌⊎◌, ℕ, List, Some, None, slice_get, Result, Ok, Err}
 use Rattle.gs_bits.specs.HexText.{hex_of_bits}
 use Rattle.gs_grammar.specs.declared.fault.Why.{Why}
@@ -29,14 +29,17 @@ module _ (set : TableRows) (level : LevelName) (epc : Epc) where
     pub held : AreHeld candidate.items (values_for level epc candidate.info)
     pub whole : left_out candidate.info.fields epc ≡ None
 
-  -- item k of a candidate is the first that does not hold its value, and this is why; where it stands for a field, for this one
-  pub record RefusesAt {i : ℕ} (candidate : Candidate set level epc i) (field : Field) (why : Why) : Type 0 where
+  -- Item k of a candidate is the first that does not hold its value, and this is why. Where it stands for a field, it
+  -- stands for this one.
+  pub record RefusesAt {i : ℕ} (candidate : Candidate set level epc i) (field : Field) (why : Why)
+      : Type 0 where
     pub k : ℕ
     pub first : IsFirstRefusal candidate.items (values_for level epc candidate.info) k why
     pub stands_for : (named : Field) → slice_get candidate.info.fields k ≡ Some (Some named) → named ≡ field
 
-  -- each item of a candidate holds its value, and this field is left out: what has no item holds the empty text alone
-  pub record LeavesOut {i : ℕ} (candidate : Candidate set level epc i) (field : Field) (why : Why) : Type 0 where
+  -- Each item of a candidate holds its value, and this field is left out: what has no item holds the empty text alone.
+  pub record LeavesOut {i : ℕ} (candidate : Candidate set level epc i) (field : Field) (why : Why)
+      : Type 0 where
     pub held : AreHeld candidate.items (values_for level epc candidate.info)
     pub left : left_out candidate.info.fields epc ≡ Some field
     pub size : why ≡ Length
@@ -45,9 +48,13 @@ module _ (set : TableRows) (level : LevelName) (epc : Epc) where
   abbrev pub Refuses : {i : ℕ} → Candidate set level epc i → Field → Why → Type 0
   Refuses candidate field why = RefusesAt candidate field why ⊎ LeavesOut candidate field why
 
+  -- the text of a candidate
+  abbrev pub text_by : {i : ℕ} → Candidate set level epc i → List ℕ
+  text_by candidate = text_on level (written candidate.items (values_for level epc candidate.info))
+
   -- the answer of one candidate: its text where it holds every field, else what it does not hold
   abbrev pub IsTried : {i : ℕ} → Candidate set level epc i → Result (List ℕ) EpcWriteFault → Type 0
-  IsTried candidate (Ok text) = HoldsAll candidate × (text ≡ text_on level (written candidate.items (values_for level epc candidate.info)))
+  IsTried candidate (Ok text) = HoldsAll candidate × (text ≡ text_by candidate)
   IsTried candidate (Err NoOption) = ⊥
   IsTried candidate (Err (CannotHold field why)) = Refuses candidate field why
   IsTried candidate (Err Memory) = Unit {0}
@@ -62,7 +69,7 @@ module _ (set : TableRows) (level : LevelName) (epc : Epc) where
     pub candidate : Candidate set level epc option
     pub holds : HoldsAll candidate
     pub first : NoneHoldsBefore option
-    pub text_is : text ≡ text_on level (written candidate.items (values_for level epc candidate.info))
+    pub text_is : text ≡ text_by candidate
 
   -- no candidate holds every field, and the last one does not hold this field
   pub record LastRefuses (field : Field) (why : Why) : Type 0 where
@@ -72,8 +79,9 @@ module _ (set : TableRows) (level : LevelName) (epc : Epc) where
     pub last : (i : ℕ) → option < i → Candidate set level epc i → ⊥
     pub none : (n : ℕ) → NoneHoldsBefore n
 
-  -- The answer to an EPC that is to be written in a level: the text of the first candidate that holds every field; that there
-  -- is no candidate; that none holds every field, and what the last does not hold. Want of memory may come in place of each.
+  -- The answer to an EPC that is to be written in a level: the text of the first candidate that holds every field; that
+  -- there is no candidate; that none holds every field, and what the last does not hold. Want of memory may come in place
+  -- of each.
   abbrev pub WritesAs : Result (List ℕ) EpcWriteFault → Type 0
   WritesAs (Ok text) = Writes text
   WritesAs (Err NoOption) = (i : ℕ) → Candidate set level epc i → ⊥

@@ -9,16 +9,16 @@ ghost use Rattle.gs_epc.specs.Layout.{IsLaidOut};
 ghost use Rattle.gs_epc.specs.Taking.{epc_at};
 ghost use Rattle.gs_epc.specs.Writes.{ReadsText, Writes, same_fields};
 
-/// Taking apart undoes laying out: the identity of an EPC of the set, taken apart by its kind and prefix length, gives back
-/// its prefix, rest and serial.
+/// Taking apart undoes laying out: the identity of an EPC of the set, taken apart by its kind and prefix length, gives
+/// back its prefix, rest and serial.
 pub fn taking_apart_undoes_laying_out()
     ensures { (set : TableRows) (epc : Epc) (identity : Elements) → IsShaped set → IsOfSet set epc
         → IsLaidOut set epc identity
         → epc_at set epc.kind identity epc.gcp ≡ Some (record epc { encoding = []; filter = None }) }
 {}
 
-/// What is written is read as the same fields, by the encoding of the option that wrote: wherever the text is read at all,
-/// which is where it has one derivation.
+/// What is written is read as the same fields, by the encoding of the option that wrote: wherever the text is read at
+/// all, which is where it has one derivation.
 pub fn what_is_written_is_read()
     ensures { (set : TableRows) (level : LevelName) (epc read : Epc) (text : List ℕ) → IsShaped set
         → HasFilterOn level epc.filter → (writes : Writes set level epc text)

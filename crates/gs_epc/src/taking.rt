@@ -157,9 +157,10 @@ fn serial_in<'a>(
     }
 }
 
-/// What an identity says by a kind of the set, named by its index, and the length of the company prefix (TDS 2.0, section 7):
-/// prefix, rest and serial, with an empty encoding and no filter. Where the value of the key is too short, so are they.
-/// `MissingSerial` comes exactly where the kind has a serial, the identity lacks it, and no text stands for its absence.
+/// What an identity says by a kind of the set, named by its index, and the length of the company prefix (TDS 2.0, section
+/// 7): prefix, rest and serial, with an empty encoding and no filter. Where the value of the key is too short, so are
+/// they. `MissingSerial` comes exactly where the kind has a serial, the identity lacks it, and no text stands for its
+/// absence.
 pub fn fields_of(
     alloc: Global,
     set: &TableSet,

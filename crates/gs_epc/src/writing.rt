@@ -78,7 +78,8 @@ fn try_candidate(
 ) -> Result<Text, EpcWriteFault>
     requires filter { HasFilterOn level epc.now.filter }
     requires candidate { Candidate set.now level epc.now i }
-    ensures { (candidate : Candidate set.now level epc.now i) → IsTried set.now level epc.now candidate result }
+    ensures { (candidate : Candidate set.now level epc.now i)
+        → IsTried set.now level epc.now candidate result }
 {
     let fields = set.info(level)[i].fields.items();
     let values = values_for(alloc, level, epc, fields)?;
@@ -124,11 +125,11 @@ fn write_level(
     Err(refusal)
 }
 
-/// The bits of an EPC in upper-case hexadecimal digits (TDS 2.0, section 14). The candidates are the options of bits of the
-/// EPC's kind and prefix length and, where its encoding is not empty, of that encoding, in their order. The first that holds
-/// every field writes. `NoOption` comes exactly where there is no candidate. `CannotHold` comes exactly where there are some
-/// and none holds every field, and names the first field, in the order of the items, that the last does not hold; a rest or
-/// serial that has no item comes after all items and has to be empty.
+/// The bits of an EPC in upper-case hexadecimal digits (TDS 2.0, section 14). The candidates are the options of bits of
+/// the EPC's kind and prefix length and, where its encoding is not empty, of that encoding, in their order. The first that
+/// holds every field writes. `NoOption` comes exactly where there is no candidate. `CannotHold` comes exactly where there
+/// are some and none holds every field, and names the first field, in the order of the items, that the last does not hold;
+/// a rest or serial that has no item comes after all items and has to be empty.
 pub fn write_hex(alloc: Global, set: &TableSet, epc: &Epc) -> Result<Text, EpcWriteFault>
     requires { HasFilter epc.now.filter }
     ensures { WritesAs set.now LevelName.Binary epc.now result }
@@ -144,8 +145,8 @@ pub fn write_tag(alloc: Global, set: &TableSet, epc: &Epc) -> Result<Text, EpcWr
     write_level(alloc, set, LevelName::Tag, epc)
 }
 
-/// The EPC pure identity URI of an EPC (TDS 2.0, section 6), by the options of pure identity URIs as `write_hex` by those of
-/// bits. The encoding and the filter of the EPC say nothing here.
+/// The EPC pure identity URI of an EPC (TDS 2.0, section 6), by the options of pure identity URIs as `write_hex` by those
+/// of bits. The encoding and the filter of the EPC say nothing here.
 pub fn write_pure(alloc: Global, set: &TableSet, epc: &Epc) -> Result<Text, EpcWriteFault>
     ensures { WritesAs set.now LevelName.Pure epc.now result }
 {

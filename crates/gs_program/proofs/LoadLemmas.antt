@@ -18,7 +18,7 @@ use Rattle.gs_program.specs.declared.file_kind.FileKind.TheVariants as kind
 use Rattle.gs_program.specs.declared.loading.Loaded.{Loaded}
 use Rattle.gs_program.specs.declared.refusal.FileFault.{FileFault}
 use Rattle.gs_program.specs.declared.refusal.FileFault.TheVariants.{Over}
-use Rattle.gs_program.specs.Loads.{FileGives, FilesGive, Gives, GivesBehind, IsLoadedOf, IsNoPrefix, JudgesPrefixes, JudgesTables, PrefixesGive, Stop, TablesGive, absent, judged, missing, of_verdict, prefixes_verdict, refused, tables_verdict, too_large}
+use Rattle.gs_program.specs.Loads.{FileGives, FilesGive, Gives, GivesBehind, IsLoadedOf, IsNoPrefix, JudgesPrefixes, JudgesTables, PrefixesGive, Stop, TablesGive, prefixes_verdict, absent, judged, missing, of_verdict, tables_verdict, too_large}
 use Rattle.gs_program.specs.Refusals.{file_limit}
 use Rattle.gs_program.specs.Requests.{FileNames}
 use Rattle.gs_program.specs.Runs.{ambiguous}
@@ -70,43 +70,43 @@ alike_answers one other (but_text name i j text text' e f) = two_texts name i j 
 tables_one : (Ruled : Result TableRows LoadFault → Type 0) → IsRuling Ruled → AlikeVerdicts kind.Tables (JudgesTables (Judged Ruled))
 tables_one Ruled ruling a b x y = rw (x.is, y.is) (alike_answers x.answer y.answer (judged_alike Ruled ruling x.answer y.answer x.is_answer y.is_answer x.enough y.enough))
 
--- what is given and a stop are not alike, and two that are given and alike are one
-not_alike : {A : Type 0} (stop : Stop) (given : A) → AlikeStops (Ok given) (Err stop) → ⊥
-not_alike stop given (one_stop e) = let f : Ok given ≡ Err stop = e in cc
-not_alike stop given (two_texts name i j text text' e f) = let g : Ok given ≡ Err (ambiguous name i j text) = e in cc
+-- what is given and a stop are not alike, and two of what is given that are alike are one
+not_alike : {A : Type 0} (stop : Stop) (a : A) → AlikeStops (Ok a) (Err stop) → ⊥
+not_alike stop a (one_stop e) = let f : Ok a ≡ Err stop = e in cc
+not_alike stop a (two_texts name i j text text' e f) = let g : Ok a ≡ Err (ambiguous name i j text) = e in cc
 
-same_given : {A : Type 0} (given given' : A) → AlikeStops (Ok given) (Ok given') → given ≡ given'
-same_given given given' (one_stop e) = let f : Ok given ≡ Ok given' = e in cc
-same_given given given' (two_texts name i j text text' e f) = absurd (let g : Ok given ≡ Err (ambiguous name i j text) = e in cc)
+same_given : {A : Type 0} (a a' : A) → AlikeStops (Ok a) (Ok a') → a ≡ a'
+same_given a a' (one_stop e) = let f : Ok a ≡ Ok a' = e in cc
+same_given a a' (two_texts name i j text text' e f) = absurd (let g : Ok a ≡ Err (ambiguous name i j text) = e in cc)
 
--- stops that are alike are so of whatever would be given
-same_stops : {A B : Type 0} (stop stop' : Stop) → AlikeStops {A = A} (Err stop) (Err stop') → AlikeStops {A = B} (Err stop) (Err stop')
-same_stops stop stop' (one_stop f) = let is : stop ≡ stop' = cc in one_stop (ap Err is)
-same_stops stop stop' (two_texts name i j text text' f g) =
-    let is : stop ≡ ambiguous name i j text = cc in
-    let is' : stop' ≡ ambiguous name i j text' = cc in
-    two_texts name i j text text' (ap Err is) (ap Err is')
+-- the answers of a step are alike
+abbrev AreAlikeAll : {A : Type 0} → (Result A Stop → Type 0) → Type 0
+AreAlikeAll {A = A} Step = (one other : Result A Stop) → Step one → Step other → AlikeStops one other
 
--- any two answers of a step are alike
-abbrev AreAllAlike : {A : Type 0} → (Result A Stop → Type 0) → Type 0
-AreAllAlike {A = A} Gives = (one other : Result A Stop) → Gives one → Gives other → AlikeStops one other
+then_alike : {A B : Type 0} (First : Result A Stop → Type 0) (Next : A → Result B Stop → Type 0) → AreAlikeAll First → ((a : A) → AreAlikeAll (Next a)) → AreAlikeAll (Then First Next)
+then_alike {A = A} {B = B} First Next alike next x y (refuses stop gives e) (refuses stop' gives' e') = rw (e, e') (same_refusal stop stop' (alike (Err stop) (Err stop') gives gives'))
+  where
+    same_refusal : (stop stop' : Stop) → AlikeStops {A = A} (Err stop) (Err stop') → AlikeStops {A = B} (Err stop) (Err stop')
+    same_refusal stop stop' (one_stop f) = let is : stop ≡ stop' = cc in one_stop (ap Err is)
+    same_refusal stop stop' (two_texts name i j text text' f g) =
+        let is : stop ≡ ambiguous name i j text = cc in
+        let is' : stop' ≡ ambiguous name i j text' = cc in
+        two_texts name i j text text' (ap Err is) (ap Err is')
+then_alike First Next alike next x y (refuses stop gives e) (goes_on a gives' n') = absurd (not_alike stop a (alike (Ok a) (Err stop) gives' gives))
+then_alike First Next alike next x y (goes_on a gives n) (refuses stop gives' e') = absurd (not_alike stop a (alike (Ok a) (Err stop) gives gives'))
+then_alike First Next alike next x y (goes_on a gives n) (goes_on a' gives' n') =
+    let same : a ≡ a' = same_given a a' (alike (Ok a) (Ok a') gives gives') in
+    let moved : Next a y = rw same n' in
+    next a x y n moved
 
-then_alike : {A B : Type 0} (First : Result A Stop → Type 0) (Next : A → Result B Stop → Type 0) → AreAllAlike First → ((given : A) → AreAllAlike (Next given)) → AreAllAlike (Then First Next)
-then_alike First Next alike next a b (refuses stop gives e) (refuses stop' gives' e') = rw (e, e') (same_stops stop stop' (alike (Err stop) (Err stop') gives gives'))
-then_alike First Next alike next a b (refuses stop gives e) (goes_on given gives' n) = absurd (not_alike stop given (alike (Ok given) (Err stop) gives' gives))
-then_alike First Next alike next a b (goes_on given gives n) (refuses stop gives' e') = absurd (not_alike stop given (alike (Ok given) (Err stop) gives gives'))
-then_alike First Next alike next a b (goes_on given gives n) (goes_on given' gives' n') =
-    let is = same_given given given' (alike (Ok given) (Ok given') gives gives') in
-    let moved : Next given b = rw is n' in
-    next given a b n moved
+prefixes_one : (files : List (List ℕ × List ℕ)) (name : Option (List ℕ)) → AreAlikeAll (PrefixesGive (Some files) name)
+prefixes_one files name = gives_one files kind.Prefixes JudgesPrefixes IsNoPrefix name
+    (λ bytes x y e f. one_stop (ap (of_verdict kind.Prefixes) (e ∙ sym f)))
+    (λ x y e f. one_stop (ap (of_verdict kind.Prefixes) (e ∙ sym f)))
 
-prefixes_one : (files : List (List ℕ × List ℕ)) (name : Option (List ℕ)) → AreAllAlike (PrefixesGive (Some files) name)
-prefixes_one files name =
-    gives_one files kind.Prefixes JudgesPrefixes IsNoPrefix name
-    (λ bytes a b x y. one_stop (ap (of_verdict kind.Prefixes) (x ∙ sym y))) (λ a b x y. one_stop (ap (of_verdict kind.Prefixes) (x ∙ sym y)))
-
-behind_one : (files : List (List ℕ × List ℕ)) (names : FileNames) (set : TableRows) → AreAllAlike (GivesBehind (Some files) names set)
-behind_one files names set = then_alike (PrefixesGive (Some files) names.prefixes) (IsLoadedOf set) (prefixes_one files names.prefixes) (λ list a b x y. one_stop (x ∙ sym y))
+behind_one : (files : List (List ℕ × List ℕ)) (names : FileNames) (set : TableRows) → AreAlikeAll (GivesBehind (Some files) names set)
+behind_one files names set = then_alike (PrefixesGive (Some files) names.prefixes) (IsLoadedOf set) (prefixes_one files names.prefixes)
+    (λ list x y e f. one_stop (e ∙ sym f))
 
 pub files_one : (files : List (List ℕ × List ℕ)) (names : FileNames) (a b : Result Loaded Stop) → FilesGive (Some files) names a → FilesGive (Some files) names b → AlikeStops a b
 files_one files names = then_alike (TablesGive (Some files) names.tables) (GivesBehind (Some files) names)

@@ -1,9 +1,9 @@
 pub mod FoundItems
 pub mod KeptRows
-pub mod NumberLemmas
 pub mod RefusalLists
 pub mod SetLemmas
 pub mod KeptSets
+pub mod NumberLemmas
 pub mod RuledRefusals
 pub mod JudgedLevels
 pub mod JudgedAnswers
