@@ -1,0 +1,264 @@
+-- The refusals of a store, and its links.
+use Rattle.std.proofs.Common.{◌≡◌, ◌≤◌, ℕ, zero, suc, ◌+◌, Bool, true, false, List, [], ◌∷◌, ◌++◌, length, take, map, Some, None, slice_get, refl, sym, ap, ◌∙◌, inl, inr, arith}
+use Rattle.std.specs.Prelude.{Result, Ok, Err, nat_lt}
+use Rattle.std.specs.List.{enumerate_from, flat_map}
+use Rattle.std.proofs.lemmas.Bool.{cases_lt}
+use Rattle.std.proofs.lemmas.Grind.{flat_map-append}
+use Rattle.std.proofs.Common.{lt→ltb}
+use Rattle.std.proofs.lemmas.List.{append-nil, append_assoc, length-append}
+use Rattle.gs_ai.specs.Tables.{is_empty}
+use Rattle.gs_ai.specs.declared.pair.Pair.{Pair}
+use Rattle.gs_ai.specs.declared.row.AiRow.{AiRow}
+use Rattle.gs_chars.proofs.TruthsAndLists.{nil_parts}
+use Rattle.gs_dlink.specs.Answers.{fault_in}
+use Rattle.gs_dlink.specs.declared.fault.LinkFault.{LinkFault}
+use Rattle.gs_ident.specs.Elements.{Elements}
+use Rattle.gs_ident.specs.Identities.{identity_of_pairs}
+use Rattle.gs_ident.specs.declared.faults.IdentFault.{IdentFault}
+use Rattle.gs_linkset.specs.declared.link_types.Context.{Context}
+use Rattle.gs_linkset.specs.declared.link_types.Relation.{Relation}
+use Rattle.gs_links.proofs.ChoiceLemmas.{take_next, take_whole}
+use Rattle.gs_links.specs.Loading.{OrMemory, anchor_answer, bad_target, by_identity, by_pairs, context_faults, context_links, expanded, first_or, link_with, links_by, links_of, load_answer, pairs_answer, relation_faults, relation_links, relations_count, relations_faults, store_faults, targets_count, without_attributes}
+use Rattle.gs_links.specs.declared.fault.AnchorWhy.{AnchorWhy}
+use Rattle.gs_links.specs.declared.fault.AnchorWhy.TheVariants.{Link as NoLink, Ident, Attributes}
+use Rattle.gs_links.specs.declared.fault.StoreFault.{StoreFault}
+use Rattle.gs_links.specs.declared.fault.StoreFault.TheVariants.{TooMany, BadAnchor, BadHref, Memory}
+use Rattle.gs_links.specs.declared.link.Link.{Link}
+
+-- ---- anchors
+
+pub fault_is : (answer : Result (List Pair) LinkFault) (e : LinkFault) → fault_in answer ≡ Some e → answer ≡ Err e
+fault_is (Ok pairs) e h = absurd (let g : None ≡ Some e = h in cc)
+fault_is (Err f) e h = let same : f ≡ e = (let g : Some f ≡ Some e = h in cc) in ap Err same
+
+module _ (table : List AiRow) (text : List ℕ) where
+  pub no_link : (fault : LinkFault) → pairs_answer table text ≡ Err fault → Err (NoLink fault) ≡ anchor_answer table text
+  unfolding anchor_answer
+  no_link fault h = rw h refl
+
+  pub identity_is : (pairs : List Pair) (identity : Elements) → pairs_answer table text ≡ Ok pairs → identity_of_pairs table pairs ≡ Ok identity → without_attributes identity ≡ anchor_answer table text
+  unfolding anchor_answer
+  identity_is pairs identity h made = rw (h, made) refl
+
+  pub no_identity : (pairs : List Pair) (fault : IdentFault) → pairs_answer table text ≡ Ok pairs → identity_of_pairs table pairs ≡ Err fault → Err (Ident fault) ≡ anchor_answer table text
+  unfolding anchor_answer
+  no_identity pairs fault h made = rw (h, made) refl
+
+bare : (identity anchor : Elements) (b : Bool) → is_empty identity.attributes ≡ b → without_attributes identity ≡ Ok anchor → anchor.attributes ≡ []
+bare identity anchor true e h =
+    let g = rw e at h in
+    let same : identity ≡ anchor = (let w : Ok identity ≡ Ok anchor = g in cc) in
+    rw (← same) (nothing identity.attributes e)
+  where
+    nothing : (xs : List Pair) → is_empty xs ≡ true → xs ≡ []
+    nothing [] t = refl
+    nothing (x ∷ xs) t = absurd (cc)
+bare identity anchor false e h = absurd (let g = rw e at h in let w : Err Attributes ≡ Ok anchor = g in cc)
+
+bare_identity : (answer : Result Elements IdentFault) (anchor : Elements) → by_identity answer ≡ Ok anchor → anchor.attributes ≡ []
+bare_identity (Ok identity) anchor h = bare identity anchor (is_empty identity.attributes) refl h
+bare_identity (Err fault) anchor h = absurd (let w : Err (Ident fault) ≡ Ok anchor = h in cc)
+
+bare_pairs : (table : List AiRow) (answer : Result (List Pair) LinkFault) (anchor : Elements) → by_pairs table answer ≡ Ok anchor → anchor.attributes ≡ []
+bare_pairs table (Ok pairs) anchor h = bare_identity (identity_of_pairs table pairs) anchor h
+bare_pairs table (Err fault) anchor h = absurd (let w : Err (NoLink fault) ≡ Ok anchor = h in cc)
+
+-- an anchor has no attributes
+pub no_attributes : (table : List AiRow) (text : List ℕ) (anchor : Elements) → Ok anchor ≡ anchor_answer table text → anchor.attributes ≡ []
+unfolding anchor_answer
+no_attributes table text anchor h = bare_pairs table (pairs_answer table text) anchor (sym h)
+
+-- all qualifiers of an anchor give the anchor
+pub whole_anchor : (anchor : Elements) → anchor.attributes ≡ [] → record { key = anchor.key; qualifiers = take (length anchor.qualifiers) anchor.qualifiers; attributes = [] } ≡ anchor
+whole_anchor anchor none = ap (λ q. record { key = anchor.key; qualifiers = q; attributes = [] }) (take_whole anchor.qualifiers (length anchor.qualifiers) (omega arith)) ∙ ap (λ a. record { key = anchor.key; qualifiers = anchor.qualifiers; attributes = a }) (sym none)
+
+-- ---- the targets of relations
+
+pub relations_more : (relations : List Relation) (i : ℕ) (relation : Relation) → slice_get relations i ≡ Some relation → relations_count (take (i + 1) relations) ≡ relations_count (take i relations) + length relation.targets
+relations_more relations i relation at =
+    rw (take_next relations i relation at, flat_map-append (λ (r : Relation). r.targets) (take i relations) (relation ∷ []), append-nil relation.targets)
+    (length-append (flat_map (λ (r : Relation). r.targets) (take i relations)) relation.targets)
+
+pub contexts_more : (contexts : List Context) (i : ℕ) (context : Context) → slice_get contexts i ≡ Some context → targets_count (take (i + 1) contexts) ≡ targets_count (take i contexts) + relations_count context.relations
+contexts_more contexts i context at =
+    rw (take_next contexts i context at, flat_map-append (λ (c : Context). flat_map (λ (r : Relation). r.targets) c.relations) (take i contexts) (context ∷ []), append-nil (flat_map (λ (r : Relation). r.targets) context.relations))
+    (length-append (flat_map (λ (c : Context). flat_map (λ (r : Relation). r.targets) c.relations) (take i contexts)) (flat_map (λ (r : Relation). r.targets) context.relations))
+
+-- ---- faults one after the other
+
+-- the items before a place have no fault
+module _ {A : Type 0} (faults : ℕ → A → List StoreFault) where
+  abbrev row_faults : ℕ × A → List StoreFault
+  row_faults row = faults row.0 row.1
+
+  abbrev pub NoneBefore : List A → ℕ → Type 0
+  NoneBefore xs i = flat_map row_faults (enumerate_from 0 (take i xs)) ≡ []
+
+  rows_end : (n : ℕ) (xs : List A) (i : ℕ) (x : A) → slice_get xs i ≡ Some x → flat_map row_faults (enumerate_from n (take (suc i) xs)) ≡ flat_map row_faults (enumerate_from n (take i xs)) ++ faults (n + i) x
+  rows_end n [] i x at = absurd (let g : None ≡ Some x = at in cc)
+  rows_end n (y ∷ xs) zero x at =
+      let same : y ≡ x = cc in
+      let here : n + 0 ≡ n = omega arith in
+      rw (same, here) (append-nil (faults n x))
+  rows_end n (y ∷ xs) (suc i) x at =
+      let there : n + suc i ≡ n + 1 + i = omega arith in
+      rw (there, rows_end (n + 1) xs i x at) (sym (append_assoc (faults n y) (flat_map row_faults (enumerate_from (n + 1) (take i xs))) (faults (n + 1 + i) x)))
+
+  pub none_more : (xs : List A) (i : ℕ) (x : A) → slice_get xs i ≡ Some x → NoneBefore xs i → faults i x ≡ [] → NoneBefore xs (i + 1)
+  none_more xs i x at before own =
+      let next : i + 1 ≡ suc i = omega arith in
+      let here : 0 + i ≡ i = omega arith in
+      rw (next, rows_end 0 xs i x at, here, before) own
+
+  pub none_all : (xs : List A) (i : ℕ) → length xs ≤ i → NoneBefore xs i → flat_map row_faults (enumerate_from 0 xs) ≡ []
+  none_all xs i all h = rw (take_whole xs i all) at h
+
+  split : (n : ℕ) (xs : List A) (i : ℕ) (x : A) → slice_get xs i ≡ Some x → flat_map row_faults (enumerate_from n (take i xs)) ≡ [] → (rest : List StoreFault) × (flat_map row_faults (enumerate_from n xs) ≡ faults (n + i) x ++ rest)
+  split n [] i x at none = absurd (let g : None ≡ Some x = at in cc)
+  split n (y ∷ xs) zero x at none =
+      let same : y ≡ x = cc in
+      let here : n + 0 ≡ n = omega arith in
+      rw (same, here) (flat_map row_faults (enumerate_from (n + 1) xs), refl)
+  split n (y ∷ xs) (suc i) x at none =
+      let parts = nil_parts (faults n y) (flat_map row_faults (enumerate_from (n + 1) (take i xs))) none in
+      let rest = split (n + 1) xs i x at parts.1 in
+      let there : n + suc i ≡ n + 1 + i = omega arith in
+      rw (parts.0, there) (rest.0, rest.1)
+
+  -- the first fault is that of an item
+  pub fault_at : {X Y : Type 0} (xs : List A) (i : ℕ) (x : A) (a : X) (b : Y) (e : StoreFault) → slice_get xs i ≡ Some x → NoneBefore xs i → OrMemory (Err e) (first_or (faults i x) a) → OrMemory (Err e) (first_or (flat_map row_faults (enumerate_from 0 xs)) b)
+  fault_at xs i x a b e at none h =
+      let parts = split 0 xs i x at none in
+      let here : 0 + i ≡ i = omega arith in
+      let whole = rw here at parts.1 in
+      rw whole (in_front (faults i x) parts.0 a b e h)
+    where
+      in_front : {X Y : Type 0} (own rest : List StoreFault) (a : X) (b : Y) (e : StoreFault) → OrMemory (Err e) (first_or own a) → OrMemory (Err e) (first_or (own ++ rest) b)
+      in_front own rest a b e (inl m) = inl (let same : e ≡ Memory = cc in ap Err same)
+      in_front [] rest a b e (inr h) = absurd (let g : Err e ≡ Ok a = h in cc)
+      in_front (f ∷ own) rest a b e (inr h) = inr (let same : e ≡ f = cc in ap Err same)
+
+  -- the refusal of an item is the first
+  pub refused_at : {X : Type 0} (xs : List A) (i : ℕ) (x : A) (f : StoreFault) (b : X) → slice_get xs i ≡ Some x → NoneBefore xs i → faults i x ≡ f ∷ [] → Err f ≡ first_or (flat_map row_faults (enumerate_from 0 xs)) b
+  refused_at xs i x f b at none own =
+      let parts = split 0 xs i x at none in
+      let here : 0 + i ≡ i = omega arith in
+      let whole = rw (here, own) at parts.1 in
+      rw whole refl
+
+-- ---- the faults of relations
+
+pub bad_relation : (i r t : ℕ) (relation : Relation) → Some t ≡ bad_target relation → relation_faults i r relation ≡ BadHref i r t ∷ []
+bad_relation i r t relation h = rw (← h) refl
+
+pub good_relation : (i r : ℕ) (relation : Relation) → None ≡ bad_target relation → relation_faults i r relation ≡ []
+good_relation i r relation h = rw (← h) refl
+
+pub first_is : {X : Type 0} (faults : List StoreFault) (f : StoreFault) (rest : List StoreFault) (x : X) → faults ≡ f ∷ rest → Err f ≡ first_or faults x
+first_is faults f rest x e = rw e refl
+
+-- what a judgement without fault says
+pub no_fault : {X : Type 0} (faults : List StoreFault) (x y : X) → Ok y ≡ first_or faults x → faults ≡ []
+no_fault [] x y h = refl
+no_fault (f ∷ faults) x y h = absurd (let g : Ok y ≡ Err f = h in cc)
+
+-- ---- a context
+
+module _ (table : List AiRow) (i : ℕ) (context : Context) where
+  pub bad_anchor : (why : AnchorWhy) → Err why ≡ anchor_answer table context.anchor → OrMemory {X = Unit {0}} (Err (BadAnchor i why)) (first_or (context_faults table i context) tt)
+  unfolding context_faults
+  bad_anchor why h = rw (← h) (inr refl)
+
+  pub bad_relations : (anchor : Elements) (e : StoreFault) → Ok anchor ≡ anchor_answer table context.anchor → Err e ≡ first_or {X = Unit {0}} (relations_faults i context.relations) tt → OrMemory {X = Unit {0}} (Err e) (first_or (context_faults table i context) tt)
+  unfolding context_faults
+  bad_relations anchor e h own = rw (← h) (inr own)
+
+  pub good_context : (anchor : Elements) → Ok anchor ≡ anchor_answer table context.anchor → relations_faults i context.relations ≡ [] → OrMemory {X = Unit {0}} (Ok tt) (first_or (context_faults table i context) tt)
+  unfolding context_faults
+  good_context anchor h none = rw (← h, none) (inr refl)
+
+pub links_are : (table : List AiRow) (voc : List ℕ) (context : Context) (anchor : Elements) → Ok anchor ≡ anchor_answer table context.anchor → context_links table voc context ≡ flat_map (relation_links voc anchor) context.relations
+unfolding context_links
+links_are table voc context anchor h = rw (← h) refl
+
+-- ---- the store
+
+pub too_many : (table : List AiRow) (voc : List ℕ) (contexts : List Context) → true ≡ nat_lt 65536 (targets_count contexts) → OrMemory {X = List Link} (Err TooMany) (load_answer table voc contexts)
+unfolding load_answer store_faults
+too_many table voc contexts over = rw (← over) (inr refl)
+
+map_length : {X Y : Type 0} (f : X → Y) (xs : List X) → length (map f xs) ≡ length xs
+map_length f [] = refl
+map_length f (x ∷ xs) = ap suc (map_length f xs)
+
+relations_links : (voc : List ℕ) (anchor : Elements) (relations : List Relation) → length (flat_map (relation_links voc anchor) relations) ≡ relations_count relations
+relations_links voc anchor [] = refl
+relations_links voc anchor (relation ∷ relations) =
+    let own = map_length (link_with anchor (expanded voc relation.name)) relation.targets in
+    let rest = relations_links voc anchor relations in
+    length-append (relation_links voc anchor relation) (flat_map (relation_links voc anchor) relations)
+    ∙ ap (λ n. n + length (flat_map (relation_links voc anchor) relations)) own
+    ∙ ap (λ n. length relation.targets + n) rest
+    ∙ sym (length-append relation.targets (flat_map (λ (r : Relation). r.targets) relations))
+
+links_by_few : (voc : List ℕ) (relations : List Relation) (answer : Result Elements AnchorWhy) → length (links_by voc relations answer) ≤ relations_count relations
+links_by_few voc relations (Ok anchor) = let same = relations_links voc anchor relations in omega (arith, same)
+links_by_few voc relations (Err why) = omega arith
+
+context_few : (table : List AiRow) (voc : List ℕ) (context : Context) → length (context_links table voc context) ≤ relations_count context.relations
+unfolding context_links
+context_few table voc context = links_by_few voc context.relations (anchor_answer table context.anchor)
+
+-- there are no more links than targets
+links_few : (table : List AiRow) (voc : List ℕ) (contexts : List Context) → length (flat_map (context_links table voc) contexts) ≤ targets_count contexts
+links_few table voc [] = omega arith
+links_few table voc (context ∷ contexts) =
+    let own = context_few table voc context in
+    let rest = links_few table voc contexts in
+    let size = length-append (context_links table voc context) (flat_map (context_links table voc) contexts) in
+    let count = length-append (flat_map (λ (r : Relation). r.targets) context.relations) (flat_map (λ (c : Context). flat_map (λ (r : Relation). r.targets) c.relations) contexts) in
+    omega (arith, own, rest, size, count)
+
+not_over : (n : ℕ) → nat_lt 65536 n ≡ false → n ≤ 65536
+not_over n h = elim (cases_lt 65536 n) [
+  | inl over ↦ absurd (let t = lt→ltb 65536 n over in let g = rw h at t in g)
+  | inr few ↦ few
+]
+
+module _ (table : List AiRow) (voc : List ℕ) (contexts : List Context) (i : ℕ) where
+  -- what is known where the contexts before a place are loaded
+  pub record Loaded (links : List Link) : Type 0 where
+    pub none : NoneBefore (context_faults table) contexts i
+    pub made : links ≡ flat_map (context_links table voc) (take i contexts)
+
+  pub few_links : (links : List Link) → Loaded links → length contexts ≤ i → nat_lt 65536 (targets_count contexts) ≡ false → length links ≤ 65536
+  few_links links so_far all few =
+      let made = rw (take_whole contexts i all) at so_far.made in
+      let low = links_few table voc contexts in
+      let high = not_over (targets_count contexts) few in
+      rw made (omega (arith, low, high))
+
+  pub store_refused : (links : List Link) (context : Context) (e : StoreFault) → Loaded links → slice_get contexts i ≡ Some context → nat_lt 65536 (targets_count contexts) ≡ false → OrMemory {X = Unit {0}} (Err e) (first_or (context_faults table i context) tt) → OrMemory {X = List Link} (Err e) (load_answer table voc contexts)
+  unfolding load_answer store_faults
+  store_refused links context e so_far at few h = rw few (fault_at (context_faults table) contexts i context tt (links_of table voc contexts) e at so_far.none h)
+
+  pub store_made : (links : List Link) → Loaded links → length contexts ≤ i → nat_lt 65536 (targets_count contexts) ≡ false → OrMemory {X = List Link} (Ok links) (load_answer table voc contexts)
+  unfolding load_answer store_faults links_of
+  store_made links so_far all few =
+      let none = none_all (context_faults table) contexts i all so_far.none in
+      let made = rw (take_whole contexts i all) at so_far.made in
+      rw (few, none, made) (inr refl)
+
+pub loaded_more : (table : List AiRow) (voc : List ℕ) (contexts : List Context) (i : ℕ) (links more : List Link) (context : Context) → Loaded table voc contexts i links → slice_get contexts i ≡ Some context → OrMemory {X = Unit {0}} (Ok tt) (first_or (context_faults table i context) tt) → more ≡ links ++ context_links table voc context → Loaded table voc contexts (i + 1) more
+loaded_more table voc contexts i links more context so_far at own e = record {
+  none = none_more (context_faults table) contexts i context at so_far.none (faultless (context_faults table i context) own);
+  made = rw (e, so_far.made, take_next contexts i context at, flat_map-append (context_links table voc) (take i contexts) (context ∷ []), append-nil (context_links table voc context)) refl;
+}
+  where
+    faultless : (faults : List StoreFault) → OrMemory {X = Unit {0}} (Ok tt) (first_or faults tt) → faults ≡ []
+    faultless [] h = refl
+    faultless (f ∷ faults) (inl h) = absurd (let g : Ok tt ≡ Err Memory = h in cc)
+    faultless (f ∷ faults) (inr h) = absurd (let g : Ok tt ≡ Err f = h in cc)
+
+pub counted : (contexts : List Context) (context : Context) (i : ℕ) → i ≡ length contexts → i + 1 ≡ length (contexts ++ context ∷ [])
+counted contexts context i e = rw (length-append contexts (context ∷ []), ← e) refl

@@ -1,0 +1,125 @@
+-- How the links of a linkset are loaded: the anchors are GS1 Digital Links (GS1 Digital Link URI Syntax, section 3) of a key
+-- and its qualifiers. The limits and the order of the refusals are this project's own.
+use Rattle.std.specs.Prelude.{◌≡◌, ◌⊎◌, ℕ, Bool, not, ◌&&◌, ◌==◌, nat_le, nat_lt, if◌then◌else◌, List, [], ◌∷◌, ◌++◌, map, length, drop, codes, position, Option, Result, Ok, Err}
+use Rattle.std.specs.List.{enumerate_from, flat_map, list_all, starts_with}
+use Rattle.std.specs.Option.{option_map_or}
+use Rattle.gs_ai.specs.Tables.{is_empty}
+use Rattle.gs_ai.specs.declared.pair.Pair.{Pair}
+use Rattle.gs_ai.specs.declared.row.AiRow.{AiRow}
+use Rattle.gs_dlink.specs.Answers.{link_answer, target_answer}
+use Rattle.gs_dlink.specs.declared.fault.LinkFault.{LinkFault}
+use Rattle.gs_ident.specs.Elements.{Elements}
+use Rattle.gs_ident.specs.Identities.{identity_of_pairs}
+use Rattle.gs_ident.specs.declared.faults.IdentFault.{IdentFault}
+use Rattle.gs_linkset.specs.declared.link_types.Context.{Context}
+use Rattle.gs_linkset.specs.declared.link_types.Relation.{Relation}
+use Rattle.gs_linkset.specs.declared.link_types.Target.{Target}
+use Rattle.gs_links.specs.declared.fault.AnchorWhy.{AnchorWhy}
+use Rattle.gs_links.specs.declared.fault.AnchorWhy.TheVariants.{Link as NoLink, Ident, Attributes}
+use Rattle.gs_links.specs.declared.fault.StoreFault.{StoreFault}
+use Rattle.gs_links.specs.declared.fault.StoreFault.TheVariants.{TooMany, BadAnchor, BadHref, Memory}
+use Rattle.gs_links.specs.declared.link.Link.{Link}
+
+-- ---- anchors
+
+-- the text begins with a slash
+abbrev pub is_path : List ℕ → Bool
+is_path text = starts_with (λ a b. a == b) text (codes "/")
+
+-- the pairs that an anchor names: as the target of a request where it begins with a slash, else as a link
+unfoldable pub pairs_answer : List AiRow → List ℕ → Result (List Pair) LinkFault
+pairs_answer table text = if is_path text then target_answer table 0 text else link_answer table text
+
+-- an anchor has no attributes
+abbrev pub without_attributes : Elements → Result Elements AnchorWhy
+without_attributes identity = if is_empty identity.attributes then Ok identity else Err Attributes
+
+abbrev pub by_identity : Result Elements IdentFault → Result Elements AnchorWhy
+by_identity (Ok identity) = without_attributes identity
+by_identity (Err fault) = Err (Ident fault)
+
+abbrev pub by_pairs : List AiRow → Result (List Pair) LinkFault → Result Elements AnchorWhy
+by_pairs table (Ok pairs) = by_identity (identity_of_pairs table pairs)
+by_pairs table (Err fault) = Err (NoLink fault)
+
+-- the identity of an anchor, or why it has none
+unfoldable pub anchor_answer : List AiRow → List ℕ → Result Elements AnchorWhy
+anchor_answer table text = by_pairs table (pairs_answer table text)
+
+-- ---- refusals
+
+-- a reference is 1 to 2,048 bytes from 33 to 126
+abbrev pub is_visible : ℕ → Bool
+is_visible c = nat_le 33 c && nat_le c 126
+
+unfoldable pub is_reference : List ℕ → Bool
+is_reference text = nat_le 1 (length text) && (nat_le (length text) 2048 && list_all is_visible text)
+
+-- the number of the first target whose `href` is none
+abbrev pub bad_target : Relation → Option ℕ
+bad_target relation = position (λ target. not (is_reference target.href)) relation.targets
+
+abbrev pub relation_faults : ℕ → ℕ → Relation → List StoreFault
+relation_faults i r relation = option_map_or (λ t. BadHref i r t ∷ []) (bad_target relation) []
+
+abbrev pub relations_faults : ℕ → List Relation → List StoreFault
+relations_faults i relations = flat_map (λ row. relation_faults i row.0 row.1) (enumerate_from 0 relations)
+
+abbrev pub anchor_faults : ℕ → Result Elements AnchorWhy → List StoreFault
+anchor_faults i (Ok _) = []
+anchor_faults i (Err why) = BadAnchor i why ∷ []
+
+unfoldable pub context_faults : List AiRow → ℕ → Context → List StoreFault
+context_faults table i context = anchor_faults i (anchor_answer table context.anchor) ++ relations_faults i context.relations
+
+-- how many targets the relations, and the contexts have
+abbrev pub relations_count : List Relation → ℕ
+relations_count relations = length (flat_map (λ relation. relation.targets) relations)
+
+abbrev pub targets_count : List Context → ℕ
+targets_count contexts = length (flat_map (λ context. flat_map (λ relation. relation.targets) context.relations) contexts)
+
+abbrev pub count_faults : List Context → List StoreFault
+count_faults contexts = if nat_lt 65536 (targets_count contexts) then TooMany ∷ [] else []
+
+-- all refusals in the order of the reports
+unfoldable pub store_faults : List AiRow → List Context → List StoreFault
+store_faults table contexts =
+    count_faults contexts ++ flat_map (λ row. context_faults table row.0 row.1) (enumerate_from 0 contexts)
+
+-- ---- links
+
+-- a relation that begins with `gs1:` stands for the vocabulary and what comes behind
+unfoldable pub expanded : List ℕ → List ℕ → List ℕ
+expanded voc name = if starts_with (λ a b. a == b) name (codes "gs1:") then voc ++ drop 4 name else name
+
+abbrev pub link_with : Elements → List ℕ → Target → Link
+link_with anchor relation target = record { anchor = anchor; relation = relation; target = target }
+
+abbrev pub relation_links : List ℕ → Elements → Relation → List Link
+relation_links voc anchor relation = map (link_with anchor (expanded voc relation.name)) relation.targets
+
+abbrev pub links_by : List ℕ → List Relation → Result Elements AnchorWhy → List Link
+links_by voc relations (Ok anchor) = flat_map (relation_links voc anchor) relations
+links_by voc relations (Err why) = []
+
+unfoldable pub context_links : List AiRow → List ℕ → Context → List Link
+context_links table voc context = links_by voc context.relations (anchor_answer table context.anchor)
+
+-- the links, in the order of the document
+unfoldable pub links_of : List AiRow → List ℕ → List Context → List Link
+links_of table voc contexts = flat_map (context_links table voc) contexts
+
+-- ---- the answer
+
+-- the first refusal, or what is made where there is none
+abbrev pub first_or : {X : Type 0} → List StoreFault → X → Result X StoreFault
+first_or [] made = Ok made
+first_or (fault ∷ faults) made = Err fault
+
+-- the answer, or want of memory
+abbrev pub OrMemory : {X : Type 0} → Result X StoreFault → Result X StoreFault → Type 0
+OrMemory result answer = (result ≡ Err Memory) ⊎ (result ≡ answer)
+
+unfoldable pub load_answer : List AiRow → List ℕ → List Context → Result (List Link) StoreFault
+load_answer table voc contexts = first_or (store_faults table contexts) (links_of table voc contexts)

@@ -1,0 +1,78 @@
+ghost use Rattle.std.specs.Prelude.{◌≡◌, ◌≢◌, All, Err, IfErr, IfOk, Ok};
+ghost use Rattle.gs_ident.specs.Identities.{IsInOrder};
+ghost use Rattle.gs_links.specs.Loading.{anchor_answer, pairs_answer, without_attributes};
+ghost use Rattle.gs_links.specs.declared.fault.AnchorWhy.TheVariants.{Link as NoLink, Ident};
+
+use crate::fault::AnchorWhy;
+use gs_ai::{AiTable, Pair};
+use gs_chars::Memory;
+use gs_dlink::{LinkFault, read_link, read_target};
+use gs_ident::{IdentFault, Identity, make};
+use std::alloc::Global;
+
+/// The pairs that an anchor names.
+#[tactic(auto, unfolding(crate::specs::Loading::pairs_answer))]
+fn read_pairs(alloc: Global, table: &AiTable, text: &[u8]) -> Result<Vec<Pair>, LinkFault>
+    ensures pairs { IfOk result (λ pairs. pairs_answer table.now text.now ≡ Ok pairs.items) }
+    ensures in_order { IfOk result (λ pairs. All (IsInOrder table.now) pairs.items) }
+    ensures fault { IfErr result (λ e. e ≢ LinkFault.Memory → pairs_answer table.now text.now ≡ Err e) }
+{
+    if text.starts_with(b"/") {
+        read_target(alloc, table, text)
+    } else {
+        read_link(alloc, table, text)
+    }
+}
+
+/// An identity that has no attributes.
+fn without_attributes(identity: Identity) -> Result<Identity, AnchorWhy>
+    ensures { result ≡ without_attributes identity }
+{
+    if identity.attributes().is_empty() {
+        Ok(identity)
+    } else {
+        Err(AnchorWhy::Attributes)
+    }
+}
+
+/// Why an anchor that is no link is none.
+fn no_link(fault: LinkFault) -> Result<AnchorWhy, Memory>
+    ensures { IfOk result (λ why. (why ≡ NoLink fault) × (fault ≢ LinkFault.Memory)) }
+{
+    match fault {
+        LinkFault::NotHttp => Ok(AnchorWhy::Link(LinkFault::NotHttp)),
+        LinkFault::NoKeyPath => Ok(AnchorWhy::Link(LinkFault::NoKeyPath)),
+        LinkFault::Element(element) => Ok(AnchorWhy::Link(LinkFault::Element(element))),
+        LinkFault::Memory => Err(Memory),
+    }
+}
+
+/// Why an anchor whose pairs have no identity is none.
+fn no_identity(fault: IdentFault) -> Result<AnchorWhy, Memory>
+    ensures { IfOk result (λ why. (why ≡ Ident fault) × (fault ≢ IdentFault.Memory)) }
+{
+    match fault {
+        IdentFault::Repeat(code) => Ok(AnchorWhy::Ident(IdentFault::Repeat(code))),
+        IdentFault::NoKey => Ok(AnchorWhy::Ident(IdentFault::NoKey)),
+        IdentFault::TwoKeys(code) => Ok(AnchorWhy::Ident(IdentFault::TwoKeys(code))),
+        IdentFault::Memory => Err(Memory),
+    }
+}
+
+/// The identity of an anchor, or why it has none.
+pub(crate) fn read_anchor(
+    alloc: Global,
+    table: &AiTable,
+    text: &[u8],
+) -> Result<Result<Identity, AnchorWhy>, Memory>
+    ensures { IfOk result (λ answer. answer ≡ anchor_answer table.now text.now) }
+{
+    let pairs = match read_pairs(alloc, table, text) {
+        Ok(pairs) => pairs,
+        Err(fault) => return Ok(Err(no_link(fault)?)),
+    };
+    match make(alloc, table, pairs) {
+        Ok(identity) => Ok(without_attributes(identity)),
+        Err(fault) => Ok(Err(no_identity(fault)?)),
+    }
+}

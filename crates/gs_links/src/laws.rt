@@ -1,0 +1,28 @@
+ghost use Rattle.std.specs.Prelude.{◌≡◌, ◌≤◌, ◌↔◌, ℕ, List, Some, length, slice_get, true};
+ghost use Rattle.gs_ident.specs.Elements.{Elements, first_qualifiers};
+ghost use Rattle.gs_links.specs.Choices.{IsAmong, chosen, chosen_depth, depth_of, is_candidate, is_prefix};
+ghost use Rattle.gs_links.specs.declared.link.Link.{Link};
+ghost use Rattle.gs_links.specs.declared.link.Want.{Want};
+
+/// The prefixes of an identity are its key with its first k qualifiers, for each k up to their number.
+pub fn prefixes_of()
+    ensures { (prefix identity : Elements) → (is_prefix prefix identity ≡ true)
+        ↔ ((k : ℕ) × (k ≤ length identity.qualifiers) × (prefix ≡ first_qualifiers k identity)) }
+{}
+
+/// The choice depends on the identity's key and qualifiers alone.
+pub fn by_key_and_qualifiers()
+    ensures { (links : List Link) (a b : Elements) (want : Want) → a.key ≡ b.key → a.qualifiers ≡ b.qualifiers
+        → (chosen links a want ≡ chosen links b want) × (chosen_depth links a want ≡ chosen_depth links b want) }
+{}
+
+/// A candidate hides every candidate with fewer qualifiers, and nothing else: the link of a number is chosen exactly where it
+/// is a candidate and no candidate has more qualifiers.
+pub fn deeper_hides()
+    ensures { (links : List Link) (identity : Elements) (want : Want) (i : ℕ) (link : Link)
+        → slice_get links i ≡ Some link
+        → IsAmong (chosen links identity want) i
+        ↔ ((is_candidate identity want link ≡ true)
+        × ((j : ℕ) (other : Link) → slice_get links j ≡ Some other → is_candidate identity want other ≡ true
+        → depth_of other ≤ depth_of link)) }
+{}

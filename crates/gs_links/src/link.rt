@@ -1,0 +1,32 @@
+use gs_chars::Text;
+use gs_ident::Identity;
+use gs_linkset::Target;
+
+/// A link of a store.
+#[derive(Debug, Drop)]
+pub struct Link {
+    /// What the link is of: a key and qualifiers, without attributes.
+    pub anchor: Identity,
+    /// The relation type (RFC 9264, section 4.2.2), in which `gs1:` is expanded.
+    pub relation: Text,
+    /// The target.
+    pub target: Target,
+}
+
+/// Which links are wanted.
+#[derive(Clone, Copy, Debug)]
+pub enum Want<'a> {
+    /// Those of all relations.
+    All,
+    /// Those of the relation type with this name.
+    Relation(&'a [u8]),
+}
+
+/// What a choice gave.
+#[derive(Clone, Copy, Debug, PartialEq, Eq)]
+pub struct Chosen {
+    /// The number of qualifiers in the anchors of the chosen links, and 0 where none is chosen.
+    pub depth: usize,
+    /// How many links are chosen.
+    pub count: usize,
+}

@@ -1,0 +1,134 @@
+ghost use Rattle.std.specs.Prelude.{◌≡◌, ◌++◌, [], IfOk, map, not, position};
+ghost use Rattle.std.specs.List.{flat_map, list_all};
+ghost use Rattle.gs_links.specs.Loading.{OrMemory, context_faults, context_links, expanded, first_or};
+ghost use Rattle.gs_links.specs.Loading.{is_reference, is_visible, link_with, relation_links, relations_faults};
+
+use crate::anchors::read_anchor;
+use crate::fault::StoreFault;
+use crate::link::Link;
+use gs_ai::AiTable;
+use gs_chars::{List, Memory, Text};
+use gs_ident::Identity;
+use gs_linkset::{Context, Relation, Target};
+use std::alloc::Global;
+
+/// Whether all bytes are from 33 to 126.
+fn are_visible(text: &[u8]) -> bool
+    ensures { result ≡ list_all is_visible text.now }
+{
+    text.iter().all(|c| is_visible(*c))
+}
+
+/// Whether a byte is from 33 to 126.
+fn is_visible(c: u8) -> bool
+    ensures { result ≡ is_visible c }
+{
+    33 <= c && c <= 126
+}
+
+/// Whether a text is 1 to 2,048 bytes from 33 to 126.
+#[tactic(auto, unfolding(crate::specs::Loading::is_reference))]
+fn is_reference(text: &[u8]) -> bool
+    ensures { result ≡ is_reference text.now }
+{
+    1 <= text.len() && text.len() <= 2048 && are_visible(text)
+}
+
+/// The number of the first target whose `href` is no reference.
+fn bad_target(targets: &[Target]) -> Option<usize>
+    ensures { result ≡ position (λ target. not (is_reference target.href)) targets.now }
+{
+    targets
+        .iter()
+        .position(|target| !is_reference(target.href.as_bytes()))
+}
+
+/// The first refusal of the relations of the context at an index.
+fn judge_relations(i: usize, relations: &[Relation]) -> Result<(), StoreFault>
+    ensures { result ≡ first_or (relations_faults i relations.now) tt }
+{
+    for (r, relation) in relations.iter().enumerate() {
+        if let Some(t) = bad_target(relation.targets.items()) {
+            return Err(StoreFault::BadHref(i, r, t));
+        }
+    }
+    Ok(())
+}
+
+/// The relation in which `gs1:` is expanded.
+#[tactic(auto, unfolding(crate::specs::Loading::expanded))]
+fn expand(alloc: Global, voc: &[u8], name: Text) -> Result<Text, Memory>
+    ensures { IfOk result (λ relation. relation ≡ expanded voc.now name) }
+{
+    match name.as_bytes().strip_prefix(b"gs1:") {
+        Some(rest) => {
+            let mut relation = Vec::from_slice(alloc, voc)?;
+            relation.extend_from_slice(rest)?;
+            Ok(Text::from_vec(relation))
+        }
+        None => Ok(name),
+    }
+}
+
+/// Adds the links of targets.
+fn push_targets(
+    alloc: Global,
+    anchor: &Identity,
+    relation: &Text,
+    targets: List<Target>,
+    links: &mut Vec<Link>,
+) -> Result<(), Memory>
+    requires { anchor.now.attributes ≡ [] }
+    ensures { IfOk result (λ _. links.new.items
+        ≡ links.old.items ++ map (link_with anchor.now relation.now) targets) }
+{
+    for target in targets.into_vec() {
+        links.push(Link {
+            anchor: anchor.prefix(alloc, anchor.qualifiers().len())?,
+            relation: relation.copy(alloc)?,
+            target,
+        })?;
+    }
+    Ok(())
+}
+
+/// Adds the links of relations.
+fn push_relations(
+    alloc: Global,
+    voc: &[u8],
+    anchor: &Identity,
+    relations: List<Relation>,
+    links: &mut Vec<Link>,
+) -> Result<(), Memory>
+    requires { anchor.now.attributes ≡ [] }
+    ensures { IfOk result (λ _. links.new.items
+        ≡ links.old.items ++ flat_map (relation_links voc.now anchor.now) relations) }
+{
+    for relation in relations.into_vec() {
+        let name = expand(alloc, voc, relation.name)?;
+        push_targets(alloc, anchor, &name, relation.targets, links)?;
+    }
+    Ok(())
+}
+
+/// Adds the links of the context at an index, or answers its first refusal.
+pub(crate) fn push_context(
+    alloc: Global,
+    table: &AiTable,
+    voc: &[u8],
+    i: usize,
+    context: Context,
+    links: &mut Vec<Link>,
+) -> Result<(), StoreFault>
+    ensures answer { OrMemory result (first_or (context_faults table.now i context) tt) }
+    ensures links { IfOk result (λ _. links.new.items
+        ≡ links.old.items ++ context_links table.now voc.now context) }
+{
+    let anchor = match read_anchor(alloc, table, context.anchor.as_bytes())? {
+        Ok(anchor) => anchor,
+        Err(why) => return Err(StoreFault::BadAnchor(i, why)),
+    };
+    judge_relations(i, context.relations.items())?;
+    push_relations(alloc, voc, &anchor, context.relations, links)?;
+    Ok(())
+}
