@@ -1,12 +1,13 @@
 -- Bits that are written as hexadecimal digits are read again.
-use Rattle.std.proofs.Common.{◌≡◌, ℕ, ◌%◌, ◌^◌, ◌<◌, true, false, List, [], ◌∷◌, length, position, replicate, Some, None, refl, sym, ap, ◌∙◌, arith}
-use Rattle.std.specs.List.{flat_map}
+use Rattle.std.proofs.Common.{◌≡◌, ℕ, ◌*◌, ◌%◌, ◌^◌, ◌<◌, true, false, List, [], ◌∷◌, length, position, replicate, Some, None, refl, sym, ap, ◌∙◌, arith}
+use Rattle.std.specs.Prelude.{is_some}
+use Rattle.std.specs.List.{AllPass, flat_map}
 use Rattle.std.proofs.lemmas.List.Elements.{All-append, All-cons, All-head, All-nil, All-replicate, All-tail}
 use Rattle.gs_ai.proofs.Searches.{cons_none}
 use Rattle.gs_chars.specs.Escapes.{hex_digit, hex_value}
 use Rattle.gs_bits.specs.Bits.{AreBits, bits_of, number_of}
 use Rattle.gs_bits.specs.BitLaws.{AreBits-bits_of, bits_of-number_of, number_of-below}
-use Rattle.gs_bits.specs.HexText.{bits_of_digit, bits_of_hex, hex_of_bits}
+use Rattle.gs_bits.specs.HexText.{bits_of_digit, bits_of_hex, hex_of_bits, is_hex_digit}
 use Rattle.gs_grammar.specs.declared.item.Item.{Item}
 use Rattle.gs_grammar.specs.declared.item.Item.TheVariants.{Lit, Pad, Int, Esc, NumPad, Num, Ascii7, Fill}
 use Rattle.gs_grammar.specs.Items.{is_bad, is_in_bounds}
@@ -75,3 +76,32 @@ hex_read (a ∷ b ∷ c ∷ d ∷ bits) are whole =
     let first = four_read (a ∷ b ∷ c ∷ d ∷ []) four refl in
     let others = hex_read bits rest (omega arith) in
     rw (first, others) refl
+
+-- each digit of bits is a hexadecimal digit, and stands for four bits
+pub record HexDigits (bits : List ℕ) : Type 0 where
+  pub digits : AllPass is_hex_digit (hex_of_bits bits)
+  pub count : 4 * length (hex_of_bits bits) ≡ length bits
+
+four_digit : (four : List ℕ) → AreBits four → length four ≡ 4 → is_hex_digit (hex_digit (number_of four)) ≡ true
+four_digit four are count =
+    let below = number_of-below four are in
+    let small : number_of four < 16 = let e : 2 ^ length four ≡ 16 = ap (λ n. 2 ^ n) count in omega arith in
+    ap is_some (digit_reads (number_of four) small)
+
+pub hex_digits : (bits : List ℕ) → AreBits bits → length bits % 4 ≡ 0 → HexDigits bits
+hex_digits [] are whole = record { digits = All-nil (λ x. is_hex_digit x ≡ true); count = refl }
+hex_digits (a ∷ []) are whole = absurd (omega arith)
+hex_digits (a ∷ b ∷ []) are whole = absurd (omega arith)
+hex_digits (a ∷ b ∷ c ∷ []) are whole = absurd (omega arith)
+hex_digits (a ∷ b ∷ c ∷ d ∷ bits) are whole =
+    let second = tail_of a (b ∷ c ∷ d ∷ bits) are in
+    let third = tail_of b (c ∷ d ∷ bits) second in
+    let fourth = tail_of c (d ∷ bits) third in
+    let four : AreBits (a ∷ b ∷ c ∷ d ∷ []) =
+    All-cons (λ b. b < 2) a (b ∷ c ∷ d ∷ []) (head_of a (b ∷ c ∷ d ∷ bits) are) (All-cons (λ b. b < 2) b (c ∷ d ∷ []) (head_of b (c ∷ d ∷ bits) second) (All-cons (λ b. b < 2) c (d ∷ []) (head_of c (d ∷ bits) third) (All-cons (λ b. b < 2) d [] (head_of d bits fourth) (All-nil (λ b. b < 2))))) in
+    let rest = hex_digits bits (tail_of d bits fourth) (omega arith) in
+    let count = rest.count in
+    record {
+      digits = All-cons (λ x. is_hex_digit x ≡ true) (hex_digit (number_of (a ∷ b ∷ c ∷ d ∷ []))) (hex_of_bits bits) (four_digit (a ∷ b ∷ c ∷ d ∷ []) four refl) rest.digits;
+      count = omega arith;
+    }

@@ -1,6 +1,7 @@
 ghost use Rattle.std.specs.Prelude.{◌≡◌, [], List, None, Ok, Some, ℕ};
 ghost use Rattle.gs_ident.specs.Elements.{Elements};
 ghost use Rattle.gs_document.specs.declared.level_name.LevelName.{LevelName};
+ghost use Rattle.gs_tables.specs.Judged.{IsLoaded};
 ghost use Rattle.gs_tables.specs.Tables.{IsShaped, TableRows};
 ghost use Rattle.gs_epc.specs.declared.epc.Epc.{Epc};
 ghost use Rattle.gs_epc.specs.Candidates.{HasFilterOn};
@@ -17,10 +18,9 @@ pub fn taking_apart_undoes_laying_out()
         → epc_at set epc.kind identity epc.gcp ≡ Some (record epc { encoding = []; filter = None }) }
 {}
 
-/// What is written is read as the same fields, by the encoding of the option that wrote: wherever the text is read at
-/// all, which is where it has one derivation.
+/// What is written by tables that are loaded is read as the same fields, by the encoding of the option that wrote.
 pub fn what_is_written_is_read()
-    ensures { (set : TableRows) (level : LevelName) (epc read : Epc) (text : List ℕ) → IsShaped set
+    ensures { (set : TableRows) (level : LevelName) (epc : Epc) (text : List ℕ) → IsLoaded set
         → HasFilterOn level epc.filter → (writes : Writes set level epc text)
-        → ReadsText set level text (Ok read) → read ≡ same_fields level writes.candidate.info epc }
+        → ReadsText set level text (Ok (same_fields level writes.candidate.info epc)) }
 {}

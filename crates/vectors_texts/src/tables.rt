@@ -74,6 +74,9 @@ fn load(alloc: Global, document: &[u8]) -> Answer {
     match TableSet::load(alloc, document) {
         Ok(set) => counts(alloc, &set),
         Err(LoadFault::Json(fault)) => fault_word(alloc, fault),
+        Err(LoadFault::Ambiguous(level, i, j, _)) => {
+            Ok(format!(in alloc; "Ambiguous({level:?}, {i}, {j})")?)
+        }
         Err(LoadFault::Memory) => Err(Refusal::Memory),
         Err(fault) => Ok(format!(in alloc; "{fault:?}")?),
     }

@@ -2,7 +2,8 @@
 //!
 //! - `holds ITEM VALUE`: `Ok`, or why not.
 //! - `option LEVEL ITEM..`, with LEVEL `text` or `bits`: the size and the number of items, or the fault.
-//! - `read_text TEXT ITEM.. | ITEM..`: the number of the option and the values of its items, `Nothing` or `Two`.
+//! - `read_text TEXT ITEM.. | ITEM..`: the number of the option and the values of its items, or `Nothing`; of options that are
+//!   ambiguous `Ambiguous` and the numbers of the two that share a list.
 //! - `read_bits HEX ITEM.. | ITEM..`: the same over the bits of hexadecimal digits.
 //! - `read_option HEX ITEM..`: the numbers of the items of one option, or `false`.
 //! - `write_text ITEM.. = VALUE..`: the text, or the fault. `write_bits ITEM.. = VALUE..`: the bits, or the fault.
@@ -17,6 +18,7 @@ use gs_grammar::{
     Item, Level, Opt, OptFault, Reading, WriteFault, holds, read_bits, read_option, read_text,
     write_bits, write_text,
 };
+use gs_share::{Shared, first_share};
 use std::alloc::Global;
 use vector_cases::{Answer, Refusal, add, arg, behind, item_of, shown, shown_all};
 
@@ -104,18 +106,30 @@ fn reading_words(alloc: Global, reading: Reading) -> Answer {
             Ok(format!(in alloc; "{option} {words}")?)
         }
         Reading::Nothing => Ok(String::from_str(alloc, "Nothing")?),
-        Reading::Two => Ok(String::from_str(alloc, "Two")?),
         Reading::Memory => Err(Refusal::Memory),
     }
 }
 
+/// The numbers of two options that share a list.
+fn pair_words(alloc: Global, pair: &Shared) -> Answer {
+    let first = pair.first;
+    let second = pair.second;
+    Ok(format!(in alloc; "Ambiguous {first} {second}")?)
+}
+
 fn text_read(alloc: Global, text: &[u8], words: &[Text]) -> Answer {
     let level = level_of(alloc, false, words)?;
+    if let Some(pair) = first_share(alloc, &level)? {
+        return pair_words(alloc, &pair);
+    }
     reading_words(alloc, read_text(alloc, &level, text))
 }
 
 fn bits_read(alloc: Global, digits: &[u8], words: &[Text]) -> Answer {
     let level = level_of(alloc, true, words)?;
+    if let Some(pair) = first_share(alloc, &level)? {
+        return pair_words(alloc, &pair);
+    }
     let bits = buffer::<64>(digits)?;
     reading_words(alloc, read_bits(alloc, &level, &bits))
 }
