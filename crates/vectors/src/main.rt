@@ -17,6 +17,7 @@ mod characters;
 mod digital_links;
 mod documents;
 mod elements;
+mod epc_writing;
 mod epcs;
 mod grammars;
 mod identifiers;
