@@ -1,6 +1,6 @@
 use crate::level_name::LevelName;
 use gs_ai::AiFault;
-use gs_chars::Memory;
+use gs_chars::{Memory, Text};
 use gs_json::JsonFault;
 
 /// What there may be only so many of.
@@ -37,6 +37,9 @@ pub enum LoadFault {
     Mismatch(LevelName, usize),
     /// The options of the level at the two indexes have the same kind, encoding and prefix length.
     Duplicate(LevelName, usize, usize),
+    /// The options of the level at the two indexes, which may be one option, are the first pair that shares a list of symbols,
+    /// and no earlier level has such a pair. The text shows one that they share, bits as `0` and `1`.
+    Ambiguous(LevelName, usize, usize, Text),
     /// Want of memory.
     Memory,
 }

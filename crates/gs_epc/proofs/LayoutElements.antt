@@ -1,6 +1,7 @@
 -- The identity of a key, and of a key and its serial.
-use Rattle.std.proofs.Common.{◌≡◌, ℕ, ◌||◌, Bool, true, false, not, List, [], ◌∷◌, Some, None, Ok, bytes_eq, find, slice_get, suc, refl, sym, ap, ◌∙◌, inl, inr, true≢false}
+use Rattle.std.proofs.Common.{◌≡◌, ℕ, ◌||◌, Bool, true, false, List, [], ◌∷◌, Some, None, Ok, bytes_eq, find, slice_get, suc, refl, sym, ap, ◌∙◌, inl, inr, true≢false}
 use Rattle.std.specs.List.{filter_map, list_any}
+use Rattle.gs_chars.proofs.TruthsAndLists.{false_from_not}
 use Rattle.gs_ai.specs.declared.pair.Pair.{Pair}
 use Rattle.gs_ai.specs.declared.part.Role.{Role}
 use Rattle.gs_ai.specs.declared.part.Role.TheVariants as role
@@ -29,10 +30,6 @@ or_left false b h = refl
 or_right : (a b : Bool) → (a || b) ≡ false → b ≡ false
 or_right true b h = absurd (let e : true ≡ false = h in cc)
 or_right false b h = h
-
-not_true : (b : Bool) → not b ≡ true → b ≡ false
-not_true true h = absurd (let e : false ≡ true = h in cc)
-not_true false h = refl
 
 -- a code that passes is not one of those of which none passes
 absent : (p : List ℕ → Bool) (code : List ℕ) (codes : List (List ℕ)) → p code ≡ true → list_any p codes ≡ false → list_any (bytes_eq code) codes ≡ false
@@ -72,7 +69,7 @@ serial_alone key serial (code ∷ codes) no_key distinct there =
     elim (true_or_false (bytes_eq serial.code code)) [
       | inl same ↦
           let e = equal_bytes serial.code code same in
-          let once : list_any (bytes_eq serial.code) codes ≡ false = rw e (not_true (list_any (bytes_eq code) codes) (and_left _ _ distinct)) in
+          let once : list_any (bytes_eq serial.code) codes ≡ false = rw e (false_from_not (list_any (bytes_eq code) codes) (and_left _ _ distinct)) in
           let here : bytes_eq code serial.code ≡ true = rw e (same_bytes code) in
           rw (first, here, none_of_both key serial codes later once) refl
       | inr differs ↦

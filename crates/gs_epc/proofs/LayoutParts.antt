@@ -1,5 +1,5 @@
 -- Values that parts allow, put together piece by piece.
-use Rattle.std.proofs.Common.{◌≡◌, ℕ, ◌+◌, ◌-◌, ◌%◌, ◌<◌, ◌≤◌, ◌&&◌, Bool, true, not, nat_le, List, [], ◌∷◌, ◌++◌, length, take, drop, position, None, refl, sym, ◌∙◌, arith, length-append}
+use Rattle.std.proofs.Common.{◌≡◌, ℕ, ◌+◌, ◌-◌, ◌%◌, ◌<◌, ◌≤◌, Bool, true, not, nat_le, List, [], ◌∷◌, ◌++◌, length, take, drop, position, None, refl, sym, ◌∙◌, arith, length-append}
 use Rattle.std.specs.List.{list_all}
 use Rattle.std.proofs.lemmas.Bool.Decides.{nat_tests}
 use Rattle.std.proofs.lemmas.List.{drop_at, take_all, take_at}
@@ -7,6 +7,7 @@ use Rattle.std.proofs.lemmas.List.Folds.{list_all-append}
 use Rattle.std.proofs.lemmas.List.Sums.{sum_by-cons}
 use Rattle.std.proofs.Math.ListN.{drop_of_length-le}
 use Rattle.gs_chars.specs.Characters.{is_digit}
+use Rattle.gs_chars.proofs.TruthsAndLists.{and_true}
 use Rattle.gs_chars.specs.CheckDigits.{check_digit_of, weighted_sum}
 use Rattle.gs_ai.specs.declared.part.Part.{Part}
 use Rattle.gs_ai.specs.declared.part.Part.TheVariants.{Zero, NumCheck, Set, SetOpt}
@@ -19,9 +20,6 @@ use Rattle.gs_epc.specs.Kept.{AreCharacters}
 use Rattle.gs_epc.specs.Layout.{with_check}
 
 -- ---- tests of each element
-
-pub and_true : (a b : Bool) → a ≡ true → b ≡ true → (a && b) ≡ true
-and_true a b p q = rw (p, q) refl
 
 pub both_pass : {X : Type 0} (p : X → Bool) (xs ys : List X) → list_all p xs ≡ true → list_all p ys ≡ true → list_all p (xs ++ ys) ≡ true
 both_pass p xs ys a b = list_all-append p xs ys ∙ and_true _ _ a b

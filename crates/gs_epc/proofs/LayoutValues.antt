@@ -7,6 +7,7 @@ use Rattle.std.proofs.lemmas.Bool.Decides.{nat_tests}
 use Rattle.std.proofs.lemmas.List.{take-append-drop}
 use Rattle.std.proofs.lemmas.List.Elements.{All-cons, All-nil}
 use Rattle.std.proofs.lemmas.List.Folds.{list_all-append}
+use Rattle.gs_chars.proofs.TruthsAndLists.{and_true}
 use Rattle.gs_chars.specs.Characters.{is_digit, is_in_set82}
 use Rattle.gs_chars.specs.CheckDigits.{check_digit_of}
 use Rattle.gs_chars.proofs.Sets.{in_ranges, ranges_of_set82}
@@ -28,7 +29,7 @@ use Rattle.gs_tables.specs.Forms.{characters_of, digits_form, key_form, serial_r
 use Rattle.gs_tables.specs.Rules.{is_characters, is_serial_of}
 use Rattle.gs_epc.specs.Kept.{AreCharacters, FitForm, FitKind, FitsRoom}
 use Rattle.gs_epc.specs.Layout.{AreKeyDigits, key_digits, key_pair, key_value, parts_at, serial_pairs, tail_of_key, with_check}
-use Rattle.gs_epc.proofs.LayoutParts.{KeepsParts, and_true, at_end, both_pass, checked_piece, in_front, no_fault, nothing, optional_piece, set_piece, zero_piece}
+use Rattle.gs_epc.proofs.LayoutParts.{KeepsParts, at_end, both_pass, checked_piece, in_front, no_fault, nothing, optional_piece, set_piece, zero_piece}
 
 -- ---- digits as characters
 

@@ -19,7 +19,7 @@ use Rattle.gs_tables.specs.Tables.{IsShaped, TableRows, level_rows}
 use Rattle.gs_tables.proofs.KeptSets.{as_many_said, options_kept}
 use Rattle.gs_epc.specs.declared.epc.Epc.{Epc}
 use Rattle.gs_epc.specs.declared.fault.EpcFault.{EpcFault}
-use Rattle.gs_epc.specs.declared.fault.EpcFault.TheVariants.{Hex, NoReading, Two, Memory}
+use Rattle.gs_epc.specs.declared.fault.EpcFault.TheVariants.{Hex, NoReading, Memory}
 use Rattle.gs_epc.specs.Epcs.{IsOfSet, epc_of, options_of, value_at}
 use Rattle.gs_epc.specs.Filters.{IsFilter}
 use Rattle.gs_epc.specs.Readings.{IsHex, ReadsAs, ReadsHex, Says}
@@ -87,6 +87,5 @@ is_hex text bits made is odd full digits =
 pub hex_answer : (set : TableRows) (text bits : List ℕ) (answer : Result Epc EpcFault) → IsHex text → bits ≡ bits_of_hex text → ReadsAs set Binary bits answer → ReadsHex set text answer
 hex_answer set text bits (Ok epc) hex e h = (hex, rw e at h)
 hex_answer set text bits (Err NoReading) hex e h = (hex, rw e at h)
-hex_answer set text bits (Err Two) hex e h = (hex, rw e at h)
 hex_answer set text bits (Err Memory) hex e h = tt
 hex_answer set text bits (Err (Hex fault)) hex e h = absurd h

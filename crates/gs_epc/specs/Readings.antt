@@ -4,14 +4,14 @@ use Rattle.std.specs.List.{AllPass}
 use Rattle.gs_bits.specs.HexText.{FirstBadDigit, bits_of_hex, is_hex_digit}
 use Rattle.gs_bits.specs.declared.faults.HexFault.{HexFault}
 use Rattle.gs_bits.specs.declared.faults.HexFault.TheVariants.{OddDigits, Full, BadDigit}
-use Rattle.gs_grammar.specs.Derivations.{Derivation, OneDerivation, TwoDerivations}
+use Rattle.gs_grammar.specs.Derivations.{Derivation, OneDerivation}
 use Rattle.gs_document.specs.declared.level_name.LevelName.{LevelName}
 use Rattle.gs_document.specs.declared.level_name.LevelName.TheVariants.{Binary}
 use Rattle.gs_document.specs.declared.opt_info.OptInfo.{OptInfo}
 use Rattle.gs_tables.specs.Tables.{TableRows, level_rows}
 use Rattle.gs_epc.specs.declared.epc.Epc.{Epc}
 use Rattle.gs_epc.specs.declared.fault.EpcFault.{EpcFault}
-use Rattle.gs_epc.specs.declared.fault.EpcFault.TheVariants.{Hex, NoReading, Two, Memory}
+use Rattle.gs_epc.specs.declared.fault.EpcFault.TheVariants.{Hex, NoReading, Memory}
 use Rattle.gs_epc.specs.Epcs.{epc_of, options_of}
 
 -- the symbols have one derivation in a level, whose option and values say this
@@ -23,12 +23,11 @@ pub record Says (set : TableRows) (level : LevelName) (symbols : List ℕ) (epc 
   pub said : slice_get (level_rows level set).info option ≡ Some info
   pub fields : epc ≡ epc_of info values
 
--- The answer to the symbols of a level: what their one derivation says, that there is none, or that there are two. Want of
--- memory may come in place of each.
+-- The answer to the symbols of a level: what their one derivation says, or that there is none. Want of memory may come in
+-- place of each.
 abbrev pub ReadsAs : TableRows → LevelName → List ℕ → Result Epc EpcFault → Type 0
 ReadsAs set level symbols (Ok epc) = Says set level symbols epc
 ReadsAs set level symbols (Err NoReading) = Derivation (options_of level set) symbols → ⊥
-ReadsAs set level symbols (Err Two) = TwoDerivations (options_of level set) symbols
 ReadsAs set level symbols (Err Memory) = Unit {0}
 ReadsAs set level symbols (Err (Hex fault)) = ⊥
 

@@ -8,8 +8,6 @@ pub enum EpcFault {
     Hex(HexFault),
     /// The level has no derivation of it.
     NoReading,
-    /// The level has two derivations of it or more.
-    Two,
     /// Want of memory.
     Memory,
 }

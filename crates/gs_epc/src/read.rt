@@ -25,13 +25,12 @@ fn answer(
     match reading {
         Reading::One { option, values } => Ok(epc_of(alloc, &set.info(level)[option], values)?),
         Reading::Nothing => Err(EpcFault::NoReading),
-        Reading::Two => Err(EpcFault::Two),
         Reading::Memory => Err(EpcFault::Memory),
     }
 }
 
 /// What the bits of a tag say, in a text of at most 128 hexadecimal digits of either case (TDS 2.0, section 14). The faults
-/// are tried in this order: the text is no such hexadecimal text; the bits have no derivation in the level of bits, or two.
+/// are tried in this order: the text is no such hexadecimal text; the bits have no derivation in the level of bits.
 pub fn read_hex(alloc: Global, set: &TableSet, text: &[u8]) -> Result<Epc, EpcFault>
     ensures answer { ReadsHex set.now text.now result }
     ensures of_set { IfOk result (IsOfSet set.now) }
@@ -52,7 +51,7 @@ fn read_level(alloc: Global, set: &TableSet, level: LevelName, text: &[u8]) -> R
 }
 
 /// What an EPC tag URI says (TDS 2.0, section 12): `NoReading` comes exactly where the text has no derivation in the level
-/// of tag URIs, `Two` exactly where it has two or more.
+/// of tag URIs.
 pub fn read_tag(alloc: Global, set: &TableSet, text: &[u8]) -> Result<Epc, EpcFault>
     ensures answer { ReadsAs set.now LevelName.Tag text.now result }
     ensures of_set { IfOk result (IsOfSet set.now) }
@@ -61,7 +60,7 @@ pub fn read_tag(alloc: Global, set: &TableSet, text: &[u8]) -> Result<Epc, EpcFa
 }
 
 /// What an EPC pure identity URI says (TDS 2.0, section 6): `NoReading` comes exactly where the text has no derivation in the
-/// level of pure identity URIs, `Two` exactly where it has two or more.
+/// level of pure identity URIs.
 pub fn read_pure(alloc: Global, set: &TableSet, text: &[u8]) -> Result<Epc, EpcFault>
     ensures answer { ReadsAs set.now LevelName.Pure text.now result }
     ensures of_set { IfOk result (IsOfSet set.now) }

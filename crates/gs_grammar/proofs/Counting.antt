@@ -2,13 +2,10 @@
 use Rattle.std.proofs.Common.{ℕ, ◌≤◌, ◌+◌, ◌⊎◌, List, [], ◌∷◌, ◌++◌, length, take, drop, zero, suc, refl, subst, inl, inr, arith}
 use Rattle.std.proofs.lemmas.List.{append_assoc, append-nil}
 use Rattle.gs_grammar.specs.declared.item.Item.{Item}
-use Rattle.gs_grammar.specs.declared.found.Found.{Found}
-use Rattle.gs_grammar.specs.declared.found.Found.TheVariants.{Never, Once}
-use Rattle.gs_grammar.specs.declared.found.FoundOption.{FoundOption}
-use Rattle.gs_grammar.specs.declared.found.FoundOption.TheVariants.{NoOption, OneOption, TwoReadings}
 use Rattle.gs_grammar.specs.Words.{IsWord}
-use Rattle.gs_grammar.specs.Searches.{Finds, AtCut, FindsBefore, FindsInLevel, joined_found, joined_option}
+use Rattle.gs_grammar.specs.Searches.{AtCut}
 use Rattle.gs_grammar.specs.Counts.{Counted, none_of, one_of, two_of}
+use Rattle.gs_grammar.proofs.Ways.{Found, Never, Once, Finds, FindsBefore, FoundOption, NoOption, OneOption, TwoReadings, FindsInLevel, joined_found, joined_option}
 use Rattle.gs_grammar.proofs.Cuts.{nil_once, nil_never, found_before, found_skip, found_joined}
 use Rattle.gs_grammar.proofs.Options.{level_start, level_step}
 

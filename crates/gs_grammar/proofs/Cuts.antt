@@ -6,13 +6,12 @@ use Rattle.std.proofs.lemmas.List.Elements.{All-head, All-tail}
 use Rattle.std.proofs.lemmas.Bool.{cases_eq}
 use Rattle.std.proofs.lemmas.Bool.Decides.{nat_tests}
 use Rattle.gs_grammar.specs.declared.item.Item.{Item}
-use Rattle.gs_grammar.specs.declared.found.Found.{Found}
-use Rattle.gs_grammar.specs.declared.found.Found.TheVariants.{Never, Once, Twice}
 use Rattle.gs_grammar.specs.Items.{IsItem, size_of, shortest_of}
 use Rattle.gs_grammar.specs.Words.{Word, IsWord, number_of_word}
 use Rattle.gs_grammar.proofs.WordLaws.{word_length}
 use Rattle.gs_grammar.specs.Derivations.{EachWord, no_item, one_item, Derives, IsDerived, HasValues, HasNumbers, numbers_of_words, OneWay, TwoWays}
-use Rattle.gs_grammar.specs.Searches.{Finds, AtCut, OneCut, TwoCuts, FindsBefore, joined_found, once_where}
+use Rattle.gs_grammar.specs.Searches.{AtCut}
+use Rattle.gs_grammar.proofs.Ways.{Found, Never, Once, Twice, Finds, OneCut, TwoCuts, FindsBefore, joined_found}
 
 -- one word more in front
 pub derives_cons : (item : Item) (items : List Item) (value first rest : List ℕ) (values words : List (List ℕ)) → Word item value first → Derives items rest values words → Derives (item ∷ items) (first ++ rest) (value ∷ values) (first ∷ words)
@@ -157,7 +156,7 @@ found_skip item items w cut Once h none =
 found_skip item items w cut Twice h none = h
 
 -- the splits at the cut, where its symbols are a word: as many as the items after it have ways
-at_cut : (item : Item) (items : List Item) (w : List ℕ) (cut : ℕ) → cut ≤ length w → IsWord item (take cut w) → IsDerived items (drop cut w) → AtCut item items w cut
+pub at_cut : (item : Item) (items : List Item) (w : List ℕ) (cut : ℕ) → cut ≤ length w → IsWord item (take cut w) → IsDerived items (drop cut w) → AtCut item items w cut
 at_cut item items w cut l h d = record { within = l; value = h.0; word = h.1; values = d.values; words = d.words; rest = d.derives }
 
 first_ways : (items : List Item) (w : List ℕ) → TwoWays items w → IsDerived items w
@@ -204,58 +203,44 @@ found_joined item items w cut Once Once h l word m =
 found_joined item items w cut Once Twice h l word m = two_at_cut item items w cut l word m
 found_joined item items w cut Twice more h l word m = h
 
--- the last item: the whole list is its word, or there is no derivation
-pub last_once : (item : Item) (w : List ℕ) → IsWord item w → Finds (item ∷ []) w Once
-last_once item w h =
-    let nil = nil_once [] refl in
-    let d = derives_cons item [] h.0 w [] [] [] h.1 (record { each = no_item; joined = refl }) in
-    record {
-      values = h.0 ∷ [];
-      words = w ∷ [];
-      derives = rw append-nil at d;
-      only = λ vs ws e.
-          let f = derives_uncons item [] w vs ws e in
-          let n = derives_nil f.rest f.values' f.words' f.derives in
-          let first : w ≡ f.first = f.whole ∙ ap (λ r. f.first ++ r) n.0 ∙ append-nil f.first in
-          let none = n.2 in
-          let words_are = f.words_are in
-          cc;
-    }
+-- the search, at the items of an option
 
-pub last_never : (item : Item) (w : List ℕ) → (IsWord item w → ⊥) → Finds (item ∷ []) w Never
-last_never item w none d =
+derived_nil : (w : List ℕ) → length w ≡ 0 → IsDerived [] w
+derived_nil w h = let o = nil_once w h in record { values = o.values; words = o.words; derives = o.derives }
+
+-- where no item is left, the empty list alone is derived
+pub nil_derived : (items : List Item) (w : List ℕ) (b : Bool) → length items ≡ 0 → b ≡ nat_eq (length w) 0 → IsTrue b ↔ IsDerived items w
+nil_derived items w true h e = rw (nil_from_length items h) (λ _. derived_nil w (grind (arith, nat_tests)), λ _. refl)
+nil_derived items w false h e = rw (nil_from_length items h) (λ t. let f : false ≡ true = t in cc, λ d. absurd (nil_never w (grind (arith, nat_tests)) d))
+
+-- the last item derives its words
+
+last_word : (item : Item) (w : List ℕ) → IsWord item w → IsDerived (item ∷ []) w
+last_word item w h =
+    let d = derives_cons item [] h.0 w [] [] [] h.1 (record { each = no_item; joined = refl }) in
+    record { values = h.0 ∷ []; words = w ∷ []; derives = rw append-nil at d }
+
+last_derived : (item : Item) (w : List ℕ) → IsDerived (item ∷ []) w → IsWord item w
+last_derived item w d =
     let f = derives_uncons item [] w d.values d.words d.derives in
     let n = derives_nil f.rest f.values' f.words' f.derives in
     let first : w ≡ f.first = f.whole ∙ ap (λ r. f.first ++ r) n.0 ∙ append-nil f.first in
-    none (f.value, subst (λ (x : List ℕ). Word item f.value x) (sym first) f.word)
+    (f.value, subst (λ (x : List ℕ). Word item f.value x) (sym first) f.word)
 
--- the steps of the search, at the items of an option
+pub last_found : (items : List Item) (item : Item) (others : List Item) (w : List ℕ) (b : Bool) → items ≡ item ∷ others → length others ≡ 0 → (IsTrue b ↔ IsWord item w) → IsTrue b ↔ IsDerived items w
+last_found items item others w b s h e = rw (s, nil_from_length others h) (λ t. last_word item w (e.0 t), λ d. e.1 (last_derived item w d))
 
-pub nil_found : (items : List Item) (w : List ℕ) (b : Bool) (found : Found) → length items ≡ 0 → b ≡ nat_eq (length w) 0 → found ≡ once_where b → Finds items w found
-nil_found items w true found h e f = rw (nil_from_length items h, f) (nil_once w (grind (arith, nat_tests)))
-nil_found items w false found h e f = rw (nil_from_length items h, f) (nil_never w (grind (arith, nat_tests)))
-
-pub last_found : (items : List Item) (item : Item) (others : List Item) (w : List ℕ) (b : Bool) (found : Found) → items ≡ item ∷ others → length others ≡ 0 → (IsTrue b ↔ IsWord item w) → found ≡ once_where b → Finds items w found
-last_found items item others w true found s h e f = rw (s, nil_from_length others h, f) (last_once item w (e.0 refl))
-last_found items item others w false found s h e f = rw (s, nil_from_length others h, f) (last_never item w (λ k. let t : false ≡ true = e.1 k in cc))
-
-pub end_found : (items : List Item) (item : Item) (others : List Item) (w : List ℕ) (longest cut : ℕ) (found : Found) → IsItem item → items ≡ item ∷ others → FindsBefore item others w cut found → longest ≡ min (size_of item) (length w) → longest + 1 ≤ cut → Finds items w found
-end_found items item others w longest cut found i s h m b =
-    rw s (found_before item others w cut found h (λ k split. let c = cut_bounds item others w k i split in let x = c.most in let y = c.within in omega arith))
-
-pub twice_found : (items : List Item) (item : Item) (others : List Item) (w : List ℕ) (cut : ℕ) (found : Found) → items ≡ item ∷ others → FindsBefore item others w cut found → found ≡ Twice → Finds items w found
-twice_found items item others w cut found s h e = rw (s, e) (two_ways item others w (rw e at h))
+-- a split at the cut is a derivation
+pub cut_derived : (items : List Item) (item : Item) (others : List Item) (w : List ℕ) (cut : ℕ) → items ≡ item ∷ others → cut ≤ length w → IsWord item (take cut w) → IsDerived others (drop cut w) → IsDerived items w
+unfolding at_cut
+cut_derived items item others w cut s l h d =
+    rw s (record { values = h.0 ∷ d.values; words = take cut w ∷ d.words; derives = from_cut item others w cut (at_cut item others w cut l h d) })
 
 pub no_split : (item : Item) (others : List Item) (w : List ℕ) (cut : ℕ) (b : Bool) → b ≡ false → (IsTrue b ↔ IsWord item (take cut w)) → AtCut item others w cut → ⊥
 no_split item others w cut b f e split = let t = e.1 (split.value, split.word) in let u : false ≡ true = sym f ∙ t in cc
 
-pub not_derived : (item : Item) (others : List Item) (w : List ℕ) (cut : ℕ) (found : Found) → found ≡ Never → Finds others (drop cut w) found → AtCut item others w cut → ⊥
-not_derived item others w cut found e h = none_at_cut item others w cut (rw e at h)
-
-pub cut_found : (item : Item) (others : List Item) (w : List ℕ) (cut : ℕ) (found : Found) → cut ≤ length w → IsWord item (take cut w) → Finds others (drop cut w) found → (found ≡ Never → ⊥) → AtCut item others w cut
-cut_found item others w cut Never l h m n = absurd (n refl)
-cut_found item others w cut Once l h m n = at_cut item others w cut l h (record { values = m.values; words = m.words; derives = m.derives })
-cut_found item others w cut Twice l h m n = at_cut item others w cut l h (first_ways others (drop cut w) m)
+pub not_derived : (item : Item) (others : List Item) (w : List ℕ) (cut : ℕ) (b : Bool) → b ≡ false → (IsTrue b ↔ IsDerived others (drop cut w)) → AtCut item others w cut → ⊥
+not_derived item others w cut b f e = none_at_cut item others w cut (λ d. let t = e.1 d in let u : false ≡ true = sym f ∙ t in cc)
 
 pub fixed_cut : (item : Item) (others : List Item) (w : List ℕ) (cut : ℕ) → IsItem item → IsDerived (item ∷ others) w → cut ≡ shortest_of item → cut ≡ size_of item → AtCut item others w cut
 fixed_cut item others w cut i d l m =
@@ -271,6 +256,11 @@ some_cut item others w longest cut i d none m b =
     let x = c.most in
     let y = c.within in
     none s.place (omega arith) s.split
+
+-- no cut works, so nothing is derived
+pub never_derived : (items : List Item) (item : Item) (others : List Item) (w : List ℕ) (longest cut : ℕ) → IsItem item → items ≡ item ∷ others → ((k : ℕ) → k < cut → AtCut item others w k → ⊥) → longest ≡ min (size_of item) (length w) → longest + 1 ≤ cut → IsTrue false ↔ IsDerived items w
+never_derived items item others w longest cut i s none m b =
+    (λ t. let f : false ≡ true = t in cc, λ d. absurd (some_cut item others w longest cut i (rw s at d) none m b))
 
 pub none_below : (item : Item) (others : List Item) (w : List ℕ) (cut : ℕ) → ((k : ℕ) → k < cut → AtCut item others w k → ⊥) → (AtCut item others w cut → ⊥) → (k : ℕ) → k < cut + 1 → AtCut item others w k → ⊥
 none_below item others w cut h none = found_skip item others w cut Never h none
@@ -338,11 +328,6 @@ tallies_end items w left rest numbers t h =
     let r = t.back t.derived.values t.derived.words t.derived.derives in
     let e : HasNumbers items w (numbers ++ numbers_of_words [] t.derived.words) = rw nil at r in
     rw append-nil at e
-
-pub found_derived : (items : List Item) (w : List ℕ) (found : Found) → (found ≡ Never → ⊥) → Finds items w found → IsDerived items w
-found_derived items w Never n h = absurd (n refl)
-found_derived items w Once n h = record { values = h.values; words = h.words; derives = h.derives }
-found_derived items w Twice n h = first_ways items w h
 
 pub tally_take : (out : List ℕ) (number n : ℕ) → number < length out → take (number + 1) (set out number n) ≡ take number out ++ n ∷ []
 tally_take out number n l = take_more_set out number n l

@@ -182,7 +182,7 @@ word_decided (Num bits greatest) w = num_decided bits greatest w
 word_decided (Ascii7 lo hi bits) w = ascii_decided lo hi bits w
 word_decided (Fill a b) w = fill_decided a b w
 
-each_decided : (item : Item) → IsDecided item
+pub each_decided : (item : Item) → IsDecided item
 each_decided item = record { decide = word_decided item }
 
 -- the derivations of a list of symbols in a level, counted

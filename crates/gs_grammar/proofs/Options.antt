@@ -1,18 +1,17 @@
 -- Derivations in a level, one option after the other.
-use Rattle.std.proofs.Common.{◌≡◌, ℕ, ◌<◌, ◌≤◌, ◌+◌, ◌⊎◌, List, [], ◌∷◌, ◌++◌, length, take, drop, get_or, zero, suc, Some, None, refl, sym, ◌∙◌, ap, inl, inr, arith}
+use Rattle.std.proofs.Common.{◌≡◌, ℕ, ◌<◌, ◌+◌, ◌⊎◌, ◌↔◌, Bool, true, false, IsTrue, List, [], ◌∷◌, ◌++◌, length, take, get_or, zero, suc, Some, None, refl, sym, ◌∙◌, ap, inl, inr, arith}
 use Rattle.std.specs.List.{slice_get}
 use Rattle.std.specs.Option.{option_map}
-use Rattle.std.proofs.lemmas.List.{length-map, map-append, take_more, take_all, length-take-le, take-append-drop}
+use Rattle.std.proofs.lemmas.List.{length-map, map-append, take_more}
 use Rattle.std.proofs.lemmas.Option.{slice_get_within, slice_get-map, slice_get-get_or}
 use Rattle.gs_chars.proofs.TruthsAndLists.{place_left}
 use Rattle.gs_grammar.specs.declared.item.Item.{Item}
-use Rattle.gs_grammar.specs.declared.found.Found.{Found}
-use Rattle.gs_grammar.specs.declared.found.Found.TheVariants.{Never, Once, Twice}
-use Rattle.gs_grammar.specs.declared.found.FoundOption.{FoundOption}
-use Rattle.gs_grammar.specs.declared.found.FoundOption.TheVariants.{NoOption, OneOption, TwoReadings}
 use Rattle.gs_grammar.specs.Derivations.{Derives, IsDerived, HasValues, Derivation, AreSame, OneDerivation, TwoDerivations}
-use Rattle.gs_grammar.specs.Searches.{Finds, FindsInLevel, joined_option}
+use Rattle.gs_grammar.specs.Ambiguity.{IsUnambiguous}
+use Rattle.gs_grammar.specs.Searches.{DerivedBy}
 use Rattle.gs_grammar.specs.Levels.{OptionForm, item_lists}
+use Rattle.gs_grammar.proofs.OneReading.{only_derivation}
+use Rattle.gs_grammar.proofs.Ways.{Found, Never, Once, Twice, Finds, FoundOption, NoOption, OneOption, TwoReadings, FindsInLevel, joined_option}
 
 get_last : (xs : List (List Item)) (y : List Item) → slice_get (xs ++ y ∷ []) (length xs) ≡ Some y
 get_last [] y = refl
@@ -123,61 +122,37 @@ level_step level items w (OneOption before) Once h m = one_and_last level items 
 level_step level items w (OneOption before) Twice h m = now_two level items w m
 level_step level items w TwoReadings more h m = still_two level (items ∷ []) w h
 
--- the values of the one derivation, however they were found
-pub one_values : (level : List (List Item)) (w : List ℕ) (option : ℕ) (items : List Item) (values words : List (List ℕ)) → FindsInLevel level w (OneOption option) → slice_get level option ≡ Some items → Derives items w values words → OneDerivation level w option values
-one_values level w option items values words h of_level d =
-    let found : Derivation level w = record { option = option; items = items; values = values; words = words; of_level = of_level; derives = d } in
-    let same = h.1.only found in
-    record {
-      derivation = found;
-      of_option = refl;
-      of_values = refl;
-      only = λ other. let s = h.1.only other in record { option = s.option ∙ sym same.option; words = s.words ∙ sym same.words };
-    }
-
--- the option of the one derivation derives the list
-pub one_derived : (level : List (List Item)) (w : List ℕ) (option : ℕ) (items : List Item) → FindsInLevel level w (OneOption option) → slice_get level option ≡ Some items → IsDerived items w
-one_derived level w option items h of_level =
-    let d = h.1.derivation in
-    let place = h.1.of_option in
-    let its : slice_get level option ≡ Some d.items = rw place at d.of_level in
-    let same : d.items ≡ items = cc in
-    record { values = d.values; words = d.words; derives = rw same at d.derives }
-
--- the steps of the search, at the options of a level
-
-pub options_step : (options : List OptionForm) (w : List ℕ) (n : ℕ) (option : OptionForm) (found : FoundOption) (more : Found) → n < length options → option ≡ get_or options n option → FindsInLevel (item_lists (take n options)) w found → Finds option.items w more → FindsInLevel (item_lists (take (n + 1) options)) w (joined_option found n more)
-options_step options w n option found more b r h m =
-    let next = level_step (item_lists (take n options)) option.items w found more h m in
-    let count : length (item_lists (take n options)) ≡ n = length-map (take n options) (λ (o : OptionForm). o.items) ∙ length-take-le n options (omega arith) in
-    let now : FindsInLevel (item_lists (take n options) ++ option.items ∷ []) w (joined_option found n more) = rw count at next in
-    let front : take (n + 1) options ≡ take n options ++ option ∷ [] = take_more options n option b ∙ ap (λ (o : OptionForm). take n options ++ o ∷ []) (sym r) in
-    rw (front, map-append) now
-
-pub options_two : (options : List OptionForm) (w : List ℕ) (n : ℕ) (found : FoundOption) → FindsInLevel (item_lists (take n options)) w found → found ≡ TwoReadings → FindsInLevel (item_lists options) w found
-options_two options w n found h e =
-    let two : TwoDerivations (item_lists (take n options)) w = rw e at h in
-    let more = still_two (item_lists (take n options)) (item_lists (drop n options)) w two in
-    let whole : item_lists (take n options) ++ item_lists (drop n options) ≡ item_lists options = sym (map-append (λ (o : OptionForm). o.items) (take n options) (drop n options)) ∙ ap item_lists (take-append-drop n options) in
-    rw (e, ← whole) more
-
-pub options_end : (options : List OptionForm) (w : List ℕ) (n : ℕ) (found : FoundOption) → length options ≤ n → FindsInLevel (item_lists (take n options)) w found → FindsInLevel (item_lists options) w found
-options_end options w n found b h = rw (take_all n options b) at h
+-- the search, at the options of a level
 
 item_list_at : (options : List OptionForm) (n : ℕ) (option : OptionForm) → n < length options → option ≡ get_or options n option → slice_get (item_lists options) n ≡ Some option.items
 item_list_at options n option b r =
     slice_get-map (λ (o : OptionForm). o.items) options n ∙ ap (option_map (λ (o : OptionForm). o.items)) (slice_get-get_or options n option b ∙ ap Some (sym r))
 
-pub option_number : (options : List OptionForm) (w : List ℕ) (n : ℕ) → FindsInLevel (item_lists options) w (OneOption n) → n < length options
+-- the option derives the list
+pub option_found : (options : List OptionForm) (w : List ℕ) (n : ℕ) (option : OptionForm) → n < length options → option ≡ get_or options n option → IsDerived option.items w → DerivedBy (item_lists options) w n
+option_found options w n option b r d = record { items = option.items; of_level = item_list_at options n option b r; derived = d }
+
+-- none of the options before derives the list, and this one does not
+pub option_none : (options : List OptionForm) (w : List ℕ) (n : ℕ) (option : OptionForm) → n < length options → option ≡ get_or options n option → (Derivation (item_lists (take n options)) w → ⊥) → (test : Bool) → (IsTrue test ↔ IsDerived option.items w) → test ≡ false → Derivation (item_lists (take (n + 1) options)) w → ⊥
+option_none options w n option b r h test tells e =
+    let next = still_none (item_lists (take n options)) option.items w h (λ d. let t = tells.1 d in let f : false ≡ true = sym e ∙ t in cc) in
+    let front : take (n + 1) options ≡ take n options ++ option ∷ [] = take_more options n option b ∙ ap (λ (o : OptionForm). take n options ++ o ∷ []) (sym r) in
+    rw (front, map-append) next
+
+pub option_number : (options : List OptionForm) (w : List ℕ) (n : ℕ) → DerivedBy (item_lists options) w n → n < length options
 option_number options w n h =
-    let d = h.1.derivation in
-    let place = h.1.of_option in
-    let within = slice_get_within (item_lists options) d.option d.items d.of_level in
+    let within = slice_get_within (item_lists options) n h.items h.of_level in
     let count = length-map options (λ (o : OptionForm). o.items) in
     omega arith
 
-pub option_derives : (options : List OptionForm) (w : List ℕ) (n : ℕ) (option : OptionForm) → n < length options → option ≡ get_or options n option → FindsInLevel (item_lists options) w (OneOption n) → IsDerived option.items w
-option_derives options w n option b r h = one_derived (item_lists options) w n option.items h (item_list_at options n option b r)
+pub option_derives : (options : List OptionForm) (w : List ℕ) (n : ℕ) (option : OptionForm) → n < length options → option ≡ get_or options n option → DerivedBy (item_lists options) w n → IsDerived option.items w
+option_derives options w n option b r h =
+    let same : Some h.items ≡ Some option.items = sym h.of_level ∙ item_list_at options n option b r in
+    let its : h.items ≡ option.items = cc in
+    rw its at h.derived
 
-pub option_values : (options : List OptionForm) (w : List ℕ) (n : ℕ) (option : OptionForm) (values : List (List ℕ)) → n < length options → option ≡ get_or options n option → FindsInLevel (item_lists options) w (OneOption n) → HasValues option.items w values → OneDerivation (item_lists options) w n values
-option_values options w n option values b r h v = one_values (item_lists options) w n option.items values v.words h (item_list_at options n option b r) v.derives
+-- the derivation that was found is the only one of a level that is not ambiguous
+pub option_values : (options : List OptionForm) (w : List ℕ) (n : ℕ) (option : OptionForm) (values : List (List ℕ)) → IsUnambiguous (item_lists options) → n < length options → option ≡ get_or options n option → HasValues option.items w values → OneDerivation (item_lists options) w n values
+option_values options w n option values clear b r v =
+    let found : Derivation (item_lists options) w = record { option = n; items = option.items; values = values; words = v.words; of_level = item_list_at options n option b r; derives = v.derives } in
+    only_derivation (item_lists options) w clear found

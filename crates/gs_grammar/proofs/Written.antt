@@ -14,9 +14,10 @@ use Rattle.gs_grammar.specs.declared.item.Item.TheVariants.{Lit, NumPad, Num, As
 use Rattle.gs_grammar.specs.declared.fault.Why.{Why}
 use Rattle.gs_grammar.specs.Items.{is_bad, is_between, is_in_bounds, is_symbol, IsItem, size_of, size_of_all}
 use Rattle.gs_grammar.specs.Words.{decimal_value, written_word}
-use Rattle.gs_grammar.specs.Derivations.{EachWord, no_item, one_item, Derives, Derivation, OneDerivation}
+use Rattle.gs_grammar.specs.Derivations.{no_item, one_item, Derives, OneDerivation}
+use Rattle.gs_grammar.specs.Ambiguity.{IsUnambiguous}
 use Rattle.gs_grammar.specs.Writing.{why_not, written, written_words, AreHeldBefore, AreHeld, IsFirstRefusal}
-use Rattle.gs_grammar.proofs.OneReading.{each_fixes}
+use Rattle.gs_grammar.proofs.OneReading.{only_derivation}
 use Rattle.gs_grammar.proofs.Held.{held_word, packed_length}
 use Rattle.gs_grammar.proofs.Packs.{set82_bounds}
 use Rattle.gs_grammar.proofs.WordLaws.{none_bad, of_level, word_length, greatest_small, numpad_bounds, num_bounds}
@@ -245,14 +246,6 @@ all_bounds bit_level items e h k d l = rw e at (none_bad bit_level items h k d l
 pub bound_at : (items : List Item) (k : ℕ) (item : Item) → AllPass (is_in_bounds true) items → k < length items → item ≡ get_or items k item → is_in_bounds true item ≡ true
 bound_at items k item h l e = subst (λ (x : Item). is_in_bounds true x ≡ true) (sym e) (h k item l)
 
-pub written_read : (level : List (List Item)) (option other : ℕ) (items : List Item) (values given : List (List ℕ)) → slice_get level option ≡ Some items → All IsItem items → length values ≡ length items → AreHeld items values → OneDerivation level (written items values) other given → (other ≡ option) × (given ≡ values)
-written_read level option other items values given at i l h one =
-    let mine : Derivation level (written items values) = record { option = option; items = items; values = values; words = written_words items values; of_level = at; derives = written_derives items values i l h } in
-    let same = one.only mine in
-    let place : one.derivation.option ≡ option = sym same.option in
-    let here : slice_get level option ≡ Some one.derivation.items = rw place at one.derivation.of_level in
-    let its : one.derivation.items ≡ items = cc in
-    let each : EachWord items one.derivation.values one.derivation.words = rw its at one.derivation.derives.each in
-    let all : EachWord items one.derivation.values (written_words items values) = rw (← same.words) at each in
-    let values_are = each_fixes items one.derivation.values values (written_words items values) all mine.derives.each in
-    (sym one.of_option ∙ place, sym one.of_values ∙ values_are)
+pub written_read : (level : List (List Item)) (option : ℕ) (items : List Item) (values : List (List ℕ)) → IsUnambiguous level → slice_get level option ≡ Some items → All IsItem items → length values ≡ length items → AreHeld items values → OneDerivation level (written items values) option values
+written_read level option items values clear at i l h =
+    only_derivation level (written items values) clear (record { option = option; items = items; values = values; words = written_words items values; of_level = at; derives = written_derives items values i l h })

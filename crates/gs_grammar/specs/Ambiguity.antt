@@ -1,14 +1,20 @@
 -- Ambiguous levels: lists of symbols with two different derivations, and how a text shows such a list. What a load of tables
 -- refuses as ambiguous is told by these.
-use Rattle.std.specs.Prelude.{◌≡◌, ℕ, ◌+◌, ◌<◌, ◌≤◌, ◌⊎◌, Bool, if◌then◌else◌, List, map}
+use Rattle.std.specs.Prelude.{◌≡◌, ℕ, ◌+◌, ◌<◌, ◌≤◌, ◌⊎◌, Bool, if◌then◌else◌, List, All, Some, map}
+use Rattle.std.specs.List.{slice_get}
 use Rattle.gs_grammar.specs.declared.item.Item.{Item}
 use Rattle.gs_grammar.specs.Derivations.{Derivation, AreSame, TwoDerivations}
+use Rattle.gs_grammar.specs.Items.{IsItem}
 use Rattle.gs_grammar.specs.Levels.{LevelForm, item_lists}
 
 -- the level is ambiguous: some list of symbols has two different derivations in it
 pub record IsAmbiguous (level : List (List Item)) : Type 0 where
   pub w : List ℕ
   pub two : TwoDerivations level w
+
+-- the level is not ambiguous: no list of symbols has two different derivations in it
+abbrev pub IsUnambiguous : List (List Item) → Type 0
+IsUnambiguous level = IsAmbiguous level → ⊥
 
 -- The two options share the list: it has a derivation by each. Two derivations by different options are different; an option
 -- shares a list with itself where the list has two different derivations by it.
@@ -32,6 +38,17 @@ pub record IsFirstShare (level : List (List Item)) (i j : ℕ) (w : List ℕ) : 
   pub order : i ≤ j
   pub share : ShareList level i j w
   pub first : (k l : ℕ) (v : List ℕ) → k ≤ l → StandsBefore k l i j → ShareList level k l v → ⊥
+
+-- some pair of options is the first that shares a list
+pub record HasFirstShare (level : List (List Item)) : Type 0 where
+  pub i : ℕ
+  pub j : ℕ
+  pub w : List ℕ
+  pub share : IsFirstShare level i j w
+
+-- each item of each option keeps its bounds
+abbrev pub AreItems : List (List Item) → Type 0
+AreItems level = (k : ℕ) (items : List Item) → slice_get level k ≡ Some items → All IsItem items
 
 -- Options i and j are the first pair of the level that shares a list, and the text shows one that they share.
 pub record ShowsFirstShare (level : LevelForm) (i j : ℕ) (text : List ℕ) : Type 0 where

@@ -1,7 +1,8 @@
-ghost use Rattle.std.specs.Prelude.{◌≡◌, ◌↔◌, ◌<◌, ◌^◌, ℕ, All, Bool, List, IsTrue, Some, length, slice_get};
+ghost use Rattle.std.specs.Prelude.{◌≡◌, ◌↔◌, ◌⊎◌, ◌<◌, ◌^◌, ℕ, All, Bool, List, IsTrue, Some, length, slice_get};
 ghost use Rattle.gs_grammar.specs.declared.item.Item.{Item};
 ghost use Rattle.gs_grammar.specs.Items.{IsItem, is_in_bounds};
-ghost use Rattle.gs_grammar.specs.Derivations.{Derives, OneDerivation, TwoDerivations};
+ghost use Rattle.gs_grammar.specs.Ambiguity.{AreItems, HasFirstShare, IsUnambiguous};
+ghost use Rattle.gs_grammar.specs.Derivations.{Derives, Derivation, OneDerivation, TwoDerivations};
 ghost use Rattle.gs_grammar.specs.Words.{IsWord, Word, decimal_value, number_of_word};
 ghost use Rattle.gs_grammar.specs.Languages.{Language};
 ghost use Rattle.gs_grammar.specs.Writing.{AreHeld, written, written_words};
@@ -33,9 +34,10 @@ pub fn what_is_written_is_derived()
     ensures { (items : List Item) (values : List (List ℕ)) → All IsItem items → length values ≡ length items → AreHeld items values → Derives items (written items values) values (written_words items values) }
 {}
 
-/// What is written of values that an option holds gives them back, wherever it has one derivation in the level.
+/// What is written of values that an option holds is read as these values: in a level that is not ambiguous it has this one
+/// derivation.
 pub fn what_is_written_is_read()
-    ensures { (level : List (List Item)) (option other : ℕ) (items : List Item) (values given : List (List ℕ)) → slice_get level option ≡ Some items → All IsItem items → length values ≡ length items → AreHeld items values → OneDerivation level (written items values) other given → (other ≡ option) × (given ≡ values) }
+    ensures { (level : List (List Item)) (option : ℕ) (items : List Item) (values : List (List ℕ)) → IsUnambiguous level → slice_get level option ≡ Some items → All IsItem items → length values ≡ length items → AreHeld items values → OneDerivation level (written items values) option values }
 {}
 
 /// The derivations of every text can be counted: a list of symbols has no derivation in a level, one, or two different ones.
@@ -49,4 +51,16 @@ pub fn one_derivation_is_alone()
         OneDerivation level w option values → OneDerivation level w other others → (option ≡ other) × (values ≡ others) }
     ensures not_two { (level : List (List Item)) (w : List ℕ) (option : ℕ) (values : List (List ℕ)) →
         OneDerivation level w option values → TwoDerivations level w → ⊥ }
+{}
+
+/// In a level that is not ambiguous each derivation of a list of symbols is the only one.
+pub fn unambiguous_levels_read_alone()
+    ensures { (level : List (List Item)) (w : List ℕ) → IsUnambiguous level → (one : Derivation level w) →
+        OneDerivation level w one.option one.values }
+{}
+
+/// It can be told of each level of items in their bounds whether it is ambiguous: it is not, or some pair of its options is
+/// the first that shares a list.
+pub fn each_level_is_judged()
+    ensures { (level : List (List Item)) → AreItems level → IsUnambiguous level ⊎ HasFirstShare level }
 {}

@@ -5,7 +5,6 @@ mod bit_words;
 mod bit_writing;
 mod escaped;
 mod fault;
-mod found;
 mod holding;
 mod item;
 mod laws;
@@ -26,8 +25,9 @@ pub use fault::{OptFault, Why, WriteFault};
 pub use holding::holds;
 pub use item::Item;
 pub use laws::{
-    each_text_is_counted, no_word_is_empty, one_derivation_is_alone, what_is_written_is_derived,
-    what_is_written_is_read, word_fixes_its_value, word_writes_its_value, words_without_values,
+    each_level_is_judged, each_text_is_counted, no_word_is_empty, one_derivation_is_alone,
+    unambiguous_levels_read_alone, what_is_written_is_derived, what_is_written_is_read,
+    word_fixes_its_value, word_writes_its_value, words_without_values,
 };
 pub use level::Level;
 pub use opt::Opt;

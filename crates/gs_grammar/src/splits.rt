@@ -1,39 +1,36 @@
-ghost use Rattle.std.specs.Prelude.{◌∷◌, All, IfOk};
+ghost use Rattle.std.specs.Prelude.{◌∷◌, ◌↔◌, All, IfOk, IsTrue};
 ghost use Rattle.gs_grammar.specs.Items.{IsItem};
 ghost use Rattle.gs_grammar.specs.Derivations.{IsDerived, HasValues};
-ghost use Rattle.gs_grammar.specs.Searches.{Finds, AtCut};
+ghost use Rattle.gs_grammar.specs.Searches.{AtCut};
 
-use crate::found::Found;
 use crate::item::Item;
 use crate::words::{is_word, value_of};
 use gs_chars::{List, Memory, Text};
 use std::alloc::Global;
 
-/// In how many ways the items derive the symbols. It tries each split into a word of the first item and the rest, and stops
-/// at the second derivation.
-pub fn count_ways(items: &[Item], symbols: &[u8]) -> Found
+/// Whether the items derive the symbols. It tries each split into a word of the first item and the rest, and stops at the
+/// first derivation.
+pub fn is_derived(items: &[Item], symbols: &[u8]) -> bool
     requires { All IsItem items.now }
-    ensures { Finds items.now symbols.now result }
+    ensures { IsTrue result ↔ IsDerived items.now symbols.now }
 {
     let Some((item, others)) = items.split_first() else {
-        return Found::once_where(symbols.is_empty());
+        return symbols.is_empty();
     };
     if others.is_empty() {
-        return Found::once_where(is_word(item, symbols));
+        return is_word(item, symbols);
     }
     let longest = item.size().min(symbols.len());
-    let mut found = Found::Never;
     for cut in item.shortest()..longest + 1 {
         let (word, rest) = symbols.split_at(cut);
         if !is_word(item, word) {
             continue;
         }
-        found = found.joined(count_ways(others, rest));
-        if found.is_twice() {
-            return found;
+        if is_derived(others, rest) {
+            return true;
         }
     }
-    found
+    false
 }
 
 /// The length of a word of the item with which the items derive the symbols.
@@ -53,10 +50,8 @@ pub fn first_cut(item: &Item, others: &[Item], symbols: &[u8]) -> usize
         if !is_word(item, word) {
             continue;
         }
-        match count_ways(others, rest) {
-            Found::Never => continue,
-            Found::Once => return cut,
-            Found::Twice => return cut,
+        if is_derived(others, rest) {
+            return cut;
         }
     }
     unreachable!()

@@ -3,10 +3,9 @@ ghost use Rattle.std.specs.Bool.{MatchBool};
 ghost use Rattle.gs_grammar.specs.Items.{IsItem};
 ghost use Rattle.gs_grammar.specs.Derivations.{HasNumbers, IsDerived};
 
-use crate::found::Found;
 use crate::item::Item;
 use crate::opt::Opt;
-use crate::splits::{count_ways, first_cut};
+use crate::splits::{first_cut, is_derived};
 use crate::unpack::unpack;
 use crate::words::number_of_word;
 use gs_bits::BitBuf;
@@ -42,11 +41,9 @@ pub fn read_option<const N: usize>(option: &Opt, bits: &BitBuf<N>, out: &mut [u6
     let mut symbols = [0; 512];
     let count = unpack(bits, &mut symbols);
     let items = option.items();
-    match count_ways(items, &symbols[..count]) {
-        Found::Never => false,
-        _ => {
-            tally(items, &symbols[..count], out);
-            true
-        }
+    if !is_derived(items, &symbols[..count]) {
+        return false;
     }
+    tally(items, &symbols[..count], out);
+    true
 }

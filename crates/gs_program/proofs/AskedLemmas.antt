@@ -9,7 +9,7 @@ use Rattle.gs_lines.specs.Statuses.{OnCutShort, OnReadFault, OnRefused, OnWriteF
 use Rattle.gs_lines.proofs.OneOutcome.{some_outcome}
 use Rattle.gs_lines.proofs.StatusLemmas.{when_map}
 use Rattle.gs_port.specs.Counts.{Rises}
-use Rattle.gs_tables.specs.Tables.{IsShaped}
+use Rattle.gs_tables.specs.Judged.{IsLoaded}
 use Rattle.gs_translate.specs.Steps.{HasSome}
 use Rattle.gs_program.specs.declared.command.Command.{Command}
 use Rattle.gs_program.specs.declared.command.Command.TheVariants.{Canon, Check}
@@ -27,19 +27,19 @@ use Rattle.gs_program.specs.Works.{CommandRun, Outcome, counts_line, input_limit
 use Rattle.gs_program.proofs.LineLemmas.{some_line}
 use Rattle.gs_program.proofs.LoadLemmas.{files_some}
 use Rattle.gs_program.proofs.RanLemmas.{PrintedCase, fault, no_memory, printed_case, takes_nothing, whole}
-use Rattle.gs_program.proofs.ReadLemmas.{shaped_of}
+use Rattle.gs_program.proofs.ReadLemmas.{loaded_of}
 
 -- ---- what is asked has an outcome
 
-command_some : (command : Command) (loaded : Loaded) (input : Option (List ℕ)) → IsShaped loaded.tables → HasSome (CommandRun command loaded input)
-command_some (Canon form) loaded input shaped =
-    let o = some_outcome (IsCanonLine loaded.tables form) input_limit input (some_line loaded.tables form shaped) in
+command_some : (command : Command) (loaded : Loaded) (input : Option (List ℕ)) → IsLoaded loaded.tables → HasSome (CommandRun command loaded input)
+command_some (Canon form) loaded input keeps =
+    let o = some_outcome (IsCanonLine loaded.tables form) input_limit input (some_line loaded.tables form keeps) in
     (record { output = o.output; status = o.status }, o.answers)
-command_some Check loaded input shaped = (record { output = counts_line loaded; status = status.Done }, refl)
+command_some Check loaded input keeps = (record { output = counts_line loaded; status = status.Done }, refl)
 
 asked_from : (asked : Asked) (world : World) (answer : Result Loaded Stop) → FilesGive world.files asked.files answer → HasSome (AskedRun asked world)
 asked_from asked world (Ok loaded) gives =
-    let c = command_some asked.command loaded world.input (shaped_of world.files asked.files loaded gives) in
+    let c = command_some asked.command loaded world.input (loaded_of world.files asked.files loaded gives) in
     (c.0, ran loaded gives c.1)
 asked_from asked world (Err stop) gives = (stopped stop, stops stop gives refl)
 

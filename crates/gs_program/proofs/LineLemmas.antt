@@ -2,13 +2,14 @@
 use Rattle.std.proofs.Common.{◌≢◌, ℕ, Bool, List, refl, sym, ◌∙◌, ap}
 use Rattle.std.specs.Prelude.{Result, Ok, Err, IfOk}
 use Rattle.gs_lines.specs.Outputs.{AddsAnswer, HasAnswers, HasOneAnswer}
-use Rattle.gs_tables.specs.Tables.{IsShaped, TableRows}
+use Rattle.gs_tables.specs.Judged.{IsLoaded}
+use Rattle.gs_tables.specs.Tables.{TableRows}
 use Rattle.gs_translate.specs.declared.form.Form.{Form}
 use Rattle.gs_translate.specs.declared.reason.Reason.{Reason}
 use Rattle.gs_translate.specs.declared.reason.Reason.TheVariants.{Memory}
 use Rattle.gs_translate.specs.Answers.{IsAnswer}
 use Rattle.gs_translate.specs.Steps.{UnlessMemory}
-use Rattle.gs_translate.proofs.AnswerLaws.{one_answer, some_answer}
+use Rattle.gs_translate.proofs.AnswerLaws.{one_answer, some_answer, suits_one, suits_some}
 use Rattle.gs_translate.proofs.StepLaws.{told_answer}
 use Rattle.gs_program.specs.LineAnswers.{AddsLine, IsCanonLine, line_of}
 
@@ -25,10 +26,10 @@ pub adds_canon : {E : Type 0} (set : TableRows) (form : Form) (text before now :
 adds_canon set form text before now answer (Ok any) is told adds = adds_line set form text before now answer any is told adds
 adds_canon set form text before now answer (Err e) is told adds = tt
 
-pub one_line : (set : TableRows) (form : Form) → IsShaped set → HasOneAnswer (IsCanonLine set form)
-one_line set form shaped text one other a b = a.is ∙ ap line_of (one_answer set form text shaped a.answer b.answer a.is_answer b.is_answer) ∙ sym b.is
+pub one_line : (set : TableRows) (form : Form) → IsLoaded set → HasOneAnswer (IsCanonLine set form)
+one_line set form loaded text one other a b = a.is ∙ ap line_of (one_answer set form text (suits_one set form loaded) a.answer b.answer a.is_answer b.is_answer) ∙ sym b.is
 
-pub some_line : (set : TableRows) (form : Form) → IsShaped set → HasAnswers (IsCanonLine set form)
-some_line set form shaped text =
-    let a = some_answer set form text shaped in
+pub some_line : (set : TableRows) (form : Form) → IsLoaded set → HasAnswers (IsCanonLine set form)
+some_line set form loaded text =
+    let a = some_answer set form text (suits_some set form loaded) in
     (line_of a.0, record { answer = a.0; is_answer = a.1; is = refl })

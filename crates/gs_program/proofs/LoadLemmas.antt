@@ -1,21 +1,26 @@
--- What files give: one answer, and no other.
+-- What files give: one answer, and no other but for the text of an ambiguous level.
 use Rattle.std.proofs.Common.{◌≡◌, ℕ, ◌<◌, ◌≤◌, List, [], Option, Some, None, length, refl, sym, ◌∙◌, ap, inl, inr, arith}
 use Rattle.std.specs.Prelude.{Result, Ok, Err}
 use Rattle.std.proofs.lemmas.Bool.Decides.{leb_tells}
 use Rattle.gs_document.specs.declared.fault.LoadFault.{LoadFault}
+use Rattle.gs_document.specs.declared.level_name.LevelName.{LevelName}
 use Rattle.gs_port.specs.Files.{IsAbsent, IsFile, file_of}
-use Rattle.gs_tables.specs.Shapes.{BuiltInAnswer, HasMemory, LoadAnswer}
+use Rattle.gs_tables.specs.Judged.{Judged}
+use Rattle.gs_tables.specs.Shapes.{AreAlike, BuiltInAnswer, HasMemory, LoadAnswer, Shape, but_text, same}
 use Rattle.gs_tables.specs.Tables.{TableRows}
-use Rattle.gs_tables.proofs.OneAnswer.{one_answer, one_of_builtin, some_of_builtin, some_of_bytes}
-use Rattle.gs_translate.specs.Steps.{HasOne, HasSome}
-use Rattle.gs_translate.proofs.StepLaws.{then_one, then_some}
+use Rattle.gs_tables.proofs.JudgedAnswers.{IsRuling, judged_alike, judged_some}
+use Rattle.gs_tables.proofs.OneAnswer.{RuledRows, ruling_of_builtin, ruling_of_bytes}
+use Rattle.gs_translate.specs.Steps.{HasSome, Then, goes_on, refuses}
+use Rattle.gs_translate.proofs.StepLaws.{then_some}
 use Rattle.gs_program.specs.declared.file_kind.FileKind.{FileKind}
 use Rattle.gs_program.specs.declared.file_kind.FileKind.TheVariants as kind
+use Rattle.gs_program.specs.declared.loading.Loaded.{Loaded}
 use Rattle.gs_program.specs.declared.refusal.FileFault.{FileFault}
 use Rattle.gs_program.specs.declared.refusal.FileFault.TheVariants.{Over}
-use Rattle.gs_program.specs.Loads.{FileGives, FilesGive, Gives, IsLoadedOf, JudgesTables, TablesGive, absent, judged, missing, of_verdict, tables_verdict, too_large}
+use Rattle.gs_program.specs.Loads.{FileGives, FilesGive, Gives, IsLoadedOf, JudgesTables, Stop, TablesGive, absent, judged, missing, of_verdict, tables_verdict, too_large}
 use Rattle.gs_program.specs.Refusals.{file_limit}
 use Rattle.gs_program.specs.Requests.{FileNames}
+use Rattle.gs_program.specs.Runs.{ambiguous}
 
 -- ---- at most one answer
 
@@ -25,12 +30,21 @@ same_file files name bytes other a b = let e : Some bytes ≡ Some other = sym a
 not_absent : (files : List (List ℕ × List ℕ)) (name bytes : List ℕ) → IsAbsent (Some files) name → IsFile (Some files) name bytes → ⊥
 not_absent files name bytes a b = let e : None ≡ Some bytes = sym a ∙ b in cc
 
-file_one : {A : Type 0} (files : List (List ℕ × List ℕ)) (kind : FileKind) (Judges : List ℕ → Result A FileFault → Type 0) (name : List ℕ) → ((bytes : List ℕ) → HasOne (Judges bytes)) → HasOne (FileGives (Some files) kind Judges name)
-file_one files kind Judges name one a b (absent n e) (absent n' e') = e ∙ sym e'
+-- two answers of a step are one, or both stop at one ambiguous level and one pair of its options, by texts that may differ
+pub data AlikeStops {A : Type 0} (one other : Result A Stop) : Type 0 where
+  one_stop : one ≡ other → AlikeStops one other
+  two_texts : (name : LevelName) (i j : ℕ) (text text' : List ℕ) → one ≡ Err (ambiguous name i j text) → other ≡ Err (ambiguous name i j text') → AlikeStops one other
+
+-- verdicts on a kind of file are alike for a run
+abbrev AlikeVerdicts : {A : Type 0} → FileKind → (Result A FileFault → Type 0) → Type 0
+AlikeVerdicts {A = A} kind Judges = (one other : Result A FileFault) → Judges one → Judges other → AlikeStops (of_verdict kind one) (of_verdict kind other)
+
+file_one : {A : Type 0} (files : List (List ℕ × List ℕ)) (kind : FileKind) (Judges : List ℕ → Result A FileFault → Type 0) (name : List ℕ) → ((bytes : List ℕ) → AlikeVerdicts kind (Judges bytes)) → (a b : Result A Stop) → FileGives (Some files) kind Judges name a → FileGives (Some files) kind Judges name b → AlikeStops a b
+file_one files kind Judges name one a b (absent n e) (absent n' e') = one_stop (e ∙ sym e')
 file_one files kind Judges name one a b (absent n e) (too_large bytes is more e') = absurd (not_absent files name bytes n is)
 file_one files kind Judges name one a b (absent n e) (judged bytes verdict is few j e') = absurd (not_absent files name bytes n is)
 file_one files kind Judges name one a b (too_large bytes is more e) (absent n e') = absurd (not_absent files name bytes n is)
-file_one files kind Judges name one a b (too_large bytes is more e) (too_large bytes' is' more' e') = e ∙ sym e'
+file_one files kind Judges name one a b (too_large bytes is more e) (too_large bytes' is' more' e') = one_stop (e ∙ sym e')
 file_one files kind Judges name one a b (too_large bytes is more e) (judged bytes' verdict is' few j e') =
     absurd (let same : bytes ≡ bytes' = same_file files name bytes bytes' is is' in let f : length bytes ≤ file_limit kind = rw same few in omega arith)
 file_one files kind Judges name one a b (judged bytes verdict is few j e) (absent n e') = absurd (not_absent files name bytes n is)
@@ -39,23 +53,48 @@ file_one files kind Judges name one a b (judged bytes verdict is few j e) (too_l
 file_one files kind Judges name one a b (judged bytes verdict is few j e) (judged bytes' verdict' is' few' j' e') =
     let same : bytes ≡ bytes' = same_file files name bytes bytes' is is' in
     let moved : Judges bytes verdict' = rw same j' in
-    e ∙ ap (of_verdict kind) (one bytes verdict verdict' j moved) ∙ sym e'
+    rw (e, e') (one bytes verdict verdict' j moved)
 
-gives_one : {A : Type 0} (files : List (List ℕ × List ℕ)) (kind : FileKind) (Judges : List ℕ → Result A FileFault → Type 0) (Unnamed : Result A FileFault → Type 0) (name : Option (List ℕ)) → ((bytes : List ℕ) → HasOne (Judges bytes)) → HasOne Unnamed → HasOne (Gives (Some files) kind Judges Unnamed name)
-gives_one files kind Judges Unnamed None one other a b x y = x.is ∙ ap (of_verdict kind) (other x.verdict y.verdict x.judged y.judged) ∙ sym y.is
+gives_one : {A : Type 0} (files : List (List ℕ × List ℕ)) (kind : FileKind) (Judges : List ℕ → Result A FileFault → Type 0) (Unnamed : Result A FileFault → Type 0) (name : Option (List ℕ)) → ((bytes : List ℕ) → AlikeVerdicts kind (Judges bytes)) → AlikeVerdicts kind Unnamed → (a b : Result A Stop) → Gives (Some files) kind Judges Unnamed name a → Gives (Some files) kind Judges Unnamed name b → AlikeStops a b
+gives_one files kind Judges Unnamed None one other a b x y = rw (x.is, y.is) (other x.verdict y.verdict x.judged y.judged)
 gives_one files kind Judges Unnamed (Some name) one other a b x y = file_one files kind Judges name one a b x y
 
-tables_one : (Answer : Result TableRows LoadFault → Type 0) → ((a b : Result TableRows LoadFault) → Answer a → Answer b → HasMemory a → HasMemory b → a ≡ b) → HasOne (JudgesTables Answer)
-tables_one Answer one a b x y = x.is ∙ ap tables_verdict (one x.answer y.answer x.is_answer y.is_answer x.enough y.enough) ∙ sym y.is
+abbrev tables_stop : Result TableRows LoadFault → Result TableRows Stop
+tables_stop answer = of_verdict kind.Tables (tables_verdict answer)
 
-loaded_one : (set : TableRows) → HasOne (IsLoadedOf set)
-loaded_one set a b x y = x ∙ sym y
+alike_answers : (one other : Result TableRows LoadFault) → AreAlike one other → AlikeStops (tables_stop one) (tables_stop other)
+alike_answers one other (same e) = one_stop (ap tables_stop e)
+alike_answers one other (but_text name i j text text' e f) = two_texts name i j text text' (ap tables_stop e) (ap tables_stop f)
 
-pub files_one : (files : List (List ℕ × List ℕ)) (names : FileNames) → HasOne (FilesGive (Some files) names)
-files_one files names = then_one (TablesGive (Some files) names.tables) IsLoadedOf
+tables_one : (Ruled : Result TableRows LoadFault → Type 0) → IsRuling Ruled → AlikeVerdicts kind.Tables (JudgesTables (Judged Ruled))
+tables_one Ruled ruling a b x y = rw (x.is, y.is) (alike_answers x.answer y.answer (judged_alike Ruled ruling x.answer y.answer x.is_answer y.is_answer x.enough y.enough))
+
+-- a set and a stop are not alike, and two sets that are alike are one
+not_alike : (stop : Stop) (set : TableRows) → AlikeStops (Ok set) (Err stop) → ⊥
+not_alike stop set (one_stop e) = let f : Ok set ≡ Err stop = e in cc
+not_alike stop set (two_texts name i j text text' e f) = let g : Ok set ≡ Err (ambiguous name i j text) = e in cc
+
+same_set : (set set' : TableRows) → AlikeStops (Ok set) (Ok set') → set ≡ set'
+same_set set set' (one_stop e) = let f : Ok set ≡ Ok set' = e in cc
+same_set set set' (two_texts name i j text text' e f) = absurd (let g : Ok set ≡ Err (ambiguous name i j text) = e in cc)
+
+then_alike : (First : Result TableRows Stop → Type 0) → ((one other : Result TableRows Stop) → First one → First other → AlikeStops one other) → (a b : Result Loaded Stop) → Then First IsLoadedOf a → Then First IsLoadedOf b → AlikeStops a b
+then_alike First alike a b (refuses stop gives e) (refuses stop' gives' e') = rw (e, e') (same_refusal stop stop' (alike (Err stop) (Err stop') gives gives'))
+  where
+    same_refusal : (stop stop' : Stop) → AlikeStops {A = TableRows} (Err stop) (Err stop') → AlikeStops {A = Loaded} (Err stop) (Err stop')
+    same_refusal stop stop' (one_stop f) = let is : stop ≡ stop' = cc in one_stop (ap Err is)
+    same_refusal stop stop' (two_texts name i j text text' f g) =
+        let is : stop ≡ ambiguous name i j text = cc in
+        let is' : stop' ≡ ambiguous name i j text' = cc in
+        two_texts name i j text text' (ap Err is) (ap Err is')
+then_alike First alike a b (refuses stop gives e) (goes_on set gives' e') = absurd (not_alike stop set (alike (Ok set) (Err stop) gives' gives))
+then_alike First alike a b (goes_on set gives e) (refuses stop gives' e') = absurd (not_alike stop set (alike (Ok set) (Err stop) gives gives'))
+then_alike First alike a b (goes_on set gives e) (goes_on set' gives' e') = one_stop (e ∙ ap (λ (s : TableRows). Ok (record { tables = s })) (same_set set set' (alike (Ok set) (Ok set') gives gives')) ∙ sym e')
+
+pub files_one : (files : List (List ℕ × List ℕ)) (names : FileNames) (a b : Result Loaded Stop) → FilesGive (Some files) names a → FilesGive (Some files) names b → AlikeStops a b
+files_one files names = then_alike (TablesGive (Some files) names.tables)
     (gives_one files kind.Tables (λ bytes. JudgesTables (LoadAnswer bytes)) (JudgesTables BuiltInAnswer) names.tables
-    (λ bytes. tables_one (LoadAnswer bytes) (one_answer bytes)) (tables_one BuiltInAnswer one_of_builtin))
-    loaded_one
+    (λ bytes. tables_one (Shape bytes) (ruling_of_bytes bytes)) (tables_one RuledRows ruling_of_builtin))
 
 -- ---- an answer
 
@@ -84,5 +123,5 @@ tables_some Answer some = (tables_verdict some.0, record { answer = some.0; enou
 pub files_some : (files : Option (List (List ℕ × List ℕ))) (names : FileNames) → HasSome (FilesGive files names)
 files_some files names = then_some (TablesGive files names.tables) IsLoadedOf
     (gives_some files kind.Tables (λ bytes. JudgesTables (LoadAnswer bytes)) (JudgesTables BuiltInAnswer) names.tables
-    (λ bytes. tables_some (LoadAnswer bytes) (some_of_bytes bytes)) (tables_some BuiltInAnswer some_of_builtin))
+    (λ bytes. tables_some (LoadAnswer bytes) (judged_some (Shape bytes) (ruling_of_bytes bytes))) (tables_some BuiltInAnswer (judged_some RuledRows ruling_of_builtin)))
     (λ set gives. (Ok (record { tables = set }), refl))

@@ -1,13 +1,13 @@
 -- What is loaded, by how files were read.
 use Rattle.std.proofs.Common.{◌≡◌, ℕ, ◌≤◌, List, Option, Some, None, length, refl, sym, ◌∙◌, ap, inl, inr, append-nil}
-use Rattle.std.specs.Prelude.{Result, Ok, Err, option_to_list, not, ◌==◌}
+use Rattle.std.specs.Prelude.{Result, Ok, Err, option_to_list}
 use Rattle.gs_document.specs.declared.fault.LoadFault.{LoadFault}
 use Rattle.gs_port.specs.Files.{IsFile, MayHaveName}
-use Rattle.gs_tables.specs.Shapes.{BuiltInAnswer, HasMemory, LoadAnswer}
-use Rattle.gs_tables.specs.Tables.{IsShaped, TableRows, refusals, refuse_if, row_refusals}
-use Rattle.gs_builtin.specs.BuiltIn.{builtin_document}
-use Rattle.gs_chars.proofs.TruthsAndLists.{none_behind}
-use Rattle.gs_document.specs.declared.fault.LoadFault.TheVariants.{Version}
+use Rattle.gs_tables.specs.Judged.{IsLoaded}
+use Rattle.gs_tables.specs.Shapes.{BuiltInAnswer, HasMemory, LoadAnswer, Shape}
+use Rattle.gs_tables.specs.Tables.{TableRows}
+use Rattle.gs_tables.proofs.JudgedAnswers.{judged_loaded}
+use Rattle.gs_tables.proofs.OneAnswer.{RuledRows, ruling_of_builtin, ruling_of_bytes}
 use Rattle.gs_translate.specs.Steps.{goes_on, refuses}
 use Rattle.gs_program.specs.declared.file_kind.FileKind.TheVariants as kind
 use Rattle.gs_program.specs.declared.loading.Loaded.{Loaded}
@@ -70,38 +70,26 @@ opens_one name before now (inr more) = (1, more)
 pub opens_none : (names before : List (List ℕ)) → OpensFirst names before before
 opens_none names before = (0, sym (append-nil before))
 
--- ---- what is loaded keeps the rules
+-- ---- tables that are loaded keep the rules, and none of their levels is ambiguous
 
-shaped_tables : (Answer : Result TableRows LoadFault → Type 0) (verdict : Result TableRows FileFault) (set : TableRows) → ((set : TableRows) → Answer (Ok set) → IsShaped set) → JudgesTables Answer verdict → Ok set ≡ of_verdict kind.Tables verdict → IsShaped set
-shaped_tables Answer verdict set shaped j e = by j.answer j.is_answer (e ∙ ap (of_verdict kind.Tables) j.is)
+loaded_tables : (Answer : Result TableRows LoadFault → Type 0) (verdict : Result TableRows FileFault) (set : TableRows) → ((set : TableRows) → Answer (Ok set) → IsLoaded set) → JudgesTables Answer verdict → Ok set ≡ of_verdict kind.Tables verdict → IsLoaded set
+loaded_tables Answer verdict set loaded j e = by j.answer j.is_answer (e ∙ ap (of_verdict kind.Tables) j.is)
   where
-    by : (answer : Result TableRows LoadFault) → Answer answer → Ok set ≡ of_verdict kind.Tables (tables_verdict answer) → IsShaped set
-    by (Ok other) a f = let same : set ≡ other = cc in rw same (shaped other a)
+    by : (answer : Result TableRows LoadFault) → Answer answer → Ok set ≡ of_verdict kind.Tables (tables_verdict answer) → IsLoaded set
+    by (Ok other) a f = let same : set ≡ other = cc in rw same (loaded other a)
     by (Err fault) a f = absurd (let g : Ok set ≡ Err (refused (record { kind = kind.Tables; fault = Tables fault })) = f in cc)
 
-shaped_load : (bytes : List ℕ) (set : TableRows) → LoadAnswer bytes (Ok set) → IsShaped set
-unfolding refusals
-shaped_load bytes set (inl form) = absurd form
-shaped_load bytes set (inr rows) = record {
-  document = rows.0;
-  in_order = none_behind (refuse_if (not (rows.0.version == 1)) Version) (row_refusals rows.0) rows.2.0;
-  made = rows.2.1;
-}
+loaded_file : (files : Option (List (List ℕ × List ℕ))) (name : List ℕ) (set : TableRows) → TablesGive files (Some name) (Ok set) → IsLoaded set
+loaded_file files name set (absent none e) = absurd (let f : Ok set ≡ Err missing = e in cc)
+loaded_file files name set (too_large bytes is more e) = absurd (let f : Ok set ≡ Err (refused (record { kind = kind.Tables; fault = Over })) = e in cc)
+loaded_file files name set (judged bytes verdict is few j e) = loaded_tables (LoadAnswer bytes) verdict set (judged_loaded (Shape bytes) (ruling_of_bytes bytes)) j e
 
-shaped_own : (set : TableRows) → BuiltInAnswer (Ok set) → IsShaped set
-shaped_own set answer = record { document = builtin_document; in_order = answer.0; made = answer.1 }
+loaded_named : (files : Option (List (List ℕ × List ℕ))) (name : Option (List ℕ)) (set : TableRows) → TablesGive files name (Ok set) → IsLoaded set
+loaded_named files None set gives = loaded_tables BuiltInAnswer gives.verdict set (judged_loaded RuledRows ruling_of_builtin) gives.judged gives.is
+loaded_named files (Some name) set gives = loaded_file files name set gives
 
-shaped_file : (files : Option (List (List ℕ × List ℕ))) (name : List ℕ) (set : TableRows) → TablesGive files (Some name) (Ok set) → IsShaped set
-shaped_file files name set (absent none e) = absurd (let f : Ok set ≡ Err missing = e in cc)
-shaped_file files name set (too_large bytes is more e) = absurd (let f : Ok set ≡ Err (refused (record { kind = kind.Tables; fault = Over })) = e in cc)
-shaped_file files name set (judged bytes verdict is few j e) = shaped_tables (LoadAnswer bytes) verdict set (shaped_load bytes) j e
-
-shaped_named : (files : Option (List (List ℕ × List ℕ))) (name : Option (List ℕ)) (set : TableRows) → TablesGive files name (Ok set) → IsShaped set
-shaped_named files None set gives = shaped_tables BuiltInAnswer gives.verdict set shaped_own gives.judged gives.is
-shaped_named files (Some name) set gives = shaped_file files name set gives
-
-pub shaped_of : (files : Option (List (List ℕ × List ℕ))) (names : FileNames) (loaded : Loaded) → FilesGive files names (Ok loaded) → IsShaped loaded.tables
-shaped_of files names loaded (refuses stop gives e) = absurd (let f : Ok loaded ≡ Err stop = e in cc)
-shaped_of files names loaded (goes_on set gives e) =
+pub loaded_of : (files : Option (List (List ℕ × List ℕ))) (names : FileNames) (loaded : Loaded) → FilesGive files names (Ok loaded) → IsLoaded loaded.tables
+loaded_of files names loaded (refuses stop gives e) = absurd (let f : Ok loaded ≡ Err stop = e in cc)
+loaded_of files names loaded (goes_on set gives e) =
     let same : loaded ≡ record { tables = set } = cc in
-    rw same (shaped_named files names.tables set gives)
+    rw same (loaded_named files names.tables set gives)

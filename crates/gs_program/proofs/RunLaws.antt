@@ -1,23 +1,24 @@
--- A run has one outcome over files and an input that are told, and no other.
+-- A run has one outcome over files and an input that are told, and no other but for the text of an ambiguous level.
 use Rattle.std.proofs.Common.{◌≡◌, inl, inr, ℕ, List, Some, refl, sym, ◌∙◌, ap}
 use Rattle.std.specs.Prelude.{Ok, Err}
 use Rattle.gs_lines.specs.declared.status.Status.{Status}
 use Rattle.gs_lines.specs.declared.status.Status.TheVariants as status
 use Rattle.gs_lines.proofs.OneOutcome.{one_outcome}
-use Rattle.gs_tables.specs.Tables.{IsShaped}
+use Rattle.gs_tables.specs.Judged.{IsLoaded}
 use Rattle.gs_translate.specs.Steps.{HasOne, HasSome}
 use Rattle.gs_program.specs.declared.command.Command.{Command}
 use Rattle.gs_program.specs.declared.command.Command.TheVariants.{Canon, Check}
 use Rattle.gs_program.specs.declared.loading.Loaded.{Loaded}
 use Rattle.gs_program.specs.LineAnswers.{IsCanonLine}
+use Rattle.gs_program.specs.Loads.{Stop}
 use Rattle.gs_program.specs.Requests.{Asked, WordsInOrder, usage_line}
-use Rattle.gs_program.specs.Runs.{AskedRun, DefinedRun, World, by_request, by_usage, ran, stopped, stops}
+use Rattle.gs_program.specs.Runs.{AreAlike, AskedRun, DefinedRun, World, ambiguous, but_text, by_request, by_usage, ran, same, stopped, stops}
 use Rattle.gs_program.specs.Works.{CommandRun, Outcome, input_limit}
 use Rattle.gs_program.proofs.AskedLemmas.{asked_some}
 use Rattle.gs_program.proofs.DecidedWords.{Decided, order_or_not}
 use Rattle.gs_program.proofs.LineLemmas.{one_line}
-use Rattle.gs_program.proofs.LoadLemmas.{files_one}
-use Rattle.gs_program.proofs.ReadLemmas.{shaped_of}
+use Rattle.gs_program.proofs.LoadLemmas.{AlikeStops, files_one, one_stop, two_texts}
+use Rattle.gs_program.proofs.ReadLemmas.{loaded_of}
 use Rattle.gs_program.proofs.RequestLemmas.{one_request}
 
 -- files and an input that are told
@@ -30,35 +31,46 @@ same_outcome one other e f =
     let by_status : Status → Outcome = λ s. record { output = other.output; status = s } in
     ap by_output e ∙ ap by_status f
 
-command_one : (command : Command) (loaded : Loaded) (input : List ℕ) → IsShaped loaded.tables → HasOne (CommandRun command loaded (Some input))
-command_one (Canon form) loaded input shaped one other a b =
-    let same = one_outcome (IsCanonLine loaded.tables form) input_limit input one.output other.output one.status other.status (one_line loaded.tables form shaped) a b in
+command_one : (command : Command) (loaded : Loaded) (input : List ℕ) → IsLoaded loaded.tables → HasOne (CommandRun command loaded (Some input))
+command_one (Canon form) loaded input keeps one other a b =
+    let same = one_outcome (IsCanonLine loaded.tables form) input_limit input one.output other.output one.status other.status (one_line loaded.tables form keeps) a b in
     same_outcome one other same.0 same.1
-command_one Check loaded input shaped one other a b = a ∙ sym b
+command_one Check loaded input keeps one other a b = a ∙ sym b
 
-pub asked_one : (asked : Asked) (files : List (List ℕ × List ℕ)) (input : List ℕ) → HasOne (AskedRun asked (told files input))
+-- stops that are alike leave outcomes that are alike
+stops_alike : (stop stop' : Stop) (one other : Outcome) → one ≡ stopped stop → other ≡ stopped stop' → AlikeStops {A = Loaded} (Err stop) (Err stop') → AreAlike one other
+stops_alike stop stop' one other a b (one_stop e) = let is : stop ≡ stop' = cc in same (a ∙ ap stopped is ∙ sym b)
+stops_alike stop stop' one other a b (two_texts name i j text text' e f) =
+    let is : stop ≡ ambiguous name i j text = cc in
+    let is' : stop' ≡ ambiguous name i j text' = cc in
+    but_text name i j text text' (a ∙ ap stopped is) (b ∙ ap stopped is')
+
+-- what is loaded and what stops are not alike
+not_alike : (loaded : Loaded) (stop : Stop) → AlikeStops (Ok loaded) (Err stop) → ⊥
+not_alike loaded stop (one_stop e) = let f : Ok loaded ≡ Err stop = e in cc
+not_alike loaded stop (two_texts name i j text text' e f) = let g : Ok loaded ≡ Err (ambiguous name i j text) = e in cc
+
+same_loaded : (loaded loaded' : Loaded) → AlikeStops (Ok loaded) (Ok loaded') → loaded ≡ loaded'
+same_loaded loaded loaded' (one_stop e) = let f : Ok loaded ≡ Ok loaded' = e in cc
+same_loaded loaded loaded' (two_texts name i j text text' e f) = absurd (let g : Ok loaded ≡ Err (ambiguous name i j text) = e in cc)
+
+pub asked_one : (asked : Asked) (files : List (List ℕ × List ℕ)) (input : List ℕ) (one other : Outcome) → AskedRun asked (told files input) one → AskedRun asked (told files input) other → AreAlike one other
 asked_one asked files input one other (ran loaded gives a) (ran loaded' gives' b) =
-    let answers : Ok loaded ≡ Ok loaded' = files_one files asked.files (Ok loaded) (Ok loaded') gives gives' in
-    let same : loaded ≡ loaded' = cc in
-    let moved : CommandRun asked.command loaded (Some input) other = rw same b in
-    command_one asked.command loaded input (shaped_of (Some files) asked.files loaded gives) one other a moved
-asked_one asked files input one other (ran loaded gives a) (stops stop gives' b) =
-    absurd (let answers : Ok loaded ≡ Err stop = files_one files asked.files (Ok loaded) (Err stop) gives gives' in cc)
-asked_one asked files input one other (stops stop gives a) (ran loaded gives' b) =
-    absurd (let answers : Err stop ≡ Ok loaded = files_one files asked.files (Err stop) (Ok loaded) gives gives' in cc)
-asked_one asked files input one other (stops stop gives a) (stops stop' gives' b) =
-    let answers : Err stop ≡ Err stop' = files_one files asked.files (Err stop) (Err stop') gives gives' in
-    let same : stop ≡ stop' = cc in
-    a ∙ ap stopped same ∙ sym b
+    let is = same_loaded loaded loaded' (files_one files asked.files (Ok loaded) (Ok loaded') gives gives') in
+    let moved : CommandRun asked.command loaded (Some input) other = rw is b in
+    same (command_one asked.command loaded input (loaded_of (Some files) asked.files loaded gives) one other a moved)
+asked_one asked files input one other (ran loaded gives a) (stops stop gives' b) = absurd (not_alike loaded stop (files_one files asked.files (Ok loaded) (Err stop) gives gives'))
+asked_one asked files input one other (stops stop gives a) (ran loaded gives' b) = absurd (not_alike loaded stop (files_one files asked.files (Ok loaded) (Err stop) gives' gives))
+asked_one asked files input one other (stops stop gives a) (stops stop' gives' b) = stops_alike stop stop' one other a b (files_one files asked.files (Err stop) (Err stop') gives gives')
 
-pub run_one : (words : List (List ℕ)) (files : List (List ℕ × List ℕ)) (input : List ℕ) → HasOne (DefinedRun words (told files input))
+pub run_one : (words : List (List ℕ)) (files : List (List ℕ × List ℕ)) (input : List ℕ) (one other : Outcome) → DefinedRun words (told files input) one → DefinedRun words (told files input) other → AreAlike one other
 run_one words files input one other (by_request asked order a) (by_request asked' order' b) =
-    let same : asked ≡ asked' = one_request words asked asked' order order' in
-    let moved : AskedRun asked (told files input) other = rw same b in
+    let is : asked ≡ asked' = one_request words asked asked' order order' in
+    let moved : AskedRun asked (told files input) other = rw is b in
     asked_one asked files input one other a moved
 run_one words files input one other (by_request asked order a) (by_usage not b) = absurd (not asked order)
 run_one words files input one other (by_usage not a) (by_request asked order b) = absurd (not asked order)
-run_one words files input one other (by_usage not a) (by_usage not' b) = a ∙ sym b
+run_one words files input one other (by_usage not a) (by_usage not' b) = same (a ∙ sym b)
 
 run_by : (words : List (List ℕ)) (world : World) → Decided (WordsInOrder words) → HasSome (DefinedRun words world)
 run_by words world (inl asked) = let a = asked_some asked.0 world in (a.0, by_request asked.0 asked.1 a.1)

@@ -5,7 +5,7 @@ use Rattle.gs_ai.specs.declared.faults.AiFault.TheVariants as ai
 use Rattle.gs_document.specs.declared.fault.LimitName.{LimitName}
 use Rattle.gs_document.specs.declared.fault.LimitName.TheVariants.{Ais, Kinds, Options, Items, Size}
 use Rattle.gs_document.specs.declared.fault.LoadFault.{LoadFault}
-use Rattle.gs_document.specs.declared.fault.LoadFault.TheVariants.{Json, Version, Limit, Ai, BadKind, BadItem, Mismatch, Duplicate, Memory}
+use Rattle.gs_document.specs.declared.fault.LoadFault.TheVariants.{Json, Version, Limit, Ai, BadKind, BadItem, Mismatch, Duplicate, Ambiguous, Memory}
 use Rattle.gs_document.specs.declared.level_name.LevelName.{LevelName}
 use Rattle.gs_document.specs.declared.level_name.LevelName.TheVariants.{Binary, Tag, Pure}
 use Rattle.gs_json.specs.declared.fault.JsonFault.{JsonFault}
@@ -69,6 +69,10 @@ ai_text (ai.KeyIsQualifier i) = numbered (codes "key-is-qualifier") i
 ai_text (ai.PredefinedLength i) = numbered (codes "predefined") i
 ai_text ai.Memory = codes "memory"
 
+-- the first ambiguous level, the first pair of its options that shares a list, and a text that shows such a list
+abbrev pub ambiguous_text : LevelName → ℕ → ℕ → List ℕ → List ℕ
+ambiguous_text level i j text = numbered_twice (of_level (codes "ambiguous") level) i j ++ 32 ∷ text
+
 -- a fault of tables
 abbrev pub tables_text : LoadFault → List ℕ
 tables_text (Json fault) = codes "json " ++ json_text fault
@@ -79,6 +83,7 @@ tables_text (BadKind i) = numbered (codes "bad-kind") i
 tables_text (BadItem level i k) = numbered_twice (of_level (codes "bad-item") level) i k
 tables_text (Mismatch level i) = numbered (of_level (codes "mismatch") level) i
 tables_text (Duplicate level j i) = numbered_twice (of_level (codes "duplicate") level) j i
+tables_text (Ambiguous level i j text) = ambiguous_text level i j text
 tables_text Memory = codes "memory"
 
 -- why a file is refused

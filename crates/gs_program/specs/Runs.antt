@@ -1,7 +1,11 @@
 -- What a whole run leaves.
 use Rattle.std.specs.Prelude.{◌≡◌, ℕ, List, [], Option, Ok, Err}
 use Rattle.gs_lines.specs.declared.status.Status.TheVariants as status
+use Rattle.gs_document.specs.declared.fault.LoadFault.TheVariants.{Ambiguous}
+use Rattle.gs_document.specs.declared.level_name.LevelName.{LevelName}
+use Rattle.gs_program.specs.declared.file_kind.FileKind.TheVariants.{Tables}
 use Rattle.gs_program.specs.declared.loading.Loaded.{Loaded}
+use Rattle.gs_program.specs.declared.refusal.FileFault.TheVariants.{Tables as Faulty}
 use Rattle.gs_program.specs.declared.refusal.Refusal.{Refusal}
 use Rattle.gs_program.specs.Loads.{FilesGive, OpensFirst, Stop, missing, refused}
 use Rattle.gs_program.specs.Ran.{BeginsOne}
@@ -28,6 +32,16 @@ pub data AskedRun (asked : Asked) (world : World) (outcome : Outcome) : Type 0 w
 pub data DefinedRun (words : List (List ℕ)) (world : World) (outcome : Outcome) : Type 0 where
   by_request : (asked : Asked) → WordsInOrder words asked → AskedRun asked world outcome → DefinedRun words world outcome
   by_usage : NotInOrder words → outcome ≡ record { output = usage_line; status = status.Usage } → DefinedRun words world outcome
+
+-- what a run stops at whose tables have an ambiguous level, by a text
+abbrev pub ambiguous : LevelName → ℕ → ℕ → List ℕ → Stop
+ambiguous name i j text = refused (record { kind = Tables; fault = Faulty (Ambiguous name i j text) })
+
+-- Two outcomes are one, or both tell that a level of the tables is ambiguous, by one level and one pair of its options, and by
+-- texts that may differ: such a text is any that shows a list with two derivations.
+pub data AreAlike (one other : Outcome) : Type 0 where
+  same : one ≡ other → AreAlike one other
+  but_text : (name : LevelName) (i j : ℕ) (text text' : List ℕ) → one ≡ stopped (ambiguous name i j text) → other ≡ stopped (ambiguous name i j text') → AreAlike one other
 
 -- an initial part of the output of some defined outcome
 abbrev pub BeginsRun : List (List ℕ) → World → List ℕ → Type 0

@@ -1,6 +1,6 @@
 ghost use Rattle.gs_lines.specs.Outputs.{Appends};
 ghost use Rattle.gs_program.specs.Ran.{Ran};
-ghost use Rattle.gs_tables.specs.Tables.{IsShaped};
+ghost use Rattle.gs_tables.specs.Judged.{IsLoaded};
 
 use crate::command::Command;
 use crate::line_answers::CanonLines;
@@ -21,7 +21,7 @@ pub fn canonize<S: Source, K: Sink>(
     input: &mut S,
     output: &mut K,
 ) -> Status
-    requires { IsShaped loaded.now.tables }
+    requires { IsLoaded loaded.now.tables }
     ensures { Appends (K.held output.old) (K.held output.new) (λ out. Ran (Command.Canon form) loaded.now
         (record { input = S.left input.old; input_faults = S.faults input.old; output_faults = K.faults output.old })
         (record { input = S.left input.new; input_faults = S.faults input.new; output_faults = K.faults output.new })

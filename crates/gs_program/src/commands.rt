@@ -1,6 +1,6 @@
 ghost use Rattle.std.specs.Prelude.{◌≡◌, false};
 ghost use Rattle.gs_lines.specs.Outputs.{Appends};
-ghost use Rattle.gs_tables.specs.Tables.{IsShaped};
+ghost use Rattle.gs_tables.specs.Judged.{IsLoaded};
 ghost use Rattle.gs_program.specs.Commands.{answers_lines};
 ghost use Rattle.gs_program.specs.Ran.{Ran};
 
@@ -20,7 +20,7 @@ pub fn run_command<S: Source, K: Sink>(
     input: &mut S,
     output: &mut K,
 ) -> Status
-    requires { IsShaped loaded.now.tables }
+    requires { IsLoaded loaded.now.tables }
     ensures ran { Appends (K.held output.old) (K.held output.new) (λ out. Ran command loaded.now
         (record { input = S.left input.old; input_faults = S.faults input.old; output_faults = K.faults output.old })
         (record { input = S.left input.new; input_faults = S.faults input.new; output_faults = K.faults output.new })

@@ -1,5 +1,5 @@
 ghost use Rattle.std.specs.Prelude.{◌≡◌, ◌∷◌, ◌++◌, IfOk, OnOk, codes, decimal};
-ghost use Rattle.gs_program.specs.Refusals.{ai_text, fault_text, json_text, level_text, limit_text, numbered, numbered_twice, of_level, refused_line, shown, shown_byte, tables_text};
+ghost use Rattle.gs_program.specs.Refusals.{ai_text, ambiguous_text, fault_text, json_text, level_text, limit_text, numbered, numbered_twice, of_level, refused_line, shown, shown_byte, tables_text};
 
 use crate::refusal::{FileFault, Refusal};
 use gs_ai::AiFault;
@@ -157,6 +157,22 @@ fn append_mismatch(
     append_number(alloc, out, i)
 }
 
+/// Appends the first ambiguous level, the options that share a list, and a text that shows it.
+fn append_ambiguous(
+    alloc: Global,
+    out: &mut Vec<u8>,
+    level: LevelName,
+    first: usize,
+    second: usize,
+    text: &[u8],
+) -> Result<(), Memory>
+    ensures { OnOk result (out.new.items ≡ out.old.items ++ ambiguous_text level first second text.now) }
+{
+    append_option(alloc, out, b"ambiguous", level, first, second)?;
+    out.push(b' ')?;
+    Ok(out.extend_from_slice(text)?)
+}
+
 /// Appends a fault of the form of a document.
 fn append_form(out: &mut Vec<u8>, fault: &JsonFault) -> Result<(), Memory>
     ensures { OnOk result (out.new.items ≡ out.old.items ++ (codes "json " ++ json_text fault.now)) }
@@ -187,6 +203,9 @@ fn append_tables(alloc: Global, out: &mut Vec<u8>, fault: &LoadFault) -> Result<
         LoadFault::Mismatch(level, i) => append_mismatch(alloc, out, *level, *i),
         LoadFault::Duplicate(level, j, i) => {
             append_option(alloc, out, b"duplicate", *level, *j, *i)
+        }
+        LoadFault::Ambiguous(level, i, j, text) => {
+            append_ambiguous(alloc, out, *level, *i, *j, text.as_bytes())
         }
         LoadFault::Memory => Ok(out.extend_from_slice(b"memory")?),
     }

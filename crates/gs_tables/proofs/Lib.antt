@@ -1,7 +1,10 @@
 pub mod FoundItems
 pub mod KeptRows
-pub mod KeptSets
-pub mod OneAnswer
-pub mod OptionLemmas
 pub mod RefusalLists
 pub mod SetLemmas
+pub mod KeptSets
+pub mod RuledRefusals
+pub mod JudgedLevels
+pub mod JudgedAnswers
+pub mod OneAnswer
+pub mod OptionLemmas

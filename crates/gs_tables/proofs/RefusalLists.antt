@@ -5,7 +5,7 @@ use Rattle.gs_chars.proofs.TruthsAndLists.{first_of_front}
 use Rattle.gs_ai.specs.declared.row.AiRow.{AiRow}
 use Rattle.gs_document.specs.declared.document.KindRow.{KindRow}
 use Rattle.gs_document.specs.declared.fault.LoadFault.{LoadFault}
-use Rattle.gs_document.specs.declared.fault.LoadFault.TheVariants.{Json, Version, Limit, Ai, BadKind, BadItem, Mismatch, Duplicate, Memory}
+use Rattle.gs_document.specs.declared.fault.LoadFault.TheVariants.{Json, Version, Limit, Ai, BadKind, BadItem, Mismatch, Duplicate, Ambiguous, Memory}
 use Rattle.gs_tables.specs.Rules.{is_kind}
 use Rattle.gs_tables.specs.Tables.{IsAnswer, IsFirst, kind_refusals}
 
@@ -28,6 +28,7 @@ refused refusals made (BadKind i) h = h
 refused refusals made (BadItem level i k) h = h
 refused refusals made (Mismatch level i) h = h
 refused refusals made (Duplicate level j i) h = h
+refused refusals made (Ambiguous level i j text) h = h
 refused refusals made Memory h = tt
 
 -- the answer by a list is that by a longer one with nothing in front
@@ -40,6 +41,7 @@ refused_behind a b c x y (BadKind i) none h = rw none (first_of_front b c (BadKi
 refused_behind a b c x y (BadItem level i k) none h = rw none (first_of_front b c (BadItem level i k) h)
 refused_behind a b c x y (Mismatch level i) none h = rw none (first_of_front b c (Mismatch level i) h)
 refused_behind a b c x y (Duplicate level j i) none h = rw none (first_of_front b c (Duplicate level j i) h)
+refused_behind a b c x y (Ambiguous level i j text) none h = rw none (first_of_front b c (Ambiguous level i j text) h)
 refused_behind a b c x y Memory none h = tt
 
 -- ---- the refusal of a kind

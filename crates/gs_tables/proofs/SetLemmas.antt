@@ -8,11 +8,11 @@ use Rattle.gs_document.specs.declared.document.Document.{Document}
 use Rattle.gs_document.specs.declared.document.KindRow.{KindRow}
 use Rattle.gs_document.specs.declared.document.OptionRow.{OptionRow}
 use Rattle.gs_document.specs.declared.fault.LoadFault.{LoadFault}
-use Rattle.gs_document.specs.declared.fault.LoadFault.TheVariants.{Json, Version, Limit, Ai, BadKind, BadItem, Mismatch, Duplicate, Memory}
+use Rattle.gs_document.specs.declared.fault.LoadFault.TheVariants.{Json, Version, Limit, Ai, BadKind, BadItem, Mismatch, Duplicate, Ambiguous, Memory}
 use Rattle.gs_document.specs.declared.level_name.LevelName.TheVariants.{Binary, Tag, Pure}
 use Rattle.gs_tables.specs.Tables.{IsAnswer, IsFirst, TableRows, refuse_if, refusals, kind_of, kinds_refusals, level_of, level_refusals, limit_refusals, row_refusals, set_of}
 use Rattle.gs_document.specs.Readings.{Holds, IsFormRefusal}
-use Rattle.gs_tables.specs.Shapes.{Shape}
+use Rattle.gs_tables.specs.Shapes.{LoadAnswer, Shape}
 use Rattle.gs_tables.proofs.RefusalLists.{refused, refused_behind}
 
 -- the refusals of the kinds and of the options
@@ -61,18 +61,20 @@ others_refused document ais e none table h =
 
 -- ---- the set
 
+pub rules_kept : (document : Document) (ais : List AiRow) → limit_refusals document ≡ [] → (map Ai (table_faults document.ais) ≡ []) × (ais ≡ document.ais)
+    → others ais document.kinds document.binary document.tag document.pure ≡ [] → row_refusals document ≡ []
+unfolding row_refusals
+rules_kept document ais limits table rest =
+    let rest' : others document.ais document.kinds document.binary document.tag document.pure ≡ [] = rw table.1 at rest in
+    none_of_both (limit_refusals document) (map Ai (table_faults document.ais) ++ others document.ais document.kinds document.binary document.tag document.pure) limits
+    (none_of_both (map Ai (table_faults document.ais)) (others document.ais document.kinds document.binary document.tag document.pure) table.0 rest')
+
 pub set_made : (document : Document) (ais : List AiRow) (set : TableRows) → limit_refusals document ≡ [] → (map Ai (table_faults document.ais) ≡ []) × (ais ≡ document.ais)
     → others ais document.kinds document.binary document.tag document.pure ≡ []
     → set.ais ≡ ais → set.kinds ≡ map kind_of document.kinds → set.binary ≡ level_of document.kinds Binary document.binary
     → set.tag ≡ level_of document.kinds Tag document.tag → set.pure ≡ level_of document.kinds Pure document.pure
     → (row_refusals document ≡ []) × (set ≡ set_of document)
-unfolding row_refusals
-set_made document ais set limits table rest a k b t p =
-    let rest' : others document.ais document.kinds document.binary document.tag document.pure ≡ [] = rw table.1 at rest in (
-      none_of_both (limit_refusals document) (map Ai (table_faults document.ais) ++ others document.ais document.kinds document.binary document.tag document.pure) limits
-          (none_of_both (map Ai (table_faults document.ais)) (others document.ais document.kinds document.binary document.tag document.pure) table.0 rest'),
-      same_sets set (set_of document) (a ∙ table.1) k b t p,
-    )
+set_made document ais set limits table rest a k b t p = (rules_kept document ais limits table rest, same_sets set (set_of document) (a ∙ table.1) k b t p)
   where
     same_sets : (a b : TableRows) → a.ais ≡ b.ais → a.kinds ≡ b.kinds → a.binary ≡ b.binary → a.tag ≡ b.tag → a.pure ≡ b.pure → a ≡ b
     same_sets a b e f g h i = rw (e, f, g, h, i) refl
@@ -83,7 +85,7 @@ refused_version : (test : Bool) (e : LoadFault) → slice_get (refuse_if test Ve
 refused_version true e h = let same : Version ≡ e = cc in sym same
 refused_version false e h = absurd (let g : None ≡ Some e = h in cc)
 
-pub version_refused : (bytes : List ℕ) (document : Document) (e : LoadFault) → Holds bytes document → IsFirst (refuse_if (not (document.version == 1)) Version) (Err e) → Shape bytes (Err e)
+pub version_refused : (bytes : List ℕ) (document : Document) (e : LoadFault) → Holds bytes document → IsFirst (refuse_if (not (document.version == 1)) Version) (Err e) → LoadAnswer bytes (Err e)
 unfolding refusals
 version_refused bytes document e holds h =
     let same = refused_version (not (document.version == 1)) e h in
@@ -101,17 +103,18 @@ by_rows bytes document (Err (BadKind i)) holds h = inr (document, holds, h)
 by_rows bytes document (Err (BadItem level i k)) holds h = inr (document, holds, h)
 by_rows bytes document (Err (Mismatch level i)) holds h = inr (document, holds, h)
 by_rows bytes document (Err (Duplicate level j i)) holds h = inr (document, holds, h)
+by_rows bytes document (Err (Ambiguous level i j text)) holds h = inr (document, holds, h)
 
 -- the version is 1, so that the refusals are those of the rows
 behind_version : (document : Document) → refuse_if (not (document.version == 1)) Version ≡ [] → row_refusals document ≡ refusals document
 unfolding refusals
 behind_version document none = rw none refl
 
-pub rows_answer : (bytes : List ℕ) (document : Document) (answer : Result TableRows LoadFault) → Holds bytes document → IsFirst (refuse_if (not (document.version == 1)) Version) (Ok tt) → IsAnswer (row_refusals document) (set_of document) answer → Shape bytes answer
-rows_answer bytes document answer holds none h = by_rows bytes document answer holds (rw (behind_version document none) at h)
+pub rows_answer : (bytes : List ℕ) (document : Document) → Holds bytes document → IsFirst (refuse_if (not (document.version == 1)) Version) (Ok tt) → (answer : Result TableRows LoadFault) → IsAnswer (row_refusals document) (set_of document) answer → Shape bytes answer
+rows_answer bytes document holds none answer h = by_rows bytes document answer holds (rw (behind_version document none) at h)
 
 -- an answer by the form
-pub form_answer : (bytes : List ℕ) (e : LoadFault) → IsFormRefusal bytes e → Shape bytes (Err e)
+pub form_answer : (bytes : List ℕ) (e : LoadFault) → IsFormRefusal bytes e → LoadAnswer bytes (Err e)
 form_answer bytes (Json fault) h = inl h
 form_answer bytes Memory h = tt
 form_answer bytes Version h = absurd h
@@ -121,3 +124,4 @@ form_answer bytes (BadKind i) h = absurd h
 form_answer bytes (BadItem level i k) h = absurd h
 form_answer bytes (Mismatch level i) h = absurd h
 form_answer bytes (Duplicate level j i) h = absurd h
+form_answer bytes (Ambiguous level i j text) h = absurd h

@@ -7,4 +7,5 @@ pub mod Rules
 pub mod Founds
 pub mod Tables
 pub mod KeptRules
+pub mod Judged
 pub mod Shapes

@@ -1,10 +1,12 @@
 -- The shape of a table document: the set that its bytes give, or their first refusal. The answers of the calls that make sets.
-use Rattle.std.specs.Prelude.{◌⊎◌, ◌≢◌, ℕ, List, Result, Err}
+use Rattle.std.specs.Prelude.{◌≡◌, ◌⊎◌, ◌≢◌, ℕ, List, Result, Err}
 use Rattle.gs_document.specs.declared.document.Document.{Document}
 use Rattle.gs_document.specs.declared.fault.LoadFault.{LoadFault}
-use Rattle.gs_document.specs.declared.fault.LoadFault.TheVariants.{Json, Memory}
+use Rattle.gs_document.specs.declared.fault.LoadFault.TheVariants.{Json, Ambiguous, Memory}
+use Rattle.gs_document.specs.declared.level_name.LevelName.{LevelName}
 use Rattle.gs_document.specs.Readings.{Holds, IsFormFault}
 use Rattle.gs_builtin.specs.BuiltIn.{builtin_document}
+use Rattle.gs_tables.specs.Judged.{Judged}
 use Rattle.gs_tables.specs.Tables.{TableRows, IsAnswer, refusals, row_refusals, set_of}
 
 -- the answer by the rows of the document that the bytes are
@@ -23,14 +25,19 @@ abbrev pub Shape : List ℕ → Result TableRows LoadFault → Type 0
 Shape bytes (Err Memory) = Unit {0}
 Shape bytes answer = ByForm bytes answer ⊎ ByRows bytes answer
 
--- the answer of `TableSet::load` to bytes
+-- the answer of `TableSet::load` to bytes: the set that their shape gives, where none of its levels is ambiguous, or the refusal
 abbrev pub LoadAnswer : List ℕ → Result TableRows LoadFault → Type 0
-LoadAnswer bytes answer = Shape bytes answer
+LoadAnswer bytes answer = Judged (Shape bytes) answer
 
--- the answer of `builtin`: the set of the built-in rows, or their first refusal
+-- the answer of `builtin`: the set of the built-in rows, or their first refusal, judged in the same way
 abbrev pub BuiltInAnswer : Result TableRows LoadFault → Type 0
-BuiltInAnswer answer = IsAnswer (row_refusals builtin_document) (set_of builtin_document) answer
+BuiltInAnswer answer = Judged (IsAnswer (row_refusals builtin_document) (set_of builtin_document)) answer
 
 -- the answer is no want of memory
 abbrev pub HasMemory : {X : Type 0} → Result X LoadFault → Type 0
 HasMemory answer = answer ≢ Err Memory
+
+-- Two answers are one, or name one ambiguous level and one pair of its options, by texts that may differ.
+pub data AreAlike (one other : Result TableRows LoadFault) : Type 0 where
+  same : one ≡ other → AreAlike one other
+  but_text : (name : LevelName) (i j : ℕ) (text text' : List ℕ) → one ≡ Err (Ambiguous name i j text) → other ≡ Err (Ambiguous name i j text') → AreAlike one other

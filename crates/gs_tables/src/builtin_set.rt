@@ -7,7 +7,8 @@ use std::alloc::Global;
 
 /// The set of the built-in rows: the application identifiers, seven kinds of key, and for each encoding and each length of
 /// the company prefix from 12 to 6 its binary and its tag option, and for each kind its pure option. They go through the
-/// rules of `TableSet::load`. The answer is its first refusal where one is broken. `Memory` may come in place of any answer.
+/// rules of `TableSet::load`, and their levels are judged as its are. The answer is the first refusal where there is one. `Memory`
+/// may come in place of any answer.
 pub fn builtin(alloc: Global) -> Result<TableSet, LoadFault>
     ensures { BuiltInAnswer result }
 {

@@ -1,6 +1,7 @@
 //! Table sets: the application identifiers, kinds and options that a document or the built-in rows give, and their rules.
 #![tactic(auto)]
 
+mod ambiguity;
 mod builtin_set;
 mod field_items;
 mod form;

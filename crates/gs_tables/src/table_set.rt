@@ -1,7 +1,9 @@
 ghost use Rattle.std.specs.Prelude.{◌≡◌};
+ghost use Rattle.gs_tables.specs.Judged.{IsClear, IsLoaded, Judged};
 ghost use Rattle.gs_tables.specs.Tables.{level_rows, IsShaped, IsAnswer, row_refusals, set_of};
 ghost use Rattle.gs_tables.specs.Shapes.{LoadAnswer};
 
+use crate::ambiguity::judge_levels;
 use crate::level_table::LevelTable;
 use crate::make::{make_ais, make_kinds, make_level};
 use crate::rules::{check_limits, check_rows, check_version};
@@ -13,7 +15,7 @@ use std::alloc::Global;
 use std::marker::Model;
 
 /// A table set: the application identifiers, the kinds, and the options of three levels, each in the order of its rows. It
-/// keeps the rules that `TableSet::load` asks for.
+/// keeps the rules that `TableSet::load` asks for, and none of its levels is ambiguous.
 #[derive(Drop)]
 pub struct TableSet {
     ais: AiTable,
@@ -24,13 +26,14 @@ pub struct TableSet {
 }
 
 impl Model for TableSet {
-    ghost use Rattle.gs_tables.specs.Tables.{TableRows, IsShaped};
+    ghost use Rattle.gs_tables.specs.Judged.{IsLoaded};
+    ghost use Rattle.gs_tables.specs.Tables.{TableRows};
 
     ghost Value = { TableRows };
 
     ghost view = { λ a. record { ais = a.ais; kinds = a.kinds; binary = a.binary; tag = a.tag; pure = a.pure } };
 
-    ghost invariant = { λ a. IsShaped (record { ais = a.ais; kinds = a.kinds; binary = a.binary; tag = a.tag; pure = a.pure }) };
+    ghost invariant = { λ a. IsLoaded (record { ais = a.ais; kinds = a.kinds; binary = a.binary; tag = a.tag; pure = a.pure }) };
 }
 
 impl TableSet {
@@ -39,7 +42,9 @@ impl TableSet {
     /// numbers of rows: application identifiers, kinds, options, items. `Ai`: the first fault of the application
     /// identifiers. `BadKind`: the first kind that breaks a rule. Then option by option of the levels binary, tag, pure:
     /// `BadItem` for its first bad item, `Limit(Size)`, `Mismatch` where it does not fit its kind, `Duplicate` for the first
-    /// earlier option of the same kind, encoding and prefix length. `Memory` may come in place of any answer.
+    /// earlier option of the same kind, encoding and prefix length. Last `Ambiguous`: the first level, in the same order, with
+    /// a list of symbols that has two different derivations, the first pair of its options that shares one, and such a list.
+    /// `Ok` comes exactly where none of these does. `Memory` may come in place of any answer.
     pub fn load(alloc: Global, bytes: &[u8]) -> Result<TableSet, LoadFault>
         ensures { LoadAnswer bytes.now result }
     {
@@ -48,9 +53,9 @@ impl TableSet {
         TableSet::of_rows(alloc, document)
     }
 
-    /// The set of the rows, or their first refusal from the limits on.
+    /// The set of the rows, or their first refusal from the limits on, its levels judged.
     pub(crate) fn of_rows(alloc: Global, document: Document) -> Result<TableSet, LoadFault>
-        ensures { IsAnswer (row_refusals document) (set_of document) result }
+        ensures { Judged (IsAnswer (row_refusals document) (set_of document)) result }
     {
         check_limits(&document)?;
         let Document {
@@ -67,6 +72,7 @@ impl TableSet {
         let binary = make_level(alloc, &ais, rows, LevelName::Binary, binary)?;
         let tag = make_level(alloc, &ais, rows, LevelName::Tag, tag)?;
         let pure = make_level(alloc, &ais, rows, LevelName::Pure, pure)?;
+        judge_levels(alloc, &binary.level, &tag.level, &pure.level)?;
         let kinds = make_kinds(alloc, &ais, kinds)?;
         Ok(TableSet {
             ais,
@@ -93,9 +99,11 @@ impl TableSet {
         self.kinds.items()
     }
 
-    /// The options of a level, in their order.
+    /// The options of a level, in their order. The level is not ambiguous.
     pub fn level(&self, name: LevelName) -> &Level
         ensures rows { result.now ≡ (level_rows name self.now).level }
+        ensures loaded { IsLoaded self.now }
+        ensures clear { IsClear result.now }
         ensures shaped { IsShaped self.now }
     {
         // the proof alone reads it: what holds of the set

@@ -14,16 +14,17 @@ use Rattle.gs_bits.proofs.HexBits.{first_bad_same, no_bad_digit}
 use Rattle.gs_grammar.specs.Counts.{Counted, none_of, one_of, two_of}
 use Rattle.gs_grammar.specs.Derivations.{OneDerivation}
 use Rattle.gs_grammar.proofs.DecidedWords.{each_counted}
-use Rattle.gs_grammar.proofs.OneReading.{one_reading, not_two}
+use Rattle.gs_grammar.proofs.OneReading.{one_reading}
 use Rattle.gs_ident.specs.Elements.{Elements}
 use Rattle.gs_ident.specs.Links.{canonical_link}
 use Rattle.gs_document.specs.declared.level_name.LevelName.{LevelName}
 use Rattle.gs_document.specs.declared.level_name.LevelName.TheVariants as level
 use Rattle.gs_document.specs.declared.opt_info.OptInfo.{OptInfo}
+use Rattle.gs_tables.specs.Judged.{IsLoaded}
 use Rattle.gs_tables.specs.Tables.{IsShaped, TableRows, level_rows}
 use Rattle.gs_epc.specs.declared.epc.Epc.{Epc}
 use Rattle.gs_epc.specs.declared.fault.EpcFault.{EpcFault}
-use Rattle.gs_epc.specs.declared.fault.EpcFault.TheVariants.{Hex, NoReading, Two, Memory}
+use Rattle.gs_epc.specs.declared.fault.EpcFault.TheVariants.{Hex, NoReading, Memory}
 use Rattle.gs_epc.specs.Epcs.{IsOfSet, epc_of, options_of}
 use Rattle.gs_epc.specs.Layout.{IsLaidOut, lay}
 use Rattle.gs_epc.specs.Readings.{IsHex, IsHexFault, ReadsAs, ReadsHex, Says}
@@ -35,6 +36,7 @@ use Rattle.gs_translate.specs.declared.meaning.Meaning.{Meaning}
 use Rattle.gs_translate.specs.declared.reason.Reason.{Reason}
 use Rattle.gs_translate.specs.declared.reason.Reason.TheVariants.{Element, Epc as NoEpc, Ident, Long, NoKeyPath, NotHttp, Memory as NoMemory}
 use Rattle.gs_translate.specs.Answers.{IsAnswer, IsCanonical}
+use Rattle.gs_translate.specs.Conditions.{AsksForOne, AsksForSome}
 use Rattle.gs_translate.specs.Meanings.{IsRead, MeaningOf, Means, MeansEpc, ReadsBracketed, ReadsLink, ReadsRaw, epc_meaning, short, too_long}
 use Rattle.gs_translate.specs.Steps.{HasOne, HasSome}
 use Rattle.gs_translate.proofs.PairLaws.{ais_kept, one_bracketed, one_link, one_of_pairs, one_raw, some_bracketed, some_link, some_of_pairs, some_raw}
@@ -58,19 +60,12 @@ same_read set level symbols (Err Memory) other t u a b = absurd (t refl)
 same_read set level symbols (Err (Hex fault)) other t u a b = absurd a
 same_read set level symbols (Ok epc) (Ok epc') t u a b = ap Ok (same_epc set level symbols epc epc' a b)
 same_read set level symbols (Ok epc) (Err NoReading) t u a b = absurd (b a.read.derivation)
-same_read set level symbols (Ok epc) (Err Two) t u a b = absurd (not_two (options_of level set) symbols a.option a.values a.read b)
 same_read set level symbols (Ok epc) (Err Memory) t u a b = absurd (u refl)
 same_read set level symbols (Ok epc) (Err (Hex fault)) t u a b = absurd b
 same_read set level symbols (Err NoReading) (Ok epc) t u a b = absurd (a b.read.derivation)
 same_read set level symbols (Err NoReading) (Err NoReading) t u a b = refl
-same_read set level symbols (Err NoReading) (Err Two) t u a b = absurd (a b.one)
 same_read set level symbols (Err NoReading) (Err Memory) t u a b = absurd (u refl)
 same_read set level symbols (Err NoReading) (Err (Hex fault)) t u a b = absurd b
-same_read set level symbols (Err Two) (Ok epc) t u a b = absurd (not_two (options_of level set) symbols b.option b.values b.read a)
-same_read set level symbols (Err Two) (Err NoReading) t u a b = absurd (b a.one)
-same_read set level symbols (Err Two) (Err Two) t u a b = refl
-same_read set level symbols (Err Two) (Err Memory) t u a b = absurd (u refl)
-same_read set level symbols (Err Two) (Err (Hex fault)) t u a b = absurd b
 
 -- ---- at most one answer to hexadecimal digits
 
@@ -97,7 +92,6 @@ HexCase set text answer = ((fault : HexFault) × (answer ≡ Err (Hex fault)) ×
 hex_case : (set : TableRows) (text : List ℕ) (answer : Result Epc EpcFault) → IsTold answer → ReadsHex set text answer → HexCase set text answer
 hex_case set text (Ok epc) t a = inr a
 hex_case set text (Err NoReading) t a = inr a
-hex_case set text (Err Two) t a = inr a
 hex_case set text (Err Memory) t a = absurd (t refl)
 hex_case set text (Err (Hex fault)) t a = inl (fault, refl, a)
 
@@ -159,25 +153,25 @@ means_one set Reads same one other a b =
     let means : MeaningOf set a.said other = rw said b.means in
     same_meaning set a.said one other a.means means
 
-one_meaning : (set : TableRows) (form : Form) (text : List ℕ) → IsShaped set → HasOne (Means set form text)
-one_meaning set form.Hex text shaped = means_one set (ReadsHex set text) (same_hex set text)
-one_meaning set form.Tag text shaped = means_one set (ReadsAs set level.Tag text) (same_read set level.Tag text)
-one_meaning set form.Pure text shaped = means_one set (ReadsAs set level.Pure text) (same_read set level.Pure text)
+one_meaning : (set : TableRows) (form : Form) (text : List ℕ) → AsksForOne form set → HasOne (Means set form text)
+one_meaning set form.Hex text asks = means_one set (ReadsHex set text) (same_hex set text)
+one_meaning set form.Tag text asks = means_one set (ReadsAs set level.Tag text) (same_read set level.Tag text)
+one_meaning set form.Pure text asks = means_one set (ReadsAs set level.Pure text) (same_read set level.Pure text)
 one_meaning set form.Raw text shaped = one_of_pairs set (ReadsRaw set text) (one_raw set text (ais_kept set shaped))
 one_meaning set form.Bracketed text shaped = one_of_pairs set (ReadsBracketed set text) (one_bracketed set text (ais_kept set shaped))
-one_meaning set form.Link text shaped = one_of_pairs set (ReadsLink set text) (one_link set text)
+one_meaning set form.Link text asks = one_of_pairs set (ReadsLink set text) (one_link set text)
 
-pub one_read : (set : TableRows) (form : Form) (text : List ℕ) → IsShaped set → HasOne (IsRead set form text)
-one_read set form text shaped one other (too_long more e) (too_long more' e') = e ∙ sym e'
-one_read set form text shaped one other (too_long more e) (short few m) = absurd (omega arith)
-one_read set form text shaped one other (short few m) (too_long more e) = absurd (omega arith)
-one_read set form text shaped one other (short few m) (short few' m') = one_meaning set form text shaped one other m m'
+pub one_read : (set : TableRows) (form : Form) (text : List ℕ) → AsksForOne form set → HasOne (IsRead set form text)
+one_read set form text asks one other (too_long more e) (too_long more' e') = e ∙ sym e'
+one_read set form text asks one other (too_long more e) (short few m) = absurd (omega arith)
+one_read set form text asks one other (short few m) (too_long more e) = absurd (omega arith)
+one_read set form text asks one other (short few m) (short few' m') = one_meaning set form text asks one other m m'
 
 one_canonical : (meaning : Meaning) → HasOne (IsCanonical meaning)
 one_canonical meaning one other a b = a ∙ sym b
 
-pub one_answer : (set : TableRows) (form : Form) (text : List ℕ) → IsShaped set → HasOne (IsAnswer set form text)
-one_answer set form text shaped = then_one (IsRead set form text) IsCanonical (one_read set form text shaped) one_canonical
+pub one_answer : (set : TableRows) (form : Form) (text : List ℕ) → AsksForOne form set → HasOne (IsAnswer set form text)
+one_answer set form text asks = then_one (IsRead set form text) IsCanonical (one_read set form text asks) one_canonical
 
 -- ---- an answer to the symbols of a level
 
@@ -198,13 +192,13 @@ told_one set level symbols option values shaped one =
     let said = said_of set level symbols option values (level_rows level set).info info.0 shaped one refl info.1 in
     says_epc (epc_of info.0 values) (says set level symbols option values info.0 (epc_of info.0 values) said one refl) (of_set set level option values info.0 (epc_of info.0 values) said refl)
 
-told_counted : (set : TableRows) (level : LevelName) (symbols : List ℕ) → IsShaped set → Counted (options_of level set) symbols → Told set (λ answer. ReadsAs set level symbols answer)
-told_counted set level symbols shaped (none_of none) = has_fault NoReading (λ e. cc) none
-told_counted set level symbols shaped (one_of option values one) = told_one set level symbols option values shaped one
-told_counted set level symbols shaped (two_of two) = has_fault Two (λ e. cc) two
+told_counted : (set : TableRows) (level : LevelName) (symbols : List ℕ) → IsLoaded set → Counted (options_of level set) symbols → Told set (λ answer. ReadsAs set level symbols answer)
+told_counted set level symbols loaded (none_of none) = has_fault NoReading (λ e. cc) none
+told_counted set level symbols loaded (one_of option values one) = told_one set level symbols option values loaded.shaped one
+told_counted set level symbols loaded (two_of two) = absurd (loaded.clear level (record { w = symbols; two = two }))
 
-told_level : (set : TableRows) (level : LevelName) (symbols : List ℕ) → IsShaped set → Told set (λ answer. ReadsAs set level symbols answer)
-told_level set level symbols shaped = told_counted set level symbols shaped (each_counted (options_of level set) symbols)
+told_level : (set : TableRows) (level : LevelName) (symbols : List ℕ) → IsLoaded set → Told set (λ answer. ReadsAs set level symbols answer)
+told_level set level symbols loaded = told_counted set level symbols loaded (each_counted (options_of level set) symbols)
 
 -- ---- an answer to hexadecimal digits
 
@@ -232,15 +226,15 @@ told_bits : (set : TableRows) (text : List ℕ) → IsHex text → Told set (λ 
 told_bits set text hex (says_epc epc read of) = says_epc epc (hex, read) of
 told_bits set text hex (has_fault fault t read) = has_fault fault t (hex_answer set text (bits_of_hex text) (Err fault) hex refl read)
 
-told_digits : (set : TableRows) (text : List ℕ) → IsShaped set → length text % 2 ≡ 0 → length text ≤ 128 → AreTold text → Told set (λ answer. ReadsHex set text answer)
-told_digits set text shaped even few (inl all) = told_bits set text (record { even = even; short = few; digits = all }) (told_level set level.Binary (bits_of_hex text) shaped)
-told_digits set text shaped even few (inr bad) = has_fault (Hex (BadDigit bad.0)) (λ e. cc) (even, few, bad.1)
+told_digits : (set : TableRows) (text : List ℕ) → IsLoaded set → length text % 2 ≡ 0 → length text ≤ 128 → AreTold text → Told set (λ answer. ReadsHex set text answer)
+told_digits set text loaded even few (inl all) = told_bits set text (record { even = even; short = few; digits = all }) (told_level set level.Binary (bits_of_hex text) loaded)
+told_digits set text loaded even few (inr bad) = has_fault (Hex (BadDigit bad.0)) (λ e. cc) (even, few, bad.1)
 
-told_hex : (set : TableRows) (text : List ℕ) → IsShaped set → Told set (λ answer. ReadsHex set text answer)
-told_hex set text shaped = elim (cases_eq (length text % 2) 0) as (λ _. Told set (λ answer. ReadsHex set text answer)) [
+told_hex : (set : TableRows) (text : List ℕ) → IsLoaded set → Told set (λ answer. ReadsHex set text answer)
+told_hex set text loaded = elim (cases_eq (length text % 2) 0) as (λ _. Told set (λ answer. ReadsHex set text answer)) [
   | inr odd ↦ has_fault (Hex OddDigits) (λ e. cc) (omega arith)
   | inl even ↦ elim (leb_tells (length text) 128) as (λ _. Told set (λ answer. ReadsHex set text answer)) [
-    | inl e ↦ told_digits set text shaped even e.1 (digits_told text)
+    | inl e ↦ told_digits set text loaded even e.1 (digits_told text)
     | inr e ↦ has_fault (Hex Full) (λ f. cc) (even, e.1)
   ]
 ]
@@ -255,22 +249,40 @@ means_some set Reads shaped (says_epc epc read of) =
     let laid : IsLaidOut set epc elements = record { kind = kind.0; named = kind.1; laid = refl } in
     (Ok (epc_meaning epc elements), record { said = Ok epc; read = read; means = record { elements = elements; laid = laid; is = refl } })
 
-some_meaning : (set : TableRows) (form : Form) (text : List ℕ) → IsShaped set → HasSome (Means set form text)
-some_meaning set form.Hex text shaped = means_some set (ReadsHex set text) shaped (told_hex set text shaped)
-some_meaning set form.Tag text shaped = means_some set (ReadsAs set level.Tag text) shaped (told_level set level.Tag text shaped)
-some_meaning set form.Pure text shaped = means_some set (ReadsAs set level.Pure text) shaped (told_level set level.Pure text shaped)
+some_meaning : (set : TableRows) (form : Form) (text : List ℕ) → AsksForSome form set → HasSome (Means set form text)
+some_meaning set form.Hex text loaded = means_some set (ReadsHex set text) loaded.shaped (told_hex set text loaded)
+some_meaning set form.Tag text loaded = means_some set (ReadsAs set level.Tag text) loaded.shaped (told_level set level.Tag text loaded)
+some_meaning set form.Pure text loaded = means_some set (ReadsAs set level.Pure text) loaded.shaped (told_level set level.Pure text loaded)
 some_meaning set form.Raw text shaped = some_of_pairs set (ReadsRaw set text) (some_raw set text (ais_kept set shaped))
 some_meaning set form.Bracketed text shaped = some_of_pairs set (ReadsBracketed set text) (some_bracketed set text (ais_kept set shaped))
-some_meaning set form.Link text shaped = some_of_pairs set (ReadsLink set text) (some_link set text)
+some_meaning set form.Link text asks = some_of_pairs set (ReadsLink set text) (some_link set text)
 
-pub some_read : (set : TableRows) (form : Form) (text : List ℕ) → IsShaped set → HasSome (IsRead set form text)
-some_read set form text shaped = elim (leb_tells (length text) 2048) as (λ _. HasSome (IsRead set form text)) [
-  | inl e ↦ let m = some_meaning set form text shaped in (m.0, short e.1 m.1)
+pub some_read : (set : TableRows) (form : Form) (text : List ℕ) → AsksForSome form set → HasSome (IsRead set form text)
+some_read set form text asks = elim (leb_tells (length text) 2048) as (λ _. HasSome (IsRead set form text)) [
+  | inl e ↦ let m = some_meaning set form text asks in (m.0, short e.1 m.1)
   | inr e ↦ (Err Long, too_long e.1 refl)
 ]
 
 some_canonical : (meaning : Meaning) → HasSome (IsCanonical meaning)
 some_canonical meaning = (Ok (canonical_link meaning.identity), refl)
 
-pub some_answer : (set : TableRows) (form : Form) (text : List ℕ) → IsShaped set → HasSome (IsAnswer set form text)
-some_answer set form text shaped = then_some (IsRead set form text) IsCanonical (some_read set form text shaped) (λ meaning read. some_canonical meaning)
+pub some_answer : (set : TableRows) (form : Form) (text : List ℕ) → AsksForSome form set → HasSome (IsAnswer set form text)
+some_answer set form text asks = then_some (IsRead set form text) IsCanonical (some_read set form text asks) (λ meaning read. some_canonical meaning)
+
+-- ---- tables that are loaded keep what each form asks for
+
+pub suits_one : (set : TableRows) (form : Form) → IsLoaded set → AsksForOne form set
+suits_one set form.Hex loaded = tt
+suits_one set form.Tag loaded = tt
+suits_one set form.Pure loaded = tt
+suits_one set form.Raw loaded = loaded.shaped
+suits_one set form.Bracketed loaded = loaded.shaped
+suits_one set form.Link loaded = tt
+
+pub suits_some : (set : TableRows) (form : Form) → IsLoaded set → AsksForSome form set
+suits_some set form.Hex loaded = loaded
+suits_some set form.Tag loaded = loaded
+suits_some set form.Pure loaded = loaded
+suits_some set form.Raw loaded = loaded.shaped
+suits_some set form.Bracketed loaded = loaded.shaped
+suits_some set form.Link loaded = tt

@@ -1,6 +1,7 @@
 -- What element strings and links mean: one thing, by tables that keep their rules.
-use Rattle.std.proofs.Common.{◌≡◌, ◌⊎◌, inl, inr, ℕ, List, [], ◌∷◌, ◌++◌, map, refl, sym, ◌∙◌, ap, arith}
+use Rattle.std.proofs.Common.{◌≡◌, ◌⊎◌, inl, inr, ℕ, List, [], ◌∷◌, map, refl, sym, ◌∙◌, ap, arith}
 use Rattle.std.specs.Prelude.{◌≢◌, Option, Some, Result, Ok, Err, MatchResult}
+use Rattle.gs_chars.proofs.TruthsAndLists.{none_behind, none_in_front}
 use Rattle.gs_ai.specs.declared.faults.ElementFault.{ElementFault}
 use Rattle.gs_ai.specs.declared.pair.Pair.{Pair}
 use Rattle.gs_ai.specs.Tables.{KeepsRules, table_faults}
@@ -29,14 +30,6 @@ use Rattle.gs_translate.specs.Steps.{HasOne, HasSome, UnlessMemory, refuses}
 use Rattle.gs_translate.proofs.StepLaws.{then_one, then_some}
 
 -- ---- the application identifiers of a set keep their rules
-
-none_in_front : {X : Type 0} (xs ys : List X) → xs ++ ys ≡ [] → xs ≡ []
-none_in_front [] ys e = refl
-none_in_front (x ∷ xs) ys e = absurd (let f : x ∷ (xs ++ ys) ≡ [] = e in cc)
-
-none_behind : {X : Type 0} (xs ys : List X) → xs ++ ys ≡ [] → ys ≡ []
-none_behind [] ys e = e
-none_behind (x ∷ xs) ys e = absurd (let f : x ∷ (xs ++ ys) ≡ [] = e in cc)
 
 none_mapped : {X Y : Type 0} (f : X → Y) (xs : List X) → map f xs ≡ [] → xs ≡ []
 none_mapped f [] e = refl

@@ -8,7 +8,7 @@ use Rattle.gs_ai.specs.declared.faults.ValueFault.TheVariants.{Unknown, Length, 
 use Rattle.gs_bits.specs.declared.faults.HexFault.{HexFault}
 use Rattle.gs_bits.specs.declared.faults.HexFault.TheVariants.{OddDigits, Full, BadDigit}
 use Rattle.gs_epc.specs.declared.fault.EpcFault.{EpcFault}
-use Rattle.gs_epc.specs.declared.fault.EpcFault.TheVariants.{Hex, NoReading, Two, Memory}
+use Rattle.gs_epc.specs.declared.fault.EpcFault.TheVariants.{Hex, NoReading, Memory}
 use Rattle.gs_ident.specs.declared.faults.IdentFault.{IdentFault}
 use Rattle.gs_ident.specs.declared.faults.IdentFault.TheVariants as ident
 use Rattle.gs_translate.specs.declared.reason.Reason.{Reason}
@@ -26,7 +26,6 @@ hex_text (BadDigit place) = placed (codes "digit") place
 abbrev pub epc_text : EpcFault → List ℕ
 epc_text (Hex fault) = hex_text fault
 epc_text NoReading = codes "reading"
-epc_text Two = codes "two"
 epc_text Memory = codes "memory"
 
 -- of a value, with the place of its code; of a character, with its place in the value too

@@ -1,24 +1,33 @@
 ghost use Rattle.std.specs.Prelude.{◌≡◌, ℕ, List, Result};
-ghost use Rattle.gs_tables.specs.Tables.{IsShaped, TableRows};
+ghost use Rattle.gs_tables.specs.Judged.{IsLoaded};
+ghost use Rattle.gs_tables.specs.Tables.{TableRows};
 ghost use Rattle.gs_translate.specs.declared.form.Form.{Form};
 ghost use Rattle.gs_translate.specs.declared.meaning.Meaning.{Meaning};
 ghost use Rattle.gs_translate.specs.declared.reason.Reason.{Reason};
 ghost use Rattle.gs_translate.specs.Answers.{IsAnswer};
+ghost use Rattle.gs_translate.specs.Conditions.{AsksForOne, AsksForSome};
 ghost use Rattle.gs_translate.specs.Meanings.{IsRead};
 ghost use Rattle.gs_translate.specs.Steps.{HasOne, HasSome};
 
-/// Where the tables keep their rules, a text means at most one thing in a form, and it means something or is refused.
+/// A text means at most one thing in a form, and it means something or is refused, by tables that keep what the form asks for.
+/// Tables that are loaded keep it for every form.
 pub fn each_text_has_one_meaning()
-    ensures at_most_one { (set : TableRows) (form : Form) (text : List ℕ) → IsShaped set
+    ensures at_most_one { (set : TableRows) (form : Form) (text : List ℕ) → AsksForOne form set
         → HasOne (IsRead set form text) }
-    ensures some { (set : TableRows) (form : Form) (text : List ℕ) → IsShaped set
+    ensures some { (set : TableRows) (form : Form) (text : List ℕ) → AsksForSome form set
         → HasSome (IsRead set form text) }
 {}
 
-/// Where the tables keep their rules, a text has at most one answer, and one.
+/// A text has at most one answer, and one, by tables that keep what its form asks for.
 pub fn each_text_has_one_answer()
-    ensures at_most_one { (set : TableRows) (form : Form) (text : List ℕ) → IsShaped set
+    ensures at_most_one { (set : TableRows) (form : Form) (text : List ℕ) → AsksForOne form set
         → HasOne (IsAnswer set form text) }
-    ensures some { (set : TableRows) (form : Form) (text : List ℕ) → IsShaped set
+    ensures some { (set : TableRows) (form : Form) (text : List ℕ) → AsksForSome form set
         → HasSome (IsAnswer set form text) }
+{}
+
+/// Tables that are loaded keep what each form asks for.
+pub fn loaded_tables_suit_each_form()
+    ensures one { (set : TableRows) (form : Form) → IsLoaded set → AsksForOne form set }
+    ensures some { (set : TableRows) (form : Form) → IsLoaded set → AsksForSome form set }
 {}

@@ -31,7 +31,6 @@ fn append_epc(alloc: Global, out: &mut Vec<u8>, fault: EpcFault) -> Result<(), M
     match fault {
         EpcFault::Hex(fault) => append_hex(alloc, out, fault),
         EpcFault::NoReading => Ok(out.extend_from_slice(b"reading")?),
-        EpcFault::Two => Ok(out.extend_from_slice(b"two")?),
         EpcFault::Memory => Ok(out.extend_from_slice(b"memory")?),
     }
 }

@@ -1,4 +1,7 @@
 use Rattle.std.proofs.lemmas.Result.{err_from_is_err_and}
+use Rattle.gs_tables.specs.Shapes.{Shape}
+use Rattle.gs_tables.specs.Tables.{IsAnswer, row_refusals, set_of}
+use Rattle.gs_tables.proofs.JudgedLevels.{judged_as}
 use Rattle.gs_tables.proofs.SetLemmas.{form_answer, rows_answer, version_refused}
 use Rattle.gs_tables.proofs.table_set.TableSet.load.Goals as goal
 
@@ -13,4 +16,6 @@ returns-in_err-check_version c =
     rw (p.1, p.2) (version_refused c.args.bytes.now c.in_ok-document.document c.in_err-check_version.field-0.0 c.in_ok-document.ensures.document c.in_err-check_version.ensures)
 
 pub returns : goal.returns
-returns c = rows_answer c.args.bytes.now c.in_ok-document.document c.of_rows.result c.in_ok-document.ensures.document c.in_ok-check_version.ensures c.of_rows.ensures
+returns c =
+    judged_as (IsAnswer (row_refusals c.in_ok-document.document) (set_of c.in_ok-document.document)) (Shape c.args.bytes.now)
+    (rows_answer c.args.bytes.now c.in_ok-document.document c.in_ok-document.ensures.document c.in_ok-check_version.ensures) c.of_rows.result c.of_rows.ensures

@@ -1,23 +1,25 @@
 use Rattle.std.proofs.Common.{refl}
 use Rattle.std.proofs.lemmas.Result.{err_from_is_err_and}
-use Rattle.gs_tables.proofs.SetLemmas.{ais_refused, limit_refused, others_refused, set_made, sound}
+use Rattle.gs_tables.specs.Tables.{TableRows}
+use Rattle.gs_tables.proofs.JudgedLevels.{judged_levels, judged_rule, moved_clear}
+use Rattle.gs_tables.proofs.SetLemmas.{ais_refused, limit_refused, others_refused, rules_kept, set_made, sound}
 use Rattle.gs_tables.proofs.table_set.TableSet.of_rows.Goals as goal
 
 pub returns-in_err-check_limits : goal.returns-in_err-check_limits
 returns-in_err-check_limits c =
     let p = err_from_is_err_and c.from_residual.result c.from_residual.ensures.1 in
-    rw (p.1, p.2) (limit_refused c.args.document c.in_err-check_limits.field-0.0 c.in_err-check_limits.ensures)
+    rw (p.1, p.2) (judged_rule c.args.document c.in_err-check_limits.field-0.0 (limit_refused c.args.document c.in_err-check_limits.field-0.0 c.in_err-check_limits.ensures))
 
 pub returns-in_err-ais : goal.returns-in_err-ais
 returns-in_err-ais c =
     let p = err_from_is_err_and c.from_residual-in_err-ais.result c.from_residual-in_err-ais.ensures.1 in
-    rw (p.1, p.2) (ais_refused c.args.document c.in_err-ais.field-0.0 c.in_ok-check_limits.ensures c.in_err-ais.ensures)
+    rw (p.1, p.2) (judged_rule c.args.document c.in_err-ais.field-0.0 (ais_refused c.args.document c.in_err-ais.field-0.0 c.in_ok-check_limits.ensures c.in_err-ais.ensures))
 
 pub returns-in_err-check_rows : goal.returns-in_err-check_rows
 returns-in_err-check_rows c =
     let p = err_from_is_err_and c.from_residual-in_err-check_rows.result c.from_residual-in_err-check_rows.ensures.1 in
-    rw (p.1, p.2) (others_refused c.args.document c.in_ok-ais.ais c.in_err-check_rows.field-0.0 c.in_ok-check_limits.ensures c.in_ok-ais.ensures
-    (rw (c.items-rows.ensures, c.items.ensures, c.items-2.ensures, c.items-3.ensures) at c.in_err-check_rows.ensures))
+    rw (p.1, p.2) (judged_rule c.args.document c.in_err-check_rows.field-0.0 (others_refused c.args.document c.in_ok-ais.ais c.in_err-check_rows.field-0.0 c.in_ok-check_limits.ensures c.in_ok-ais.ensures
+    (rw (c.items-rows.ensures, c.items.ensures, c.items-2.ensures, c.items-3.ensures) at c.in_err-check_rows.ensures)))
 
 pub make_level-requires : goal.make_level-requires
 make_level-requires c =
@@ -39,15 +41,25 @@ make_kinds-requires c =
     (sound c.in_ok-ais.ais c.args.document.kinds c.args.document.binary c.args.document.tag c.args.document.pure
     (rw (c.items-rows.ensures, c.items.ensures, c.items-2.ensures, c.items-3.ensures) at c.in_ok-check_rows.ensures)).kinds_kept
 
+pub returns-in_err-judge_levels : goal.returns-in_err-judge_levels
+returns-in_err-judge_levels c =
+    let p = err_from_is_err_and c.from_residual-in_err-judge_levels.result c.from_residual-in_err-judge_levels.ensures.1 in
+    let none = rules_kept c.args.document c.in_ok-ais.ais c.in_ok-check_limits.ensures c.in_ok-ais.ensures (rw (c.items-rows.ensures, c.items.ensures, c.items-2.ensures, c.items-3.ensures) at c.in_ok-check_rows.ensures) in
+    rw (p.1, p.2) (judged_levels c.args.document c.in_ok-binary.binary c.in_ok-tag.tag c.in_ok-pure.pure c.in_err-judge_levels.field-0.0 none
+    (rw c.items-rows.ensures at c.in_ok-binary.ensures) (rw c.items-rows.ensures at c.in_ok-tag.ensures) (rw c.items-rows.ensures at c.in_ok-pure.ensures) c.in_err-judge_levels.ensures)
+
 pub invariant_of-result : goal.invariant_of-result
 invariant_of-result c =
-    let made = set_made c.args.document c.in_ok-ais.ais (record { ais = c.in_ok-ais.ais; kinds = c.in_ok-kinds.kinds; binary = c.in_ok-binary.binary; tag = c.in_ok-tag.tag; pure = c.in_ok-pure.pure })
+    let set : TableRows = record { ais = c.in_ok-ais.ais; kinds = c.in_ok-kinds.kinds; binary = c.in_ok-binary.binary; tag = c.in_ok-tag.tag; pure = c.in_ok-pure.pure } in
+    let made = set_made c.args.document c.in_ok-ais.ais set
     c.in_ok-check_limits.ensures c.in_ok-ais.ensures (rw (c.items-rows.ensures, c.items.ensures, c.items-2.ensures, c.items-3.ensures) at c.in_ok-check_rows.ensures)
     refl c.in_ok-kinds.ensures (rw c.items-rows.ensures at c.in_ok-binary.ensures) (rw c.items-rows.ensures at c.in_ok-tag.ensures) (rw c.items-rows.ensures at c.in_ok-pure.ensures) in
-    record { document = c.args.document; in_order = made.0; made = made.1 }
+    record { shaped = record { document = c.args.document; in_order = made.0; made = made.1 }; clear = moved_clear _ _ _ set refl refl refl c.in_ok-judge_levels.ensures }
 
 pub returns : goal.returns
 returns c =
-    set_made c.args.document c.in_ok-ais.ais (record { ais = c.in_ok-ais.ais; kinds = c.in_ok-kinds.kinds; binary = c.in_ok-binary.binary; tag = c.in_ok-tag.tag; pure = c.in_ok-pure.pure })
+    let set : TableRows = record { ais = c.in_ok-ais.ais; kinds = c.in_ok-kinds.kinds; binary = c.in_ok-binary.binary; tag = c.in_ok-tag.tag; pure = c.in_ok-pure.pure } in
+    let made = set_made c.args.document c.in_ok-ais.ais set
     c.in_ok-check_limits.ensures c.in_ok-ais.ensures (rw (c.items-rows.ensures, c.items.ensures, c.items-2.ensures, c.items-3.ensures) at c.in_ok-check_rows.ensures)
-    refl c.in_ok-kinds.ensures (rw c.items-rows.ensures at c.in_ok-binary.ensures) (rw c.items-rows.ensures at c.in_ok-tag.ensures) (rw c.items-rows.ensures at c.in_ok-pure.ensures)
+    refl c.in_ok-kinds.ensures (rw c.items-rows.ensures at c.in_ok-binary.ensures) (rw c.items-rows.ensures at c.in_ok-tag.ensures) (rw c.items-rows.ensures at c.in_ok-pure.ensures) in
+    (made, moved_clear _ _ _ set refl refl refl c.in_ok-judge_levels.ensures)

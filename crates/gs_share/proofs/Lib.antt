@@ -1,0 +1,4 @@
+pub mod Decided
+pub mod BitSymbols
+pub mod SharedLists
+pub mod MachinesOfOptions

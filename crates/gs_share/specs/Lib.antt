@@ -1,0 +1,2 @@
+pub mod FirstShares
+pub mod OptionMachines

@@ -1,0 +1,140 @@
+-- The judgement of the levels of a set.
+use Rattle.std.proofs.Common.{◌≡◌, ◌⊎◌, ℕ, zero, suc, ◌<◌, true, false, List, [], ◌∷◌, Some, length, slice_get, refl, inl, inr, arith}
+use Rattle.std.specs.Prelude.{Result, Ok, Err}
+use Rattle.std.proofs.lemmas.List.{length-map}
+use Rattle.std.proofs.lemmas.Option.{slice_get_within}
+use Rattle.gs_document.specs.declared.document.Document.{Document}
+use Rattle.gs_document.specs.declared.fault.LoadFault.{LoadFault}
+use Rattle.gs_document.specs.declared.fault.LoadFault.TheVariants.{Json, Version, Limit, Ai, BadKind, BadItem, Mismatch, Duplicate, Ambiguous, Memory}
+use Rattle.gs_document.specs.declared.level_name.LevelName.{LevelName}
+use Rattle.gs_document.specs.declared.level_name.LevelName.TheVariants.{Binary, Tag, Pure}
+use Rattle.gs_document.specs.Documents.{is_bits}
+use Rattle.gs_grammar.specs.Ambiguity.{AreItems, HasFirstShare, ShowsFirstShare, shown_symbols}
+use Rattle.gs_grammar.specs.Levels.{LevelForm, OptionForm, item_lists}
+use Rattle.gs_grammar.proofs.DecidedShares.{share_decided}
+use Rattle.gs_grammar.proofs.WordLaws.{all_items}
+use Rattle.gs_tables.specs.declared.level_table.LevelTable.{LevelTable}
+use Rattle.gs_tables.specs.Judged.{AreClear, AreClearBefore, AreJudged, IsClear, IsFirstAmbiguous, IsLevelJudged, Judged, by_name, levels_of}
+use Rattle.gs_tables.specs.Tables.{IsAnswer, IsShaped, TableRows, level_of, level_rows, row_refusals, set_of}
+use Rattle.gs_tables.proofs.KeptSets.{as_many_said, options_kept}
+use Rattle.gs_tables.proofs.RuledRefusals.{ruled_first, ruled_of_document}
+
+-- ---- the levels of a set, judged by a law
+
+-- each item of a set keeps its bounds
+pub items_kept : (set : TableRows) → IsShaped set → (name : LevelName) → AreItems (item_lists (levels_of set name).options)
+items_kept set shaped name k items at =
+    let low = slice_get_within (item_lists (levels_of set name).options) k items at in
+    let count = length-map (levels_of set name).options (λ (option : OptionForm). option.items) in
+    let many = as_many_said set name shaped in
+    let info = at_place (level_rows name set).info k (omega arith) in
+    let kept = options_kept set name shaped k items info.0 at info.1 in
+    all_items (is_bits name) items kept.bounds.none_bad
+  where
+    at_place : {X : Type 0} (xs : List X) (k : ℕ) → k < length xs → (x : X) × (slice_get xs k ≡ Some x)
+    at_place [] k h = absurd (omega arith)
+    at_place (x ∷ xs) zero h = (x, refl)
+    at_place (x ∷ xs) (suc k) h = at_place xs k (omega arith)
+
+-- the first level that is ambiguous
+pub record FirstAmbiguous (levels : LevelName → LevelForm) : Type 0 where
+  pub name : LevelName
+  pub i : ℕ
+  pub j : ℕ
+  pub text : List ℕ
+  pub first : IsFirstAmbiguous levels name i j text
+
+shown : (level : LevelForm) (h : HasFirstShare (item_lists level.options)) → ShowsFirstShare level h.i h.j (shown_symbols level.bit_level h.w)
+shown level h = record { w = h.w; share = h.share; shown = refl }
+
+ambiguous : (levels : LevelName → LevelForm) (name : LevelName) → AreClearBefore levels name → HasFirstShare (item_lists (levels name).options) → FirstAmbiguous levels
+ambiguous levels name before h = record { name = name; i = h.i; j = h.j; text = shown_symbols (levels name).bit_level h.w; first = record { before = before; share = shown (levels name) h } }
+
+pub all_clear : (levels : LevelName → LevelForm) → IsClear (levels Binary) → IsClear (levels Tag) → IsClear (levels Pure) → AreClear levels
+all_clear levels b t p Binary = b
+all_clear levels b t p Tag = t
+all_clear levels b t p Pure = p
+
+-- none of the levels is ambiguous, or one is the first
+pub level_decided : (levels : LevelName → LevelForm) → ((name : LevelName) → AreItems (item_lists (levels name).options)) → AreClear levels ⊎ FirstAmbiguous levels
+level_decided levels items = elim (share_decided (item_lists (levels Binary).options) (items Binary)) as (λ _. AreClear levels ⊎ FirstAmbiguous levels) [
+  | inr h ↦ inr (ambiguous levels Binary tt h)
+  | inl b ↦ elim (share_decided (item_lists (levels Tag).options) (items Tag)) as (λ _. AreClear levels ⊎ FirstAmbiguous levels) [
+    | inr h ↦ inr (ambiguous levels Tag b h)
+    | inl t ↦ elim (share_decided (item_lists (levels Pure).options) (items Pure)) as (λ _. AreClear levels ⊎ FirstAmbiguous levels) [
+      | inr h ↦ inr (ambiguous levels Pure (b, t) h)
+      | inl p ↦ inl (all_clear levels b t p)
+    ]
+  ]
+]
+
+-- ---- the levels of a set, judged one after the other
+
+pub judged_first : (name : LevelName) (levels : LevelName → LevelForm) (e : LoadFault) → AreClearBefore levels name → IsLevelJudged name (levels name) (Err e) → AreJudged levels (Err e)
+judged_first name levels (Ambiguous other i j text) before h = rw h.0 (record { before = before; share = h.1 })
+judged_first name levels Memory before h = tt
+judged_first name levels (Json fault) before h = absurd h
+judged_first name levels Version before h = absurd h
+judged_first name levels (Limit limit) before h = absurd h
+judged_first name levels (Ai fault) before h = absurd h
+judged_first name levels (BadKind i) before h = absurd h
+judged_first name levels (BadItem level i k) before h = absurd h
+judged_first name levels (Mismatch level i) before h = absurd h
+judged_first name levels (Duplicate level i j) before h = absurd h
+
+pub judged_last : (levels : LevelName → LevelForm) (answer : Result (Unit {0}) LoadFault) → IsClear (levels Binary) → IsClear (levels Tag) → IsLevelJudged Pure (levels Pure) answer → AreJudged levels answer
+judged_last levels (Ok _) b t h = all_clear levels b t h
+judged_last levels (Err e) b t h = judged_first Pure levels e (b, t) h
+
+-- ---- the answer to a document
+
+-- what a rule refuses is refused
+pub judged_rule : (document : Document) (e : LoadFault) → IsAnswer (row_refusals document) (set_of document) (Err e) → Judged (IsAnswer (row_refusals document) (set_of document)) (Err e)
+judged_rule document (Json fault) h = h
+judged_rule document Version h = h
+judged_rule document (Limit name) h = h
+judged_rule document (Ai fault) h = h
+judged_rule document (BadKind i) h = h
+judged_rule document (BadItem level i k) h = h
+judged_rule document (Mismatch level i) h = h
+judged_rule document (Duplicate level j i) h = h
+judged_rule document (Ambiguous name i j text) h = absurd (let f : true ≡ false = ruled_first (row_refusals document) (Ambiguous name i j text) (ruled_of_document document) h in cc)
+judged_rule document Memory h = tt
+
+moved_first : (set : TableRows) (name : LevelName) (i j : ℕ) (text : List ℕ) → IsFirstAmbiguous (by_name set.binary.level set.tag.level set.pure.level) name i j text → IsFirstAmbiguous (levels_of set) name i j text
+moved_first set Binary i j text h = record { before = h.before; share = h.share }
+moved_first set Tag i j text h = record { before = h.before; share = h.share }
+moved_first set Pure i j text h = record { before = h.before; share = h.share }
+
+pub moved_clear : (binary tag pure : LevelForm) (set : TableRows) → set.binary.level ≡ binary → set.tag.level ≡ tag → set.pure.level ≡ pure → AreClear (by_name binary tag pure) → AreClear (levels_of set)
+moved_clear binary tag pure set b t p h Binary = rw b (h Binary)
+moved_clear binary tag pure set b t p h Tag = rw t (h Tag)
+moved_clear binary tag pure set b t p h Pure = rw p (h Pure)
+
+-- so is a set of which a level is ambiguous
+pub judged_levels : (document : Document) (binary tag pure : LevelTable) (e : LoadFault) → row_refusals document ≡ [] → binary ≡ level_of document.kinds Binary document.binary → tag ≡ level_of document.kinds Tag document.tag → pure ≡ level_of document.kinds Pure document.pure
+    → AreJudged (by_name binary.level tag.level pure.level) (Err e) → Judged (IsAnswer (row_refusals document) (set_of document)) (Err e)
+judged_levels document binary tag pure (Ambiguous name i j text) none b t p h = (set_of document, (none, refl), moved_first (set_of document) name i j text (rw (b, t, p) at h))
+judged_levels document binary tag pure Memory none b t p h = tt
+judged_levels document binary tag pure (Json fault) none b t p h = absurd h
+judged_levels document binary tag pure Version none b t p h = absurd h
+judged_levels document binary tag pure (Limit name) none b t p h = absurd h
+judged_levels document binary tag pure (Ai fault) none b t p h = absurd h
+judged_levels document binary tag pure (BadKind i) none b t p h = absurd h
+judged_levels document binary tag pure (BadItem level i k) none b t p h = absurd h
+judged_levels document binary tag pure (Mismatch level i) none b t p h = absurd h
+judged_levels document binary tag pure (Duplicate level j i) none b t p h = absurd h
+
+-- the rules' answers are those to bytes, once their levels are judged too
+pub judged_as : (Ruled Other : Result TableRows LoadFault → Type 0) → ((answer : Result TableRows LoadFault) → Ruled answer → Other answer) → (answer : Result TableRows LoadFault) → Judged Ruled answer → Judged Other answer
+judged_as Ruled Other move (Ok set) h = (move (Ok set) h.0, h.1)
+judged_as Ruled Other move (Err (Ambiguous name i j text)) h = (h.0, move (Ok h.0) h.1, h.2)
+judged_as Ruled Other move (Err (Json fault)) h = move (Err (Json fault)) h
+judged_as Ruled Other move (Err Version) h = move (Err Version) h
+judged_as Ruled Other move (Err (Limit name)) h = move (Err (Limit name)) h
+judged_as Ruled Other move (Err (Ai fault)) h = move (Err (Ai fault)) h
+judged_as Ruled Other move (Err (BadKind i)) h = move (Err (BadKind i)) h
+judged_as Ruled Other move (Err (BadItem level i k)) h = move (Err (BadItem level i k)) h
+judged_as Ruled Other move (Err (Mismatch level i)) h = move (Err (Mismatch level i)) h
+judged_as Ruled Other move (Err (Duplicate level j i)) h = move (Err (Duplicate level j i)) h
+judged_as Ruled Other move (Err Memory) h = move (Err Memory) h
