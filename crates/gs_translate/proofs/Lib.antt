@@ -1,3 +1,5 @@
 pub mod StepLaws
 pub mod PairLaws
 pub mod AnswerLaws
+pub mod NarrowedLaws
+pub mod FilterLaws
