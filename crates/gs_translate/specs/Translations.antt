@@ -9,11 +9,12 @@ use Rattle.gs_epc.specs.declared.epc.Epc.{Epc}
 use Rattle.gs_epc.specs.declared.write_fault.EpcWriteFault.{EpcWriteFault}
 use Rattle.gs_epc.specs.declared.write_fault.EpcWriteFault.TheVariants as write
 use Rattle.gs_epc.specs.Writes.{Writes, WritesAs}
-use Rattle.gs_ident.specs.Elements.{pairs_of}
+use Rattle.gs_ident.specs.Elements.{Elements, pairs_of}
 use Rattle.gs_ident.specs.Links.{spelled}
 use Rattle.gs_prefix.specs.declared.entry.PrefixEntry.{PrefixEntry}
 use Rattle.gs_tables.specs.Tables.{TableRows}
 use Rattle.gs_translate.specs.declared.form.Form.{Form}
+use Rattle.gs_translate.specs.declared.form.Form.TheVariants as form
 use Rattle.gs_translate.specs.declared.meaning.Meaning.{Meaning}
 use Rattle.gs_translate.specs.declared.options.Options.{Options}
 use Rattle.gs_translate.specs.declared.reason.Reason.{Reason}
@@ -21,7 +22,7 @@ use Rattle.gs_translate.specs.declared.reason.Reason.TheVariants.{NoOption, Cann
 use Rattle.gs_translate.specs.declared.target.Target.{Target}
 use Rattle.gs_translate.specs.declared.target.Target.TheVariants.{Hex, Tag, Pure, Raw, Bracketed, Link, Canon}
 use Rattle.gs_translate.specs.Answers.{IsCanonical}
-use Rattle.gs_translate.specs.Meanings.{IsRead}
+use Rattle.gs_translate.specs.Meanings.{IsRead, Means}
 use Rattle.gs_translate.specs.Steps.{Then}
 use Rattle.gs_translate.specs.Targets.{FitsFilter, epc_for, kept}
 
@@ -69,3 +70,36 @@ IsSpelling set prefixes options Canon meaning answer = IsCanonical meaning answe
 abbrev pub IsTranslation : TableRows → List PrefixEntry → Options → Form → Target → List ℕ → Result (List ℕ) Reason → Type 0
 IsTranslation set prefixes options from to text answer =
     Then (IsRead set from text) (λ meaning. IsSpelling set prefixes options to (kept set options.keys_only meaning)) answer
+
+-- ---- what laws say of texts
+
+-- two texts that mean something name the same elements
+abbrev pub NameOne : TableRows → Form → List ℕ → Form → List ℕ → Type 0
+NameOne set form text other given =
+    (one two : Meaning) → IsRead set form text (Ok one) → IsRead set other given (Ok two) → one.identity ≡ two.identity
+
+-- the form in which a target is read: a canonical link is a link
+abbrev pub form_of : Target → Form
+form_of Hex = form.Hex
+form_of Tag = form.Tag
+form_of Pure = form.Pure
+form_of Raw = form.Raw
+form_of Bracketed = form.Bracketed
+form_of Link = form.Link
+form_of Canon = form.Link
+
+-- element strings and links: the targets that are written of an identity as it is
+abbrev pub IsOfPairs : Target → Type 0
+IsOfPairs Hex = ⊥
+IsOfPairs Tag = ⊥
+IsOfPairs Pure = ⊥
+IsOfPairs Raw = Unit {0}
+IsOfPairs Bracketed = Unit {0}
+IsOfPairs Link = Unit {0}
+IsOfPairs Canon = Unit {0}
+
+-- the text means this identity in the form of the target, however long it is
+pub record MeansIdentity (set : TableRows) (to : Target) (text : List ℕ) (identity : Elements) : Type 0 where
+  pub meaning : Meaning
+  pub means : Means set (form_of to) text (Ok meaning)
+  pub same : meaning.identity ≡ identity

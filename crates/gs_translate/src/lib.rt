@@ -17,6 +17,7 @@ mod spelling;
 mod tagging;
 mod target;
 mod translating;
+mod translation_laws;
 mod write_reasons;
 
 pub use answering::answer;
