@@ -18,3 +18,6 @@ pub mod HexRead
 pub mod ReadBack
 pub mod ReadLaws
 pub mod NumberWalks
+pub mod LaidAgain
+pub mod LaidSets
+pub mod LaidLaws

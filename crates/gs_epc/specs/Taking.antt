@@ -109,6 +109,12 @@ epc_at set kind identity n =
     option_and_then (λ (row : Kind). option_map (epc_of_key kind n) (take_apart set.ais row identity n))
     (slice_get set.kinds kind)
 
+-- an identity has nothing beside the key of a kind and its serial
+pub record IsOfKind (kind : Kind) (identity : Elements) : Type 0 where
+  pub key : identity.key.code ≡ kind.key
+  pub qualifiers : (i : ℕ) (pair : Pair) → slice_get identity.qualifiers i ≡ Some pair → kind.serial ≡ Ai pair.code
+  pub attributes : identity.attributes ≡ []
+
 -- The answer of `fields_of`: what the identity says, or that its serial is lacking. Want of memory may come in place of
 -- each.
 abbrev pub IsTakenApart : TableRows → ℕ → Elements → ℕ → Result Epc FieldsFault → Type 0

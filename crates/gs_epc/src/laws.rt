@@ -1,5 +1,7 @@
-ghost use Rattle.std.specs.Prelude.{◌≡◌, [], List, None, Ok, Some, ℕ};
+ghost use Rattle.std.specs.Prelude.{◌≡◌, [], List, None, Ok, Some, slice_get, ℕ};
 ghost use Rattle.gs_ident.specs.Elements.{Elements};
+ghost use Rattle.gs_ident.specs.Identities.{IsMadeWith};
+ghost use Rattle.gs_document.specs.declared.kind.Kind.{Kind};
 ghost use Rattle.gs_document.specs.declared.level_name.LevelName.{LevelName};
 ghost use Rattle.gs_tables.specs.Judged.{IsLoaded};
 ghost use Rattle.gs_tables.specs.Tables.{IsShaped, TableRows};
@@ -7,8 +9,10 @@ ghost use Rattle.gs_epc.specs.declared.epc.Epc.{Epc};
 ghost use Rattle.gs_epc.specs.Candidates.{HasFilterOn};
 ghost use Rattle.gs_epc.specs.Epcs.{IsOfSet};
 ghost use Rattle.gs_epc.specs.Layout.{IsLaidOut};
-ghost use Rattle.gs_epc.specs.Taking.{epc_at};
+ghost use Rattle.gs_epc.specs.Taking.{IsOfKind, epc_at};
 ghost use Rattle.gs_epc.specs.Writes.{ReadsText, Writes, same_fields};
+
+use gs_tables::TableSet;
 
 /// Taking apart undoes laying out: the identity of an EPC of the set, taken apart by its kind and prefix length, gives
 /// back its prefix, rest and serial.
@@ -17,6 +21,18 @@ pub fn taking_apart_undoes_laying_out()
         → IsLaidOut set epc identity
         → epc_at set epc.kind identity epc.gcp ≡ Some (record epc { encoding = []; filter = None }) }
 {}
+
+/// Laying out undoes taking apart: where an identity of the set's application identifiers has nothing beside the key of a
+/// kind and its serial, the fields that it is taken apart to, by whatever prefix length, are laid out to that identity.
+pub fn laying_out_undoes_taking_apart(set: &TableSet)
+    ensures { (kind n : ℕ) (row : Kind) (identity : Elements) (epc : Epc)
+        → slice_get set.now.kinds kind ≡ Some row → IsOfKind row identity
+        → IsMadeWith set.now.ais identity → epc_at set.now kind identity n ≡ Some epc
+        → IsLaidOut set.now epc identity }
+{
+    // the proof alone reads it: the rows keep the rules of application identifiers
+    let _ = set.ais().rows();
+}
 
 /// What is written by tables that are loaded is read as the same fields, by the encoding of the option that wrote.
 pub fn what_is_written_is_read()

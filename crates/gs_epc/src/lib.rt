@@ -15,7 +15,9 @@ mod writing;
 
 pub use epc::Epc;
 pub use fault::EpcFault;
-pub use laws::{taking_apart_undoes_laying_out, what_is_written_is_read};
+pub use laws::{
+    laying_out_undoes_taking_apart, taking_apart_undoes_laying_out, what_is_written_is_read,
+};
 pub use layout::identity_of;
 pub use read::{read_hex, read_pure, read_tag};
 pub use taking::{fields_of, value_from_prefix};
