@@ -17,7 +17,8 @@ linked links numbers = filter_map (slice_get links) numbers
 -- a name among names in ascending order, each once
 abbrev pub put_name : List ℕ → List (List ℕ) → List (List ℕ)
 put_name name [] = name ∷ []
-put_name name (n ∷ names) = match_ordering (slice_cmp nat_cmp name n) (name ∷ n ∷ names) (n ∷ names) (n ∷ put_name name names)
+put_name name (n ∷ names) =
+    match_ordering (slice_cmp nat_cmp name n) (name ∷ n ∷ names) (n ∷ names) (n ∷ put_name name names)
 
 -- `anchor` is no relation's name
 abbrev pub with_name : List (List ℕ) → Link → List (List ℕ)

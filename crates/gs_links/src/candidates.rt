@@ -1,5 +1,6 @@
 ghost use Rattle.std.specs.Prelude.{◌≡◌, ◌≤◌, ◌^◌, ◌==◌, if◌then◌else◌, length, max, take};
-ghost use Rattle.gs_links.specs.Choices.{are_first, chosen_depth, depth_of, is_candidate, is_chosen, is_prefix, is_same_pair, is_wanted, numbers_from};
+ghost use Rattle.gs_links.specs.Choices.{are_first, chosen_depth, depth_of, is_candidate, is_chosen};
+ghost use Rattle.gs_links.specs.Choices.{is_prefix, is_same_pair, is_wanted, numbers_from};
 
 use crate::link::{Link, Want};
 use gs_ai::Pair;
