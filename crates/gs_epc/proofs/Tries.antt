@@ -24,7 +24,7 @@ use Rattle.gs_tables.specs.Tables.{IsShaped, TableRows, level_rows}
 use Rattle.gs_tables.proofs.KeptSets.{options_kept}
 use Rattle.gs_epc.specs.declared.epc.Epc.{Epc}
 use Rattle.gs_epc.specs.Candidates.{Candidate, left_out, value_for, values_for}
-use Rattle.gs_epc.specs.Writes.{HoldsAll, Refuses, text_on}
+use Rattle.gs_epc.specs.Writes.{field_at, HoldsAll, Refuses, text_on}
 
 -- ---- what the rules keep of a candidate
 
@@ -109,6 +109,6 @@ module _ (set : TableRows) (level : LevelName) (epc : Epc) (i : ℕ) (candidate 
   holds_all text held none wrote =
       (record { held = held_here held; whole = sym (rw is.fields_are at none) }, rw (is.items_are, is.values_are) at wrote)
 
-  pub refuses_at : (field : Field) (k : ℕ) (why : Why) → IsFirstRefusal option.items values k why → ((named : Field) → slice_get fields k ≡ Some (Some named) → named ≡ field) → Refuses set level epc candidate field why
+  pub refuses_at : (field : Field) (k : ℕ) (why : Why) → IsFirstRefusal option.items values k why → field ≡ field_at fields k → Refuses set level epc candidate field why
   refuses_at field k why first named =
       inl (record { k = k; first = rw (is.items_are, is.values_are) at first; stands_for = rw is.fields_are at named })

@@ -1,11 +1,12 @@
 -- What is written of an EPC: TDS 2.0, sections 6 (pure identity URIs), 12 (tag URIs) and 14 (bits), by the options of TDT
 -- 2.0, section 3. That the first option which holds every field writes, and which refusal is named, is this project's own.
-use Rattle.std.specs.Prelude.{◌≡◌, ◌<◌, ◌⊎◌, ℕ, List, Some, None, slice_get, Result, Ok, Err}
+use Rattle.std.specs.Prelude.{◌≡◌, ◌<◌, ◌⊎◌, ℕ, List, Option, Some, None, option_and_then, slice_get, unwrap_or, Result, Ok, Err}
 use Rattle.gs_bits.specs.HexText.{hex_of_bits}
 use Rattle.gs_grammar.specs.declared.fault.Why.{Why}
 use Rattle.gs_grammar.specs.declared.fault.Why.TheVariants.{Length}
 use Rattle.gs_grammar.specs.Writing.{AreHeld, IsFirstRefusal, written}
 use Rattle.gs_document.specs.declared.field.Field.{Field}
+use Rattle.gs_document.specs.declared.field.Field.TheVariants.{Rest}
 use Rattle.gs_document.specs.declared.level_name.LevelName.{LevelName}
 use Rattle.gs_document.specs.declared.level_name.LevelName.TheVariants.{Binary, Tag, Pure}
 use Rattle.gs_document.specs.declared.opt_info.OptInfo.{OptInfo}
@@ -23,19 +24,22 @@ text_on Binary symbols = hex_of_bits symbols
 text_on Tag symbols = symbols
 text_on Pure symbols = symbols
 
+-- the field that item k stands for; an item that stands for none counts as the rest
+abbrev pub field_at : List (Option Field) → ℕ → Field
+field_at fields k = unwrap_or (option_and_then (λ (named : Option Field). named) (slice_get fields k)) Rest
+
 module _ (set : TableRows) (level : LevelName) (epc : Epc) where
   -- a candidate holds every field: each item holds its value, and nothing is left out
   pub record HoldsAll {i : ℕ} (candidate : Candidate set level epc i) : Type 0 where
     pub held : AreHeld candidate.items (values_for level epc candidate.info)
     pub whole : left_out candidate.info.fields epc ≡ None
 
-  -- Item k of a candidate is the first that does not hold its value, and this is why. Where it stands for a field, it
-  -- stands for this one.
+  -- item k of a candidate is the first that does not hold its value, and this is why; it stands for this field
   pub record RefusesAt {i : ℕ} (candidate : Candidate set level epc i) (field : Field) (why : Why)
       : Type 0 where
     pub k : ℕ
     pub first : IsFirstRefusal candidate.items (values_for level epc candidate.info) k why
-    pub stands_for : (named : Field) → slice_get candidate.info.fields k ≡ Some (Some named) → named ≡ field
+    pub stands_for : field ≡ field_at candidate.info.fields k
 
   -- Each item of a candidate holds its value, and this field is left out: what has no item holds the empty text alone.
   pub record LeavesOut {i : ℕ} (candidate : Candidate set level epc i) (field : Field) (why : Why)

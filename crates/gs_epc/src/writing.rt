@@ -1,11 +1,10 @@
-ghost use Rattle.std.specs.Prelude.{◌≡◌, ◌%◌, IfErr, IfOk, IsOk, Some, length, slice_get, true};
+ghost use Rattle.std.specs.Prelude.{◌≡◌, ◌%◌, IfErr, IfOk, IsOk, length, true};
 ghost use Rattle.gs_bits.specs.HexText.{hex_of_bits};
 ghost use Rattle.gs_document.specs.Documents.{is_bits};
-ghost use Rattle.gs_document.specs.declared.field.Field.{Field as FieldName};
 ghost use Rattle.gs_grammar.specs.Items.{size_of_all};
 ghost use Rattle.gs_grammar.specs.Writing.{AreHeld, IsWriteFault, written};
 ghost use Rattle.gs_epc.specs.Candidates.{Candidate, HasFilter, HasFilterOn};
-ghost use Rattle.gs_epc.specs.Writes.{IsTried, WritesAs, text_on};
+ghost use Rattle.gs_epc.specs.Writes.{IsTried, WritesAs, field_at, text_on};
 
 use crate::candidates::{is_asked, left_out, values_for};
 use crate::epc::Epc;
@@ -59,11 +58,11 @@ fn write_option(
 
 /// The field that an item stands for.
 fn field_at(fields: &[Option<Field>], item: usize) -> Field
-    ensures { (named : FieldName) → slice_get fields.now item ≡ Some (Some named) → named ≡ result }
+    ensures { result ≡ field_at fields.now item }
 {
     match fields.get(item) {
         Some(Some(field)) => *field,
-        // an item that stands for no field is a literal or a fill, which holds the empty value
+        // an item that stands for no field counts as the rest
         _ => Field::Rest,
     }
 }
