@@ -18,6 +18,6 @@ pub use fault::EpcFault;
 pub use laws::{taking_apart_undoes_laying_out, what_is_written_is_read};
 pub use layout::identity_of;
 pub use read::{read_hex, read_pure, read_tag};
-pub use taking::fields_of;
+pub use taking::{fields_of, value_from_prefix};
 pub use write_fault::{EpcWriteFault, FieldsFault};
 pub use writing::{write_hex, write_pure, write_tag};

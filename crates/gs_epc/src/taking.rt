@@ -2,7 +2,7 @@ ghost use Rattle.std.specs.Prelude.{◌≡◌, ◌-◌, ◌++◌, ◌<◌, IfOk,
 ghost use Rattle.std.specs.Option.{option_copied};
 ghost use Rattle.gs_ident.specs.Identities.{pair_with};
 ghost use Rattle.gs_epc.specs.Layout.{parts_at};
-ghost use Rattle.gs_epc.specs.Taking.{IsTakenApart, behind_zero, checked_count, digits_in, none_text, prefix_in, rest_in, serial_in, tail_in, unless_empty};
+ghost use Rattle.gs_epc.specs.Taking.{IsTakenApart, behind_zero, checked_count, digits_in, none_text, prefix_in, rest_in, serial_in, tail_in, unless_empty, value_from_prefix};
 
 use crate::epc::Epc;
 use crate::write_fault::FieldsFault;
@@ -155,6 +155,17 @@ fn serial_in<'a>(
             None => unless_empty(none_text(ais, code.as_bytes())),
         },
     }
+}
+
+/// The value of a key of a kind of the set, named by its index, from the company prefix on (TDS 2.0, section 7): what follows
+/// a zero in front and the lead digits, as far as there is anything.
+pub fn value_from_prefix<'a>(set: &TableSet, kind: usize, value: &'a [u8]) -> &'a [u8]
+    requires { kind < length set.now.kinds }
+    ensures { result.now ≡ value_from_prefix set.now kind value.now }
+{
+    let row = &set.kinds()[kind];
+    let parts = parts_at(set.ais(), row.key.as_bytes());
+    behind(behind_zero(parts, value), usize::from(row.lead))
 }
 
 /// What an identity says by a kind of the set, named by its index, and the length of the company prefix (TDS 2.0, section

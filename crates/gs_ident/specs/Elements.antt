@@ -1,5 +1,5 @@
 -- The pairs of an identity: GS1 General Specifications, section 3, and GS1 Digital Link URI Syntax, section 3.
-use Rattle.std.specs.Prelude.{List, [], ◌∷◌, ◌++◌, ℕ, take}
+use Rattle.std.specs.Prelude.{Bool, List, [], ◌∷◌, ◌++◌, ℕ, bytes_eq, filter, take}
 use Rattle.gs_ai.specs.declared.pair.Pair.{Pair}
 
 -- a primary key, the pairs that qualify it, and the attributes
@@ -15,3 +15,15 @@ pairs_of identity = identity.key ∷ (identity.qualifiers ++ identity.attributes
 -- the key with the first k of its qualifiers
 abbrev pub first_qualifiers : ℕ → Elements → Elements
 first_qualifiers k identity = record { key = identity.key; qualifiers = take k identity.qualifiers; attributes = [] }
+
+-- the key alone
+abbrev pub key_alone : Elements → Elements
+key_alone identity = record { key = identity.key; qualifiers = []; attributes = [] }
+
+-- the pair has the code
+abbrev pub is_coded : List ℕ → Pair → Bool
+is_coded code pair = bytes_eq code pair.code
+
+-- the key with its qualifier of this code, where it has one
+abbrev pub with_qualifier : List ℕ → Elements → Elements
+with_qualifier code identity = record { key = identity.key; qualifiers = filter (is_coded code) identity.qualifiers; attributes = [] }

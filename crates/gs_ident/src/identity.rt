@@ -1,5 +1,5 @@
-ghost use Rattle.std.specs.Prelude.{◌≡◌, ◌≤◌, IfOk, length, take};
-ghost use Rattle.gs_ident.specs.Elements.{first_qualifiers};
+ghost use Rattle.std.specs.Prelude.{◌≡◌, ◌≤◌, IfOk, filter, length, take};
+ghost use Rattle.gs_ident.specs.Elements.{first_qualifiers, is_coded, key_alone, with_qualifier};
 
 use gs_ai::Pair;
 use gs_chars::{List, Memory, Text};
@@ -44,6 +44,28 @@ impl Identity {
         Ok(Identity::from_pairs(key, qualifiers, Vec::new(alloc)))
     }
 
+    /// The key alone. All other pairs are dropped; no pair is copied.
+    pub fn key_alone(self) -> Identity
+        ensures { result ≡ key_alone self }
+    {
+        let mut qualifiers = self.qualifiers.into_vec();
+        qualifiers.clear();
+        let mut attributes = self.attributes.into_vec();
+        attributes.clear();
+        Identity::from_pairs(self.key, qualifiers, attributes)
+    }
+
+    /// The key with its qualifier of the code, where it has one. All other pairs are dropped; no pair is copied.
+    pub fn with_qualifier(self, code: &[u8]) -> Identity
+        ensures { result ≡ with_qualifier code.now self }
+    {
+        let mut qualifiers = self.qualifiers.into_vec();
+        keep_coded(&mut qualifiers, code);
+        let mut attributes = self.attributes.into_vec();
+        attributes.clear();
+        Identity::from_pairs(self.key, qualifiers, attributes)
+    }
+
     /// The pair of the key.
     pub fn key(&self) -> &Pair
         ensures { result.now ≡ self.now.key }
@@ -64,6 +86,20 @@ impl Identity {
     {
         self.attributes.items()
     }
+}
+
+/// Whether the pair has the code.
+fn is_coded(code: &[u8], pair: &Pair) -> bool
+    ensures { result ≡ is_coded code.now pair.now }
+{
+    code == pair.code.as_bytes()
+}
+
+/// Drops the pairs that have another code.
+fn keep_coded(pairs: &mut Vec<Pair>, code: &[u8])
+    ensures { pairs.new.items ≡ filter (is_coded code.now) pairs.old.items }
+{
+    pairs.retain(|pair| is_coded(code, pair));
 }
 
 /// Copies of the pairs.

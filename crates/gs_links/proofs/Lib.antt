@@ -1,2 +1,4 @@
 pub mod ChoiceLemmas
 pub mod LoadLemmas
+pub mod Shaped
+pub mod DocumentLemmas

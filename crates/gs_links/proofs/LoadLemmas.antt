@@ -1,6 +1,6 @@
 -- The refusals of a store, and its links.
 use Rattle.std.proofs.Common.{◌≡◌, ◌≤◌, ℕ, zero, suc, ◌+◌, Bool, true, false, List, [], ◌∷◌, ◌++◌, length, take, map, Some, None, slice_get, refl, sym, ap, ◌∙◌, inl, inr, arith}
-use Rattle.std.specs.Prelude.{Result, Ok, Err, nat_lt}
+use Rattle.std.specs.Prelude.{IfOk, Result, Ok, Err, nat_lt}
 use Rattle.std.specs.List.{enumerate_from, flat_map}
 use Rattle.std.proofs.lemmas.Bool.{cases_lt}
 use Rattle.std.proofs.lemmas.Grind.{flat_map-append}
@@ -13,7 +13,7 @@ use Rattle.gs_chars.proofs.TruthsAndLists.{nil_parts}
 use Rattle.gs_dlink.specs.Answers.{fault_in}
 use Rattle.gs_dlink.specs.declared.fault.LinkFault.{LinkFault}
 use Rattle.gs_ident.specs.Elements.{Elements}
-use Rattle.gs_ident.specs.Identities.{identity_of_pairs}
+use Rattle.gs_ident.specs.Identities.{IsMadeWith, identity_of_pairs}
 use Rattle.gs_ident.specs.declared.faults.IdentFault.{IdentFault}
 use Rattle.gs_linkset.specs.declared.link_types.Context.{Context}
 use Rattle.gs_linkset.specs.declared.link_types.Relation.{Relation}
@@ -262,3 +262,7 @@ loaded_more table voc contexts i links more context so_far at own e = record {
 
 pub counted : (contexts : List Context) (context : Context) (i : ℕ) → i ≡ length contexts → i + 1 ≡ length (contexts ++ context ∷ [])
 counted contexts context i e = rw (length-append contexts (context ∷ []), ← e) refl
+
+pub made_kept : (table : List AiRow) (r : Result Elements AnchorWhy) (identity : Elements) → IfOk r (λ anchor. anchor ≡ identity) → IsMadeWith table identity → IfOk r (λ anchor. IsMadeWith table anchor)
+made_kept table (Ok anchor) identity same made = rw same made
+made_kept table (Err why) identity same made = tt

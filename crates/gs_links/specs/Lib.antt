@@ -1,2 +1,4 @@
 pub mod Choices
 pub mod Loading
+pub mod Shapes
+pub mod Documents

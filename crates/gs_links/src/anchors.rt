@@ -1,5 +1,5 @@
 ghost use Rattle.std.specs.Prelude.{◌≡◌, ◌≢◌, All, Err, IfErr, IfOk, Ok};
-ghost use Rattle.gs_ident.specs.Identities.{IsInOrder};
+ghost use Rattle.gs_ident.specs.Identities.{IsInOrder, IsMadeWith};
 ghost use Rattle.gs_links.specs.Loading.{anchor_answer, pairs_answer, without_attributes};
 ghost use Rattle.gs_links.specs.declared.fault.AnchorWhy.TheVariants.{Link as NoLink, Ident};
 
@@ -26,7 +26,8 @@ fn read_pairs(alloc: Global, table: &AiTable, text: &[u8]) -> Result<Vec<Pair>, 
 
 /// An identity that has no attributes.
 fn without_attributes(identity: Identity) -> Result<Identity, AnchorWhy>
-    ensures { result ≡ without_attributes identity }
+    ensures answer { result ≡ without_attributes identity }
+    ensures same { IfOk result (λ anchor. anchor ≡ identity) }
 {
     if identity.attributes().is_empty() {
         Ok(identity)
@@ -65,7 +66,8 @@ pub(crate) fn read_anchor(
     table: &AiTable,
     text: &[u8],
 ) -> Result<Result<Identity, AnchorWhy>, Memory>
-    ensures { IfOk result (λ answer. answer ≡ anchor_answer table.now text.now) }
+    ensures answer { IfOk result (λ answer. answer ≡ anchor_answer table.now text.now) }
+    ensures with_table { IfOk result (λ answer. IfOk answer (λ anchor. IsMadeWith table.now anchor)) }
 {
     let pairs = match read_pairs(alloc, table, text) {
         Ok(pairs) => pairs,

@@ -26,3 +26,10 @@ pub fn deeper_hides()
         × ((j : ℕ) (other : Link) → slice_get links j ≡ Some other → is_candidate identity want other ≡ true
         → depth_of other ≤ depth_of link)) }
 {}
+
+/// The chosen links have one anchor: the identity's key with its first qualifiers, as many as the depth says.
+pub fn one_anchor()
+    ensures { (links : List Link) (identity : Elements) (want : Want) (i : ℕ) (link : Link)
+        → IsAmong (chosen links identity want) i → slice_get links i ≡ Some link
+        → link.anchor ≡ first_qualifiers (chosen_depth links identity want) identity }
+{}

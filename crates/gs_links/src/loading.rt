@@ -1,4 +1,6 @@
-ghost use Rattle.std.specs.Prelude.{◌≡◌, ◌++◌, [], IfOk, map, not, position};
+ghost use Rattle.std.specs.Prelude.{◌≡◌, ◌++◌, [], IfOk, map, not, position, true};
+ghost use Rattle.gs_linkset.specs.LinkShapes.{is_context};
+ghost use Rattle.gs_links.specs.Shapes.{is_link};
 ghost use Rattle.std.specs.List.{flat_map, list_all};
 ghost use Rattle.gs_links.specs.Loading.{OrMemory, context_faults, context_links, expanded, first_or};
 ghost use Rattle.gs_links.specs.Loading.{is_reference, is_visible, link_with, relation_links, relations_faults};
@@ -120,10 +122,15 @@ pub(crate) fn push_context(
     context: Context,
     links: &mut Vec<Link>,
 ) -> Result<(), StoreFault>
+    requires voc { list_all is_visible voc.now ≡ true }
+    requires shape { is_context context ≡ true }
     ensures answer { OrMemory result (first_or (context_faults table.now i context) tt) }
     ensures links { IfOk result (λ _. links.new.items
         ≡ links.old.items ++ context_links table.now voc.now context) }
+    ensures shape { IfOk result (λ _. list_all is_link (context_links table.now voc.now context) ≡ true) }
 {
+    // For the proof alone: the rows keep the rules.
+    let _ = table.rows();
     let anchor = match read_anchor(alloc, table, context.anchor.as_bytes())? {
         Ok(anchor) => anchor,
         Err(why) => return Err(StoreFault::BadAnchor(i, why)),

@@ -5,7 +5,7 @@ use Rattle.gs_lines.specs.declared.status.Status.{Status}
 use Rattle.gs_lines.specs.declared.status.Status.TheVariants as status
 use Rattle.gs_lines.specs.Outputs.{Appends}
 use Rattle.gs_lines.specs.Printing.{IsInitialPart, PrintedAs}
-use Rattle.gs_lines.specs.Statuses.{OnCutShort, OnReadFault, OnRefused, OnWriteFault, OnWritten, is_cut_short, is_read_fault, is_written}
+use Rattle.gs_lines.specs.Statuses.{OnAnswered, OnCutShort, OnReadFault, OnRefused, OnWriteFault, OnWritten, is_cut_short, is_read_fault, is_written}
 use Rattle.gs_lines.proofs.OneOutcome.{some_outcome}
 use Rattle.gs_lines.proofs.StatusLemmas.{when_map}
 use Rattle.gs_port.specs.Counts.{Rises}
@@ -142,3 +142,12 @@ asked_of_fault asked world before now cause files inputs outputs =
 pub asked_of_memory : (asked : Asked) (world : World) (before now : Counts) → before.file_faults ≤ now.file_faults → before.input_faults ≡ now.input_faults → before.output_faults ≡ now.output_faults → AskedRan asked world before now world.input (record { output = []; status = status.Memory })
 asked_of_memory asked world before now files inputs outputs =
     asked_by asked world before now [] status.Memory tt (begins_nothing asked world) tt tt tt (λ e. cc) (λ e. cc) (λ e. cc) (λ e. cc) files inputs (omega arith)
+
+-- the line of a refusal answers nothing
+pub refusal_answered : (fact : Type 0) (line output : List ℕ) (s : Status) → PrintedAs status.Refused line output s → OnAnswered s fact
+refusal_answered fact line output s p = by (printed_case status.Refused line output s p)
+  where
+    by : PrintedCase status.Refused line output s → OnAnswered s fact
+    by (whole e f) = rw e tt
+    by (fault e p) = rw e tt
+    by (no_memory e p) = rw e tt

@@ -2,7 +2,7 @@
 use Rattle.std.proofs.Common.{◌≡◌, ℕ, ◌≤◌, List, Option, Some, None, length, [], refl, sym, ◌∙◌, ap, inl, inr, append-nil, append_assoc, ◌++◌, arith}
 use Rattle.std.proofs.Math.Seq.{take-append_seam, take-length}
 use Rattle.std.proofs.lemmas.Grind.{common_steps}
-use Rattle.std.specs.Prelude.{Result, Ok, Err}
+use Rattle.std.specs.Prelude.{IfOk, Result, Ok, Err}
 use Rattle.gs_document.specs.declared.fault.LoadFault.{LoadFault}
 use Rattle.gs_port.specs.Counts.{Rises}
 use Rattle.gs_port.specs.Files.{AddsNames, IsFile, with_names}
@@ -92,6 +92,11 @@ adds_both before between now one other first (inl none) = inl none
 adds_both before between now one other (inl none) (inr more) = inl (more ∙ ap (λ names. with_names names other) none)
 adds_both before between now one other (inr first) (inr more) =
     inr (more ∙ ap (λ names. with_names names other) first ∙ names_twice before one other)
+
+-- a fact that does not rest on what is given
+pub whatever_given : {A E : Type 0} (result : Result A E) (fact : Type 0) → fact → IfOk result (λ _. fact)
+whatever_given (Ok a) fact f = f
+whatever_given (Err e) fact f = tt
 
 pub opens_all : (names : List (List ℕ)) (before now : Option (List (List ℕ))) → AddsNames before names now → OpensFirst names before now
 opens_all names before now adds = (length names, rw (take-length names) adds)

@@ -4,6 +4,7 @@ use Rattle.gs_lines.specs.declared.status.Status.TheVariants as status
 use Rattle.gs_document.specs.declared.fault.LoadFault.TheVariants.{Ambiguous}
 use Rattle.gs_document.specs.declared.level_name.LevelName.{LevelName}
 use Rattle.gs_program.specs.declared.file_kind.FileKind.TheVariants.{Tables}
+use Rattle.gs_port.specs.Files.{AddsNames}
 use Rattle.gs_program.specs.declared.loading.Loaded.{Loaded}
 use Rattle.gs_program.specs.declared.refusal.FileFault.TheVariants.{Tables as Faulty}
 use Rattle.gs_program.specs.declared.refusal.Refusal.{Refusal}
@@ -71,6 +72,12 @@ pub record IsRefused (words : List (List ℕ)) (files : Option (List (List ℕ �
   pub order : WordsInOrder words asked
   pub refusal : Refusal
   pub gives : FilesGive files asked.files (Err (refused refusal))
+
+-- all files that the words name were opened, in their order, where it is told
+pub record OpensAll (words : List (List ℕ)) (before now : Option (List (List ℕ))) : Type 0 where
+  pub asked : Asked
+  pub order : WordsInOrder words asked
+  pub all : AddsNames before (names_in_order asked.files) now
 
 -- no file but the first of those that the words name were opened, in their order, where it is told
 pub data OpensNamed (words : List (List ℕ)) (before now : Option (List (List ℕ))) : Type 0 where

@@ -1,8 +1,9 @@
 ghost use Rattle.std.specs.Prelude.{◌≡◌, ◌⊎◌, ◌≤◌, [], false};
 ghost use Rattle.gs_lines.specs.Outputs.{Appends};
 ghost use Rattle.gs_lines.specs.Printing.{PrintedAs};
-ghost use Rattle.gs_lines.specs.Statuses.{OnReadFault, OnRefused, OnWriteFault};
+ghost use Rattle.gs_lines.specs.Statuses.{OnAnswered, OnReadFault, OnRefused, OnWriteFault};
 ghost use Rattle.gs_port.specs.Counts.{Rises};
+ghost use Rattle.gs_port.specs.Files.{AddsNames};
 ghost use Rattle.gs_program.specs.Asking.{AskedRan};
 ghost use Rattle.gs_program.specs.Commands.{answers_lines};
 ghost use Rattle.gs_program.specs.Loads.{OpensFirst};
@@ -52,6 +53,7 @@ pub fn run_request<F: Files, S: Source, K: Sink>(
     ensures unread { answers_lines (told_request request.entry).command ≡ false → input.new ≡ input.old }
     ensures unread_refused { OnRefused result (input.new ≡ input.old) }
     ensures opened { OpensFirst (names_in_order (told_request request.entry).files) (F.opened files.old) (F.opened files.new) }
+    ensures all_opened { OnAnswered result (AddsNames (F.opened files.old) (names_in_order (told_request request.entry).files) (F.opened files.new)) }
     ensures unopened { names_in_order (told_request request.entry).files ≡ [] → files.new ≡ files.old }
     ensures told { F.files files.new ≡ F.files files.old }
 {

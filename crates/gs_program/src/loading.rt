@@ -1,4 +1,4 @@
-ghost use Rattle.std.specs.Prelude.{◌≡◌, ◌≤◌, [], None, option_to_list};
+ghost use Rattle.std.specs.Prelude.{◌≡◌, ◌≤◌, [], IfOk, None, option_to_list};
 ghost use Rattle.gs_port.specs.Files.{AddsNames};
 ghost use Rattle.gs_program.specs.Loads.{FilesGive, GivesBehind, LoadedBy, OpensFirst};
 ghost use Rattle.gs_program.specs.Requests.{names_in_order, told_files, told_name};
@@ -60,6 +60,7 @@ pub fn load_files<F: Files>(
 ) -> Result<Loaded, Unloaded>
     ensures loaded { LoadedBy (FilesGive (F.files files.old) (told_files names.entry)) (F.faults files.old) (F.faults files.new) result }
     ensures opened { OpensFirst (names_in_order (told_files names.entry)) (F.opened files.old) (F.opened files.new) }
+    ensures all_opened { IfOk result (λ _. AddsNames (F.opened files.old) (names_in_order (told_files names.entry)) (F.opened files.new)) }
     ensures unopened { names_in_order (told_files names.entry) ≡ [] → files.new ≡ files.old }
     ensures told { F.files files.new ≡ F.files files.old }
     ensures counts { F.faults files.old ≤ F.faults files.new }

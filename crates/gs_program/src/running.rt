@@ -4,7 +4,7 @@ ghost use Rattle.gs_lines.specs.Outputs.{Appends};
 ghost use Rattle.gs_lines.specs.Statuses.{OnAnswered, OnCutShort, OnInputLong, OnReadFault, OnRefused, OnUsage, OnWriteFault, OnWritten};
 ghost use Rattle.gs_port.specs.Counts.{Rises};
 ghost use Rattle.gs_program.specs.Requests.{AsksForLines, NamesFile, NotInOrder};
-ghost use Rattle.gs_program.specs.Runs.{BeginsRun, DefinedRun, EndedRun, IsMissing, IsRefused, OpensNamed};
+ghost use Rattle.gs_program.specs.Runs.{BeginsRun, DefinedRun, EndedRun, IsMissing, IsRefused, OpensAll, OpensNamed};
 ghost use Rattle.gs_program.specs.Works.{input_limit};
 
 use crate::arguments::read_words;
@@ -47,6 +47,7 @@ pub fn run<F: Files, S: Source, K: Sink>(
     ensures few { TakesAtMost (input_limit + 1) (S.left input.old) (S.left input.new) }
     ensures unopened { ((name : List ℕ) → NamesFile (map string_bytes words.now) name → ⊥) → files.new ≡ files.old }
     ensures opened { OpensNamed (map string_bytes words.now) (F.opened files.old) (F.opened files.new) }
+    ensures all_opened { OnAnswered result (OpensAll (map string_bytes words.now) (F.opened files.old) (F.opened files.new)) }
     ensures told { F.files files.new ≡ F.files files.old }
 
     // Each cause.

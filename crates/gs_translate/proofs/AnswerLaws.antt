@@ -34,7 +34,7 @@ use Rattle.gs_translate.specs.declared.form.Form.{Form}
 use Rattle.gs_translate.specs.declared.form.Form.TheVariants as form
 use Rattle.gs_translate.specs.declared.meaning.Meaning.{Meaning}
 use Rattle.gs_translate.specs.declared.reason.Reason.{Reason}
-use Rattle.gs_translate.specs.declared.reason.Reason.TheVariants.{Element, Epc as NoEpc, Ident, Long, NoKeyPath, NotHttp, Memory as NoMemory}
+use Rattle.gs_translate.specs.declared.reason.Reason.TheVariants.{CannotHold, Element, Epc as NoEpc, Extra, Ident, Long, Missing, NoKeyPath, NoKind, NoOption, NotHttp, Memory as NoMemory}
 use Rattle.gs_translate.specs.Answers.{IsAnswer, IsCanonical}
 use Rattle.gs_translate.specs.Conditions.{AsksForOne, AsksForSome}
 use Rattle.gs_translate.specs.Meanings.{IsRead, MeaningOf, Means, MeansEpc, ReadsBracketed, ReadsLink, ReadsRaw, epc_meaning, short, too_long}
@@ -123,6 +123,11 @@ means_told set (Err fault) (Err (Element other)) m = absurd m
 means_told set (Err fault) (Err (Ident other)) m = absurd m
 means_told set (Err fault) (Err NotHttp) m = absurd m
 means_told set (Err fault) (Err NoKeyPath) m = absurd m
+means_told set (Err fault) (Err NoKind) m = absurd m
+means_told set (Err fault) (Err (Extra code)) m = absurd m
+means_told set (Err fault) (Err (Missing name)) m = absurd m
+means_told set (Err fault) (Err NoOption) m = absurd m
+means_told set (Err fault) (Err (CannotHold field why)) m = absurd m
 means_told set (Err fault) (Err NoMemory) m = absurd m
 means_told set (Err fault) (Ok meaning) m = absurd m
 
@@ -137,6 +142,11 @@ same_meaning set (Err fault) (Err (NoEpc reason)) (Err (Element other)) a b = ab
 same_meaning set (Err fault) (Err (NoEpc reason)) (Err (Ident other)) a b = absurd b
 same_meaning set (Err fault) (Err (NoEpc reason)) (Err NotHttp) a b = absurd b
 same_meaning set (Err fault) (Err (NoEpc reason)) (Err NoKeyPath) a b = absurd b
+same_meaning set (Err fault) (Err (NoEpc reason)) (Err NoKind) a b = absurd b
+same_meaning set (Err fault) (Err (NoEpc reason)) (Err (Extra code)) a b = absurd b
+same_meaning set (Err fault) (Err (NoEpc reason)) (Err (Missing name)) a b = absurd b
+same_meaning set (Err fault) (Err (NoEpc reason)) (Err NoOption) a b = absurd b
+same_meaning set (Err fault) (Err (NoEpc reason)) (Err (CannotHold field why)) a b = absurd b
 same_meaning set (Err fault) (Err (NoEpc reason)) (Err NoMemory) a b = absurd b
 same_meaning set (Err fault) (Err (NoEpc reason)) (Ok meaning) a b = absurd b
 same_meaning set (Err fault) (Err Long) other a b = absurd a
@@ -144,6 +154,11 @@ same_meaning set (Err fault) (Err (Element element)) other a b = absurd a
 same_meaning set (Err fault) (Err (Ident ident)) other a b = absurd a
 same_meaning set (Err fault) (Err NotHttp) other a b = absurd a
 same_meaning set (Err fault) (Err NoKeyPath) other a b = absurd a
+same_meaning set (Err fault) (Err NoKind) other a b = absurd a
+same_meaning set (Err fault) (Err (Extra code)) other a b = absurd a
+same_meaning set (Err fault) (Err (Missing name)) other a b = absurd a
+same_meaning set (Err fault) (Err NoOption) other a b = absurd a
+same_meaning set (Err fault) (Err (CannotHold field why)) other a b = absurd a
 same_meaning set (Err fault) (Err NoMemory) other a b = absurd a
 same_meaning set (Err fault) (Ok meaning) other a b = absurd a
 

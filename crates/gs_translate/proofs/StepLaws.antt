@@ -2,7 +2,7 @@
 use Rattle.std.proofs.Common.{◌≡◌, refl}
 use Rattle.std.specs.Prelude.{Result, Ok, Err}
 use Rattle.gs_translate.specs.declared.reason.Reason.{Reason}
-use Rattle.gs_translate.specs.declared.reason.Reason.TheVariants.{Element, Epc, Ident, Long, Memory, NoKeyPath, NotHttp}
+use Rattle.gs_translate.specs.declared.reason.Reason.TheVariants.{CannotHold, Element, Epc, Extra, Ident, Long, Memory, Missing, NoKeyPath, NoKind, NoOption, NotHttp}
 use Rattle.gs_translate.specs.Steps.{HasOne, HasSome, Then, UnlessMemory, goes_on, refuses}
 
 pub then_one : {A B E : Type 0} (First : Result A E → Type 0) (Next : A → Result B E → Type 0) → HasOne First → ((a : A) → HasOne (Next a)) → HasOne (Then First Next)
@@ -36,6 +36,11 @@ told_answer (Err (Element fault)) fact told f = f
 told_answer (Err (Ident fault)) fact told f = f
 told_answer (Err NotHttp) fact told f = f
 told_answer (Err NoKeyPath) fact told f = f
+told_answer (Err NoKind) fact told f = f
+told_answer (Err (Extra code)) fact told f = f
+told_answer (Err (Missing name)) fact told f = f
+told_answer (Err NoOption) fact told f = f
+told_answer (Err (CannotHold field why)) fact told f = f
 told_answer (Err Memory) fact told f = absurd (told refl)
 
 -- a fact about an answer follows from another
@@ -47,6 +52,11 @@ unless_map (Err (Element fault)) f a = f a
 unless_map (Err (Ident fault)) f a = f a
 unless_map (Err NotHttp) f a = f a
 unless_map (Err NoKeyPath) f a = f a
+unless_map (Err NoKind) f a = f a
+unless_map (Err (Extra code)) f a = f a
+unless_map (Err (Missing name)) f a = f a
+unless_map (Err NoOption) f a = f a
+unless_map (Err (CannotHold field why)) f a = f a
 unless_map (Err Memory) f a = tt
 
 -- a fact about a refusal, as the answer of a later step
@@ -57,4 +67,9 @@ unless_refused X Y (Element fault) f a = f a
 unless_refused X Y (Ident fault) f a = f a
 unless_refused X Y NotHttp f a = f a
 unless_refused X Y NoKeyPath f a = f a
+unless_refused X Y NoKind f a = f a
+unless_refused X Y (Extra code) f a = f a
+unless_refused X Y (Missing name) f a = f a
+unless_refused X Y NoOption f a = f a
+unless_refused X Y (CannotHold field why) f a = f a
 unless_refused X Y Memory f a = tt

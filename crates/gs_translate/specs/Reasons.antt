@@ -7,10 +7,16 @@ use Rattle.gs_ai.specs.declared.faults.ValueFault.{ValueFault}
 use Rattle.gs_ai.specs.declared.faults.ValueFault.TheVariants.{Unknown, Length, Char, Check, Date}
 use Rattle.gs_bits.specs.declared.faults.HexFault.{HexFault}
 use Rattle.gs_bits.specs.declared.faults.HexFault.TheVariants.{OddDigits, Full, BadDigit}
+use Rattle.gs_document.specs.declared.field.Field.{Field}
+use Rattle.gs_document.specs.declared.field.Field.TheVariants as field
 use Rattle.gs_epc.specs.declared.fault.EpcFault.{EpcFault}
 use Rattle.gs_epc.specs.declared.fault.EpcFault.TheVariants.{Hex, NoReading, Memory}
+use Rattle.gs_grammar.specs.declared.fault.Why.{Why}
+use Rattle.gs_grammar.specs.declared.fault.Why.TheVariants as why
 use Rattle.gs_ident.specs.declared.faults.IdentFault.{IdentFault}
 use Rattle.gs_ident.specs.declared.faults.IdentFault.TheVariants as ident
+use Rattle.gs_translate.specs.declared.field_name.FieldName.{FieldName}
+use Rattle.gs_translate.specs.declared.field_name.FieldName.TheVariants as missing
 use Rattle.gs_translate.specs.declared.reason.Reason.{Reason}
 use Rattle.gs_translate.specs.declared.reason.Reason.TheVariants as reason
 
@@ -50,6 +56,27 @@ ident_text ident.NoKey = codes "key"
 ident_text (ident.TwoKeys code) = codes "keys " ++ code
 ident_text ident.Memory = codes "memory"
 
+abbrev pub missing_text : FieldName → List ℕ
+missing_text missing.Gcp = codes "gcp"
+missing_text missing.Serial = codes "serial"
+missing_text missing.Filter = codes "filter"
+
+abbrev pub field_text : Field → List ℕ
+field_text field.Filter = codes "filter"
+field_text field.Gcp = codes "gcp"
+field_text field.Rest = codes "rest"
+field_text field.Serial = codes "serial"
+
+-- why an item does not hold a value
+abbrev pub held_text : Why → List ℕ
+held_text why.Char = codes "char"
+held_text why.Length = codes "length"
+held_text why.Zero = codes "zero"
+held_text why.Large = codes "large"
+
+abbrev pub hold_text : Field → Why → List ℕ
+hold_text field why = codes "hold " ++ (field_text field ++ (32 ∷ held_text why))
+
 abbrev pub reason_text : Reason → List ℕ
 reason_text reason.Long = codes "long"
 reason_text (reason.Epc fault) = epc_text fault
@@ -57,4 +84,9 @@ reason_text (reason.Element fault) = element_text fault
 reason_text reason.NotHttp = codes "http"
 reason_text reason.NoKeyPath = codes "path"
 reason_text (reason.Ident fault) = ident_text fault
+reason_text reason.NoKind = codes "kind"
+reason_text (reason.Extra code) = codes "extra " ++ code
+reason_text (reason.Missing name) = codes "missing " ++ missing_text name
+reason_text reason.NoOption = codes "option"
+reason_text (reason.CannotHold field why) = hold_text field why
 reason_text reason.Memory = codes "memory"

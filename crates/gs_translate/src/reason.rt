@@ -1,9 +1,12 @@
+use crate::field_name::FieldName;
 use gs_ai::ElementFault;
-use gs_chars::Memory;
+use gs_chars::{Memory, Text};
 use gs_dlink::LinkFault;
 use gs_element::ElementsFault;
 use gs_epc::EpcFault;
+use gs_grammar::Why;
 use gs_ident::IdentFault;
+use gs_tables::Field;
 
 /// Why a text is refused.
 #[derive(Debug, Drop)]
@@ -20,6 +23,16 @@ pub enum Reason {
     NoKeyPath,
     /// The elements of the text have no identity, for this reason, which is never want of memory.
     Ident(IdentFault),
+    /// The tables have no kind of EPC for the key.
+    NoKind,
+    /// An element is neither the key nor its serial, so no EPC says it: its code.
+    Extra(Text),
+    /// Neither the text nor what is said beside it tells this.
+    Missing(FieldName),
+    /// The tables have no option for the kind, the length of the company prefix and the encoding.
+    NoOption,
+    /// No such option holds every field. The last one does not hold this field, for this reason.
+    CannotHold(Field, Why),
     /// Want of memory.
     Memory,
 }

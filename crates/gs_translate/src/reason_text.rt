@@ -1,6 +1,7 @@
 ghost use Rattle.std.specs.Prelude.{◌≡◌, ◌++◌, OnOk};
 ghost use Rattle.gs_translate.specs.Reasons.{element_text, epc_text, hex_text, ident_text, placed, reason_text, value_text};
 
+use crate::hold_text::{append_hold, append_missing};
 use crate::reason::Reason;
 use gs_ai::{ElementFault, ElementWhy, ValueFault};
 use gs_bits::HexFault;
@@ -20,6 +21,11 @@ pub fn append_reason(alloc: Global, out: &mut Vec<u8>, reason: &Reason) -> Resul
         Reason::NotHttp => Ok(out.extend_from_slice(b"http")?),
         Reason::NoKeyPath => Ok(out.extend_from_slice(b"path")?),
         Reason::Ident(fault) => append_ident(out, fault),
+        Reason::NoKind => Ok(out.extend_from_slice(b"kind")?),
+        Reason::Extra(code) => append_code(out, b"extra ", code),
+        Reason::Missing(name) => append_missing(out, *name),
+        Reason::NoOption => Ok(out.extend_from_slice(b"option")?),
+        Reason::CannotHold(field, why) => append_hold(out, *field, *why),
         Reason::Memory => Ok(out.extend_from_slice(b"memory")?),
     }
 }

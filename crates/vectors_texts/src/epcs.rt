@@ -5,10 +5,13 @@
 //! - `identity_of FORM TEXT`, with FORM `hex`, `tag` or `pure`: the canonical link of the identity of what is read, or the
 //!   fault.
 //! - `by DOC FORM TEXT`: the same by the tables of a document.
+//!
+//! The calls that write and that take apart stand in epc_writing.
 
 ghost use Rattle.std.specs.Prelude.{IfOk};
 ghost use Rattle.gs_epc.specs.Epcs.{IsOfSet};
 
+use crate::epc_writing;
 use crate::tables::set_of;
 use gs_chars::Text;
 use gs_epc::{Epc, EpcFault, identity_of, read_hex, read_pure, read_tag};
@@ -25,7 +28,7 @@ pub fn answer(alloc: Global, set: &TableSet, call: &str, args: &[Text]) -> Answe
         "read_pure" => fields(alloc, set, read_pure(alloc, set, arg(args, 0)?)),
         "identity_of" => link_of(alloc, set, arg(args, 0)?, arg(args, 1)?),
         "by" => by_document(alloc, arg(args, 0)?, arg(args, 1)?, arg(args, 2)?),
-        _ => Err(Refusal::NoCase),
+        _ => epc_writing::answer(alloc, set, call, args),
     }
 }
 
@@ -43,7 +46,8 @@ fn fields(alloc: Global, set: &TableSet, read: Result<Epc, EpcFault>) -> Answer 
     }
 }
 
-fn epc_words(alloc: Global, set: &TableSet, epc: &Epc) -> Answer {
+/// The words of an EPC.
+pub fn epc_words(alloc: Global, set: &TableSet, epc: &Epc) -> Answer {
     let Some(kind) = set.kinds().get(epc.kind) else {
         return Err(Refusal::NoCase);
     };

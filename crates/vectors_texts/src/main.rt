@@ -4,6 +4,7 @@
 
 mod digital_links;
 mod elements;
+mod epc_writing;
 mod epcs;
 mod identifiers;
 mod identities;

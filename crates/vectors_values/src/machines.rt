@@ -1,16 +1,19 @@
-//! Calls of gs_machine, gs_ambig and gs_compile. A MACHINE is `BORDERS/ROW/ROW..`: the borders with commas between, and the edges that leave
+//! Calls of gs_machine, gs_ambig, gs_compile and gs_share. A MACHINE is `BORDERS/ROW/ROW..`: the borders with commas between, and the edges that leave
 //! each state, `LO-HI>STATE` with `+` between.
 //!
 //! - `machine MACHINE`: the number of states and the start, or `None` where it is no machine.
 //! - `check MACHINE..`: `Clear`, or the two machines and a list of symbols that they share.
 //! - `share LEVEL ITEM.. | ITEM..`, with LEVEL `text` or `bits`: `Clear`, or the two options that share a list of symbols; the
 //!   machines are compiled of the options.
+//! - `first_share LEVEL ITEM.. | ITEM..`: `None`, or the two options of the level.
 
 use crate::grammars::options_of;
 use gs_ambig::{Verdict, check};
 use gs_chars::{List, Text};
 use gs_compile::compile;
+use gs_grammar::Level;
 use gs_machine::{Auto, Edge};
+use gs_share::first_share;
 use std::alloc::Global;
 use vector_cases::{Answer, Refusal, arg, behind, number_of, numbers_of, shown, text_of};
 
@@ -20,6 +23,7 @@ pub fn answer(alloc: Global, call: &str, args: &[Text]) -> Answer {
         "machine" => machine(alloc, arg(args, 0)?),
         "check" => checked(alloc, args),
         "share" => shared(alloc, arg(args, 0)?, behind(args, 1)),
+        "first_share" => first_shared(alloc, arg(args, 0)?, behind(args, 1)),
         _ => Err(Refusal::NoCase),
     }
 }
@@ -127,5 +131,20 @@ fn shared(alloc: Global, level: &[u8], words: &[Text]) -> Answer {
     match check(alloc, machines.as_slice())? {
         Verdict::Clear => Ok(String::from_str(alloc, "Clear")?),
         Verdict::Double { i, j, word: _ } => Ok(format!(in alloc; "{i} {j}")?),
+    }
+}
+
+/// The first two options of a level that share a list of symbols.
+fn first_shared(alloc: Global, level: &[u8], words: &[Text]) -> Answer {
+    let bit_level = level == b"bits".as_slice();
+    let options = options_of(alloc, bit_level, words)?;
+    let level = Level::new(alloc, bit_level, options)?;
+    match first_share(alloc, &level)? {
+        None => Ok(String::from_str(alloc, "None")?),
+        Some(pair) => {
+            let first = pair.first;
+            let second = pair.second;
+            Ok(format!(in alloc; "{first} {second}")?)
+        }
     }
 }

@@ -6,6 +6,7 @@ mod bits;
 mod characters;
 mod documents;
 mod grammars;
+mod linksets;
 mod machines;
 mod prefixes;
 
@@ -24,8 +25,11 @@ impl Calls for Values {
             "gs_bits" => bits::answer(alloc, call, args),
             "gs_json" => documents::answer(alloc, call, args),
             "gs_grammar" => grammars::answer(alloc, call, args),
+            "gs_linkset" => linksets::answer(alloc, call, args),
             "gs_prefix" => prefixes::answer(alloc, call, args),
-            "gs_machine" | "gs_ambig" | "gs_compile" => machines::answer(alloc, call, args),
+            "gs_machine" | "gs_ambig" | "gs_compile" | "gs_share" => {
+                machines::answer(alloc, call, args)
+            }
             _ => Err(Refusal::NoCase),
         }
     }

@@ -4,7 +4,9 @@ use Rattle.gs_program.specs.Asking.{Counts}
 use Rattle.gs_program.specs.Ran.{Moment}
 use Rattle.gs_program.specs.Requests.{told_request}
 use Rattle.gs_program.specs.Runs.{World}
-use Rattle.gs_program.proofs.AskedLemmas.{asked_of_command, asked_of_fault, asked_of_memory, asked_of_refusal, ended_of_command}
+use Rattle.gs_lines.specs.Statuses.{is_answered}
+use Rattle.gs_lines.proofs.StatusLemmas.{when_always}
+use Rattle.gs_program.proofs.AskedLemmas.{asked_of_command, asked_of_fault, asked_of_memory, asked_of_refusal, ended_of_command, refusal_answered}
 use Rattle.gs_program.proofs.asking.run_request.Goals as goal
 
 pub returns-in-Ok-clause-ran : goal.returns-in-Ok-clause-ran
@@ -43,3 +45,9 @@ returns-in-Err-Memory-clause-ran g c =
     let before : Counts = record { file_faults = g.F.Files.faults c.args.files.now; input_faults = g.S.Source.faults c.args.input.now; output_faults = g.K.Sink.faults c.args.output.now } in
     let now : Counts = record { file_faults = g.F.Files.faults c.load_files.new.files; input_faults = g.S.Source.faults c.args.input.now; output_faults = g.K.Sink.faults c.args.output.now } in
     ([], sym (append_nothing (g.K.Sink.held c.args.output.now)), asked_of_memory (told_request c.args.request) world before now c.load_files.ensures.counts refl refl)
+
+pub returns-in-Ok-clause-all_opened : goal.returns-in-Ok-clause-all_opened
+returns-in-Ok-clause-all_opened g c = when_always (is_answered c.run_command.result) c.in-Ok.ensures.all_opened
+
+pub returns-in-Err-Refused-clause-all_opened : goal.returns-in-Err-Refused-clause-all_opened
+returns-in-Err-Refused-clause-all_opened g c = refusal_answered _ _ c.print_refusal.ensures.written.0 c.print_refusal.result c.print_refusal.ensures.written.2

@@ -1,7 +1,7 @@
 use Rattle.std.proofs.Common.{option_to_list}
 use Rattle.gs_program.specs.Loads.{GivesBehind, TablesGive}
 use Rattle.gs_program.specs.Requests.{told_files, told_name}
-use Rattle.gs_program.proofs.ReadLemmas.{adds_both, loads_on, not_loaded, opens_all, opens_front}
+use Rattle.gs_program.proofs.ReadLemmas.{adds_both, loads_on, not_loaded, opens_all, opens_front, whatever_given}
 use Rattle.gs_program.proofs.loading.load_files.Goals as goal
 
 pub returns-in-Ok-clause-loaded : goal.returns-in-Ok-clause-loaded
@@ -12,10 +12,15 @@ returns-in-Ok-clause-loaded g c =
 
 pub returns-in-Ok-clause-opened : goal.returns-in-Ok-clause-opened
 returns-in-Ok-clause-opened g c =
-    let tables = option_to_list (told_name c.args.names.tables) in
-    let prefixes = option_to_list (told_name c.args.names.prefixes) in
     opens_all _ _ _
-    (adds_both (g.F.Files.opened c.args.files.now) (g.F.Files.opened c.load_tables.new.files) (g.F.Files.opened c.load_behind.new.files) tables prefixes c.in-Ok.ensures.opened c.load_behind.ensures.opened)
+    (adds_both (g.F.Files.opened c.args.files.now) (g.F.Files.opened c.load_tables.new.files) (g.F.Files.opened c.load_behind.new.files)
+    (option_to_list (told_name c.args.names.tables)) (option_to_list (told_name c.args.names.prefixes)) c.in-Ok.ensures.opened c.load_behind.ensures.opened)
+
+pub returns-in-Ok-clause-all_opened : goal.returns-in-Ok-clause-all_opened
+returns-in-Ok-clause-all_opened g c =
+    whatever_given c.load_behind.result _
+    (adds_both (g.F.Files.opened c.args.files.now) (g.F.Files.opened c.load_tables.new.files) (g.F.Files.opened c.load_behind.new.files)
+    (option_to_list (told_name c.args.names.tables)) (option_to_list (told_name c.args.names.prefixes)) c.in-Ok.ensures.opened c.load_behind.ensures.opened)
 
 pub returns-in-Err-clause-loaded : goal.returns-in-Err-clause-loaded
 returns-in-Err-clause-loaded g c =

@@ -1,4 +1,6 @@
 use Rattle.std.proofs.Common.{map, string_bytes}
+use Rattle.gs_lines.specs.Statuses.{is_answered}
+use Rattle.gs_lines.proofs.StatusLemmas.{when_map}
 use Rattle.gs_program.specs.Requests.{told_request}
 use Rattle.gs_program.specs.Runs.{named}
 use Rattle.gs_program.proofs.RunLemmas.{begun_of, defined_of, read_fault_of, refused_of, unopened_of, usage_begun}
@@ -27,6 +29,10 @@ returns-in-Some-clause-unopened g c =
 pub returns-in-Some-clause-opened : goal.returns-in-Some-clause-opened
 returns-in-Some-clause-opened g c =
     named (told_request c.in-Some.request) c.in-Some.ensures.request c.run_request.ensures.opened
+
+pub returns-in-Some-clause-all_opened : goal.returns-in-Some-clause-all_opened
+returns-in-Some-clause-all_opened g c =
+    when_map (is_answered c.run_request.result) (λ all. record { asked = told_request c.in-Some.request; order = c.in-Some.ensures.request; all = all }) c.run_request.ensures.all_opened
 
 pub returns-in-Some-clause-read_fault : goal.returns-in-Some-clause-read_fault
 returns-in-Some-clause-read_fault g c =

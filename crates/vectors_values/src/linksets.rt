@@ -7,11 +7,10 @@
 //! - `new ANCHOR NAME HREF..`: what is written of the linkset of one context with one relation, or the refusal.
 //! - `copy DOC`: a copy of the first target, `None` where there is none, or the fault.
 
-use crate::case::{Answer, Refusal, add, arg, behind, shown};
-use crate::documents::fault_word;
 use gs_chars::{List, Memory, Text};
 use gs_linkset::{Attr, AttrValue, Context, LinkDoc, Relation, Target};
 use std::alloc::Global;
+use vector_cases::{Answer, Refusal, add, add_shown, arg, behind, fault_word, shown};
 
 /// The answer to a call of gs_linkset.
 pub fn answer(alloc: Global, call: &str, args: &[Text]) -> Answer {
@@ -26,9 +25,7 @@ pub fn answer(alloc: Global, call: &str, args: &[Text]) -> Answer {
 
 /// Appends the word of some bytes.
 fn add_bytes(alloc: Global, answer: &mut String, bytes: &Text) -> Result<(), Refusal> {
-    let word = shown(alloc, bytes.as_bytes())?;
-    add(answer, word.as_str())?;
-    Ok(())
+    Ok(add_shown(alloc, answer, bytes.as_bytes())?)
 }
 
 fn add_texts(alloc: Global, answer: &mut String, texts: &[Text]) -> Result<(), Refusal> {

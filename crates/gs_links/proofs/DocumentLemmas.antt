@@ -1,0 +1,246 @@
+-- The document of chosen links, and its shape.
+use Rattle.std.proofs.Common.{◌≡◌, ◌<◌, ◌≤◌, ℕ, zero, suc, ◌+◌, ◌==◌, ◌&&◌, not, Bool, true, false, All, if◌then◌else◌, List, [], ◌∷◌, ◌++◌, length, take, map, filter, get_or, codes, Option, Some, None, slice_get, Ordering, Less, Equal, Greater, refl, sym, ap, ◌∙◌, arith}
+use Rattle.std.specs.Prelude.{Result, Ok, Err, fold}
+use Rattle.std.specs.BTreeMap.{insert_entry}
+use Rattle.std.specs.Cmp.Lexicographic.{slice_cmp}
+use Rattle.std.specs.List.{cons_option, list_all}
+use Rattle.std.specs.Map.{keys_of}
+use Rattle.std.specs.Ordering.{is_lt, match_ordering, nat_cmp, ordering_reverse}
+use Rattle.std.specs.Str.{bytes_eq, is_utf8}
+use Rattle.std.proofs.lemmas.Bool.{eqb-true}
+use Rattle.std.proofs.lemmas.Cmp.{nat_list_cmp_total}
+use Rattle.std.proofs.lemmas.List.{append-nil, map-append}
+use Rattle.std.proofs.lemmas.List.Elements.{filter-append, filter_map-append}
+use Rattle.gs_chars.proofs.TruthsAndLists.{and_first, and_second, and_true, within}
+use Rattle.gs_ident.specs.Elements.{Elements, first_qualifiers}
+use Rattle.gs_ident.specs.Links.{canonical_link}
+use Rattle.gs_linkset.specs.LinkShapes.{ascend, is_below, is_below_first, is_context, is_relation, is_target, new_answer}
+use Rattle.gs_linkset.specs.declared.doc.DocFault.{DocFault}
+use Rattle.gs_linkset.specs.declared.link_types.Context.{Context}
+use Rattle.gs_linkset.specs.declared.link_types.Relation.{Relation}
+use Rattle.gs_linkset.specs.declared.link_types.Target.{Target}
+use Rattle.gs_links.specs.Choices.{IsAmong, chosen, chosen_depth, depth_of, is_candidate, is_chosen, is_prefix, is_wanted}
+use Rattle.gs_links.specs.Documents.{document_of, linked, names_of, put_name, relation_of, relations_of, targets_of, with_name}
+use Rattle.gs_links.specs.Shapes.{is_link}
+use Rattle.gs_links.specs.declared.link.Link.{Link}
+use Rattle.gs_links.specs.declared.link.Want.{Want}
+use Rattle.gs_links.proofs.ChoiceLemmas.{found, prefix_is, take_next}
+
+-- ---- names
+
+pub keys_put : (es : List (List ℕ × Unit {0})) (k : List ℕ) → keys_of (insert_entry (slice_cmp nat_cmp) es k tt) ≡ put_name k (keys_of es)
+keys_put [] k = refl
+keys_put (e ∷ es) k = by (slice_cmp nat_cmp k e.0) (keys_put es k)
+  where
+    by : (o : Ordering) → keys_of (insert_entry (slice_cmp nat_cmp) es k tt) ≡ put_name k (keys_of es) → keys_of (match_ordering o ((k, tt) ∷ e ∷ es) ((e.0, tt) ∷ es) (e ∷ insert_entry (slice_cmp nat_cmp) es k tt)) ≡ match_ordering o (k ∷ keys_of (e ∷ es)) (keys_of (e ∷ es)) (e.0 ∷ put_name k (keys_of es))
+    by Less h = refl
+    by Equal h = refl
+    by Greater h = ap (λ names. e.0 ∷ names) h
+
+fold_more : {S X : Type 0} (f : S → X → S) (s : S) (xs : List X) (x : X) → fold f s (xs ++ x ∷ []) ≡ f (fold f s xs) x
+fold_more f s [] x = refl
+fold_more f s (y ∷ xs) x = fold_more f (f s y) xs x
+
+pub names_more : (links more : List Link) (link : Link) (names new : List (List ℕ)) → more ≡ links ++ link ∷ [] → names ≡ names_of links → new ≡ with_name names link → new ≡ names_of more
+names_more links more link names new e so_far own = rw (own, so_far, e) (sym (fold_more with_name [] links link))
+
+-- ---- targets
+
+pub targets_kept : (links more : List Link) (link : Link) (name : List ℕ) (targets new : List Target) (target : Target) → more ≡ links ++ link ∷ [] → bytes_eq link.relation name ≡ true → targets ≡ targets_of links name → target ≡ link.target → new ≡ targets ++ target ∷ [] → new ≡ targets_of more name
+targets_kept links more link name targets new target e same so_far own added =
+    rw (added, so_far, own, e, filter-append (λ (l : Link). bytes_eq l.relation name) links (link ∷ []), same) (sym (map-append (λ (l : Link). l.target) (filter (λ (l : Link). bytes_eq l.relation name) links) (link ∷ [])))
+
+pub targets_passed : (links more : List Link) (link : Link) (name : List ℕ) (targets : List Target) → more ≡ links ++ link ∷ [] → bytes_eq link.relation name ≡ false → targets ≡ targets_of links name → targets ≡ targets_of more name
+targets_passed links more link name targets e other so_far =
+    rw (so_far, e, filter-append (λ (l : Link). bytes_eq l.relation name) links (link ∷ []), other, append-nil (filter (λ (l : Link). bytes_eq l.relation name) links)) refl
+
+-- ---- the links of numbers
+
+get_at : {X : Type 0} (xs : List X) (k : ℕ) (d : X) → k < length xs → slice_get xs k ≡ Some (get_or xs k d)
+get_at [] k d h = absurd (omega arith)
+get_at (x ∷ xs) zero d h = refl
+get_at (x ∷ xs) (suc k) d h = get_at xs k d (omega arith)
+
+read_or : {X : Type 0} (xs : List X) (k : ℕ) (x : X) → k < length xs → x ≡ get_or xs k x → slice_get xs k ≡ Some x
+read_or xs k x h e = get_at xs k x h ∙ ap Some (sym e)
+
+pub linked_more : (links : List Link) (numbers : List ℕ) (k d : ℕ) (link : Link) → k < length numbers → All (λ i. i < length links) numbers → link ≡ get_or links (get_or numbers k d) link → linked links (take (k + 1) numbers) ≡ linked links (take k numbers) ++ link ∷ []
+linked_more links numbers k d link h each e =
+    let i = get_or numbers k d in
+    let there = read_or links i link (each k d h) e in
+    rw (take_next numbers k i (get_at numbers k d h), filter_map-append (slice_get links) (take k numbers) (i ∷ []), there) refl
+
+pub linked_first : (links : List Link) (numbers : List ℕ) (d : ℕ) (link : Link) → 0 < length numbers → All (λ i. i < length links) numbers → link ≡ get_or links (get_or numbers 0 d) link → (rest : List Link) × (linked links numbers ≡ link ∷ rest)
+linked_first links [] d link h each e = absurd (omega arith)
+linked_first links (i ∷ numbers) d link h each e =
+    let there = read_or links i link (each 0 d h) e in
+    (linked links numbers, rw there refl)
+
+-- chosen numbers are those of links
+pub chosen_within : (links : List Link) (identity : Elements) (want : Want) (numbers : List ℕ) → numbers ≡ chosen links identity want → All (λ i. i < length links) numbers
+chosen_within links identity want numbers e k d h =
+    let at = ap (λ ns. slice_get ns k) (sym e) ∙ get_at numbers k d h in
+    let row = found (is_chosen identity want (chosen_depth links identity want)) 0 links (get_or numbers k d) (k, at) in
+    let place = row.2 in
+    let low = within links row.0 row.1 row.3 in
+    omega (arith, place, low)
+
+linked_shaped : (links : List Link) (numbers : List ℕ) → list_all is_link links ≡ true → list_all is_link (linked links numbers) ≡ true
+linked_shaped links [] h = refl
+linked_shaped links (i ∷ numbers) h = by (slice_get links i) refl (linked_shaped links numbers h)
+  where
+    at : (xs : List Link) (i : ℕ) (x : Link) → list_all is_link xs ≡ true → slice_get xs i ≡ Some x → is_link x ≡ true
+    at [] i x all e = absurd (let g : None ≡ Some x = e in cc)
+    at (y ∷ xs) zero x all e = let same : y ≡ x = cc in rw (← same) (and_first (is_link y) (list_all is_link xs) all)
+    at (y ∷ xs) (suc i) x all e = at xs i x (and_second (is_link y) (list_all is_link xs) all) e
+
+    by : (o : Option Link) → slice_get links i ≡ o → list_all is_link (linked links numbers) ≡ true → list_all is_link (cons_option o (linked links numbers)) ≡ true
+    by None e rest = rest
+    by (Some x) e rest = and_true (is_link x) (list_all is_link (linked links numbers)) (at links i x h e) rest
+
+-- ---- names ascend
+
+below_first : (a n m : List ℕ) (names : List (List ℕ)) (o : Ordering) → is_below a n ≡ true → is_below a m ≡ true → is_below_first a (match_ordering o (n ∷ m ∷ names) (m ∷ names) (m ∷ put_name n names)) ≡ true
+below_first a n m names Less h k = h
+below_first a n m names Equal h k = k
+below_first a n m names Greater h k = k
+
+below_put : (a n : List ℕ) (names : List (List ℕ)) → is_below a n ≡ true → is_below_first a names ≡ true → is_below_first a (put_name n names) ≡ true
+below_put a n [] h k = h
+below_put a n (m ∷ names) h k = below_first a n m names (slice_cmp nat_cmp n m) h k
+
+put_by : (o : Ordering) (n m : List ℕ) (names : List (List ℕ)) → slice_cmp nat_cmp n m ≡ o → ascend (m ∷ names) ≡ true → ascend (put_name n names) ≡ true → ascend (match_ordering o (n ∷ m ∷ names) (m ∷ names) (m ∷ put_name n names)) ≡ true
+put_by Less n m names is h rest = rw (is, h) refl
+put_by Equal n m names is h rest = h
+put_by Greater n m names is h rest =
+    let below : slice_cmp nat_cmp m n ≡ Less = nat_list_cmp_total.antisymm m n ∙ ap ordering_reverse is in
+    and_true (is_below_first m (put_name n names)) (ascend (put_name n names)) (below_put m n names (ap is_lt below) (and_first (is_below_first m names) (ascend names) h)) rest
+
+put_ascends : (n : List ℕ) (names : List (List ℕ)) → ascend names ≡ true → ascend (put_name n names) ≡ true
+put_ascends n [] h = refl
+put_ascends n (m ∷ names) h = put_by (slice_cmp nat_cmp n m) n m names refl h (put_ascends n names (and_second (is_below_first m names) (ascend names) h))
+
+-- ---- names are those of relations
+
+abbrev is_name : List ℕ → Bool
+is_name n = not (bytes_eq n (codes "anchor")) && is_utf8 n
+
+all_by : (o : Ordering) (n m : List ℕ) (names : List (List ℕ)) → is_name n ≡ true → list_all is_name (m ∷ names) ≡ true → list_all is_name (put_name n names) ≡ true → list_all is_name (match_ordering o (n ∷ m ∷ names) (m ∷ names) (m ∷ put_name n names)) ≡ true
+all_by Less n m names own h rest = and_true (is_name n) (list_all is_name (m ∷ names)) own h
+all_by Equal n m names own h rest = h
+all_by Greater n m names own h rest = and_true (is_name m) (list_all is_name (put_name n names)) (and_first (is_name m) (list_all is_name names) h) rest
+
+all_put : (n : List ℕ) (names : List (List ℕ)) → is_name n ≡ true → list_all is_name names ≡ true → list_all is_name (put_name n names) ≡ true
+all_put n [] own h = and_true (is_name n) true own refl
+all_put n (m ∷ names) own h = all_by (slice_cmp nat_cmp n m) n m names own h (all_put n names own (and_second (is_name m) (list_all is_name names) h))
+
+link_parts : (link : Link) → is_link link ≡ true → (is_utf8 (canonical_link link.anchor) ≡ true) × (is_utf8 link.relation ≡ true) × (is_target link.target ≡ true)
+unfolding is_link
+link_parts link h =
+    let rest = and_second (is_utf8 (canonical_link link.anchor)) _ h in
+    (and_first (is_utf8 (canonical_link link.anchor)) _ h, and_first (is_utf8 link.relation) _ rest, and_second (is_utf8 link.relation) _ rest)
+
+abbrev Named : List (List ℕ) → Type 0
+Named names = (ascend names ≡ true) × (list_all is_name names ≡ true)
+
+with_named : (names : List (List ℕ)) (link : Link) → is_link link ≡ true → Named names → Named (with_name names link)
+with_named names link own h = by (bytes_eq link.relation (codes "anchor")) refl
+  where
+    by : (b : Bool) → bytes_eq link.relation (codes "anchor") ≡ b → Named (if b then names else put_name link.relation names)
+    by true e = h
+    by false e =
+        let named = and_true (not (bytes_eq link.relation (codes "anchor"))) (is_utf8 link.relation) (ap not e) (link_parts link own).1 in
+        (put_ascends link.relation names h.0, all_put link.relation names named h.1)
+
+fold_named : (links : List Link) (names : List (List ℕ)) → list_all is_link links ≡ true → Named names → Named (fold with_name names links)
+fold_named [] names all h = h
+fold_named (link ∷ links) names all h =
+    fold_named links (with_name names link) (and_second (is_link link) (list_all is_link links) all) (with_named names link (and_first (is_link link) (list_all is_link links) all) h)
+
+-- ---- the shape of the document
+
+targets_shaped : (links : List Link) (name : List ℕ) → list_all is_link links ≡ true → list_all is_target (targets_of links name) ≡ true
+targets_shaped [] name h = refl
+targets_shaped (link ∷ links) name h = by (bytes_eq link.relation name) (targets_shaped links name (and_second (is_link link) (list_all is_link links) h))
+  where
+    own : is_target link.target ≡ true
+    own = (link_parts link (and_first (is_link link) (list_all is_link links) h)).2
+
+    by : (b : Bool) → list_all is_target (targets_of links name) ≡ true → list_all is_target (map (λ (l : Link). l.target) (if b then link ∷ filter (λ (l : Link). bytes_eq l.relation name) links else filter (λ (l : Link). bytes_eq l.relation name) links)) ≡ true
+    by true rest = and_true (is_target link.target) (list_all is_target (targets_of links name)) own rest
+    by false rest = rest
+
+relation_shaped : (links : List Link) (name : List ℕ) → list_all is_link links ≡ true → is_name name ≡ true → is_relation (relation_of links name) ≡ true
+unfolding is_relation
+relation_shaped links name all h =
+    and_true (not (bytes_eq name (codes "anchor"))) _ (and_first (not (bytes_eq name (codes "anchor"))) (is_utf8 name) h)
+    (and_true (is_utf8 name) _ (and_second (not (bytes_eq name (codes "anchor"))) (is_utf8 name) h) (targets_shaped links name all))
+
+relations_shaped : (links : List Link) (names : List (List ℕ)) → list_all is_link links ≡ true → list_all is_name names ≡ true → list_all is_relation (map (relation_of links) names) ≡ true
+relations_shaped links [] all h = refl
+relations_shaped links (n ∷ names) all h =
+    and_true (is_relation (relation_of links n)) _ (relation_shaped links n all (and_first (is_name n) (list_all is_name names) h)) (relations_shaped links names all (and_second (is_name n) (list_all is_name names) h))
+
+own_names : (links : List Link) (names : List (List ℕ)) → map (λ relation. relation.name) (map (relation_of links) names) ≡ names
+own_names links [] = refl
+own_names links (n ∷ names) = ap (λ ns. n ∷ ns) (own_names links names)
+
+context_shaped : (link : Link) (rest : List Link) → list_all is_link (link ∷ rest) ≡ true → is_context (record { anchor = canonical_link link.anchor; relations = relations_of (link ∷ rest) }) ≡ true
+unfolding is_context
+context_shaped link rest h =
+    let named = fold_named (link ∷ rest) [] h (refl, refl) in
+    let anchor = (link_parts link (and_first (is_link link) (list_all is_link rest) h)).0 in
+    let up : ascend (map (λ relation. relation.name) (relations_of (link ∷ rest))) ≡ true = rw (own_names (link ∷ rest) (names_of (link ∷ rest))) named.0 in
+    and_true (is_utf8 (canonical_link link.anchor)) _ anchor (and_true (ascend (map (λ relation. relation.name) (relations_of (link ∷ rest)))) _ up (relations_shaped (link ∷ rest) (names_of (link ∷ rest)) h named.1))
+
+pub document_made : (links : List Link) (numbers : List ℕ) (link : Link) (rest : List Link) → list_all is_link links ≡ true → linked links numbers ≡ link ∷ rest → new_answer (document_of (linked links numbers)) ≡ Ok (document_of (linked links numbers))
+unfolding new_answer
+document_made links numbers link rest h e =
+    let all = rw e at (linked_shaped links numbers h) in
+    rw (e, context_shaped link rest all) refl
+
+-- the document by its first link
+pub document_is : (links : List Link) (numbers : List ℕ) (link : Link) (rest : List Link) (anchor : List ℕ) (relations : List Relation) (contexts : List Context) → linked links numbers ≡ link ∷ rest → anchor ≡ canonical_link link.anchor → relations ≡ relations_of (linked links numbers) → contexts ≡ record { anchor = anchor; relations = relations } ∷ [] → contexts ≡ document_of (linked links numbers)
+document_is links numbers link rest anchor relations contexts e a r made =
+    let own = rw e at r in
+    rw (made, a, own, e) refl
+
+pub never : (contexts document : List Context) (r : Result (List Context) DocFault) (fault : DocFault) → contexts ≡ document → new_answer document ≡ Ok document → r ≡ new_answer contexts → r ≡ Err fault → ⊥
+never contexts document r fault same good made bad =
+    let g = rw (made, same, good) at bad in
+    let w : Ok document ≡ Err fault = g in
+    cc
+
+pub given : (contexts document doc : List Context) (r : Result (List Context) DocFault) → contexts ≡ document → new_answer document ≡ Ok document → r ≡ new_answer contexts → r ≡ Ok doc → doc ≡ document
+given contexts document doc r same good made is =
+    let g = rw (made, same, good) at is in
+    let w : Ok document ≡ Ok doc = g in
+    cc
+
+candidate_is_prefix : (identity : Elements) (want : Want) (link : Link) → is_candidate identity want link ≡ true → is_prefix link.anchor identity ≡ true
+unfolding is_candidate
+candidate_is_prefix identity want link h = and_first (is_prefix link.anchor identity) (is_wanted want link.relation) h
+
+length_taken : {X : Type 0} (k : ℕ) (xs : List X) → k ≤ length xs → length (take k xs) ≡ k
+length_taken zero [] h = refl
+length_taken zero (x ∷ xs) h = refl
+length_taken (suc k) [] h = absurd (omega arith)
+length_taken (suc k) (x ∷ xs) h = ap suc (length_taken k xs (omega arith))
+
+by_prefix : (anchor identity : Elements) (depth : ℕ) → length anchor.qualifiers ≡ depth → (k : ℕ) × (k ≤ length identity.qualifiers) × (anchor ≡ first_qualifiers k identity) → anchor ≡ first_qualifiers depth identity
+by_prefix anchor identity depth deep (k, few, is) =
+    let taken : length anchor.qualifiers ≡ k = rw is (length_taken k identity.qualifiers few) in
+    let level : k ≡ depth = sym taken ∙ deep in
+    is ∙ ap (λ n. first_qualifiers n identity) level
+
+-- the chosen links have one anchor: the identity's key with its first qualifiers
+pub one_anchor : (links : List Link) (identity : Elements) (want : Want) (i : ℕ) (link : Link) → IsAmong (chosen links identity want) i → slice_get links i ≡ Some link → link.anchor ≡ first_qualifiers (chosen_depth links identity want) identity
+one_anchor links identity want i link h at =
+    let depth = chosen_depth links identity want in
+    let row = found (is_chosen identity want depth) 0 links i h in
+    let place : row.0 ≡ i = (let e = row.2 in omega (arith, e)) in
+    let own : row.1 ≡ link = (let there = rw place at row.3 in let g : Some row.1 ≡ Some link = sym there ∙ at in cc) in
+    let passed = rw own at row.4 in
+    let candidate = and_first (is_candidate identity want link) (depth_of link == depth) passed in
+    let deep = eqb-true (depth_of link) depth (and_second (is_candidate identity want link) (depth_of link == depth) passed) in
+    by_prefix link.anchor identity depth deep (prefix_is link.anchor identity (candidate_is_prefix identity want link candidate))

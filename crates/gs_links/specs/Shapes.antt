@@ -1,0 +1,10 @@
+-- The shape of a store's links: what a linkset in JSON can say of them (RFC 8259, section 8.1).
+use Rattle.std.specs.Prelude.{Bool, ◌&&◌}
+use Rattle.std.specs.Str.{is_utf8}
+use Rattle.gs_ident.specs.Links.{canonical_link}
+use Rattle.gs_linkset.specs.LinkShapes.{is_target}
+use Rattle.gs_links.specs.declared.link.Link.{Link}
+
+-- the canonical link of the anchor and the relation are UTF-8, and the target has the shape of one
+unfoldable pub is_link : Link → Bool
+is_link link = is_utf8 (canonical_link link.anchor) && (is_utf8 link.relation && is_target link.target)

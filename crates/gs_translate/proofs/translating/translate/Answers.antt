@@ -1,0 +1,22 @@
+use Rattle.std.proofs.Common.{ℕ, List, refl}
+use Rattle.std.proofs.lemmas.Result.{err_from_is_err_and}
+use Rattle.gs_translate.specs.declared.meaning.Meaning.{Meaning}
+use Rattle.gs_translate.specs.Steps.{goes_on, refuses}
+use Rattle.gs_translate.proofs.FilterLaws.{filter_fits, kept_fits}
+use Rattle.gs_translate.proofs.StepLaws.{unless_map, unless_refused}
+use Rattle.gs_translate.proofs.translating.translate.Goals as goal
+
+pub returns-in_err-meaning : goal.returns-in_err-meaning
+returns-in_err-meaning c =
+    let p = err_from_is_err_and c.from_residual.result c.from_residual.ensures.1 in
+    rw (p.1, p.2) (unless_refused Meaning (List ℕ) c.in_err-meaning.field-0.0 (λ said. refuses c.in_err-meaning.field-0.0 said refl) c.in_err-meaning.ensures.meaning)
+
+pub spell-requires-clause-filter : goal.spell-requires-clause-filter
+spell-requires-clause-filter c =
+    let fits = filter_fits c.args.set.now c.args.from c.args.text.now c.in_ok-meaning.meaning c.ais.ensures.shaped c.in_ok-meaning.ensures.meaning in
+    rw c.keep-meaning.ensures.kept (kept_fits c.args.set.now c.args.options.now.keys_only c.in_ok-meaning.meaning fits)
+
+pub returns : goal.returns
+returns c =
+    let spelled = rw c.keep-meaning.ensures.kept at c.spell.ensures in
+    unless_map c.spell.result (λ spelling. goes_on c.in_ok-meaning.meaning c.in_ok-meaning.ensures.meaning spelling) spelled

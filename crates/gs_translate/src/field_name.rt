@@ -1,0 +1,10 @@
+/// What an EPC says that an identity alone may lack.
+#[derive(Clone, Copy, Debug, PartialEq, Eq)]
+pub enum FieldName {
+    /// The length of the GS1 Company Prefix.
+    Gcp,
+    /// The serial.
+    Serial,
+    /// The filter value of a tag.
+    Filter,
+}

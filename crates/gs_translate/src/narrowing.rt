@@ -1,0 +1,62 @@
+ghost use Rattle.std.specs.Prelude.{◌≡◌, find};
+ghost use Rattle.std.specs.Option.{option_copied};
+ghost use Rattle.gs_ident.specs.Identities.{IsMadeWith};
+ghost use Rattle.gs_translate.specs.Targets.{has_key, kept, key_and_serial, narrowed};
+
+use crate::meaning::Meaning;
+use gs_ident::{Identity, Pair};
+use gs_tables::{Kind, SerialAt, TableSet};
+
+/// The key, with its serial where that has an element of its own.
+fn key_and_serial(serial: &SerialAt, identity: Identity) -> Identity
+    ensures { result ≡ key_and_serial serial.now identity }
+{
+    match serial {
+        SerialAt::Ai(code) => identity.with_qualifier(code.as_bytes()),
+        SerialAt::Nowhere | SerialAt::Tail => identity.key_alone(),
+    }
+}
+
+/// The kind of a key.
+fn kind_of<'a>(set: &'a TableSet, key: &Pair) -> Option<&'a Kind>
+    ensures { option_copied result ≡ find (has_key key.now.code) set.now.kinds }
+{
+    set.kinds().iter().find(|kind| key.code == kind.key)
+}
+
+/// The identity of which only the key is kept, by the kind of the key.
+fn narrowed(set: &TableSet, identity: Identity) -> Identity
+    requires { IsMadeWith set.now.ais identity }
+    ensures narrowed { result ≡ narrowed set.now identity }
+    ensures with_table { IsMadeWith set.now.ais result }
+{
+    // the proof alone reads it: the rows keep the rules of application identifiers
+    let _ = set.ais();
+    match kind_of(set, identity.key()) {
+        Some(kind) => key_and_serial(&kind.serial, identity),
+        None => identity.key_alone(),
+    }
+}
+
+/// The meaning, narrowed where only keys are kept. No pair is copied.
+pub(crate) fn keep(set: &TableSet, keys_only: bool, meaning: Meaning) -> Meaning
+    requires { IsMadeWith set.now.ais meaning.identity }
+    ensures kept { result ≡ kept set.now keys_only meaning }
+    ensures with_table { IsMadeWith set.now.ais result.identity }
+{
+    if !keys_only {
+        return meaning;
+    }
+    let Meaning {
+        identity,
+        gcp,
+        filter,
+        encoding,
+    } = meaning;
+    Meaning {
+        identity: narrowed(set, identity),
+        gcp,
+        filter,
+        encoding,
+    }
+}

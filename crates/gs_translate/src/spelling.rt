@@ -1,0 +1,90 @@
+ghost use Rattle.std.specs.Prelude.{◌≡◌};
+ghost use Rattle.gs_epc.specs.Candidates.{HasFilterOn};
+ghost use Rattle.gs_epc.specs.Writes.{WritesAs};
+ghost use Rattle.gs_ident.specs.Identities.{IsMadeWith};
+ghost use Rattle.gs_translate.specs.Steps.{UnlessMemory};
+ghost use Rattle.gs_translate.specs.Targets.{FitsFilter};
+ghost use Rattle.gs_translate.specs.Translations.{AreInOrder, IsOfLevel, IsSpelling, IsWritten};
+
+use crate::meaning::Meaning;
+use crate::options::Options;
+use crate::reason::Reason;
+use crate::tagging::epc_for;
+use crate::target::Target;
+use gs_chars::Text;
+use gs_dlink::write_link;
+use gs_element::{write_bracketed, write_raw};
+use gs_epc::{Epc, EpcWriteFault, write_hex, write_pure, write_tag};
+use gs_ident::canonical;
+use gs_prefix::PrefixList;
+use gs_tables::{LevelName, TableSet};
+use std::alloc::Global;
+
+/// The text of an EPC in a level.
+fn write_level(
+    alloc: Global,
+    set: &TableSet,
+    level: LevelName,
+    epc: &Epc,
+) -> Result<Text, EpcWriteFault>
+    requires { HasFilterOn level epc.now.filter }
+    ensures { WritesAs set.now level epc.now result }
+{
+    match level {
+        LevelName::Binary => write_hex(alloc, set, epc),
+        LevelName::Tag => write_tag(alloc, set, epc),
+        LevelName::Pure => write_pure(alloc, set, epc),
+    }
+}
+
+/// The text of an EPC in a level, or why there is none.
+fn write_epc(alloc: Global, set: &TableSet, level: LevelName, epc: &Epc) -> Result<Text, Reason>
+    requires { HasFilterOn level epc.now.filter }
+    ensures { UnlessMemory result (IsWritten set.now level epc.now result) }
+{
+    Ok(write_level(alloc, set, level, epc)?)
+}
+
+/// The text of a level of what a text means, or the first reason why there is none.
+fn write_meaning(
+    alloc: Global,
+    set: &TableSet,
+    prefixes: &PrefixList,
+    options: &Options,
+    level: LevelName,
+    meaning: &Meaning,
+) -> Result<Text, Reason>
+    requires options { FitsFilter options.now.filter }
+    requires meaning { FitsFilter meaning.now.filter }
+    ensures { UnlessMemory result (IsOfLevel set.now prefixes.now options.now level meaning.now result) }
+{
+    let epc = epc_for(alloc, set, prefixes, options, level, meaning)?;
+    write_epc(alloc, set, level, &epc)
+}
+
+/// The one spelling of a meaning in the form that is asked for, or the first reason why there is none. To a link or an element
+/// string no fields are taken apart.
+pub(crate) fn spell(
+    alloc: Global,
+    set: &TableSet,
+    prefixes: &PrefixList,
+    options: &Options,
+    to: Target,
+    meaning: &Meaning,
+) -> Result<Text, Reason>
+    requires options { AreInOrder options.now }
+    requires filter { FitsFilter meaning.now.filter }
+    requires with_table { IsMadeWith set.now.ais meaning.now.identity }
+    ensures { UnlessMemory result (IsSpelling set.now prefixes.now options.now to meaning.now result) }
+{
+    let identity = &meaning.identity;
+    match to {
+        Target::Hex => write_meaning(alloc, set, prefixes, options, LevelName::Binary, meaning),
+        Target::Tag => write_meaning(alloc, set, prefixes, options, LevelName::Tag, meaning),
+        Target::Pure => write_meaning(alloc, set, prefixes, options, LevelName::Pure, meaning),
+        Target::Raw => Ok(write_raw(alloc, set.ais(), identity)?),
+        Target::Bracketed => Ok(write_bracketed(alloc, identity)?),
+        Target::Link => Ok(write_link(alloc, options.stem.as_bytes(), identity)?),
+        Target::Canon => Ok(canonical(alloc, identity)?),
+    }
+}
