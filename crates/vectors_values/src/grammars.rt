@@ -127,10 +127,10 @@ fn text_read(alloc: Global, text: &[u8], words: &[Text]) -> Answer {
 
 fn bits_read(alloc: Global, digits: &[u8], words: &[Text]) -> Answer {
     let level = level_of(alloc, true, words)?;
+    let bits = buffer::<64>(digits)?;
     if let Some(pair) = first_share(alloc, &level)? {
         return pair_words(alloc, &pair);
     }
-    let bits = buffer::<64>(digits)?;
     reading_words(alloc, read_bits(alloc, &level, &bits))
 }
 
