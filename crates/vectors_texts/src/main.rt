@@ -8,6 +8,7 @@ mod epc_writing;
 mod epcs;
 mod identifiers;
 mod identities;
+mod links;
 mod tables;
 mod translations;
 
@@ -31,6 +32,7 @@ impl Calls for Texts {
             "gs_tables" => tables::answer(alloc, &self.set, call, args),
             "gs_element" => elements::answer(alloc, &self.set, call, args),
             "gs_dlink" => digital_links::answer(alloc, &self.set, call, args),
+            "gs_links" => links::answer(alloc, &self.set, call, args),
             "gs_epc" => epcs::answer(alloc, &self.set, call, args),
             "gs_translate" => translations::answer(alloc, &self.set, call, args),
             _ => Err(Refusal::NoCase),

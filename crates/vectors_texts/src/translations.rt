@@ -1,29 +1,39 @@
-//! Calls of gs_translate, by the built-in tables. A FORM is `Hex`, `Tag`, `Pure`, `Raw`, `Bracketed` or `Link`.
+//! Calls of gs_translate, by the built-in tables. A FORM is `Hex`, `Tag`, `Pure`, `Raw`, `Bracketed` or `Link`; a TARGET is one
+//! of these or `Canon`.
 //!
 //! - `read FORM TEXT`: the canonical link of the identity, the prefix length, the filter value and the encoding of what the text
 //!   means, or the reason.
 //! - `answer FORM TEXT`: the canonical link, or the reason.
+//! - `translate FORM TARGET FILTER GCP ENCODING KEYS STEM DOC TEXT`: the translation, or the reason. FILTER and GCP are numbers,
+//!   or `-` for none; KEYS is `yes` or `no`; DOC is the document of a list of company prefix lengths, empty for the list of no
+//!   entry.
+
+ghost use Rattle.std.specs.Prelude.{◌≡◌, ◌≤◌, IfOk, IfSome, true};
+ghost use Rattle.gs_dlink.specs.Stems.{stem_ok};
+ghost use Rattle.gs_translate.specs.Targets.{FitsFilter};
+ghost use Rattle.gs_translate.specs.Translations.{AreInOrder};
 
 use gs_chars::Text;
+use gs_dlink::stem_ok;
 use gs_ident::canonical;
+use gs_prefix::{PrefixFault, PrefixList};
 use gs_tables::TableSet;
-use gs_translate::{Form, Meaning, Reason, answer as answer_to, append_reason, read};
+use gs_translate::{
+    Form, Meaning, Options, Reason, Target, answer as answer_to, append_reason, read, translate,
+};
 use std::alloc::Global;
-use vector_cases::{Answer, Refusal, arg, shown, text_of};
+use vector_cases::{Answer, Refusal, arg, behind, number_of, shown, text_of};
 
 /// The answer to a call of gs_translate.
 pub fn answer(alloc: Global, set: &TableSet, call: &str, args: &[Text]) -> Answer {
     let form = form_of(arg(args, 0)?)?;
-    let text = arg(args, 1)?;
     match call {
-        "read" => match read(alloc, set, form, text) {
+        "read" => match read(alloc, set, form, arg(args, 1)?) {
             Ok(meaning) => meaning_words(alloc, &meaning),
             Err(reason) => reason_word(alloc, &reason),
         },
-        "answer" => match answer_to(alloc, set, form, text) {
-            Ok(link) => Ok(shown(alloc, link.as_bytes())?),
-            Err(reason) => reason_word(alloc, &reason),
-        },
+        "answer" => text_word(alloc, answer_to(alloc, set, form, arg(args, 1)?)),
+        "translate" => translation(alloc, set, form, args),
         _ => Err(Refusal::NoCase),
     }
 }
@@ -37,6 +47,103 @@ fn form_of(name: &[u8]) -> Result<Form, Refusal> {
         "Bracketed" => Ok(Form::Bracketed),
         "Link" => Ok(Form::Link),
         _ => Err(Refusal::NoCase),
+    }
+}
+
+fn target_of(name: &[u8]) -> Result<Target, Refusal> {
+    match text_of(name)? {
+        "Hex" => Ok(Target::Hex),
+        "Tag" => Ok(Target::Tag),
+        "Pure" => Ok(Target::Pure),
+        "Raw" => Ok(Target::Raw),
+        "Bracketed" => Ok(Target::Bracketed),
+        "Link" => Ok(Target::Link),
+        "Canon" => Ok(Target::Canon),
+        _ => Err(Refusal::NoCase),
+    }
+}
+
+/// A number up to a greatest, or none.
+fn small_number(word: &[u8], greatest: u8) -> Result<Option<u8>, Refusal>
+    ensures { IfOk result (λ number. IfSome number (λ n. n ≤ greatest)) }
+{
+    let text = text_of(word)?;
+    if text == "-" {
+        return Ok(None);
+    }
+    let number = number_of(text)?;
+    if number > u64::from(greatest) {
+        return Err(Refusal::NoCase);
+    }
+    Ok(Some(number as u8))
+}
+
+/// A filter value, or none.
+fn filter_of(word: &[u8]) -> Result<Option<u8>, Refusal>
+    ensures { IfOk result FitsFilter }
+{
+    small_number(word, 7)
+}
+
+fn is_yes(word: &[u8]) -> Result<bool, Refusal> {
+    match text_of(word)? {
+        "yes" => Ok(true),
+        "no" => Ok(false),
+        _ => Err(Refusal::NoCase),
+    }
+}
+
+/// The list of a document, where it is one.
+fn list_of(alloc: Global, document: &[u8]) -> Result<PrefixList, Refusal> {
+    if document.is_empty() {
+        return Ok(PrefixList::empty(alloc));
+    }
+    match PrefixList::load(alloc, document) {
+        Ok(list) => Ok(list),
+        Err(PrefixFault::Memory) => Err(Refusal::Memory),
+        Err(_) => Err(Refusal::NoCase),
+    }
+}
+
+/// A stem.
+fn stem_of(alloc: Global, word: &[u8]) -> Result<Text, Refusal>
+    ensures { IfOk result (λ stem. stem_ok stem ≡ true) }
+{
+    if !stem_ok(word) {
+        return Err(Refusal::NoCase);
+    }
+    Ok(Text::from_bytes(alloc, word)?)
+}
+
+/// The options of five words.
+fn options_of(alloc: Global, args: &[Text]) -> Result<Options, Refusal>
+    ensures { IfOk result AreInOrder }
+{
+    Ok(Options {
+        filter: filter_of(arg(args, 0)?)?,
+        gcp: small_number(arg(args, 1)?, 12)?,
+        encoding: Text::from_bytes(alloc, arg(args, 2)?)?,
+        keys_only: is_yes(arg(args, 3)?)?,
+        stem: stem_of(alloc, arg(args, 4)?)?,
+    })
+}
+
+/// The translation of the last argument by those before it.
+fn translation(alloc: Global, set: &TableSet, from: Form, args: &[Text]) -> Answer {
+    let to = target_of(arg(args, 1)?)?;
+    let options = options_of(alloc, behind(args, 2))?;
+    let prefixes = list_of(alloc, arg(args, 7)?)?;
+    text_word(
+        alloc,
+        translate(alloc, set, &prefixes, &options, from, to, arg(args, 8)?),
+    )
+}
+
+/// The text as a word, or the reason.
+fn text_word(alloc: Global, answer: Result<Text, Reason>) -> Answer {
+    match answer {
+        Ok(text) => Ok(shown(alloc, text.as_bytes())?),
+        Err(reason) => reason_word(alloc, &reason),
     }
 }
 
