@@ -7,4 +7,5 @@ pub mod MadeLaws
 pub mod SameLinks
 pub mod ReadAgain
 pub mod OneWriting
+pub mod SomeWriting
 pub mod OneTranslation

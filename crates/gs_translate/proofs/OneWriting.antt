@@ -1,6 +1,6 @@
 -- An EPC is written in a level in at most one way, or is refused for one reason.
-use Rattle.std.proofs.Common.{◌≡◌, ◌⊎◌, ℕ, ◌<◌, suc, List, Option, Some, None, Ok, Err, slice_get, length, refl, sym, ap, subst, ◌∙◌, inl, inr, arith}
-use Rattle.std.specs.Prelude.{◌≢◌, Result, MatchResult}
+use Rattle.std.proofs.Common.{◌≡◌, ◌⊎◌, ℕ, ◌<◌, suc, List, Option, Some, None, Ok, Err, refl, sym, ap, ◌∙◌, inl, inr, arith}
+use Rattle.std.specs.Prelude.{◌≢◌}
 use Rattle.std.proofs.lemmas.Bool.Decides.{leb_tells}
 use Rattle.std.proofs.lemmas.Option.{slice_get_within}
 use Rattle.gs_chars.proofs.TruthsAndLists.{same_at}
@@ -17,10 +17,9 @@ use Rattle.gs_epc.specs.declared.write_fault.EpcWriteFault.{EpcWriteFault}
 use Rattle.gs_epc.specs.declared.write_fault.EpcWriteFault.TheVariants as write
 use Rattle.gs_epc.specs.Candidates.{Candidate, left_out, values_for}
 use Rattle.gs_epc.specs.Epcs.{options_of}
-use Rattle.gs_epc.specs.Writes.{HoldsAll, LastRefuses, LeavesOut, RefusesAt, Refuses, Writes, WritesAs, field_at, text_on}
-use Rattle.gs_translate.specs.declared.reason.Reason.{Reason}
+use Rattle.gs_epc.specs.Writes.{LastRefuses, Refuses, Writes, WritesAs, field_at, text_on}
 use Rattle.gs_translate.specs.Steps.{HasOne}
-use Rattle.gs_translate.specs.Translations.{IsWritten, OfWriting, write_reason}
+use Rattle.gs_translate.specs.Translations.{IsWritten, write_reason}
 
 -- ---- refusals of one option
 
@@ -59,9 +58,14 @@ module _ (items : List Item) (values : List (List ℕ)) where
       cc
 
 -- what a refusal says: an item refuses, or a field is left out
-abbrev Says : List Item → List (List ℕ) → List (Option Field) → Option Field → Field → Why → Type 0
+abbrev pub Says : List Item → List (List ℕ) → List (Option Field) → Option Field → Field → Why → Type 0
 Says items values fields out field why =
     ((k : ℕ) × IsFirstRefusal items values k why × (field ≡ field_at fields k)) ⊎ (AreHeld items values × (out ≡ Some field) × (why ≡ Length))
+
+-- where a refusal says something, not every field is held
+pub not_says : (items : List Item) (values : List (List ℕ)) (fields : List (Option Field)) (out : Option Field) (field : Field) (why : Why) → Says items values fields out field why → AreHeld items values → out ≡ None → ⊥
+not_says items values fields out field why (inl a) held none = not_held items values a.0 why a.1 held
+not_says items values fields out field why (inr a) held none = let both : Some field ≡ None = sym a.1 ∙ none in cc
 
 same_says : (items : List Item) (values : List (List ℕ)) (fields : List (Option Field)) (out : Option Field) (f g : Field) (w v : Why) → Says items values fields out f w → Says items values fields out g v → (f ≡ g) × (w ≡ v)
 same_says items values fields out f g w v (inl a) (inl b) =
@@ -74,15 +78,15 @@ same_says items values fields out f g w v (inr a) (inr b) =
 -- ---- the option that decides
 
 module _ (set : TableRows) (level : LevelName) (epc : Epc) where
-  says_of : (i : ℕ) (candidate : Candidate set level epc i) (field : Field) (why : Why) → Refuses set level epc candidate field why
+  pub says_of : (i : ℕ) (candidate : Candidate set level epc i) (field : Field) (why : Why) → Refuses set level epc candidate field why
       → Says candidate.items (values_for level epc candidate.info) candidate.info.fields (left_out candidate.info.fields epc) field why
   says_of i candidate field why (inl r) = inl (r.k, r.first, r.stands_for)
   says_of i candidate field why (inr r) = inr (r.held, r.left, r.size)
 
-  same_items : (i j : ℕ) (one : Candidate set level epc i) (other : Candidate set level epc j) → i ≡ j → one.items ≡ other.items
+  pub same_items : (i j : ℕ) (one : Candidate set level epc i) (other : Candidate set level epc j) → i ≡ j → one.items ≡ other.items
   same_items i j one other e = same_at (options_of level set) i j one.items other.items one.of_level other.of_level e
 
-  same_info : (i j : ℕ) (one : Candidate set level epc i) (other : Candidate set level epc j) → i ≡ j → one.info ≡ other.info
+  pub same_info : (i j : ℕ) (one : Candidate set level epc i) (other : Candidate set level epc j) → i ≡ j → one.info ≡ other.info
   same_info i j one other e = same_at (level_rows level set).info i j one.info other.info one.said other.said e
 
   one_text : (text other : List ℕ) → Writes set level epc text → Writes set level epc other → text ≡ other
