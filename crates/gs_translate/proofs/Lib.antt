@@ -6,3 +6,6 @@ pub mod FilterLaws
 pub mod MadeLaws
 pub mod SameLinks
 pub mod ReadAgain
+pub mod OneWriting
+pub mod SomeWriting
+pub mod OneTranslation

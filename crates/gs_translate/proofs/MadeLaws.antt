@@ -5,9 +5,8 @@ use Rattle.std.proofs.lemmas.List.Elements.{All-cons, All-nil}
 use Rattle.gs_ai.specs.declared.pair.Pair.{Pair}
 use Rattle.gs_ai.specs.declared.row.AiRow.{AiRow}
 use Rattle.gs_bits.specs.HexText.{bits_of_hex}
-use Rattle.gs_dlink.specs.declared.fault.LinkFault.{LinkFault}
 use Rattle.gs_dlink.specs.declared.fault.LinkFault.TheVariants.{NotHttp, NoKeyPath}
-use Rattle.gs_dlink.specs.Answers.{IsLink, by_authority, by_key_path, is_rooted, link_answer, target_answer, written_answer}
+use Rattle.gs_dlink.specs.Answers.{IsLink, by_authority, by_key_path, is_rooted, link_answer, target_answer}
 use Rattle.gs_dlink.specs.Paths.{key_path}
 use Rattle.gs_dlink.specs.Uris.{Written, authority_end, path_of, query_of, query_pairs, segments}
 use Rattle.gs_dlink.proofs.Judged.{written_in_order}

@@ -1,5 +1,5 @@
 -- A spelling as an element string or a link means the identity that is spelled.
-use Rattle.std.proofs.Common.{◌≡◌, ℕ, Bool, true, false, List, Option, Some, None, Ok, Err, find, refl, sym, ap, subst, ◌∙◌}
+use Rattle.std.proofs.Common.{◌≡◌, ℕ, Bool, true, false, List, Option, Some, None, Ok, Err, find, refl, sym, ap, subst}
 use Rattle.std.specs.Prelude.{Result, codes}
 use Rattle.gs_ai.specs.declared.pair.Pair.{Pair}
 use Rattle.gs_dlink.proofs.WrittenLinks.{canonical_stem_ok, link_read}
@@ -7,7 +7,7 @@ use Rattle.gs_document.specs.declared.kind.Kind.{Kind}
 use Rattle.gs_element.proofs.WritingLemmas.{bracketed_read, raw_read}
 use Rattle.gs_element.specs.Bracketed.{bracketed_text}
 use Rattle.gs_element.specs.Raw.{raw_text}
-use Rattle.gs_ident.specs.Elements.{Elements, key_alone, pairs_of}
+use Rattle.gs_ident.specs.Elements.{Elements, pairs_of}
 use Rattle.gs_ident.specs.Identities.{IsMadeWith}
 use Rattle.gs_ident.specs.Links.{canonical_link, spelled}
 use Rattle.gs_prefix.specs.declared.entry.PrefixEntry.{PrefixEntry}
@@ -20,7 +20,7 @@ use Rattle.gs_translate.specs.declared.target.Target.{Target}
 use Rattle.gs_translate.specs.declared.target.Target.TheVariants.{Hex, Tag, Pure, Raw, Bracketed, Link, Canon}
 use Rattle.gs_translate.specs.Meanings.{IsRead, MeansPairs, ReadsBracketed, ReadsLink, ReadsRaw, identified, identity_meaning}
 use Rattle.gs_translate.specs.Steps.{goes_on, refuses}
-use Rattle.gs_translate.specs.Targets.{has_key, kept, key_and_serial, narrowed}
+use Rattle.gs_translate.specs.Targets.{has_key, kept, narrowed}
 use Rattle.gs_translate.specs.Translations.{AreInOrder, IsOfPairs, IsSpelling, IsTranslation, MeansIdentity}
 use Rattle.gs_translate.proofs.MadeLaws.{made_of_read}
 use Rattle.gs_translate.proofs.NarrowedLaws.{alone_is_made, serial_is_made}

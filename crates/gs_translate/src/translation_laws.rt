@@ -7,9 +7,19 @@ ghost use Rattle.gs_translate.specs.declared.options.Options.{Options};
 ghost use Rattle.gs_translate.specs.declared.reason.Reason.{Reason};
 ghost use Rattle.gs_translate.specs.declared.target.Target.{Target};
 ghost use Rattle.gs_translate.specs.Answers.{IsAnswer};
+ghost use Rattle.gs_translate.specs.Conditions.{AsksForOne, AsksForSome};
 ghost use Rattle.gs_translate.specs.Meanings.{IsRead};
+ghost use Rattle.gs_translate.specs.Steps.{HasOne, HasSome};
 ghost use Rattle.gs_translate.specs.Targets.{kept};
 ghost use Rattle.gs_translate.specs.Translations.{AreInOrder, IsOfPairs, IsTranslation, MeansIdentity, NameOne};
+
+/// A text has at most one translation, and one, by tables that keep what its form asks for.
+pub fn each_text_has_one_translation()
+    ensures at_most_one { (set : TableRows) (prefixes : List PrefixEntry) (options : Options) (from : Form) (to : Target) (text : List ℕ)
+        → AsksForOne from set → HasOne (IsTranslation set prefixes options from to text) }
+    ensures some { (set : TableRows) (prefixes : List PrefixEntry) (options : Options) (from : Form) (to : Target) (text : List ℕ)
+        → AsksForSome from set → HasSome (IsTranslation set prefixes options from to text) }
+{}
 
 /// The canonical link that answers a text is its translation to the canonical link, where more than keys is kept.
 pub fn canonical_links_are_translations()
