@@ -6,6 +6,7 @@ pub mod FilterLaws
 pub mod MadeLaws
 pub mod SameLinks
 pub mod ReadAgain
+pub mod TaggedLaws
 pub mod OneWriting
 pub mod SomeWriting
 pub mod OneTranslation

@@ -33,7 +33,7 @@ kind_kept : (set : TableRows) (identity : Elements) (kind : Option Kind) → IsS
 kind_kept set identity None shaped made e = rw e (alone_is_made set.ais identity (ais_kept set shaped) made)
 kind_kept set identity (Some kind) shaped made e = rw e (serial_is_made set.ais identity (ais_kept set shaped) made kind.serial)
 
-kept_made : (set : TableRows) (keys_only : Bool) (meaning : Meaning) → IsShaped set → IsMadeWith set.ais meaning.identity → IsMadeWith set.ais (kept set keys_only meaning).identity
+pub kept_made : (set : TableRows) (keys_only : Bool) (meaning : Meaning) → IsShaped set → IsMadeWith set.ais meaning.identity → IsMadeWith set.ais (kept set keys_only meaning).identity
 kept_made set true meaning shaped made = kind_kept set meaning.identity (find (has_key meaning.identity.key.code) set.kinds) shaped made refl
 kept_made set false meaning shaped made = made
 

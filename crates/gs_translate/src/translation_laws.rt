@@ -1,5 +1,6 @@
 ghost use Rattle.std.specs.Prelude.{◌≡◌, ◌↔◌, ℕ, false, List, Ok, Result};
 ghost use Rattle.gs_prefix.specs.declared.entry.PrefixEntry.{PrefixEntry};
+ghost use Rattle.gs_tables.specs.Judged.{IsLoaded};
 ghost use Rattle.gs_tables.specs.Tables.{IsShaped, TableRows};
 ghost use Rattle.gs_translate.specs.declared.form.Form.{Form};
 ghost use Rattle.gs_translate.specs.declared.meaning.Meaning.{Meaning};
@@ -28,11 +29,18 @@ pub fn canonical_links_are_translations()
         → IsTranslation set prefixes options form Target.Canon text answer ↔ IsAnswer set form text answer }
 {}
 
-/// What a text is translated to as an element string or a link means the identity of the text, narrowed where only keys are kept.
+/// What a text is translated to means, in the form of the target, the identity of the text, narrowed where only keys
+/// are kept: in each form by tables that are loaded, and as an element string or a link by any that keep their rules.
 /// The limit of the length of a text is not part of this: an answer may be longer than a text that is read.
 pub fn a_spelling_means_the_same()
-    ensures { (set : TableRows) (prefixes : List PrefixEntry) (options : Options) (from : Form) (to : Target)
-        (text answer : List ℕ) (source : Meaning) → IsShaped set → AreInOrder options → IsOfPairs to
+    ensures of_pairs { (set : TableRows) (prefixes : List PrefixEntry) (options : Options) (from : Form)
+        (to : Target) (text answer : List ℕ) (source : Meaning)
+        → IsShaped set → AreInOrder options → IsOfPairs to
+        → IsRead set from text (Ok source) → IsTranslation set prefixes options from to text (Ok answer)
+        → MeansIdentity set to answer (kept set options.keys_only source).identity }
+    ensures in_each_form { (set : TableRows) (prefixes : List PrefixEntry) (options : Options) (from : Form)
+        (to : Target) (text answer : List ℕ) (source : Meaning)
+        → IsLoaded set → AreInOrder options
         → IsRead set from text (Ok source) → IsTranslation set prefixes options from to text (Ok answer)
         → MeansIdentity set to answer (kept set options.keys_only source).identity }
 {}
