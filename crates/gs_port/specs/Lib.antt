@@ -1,4 +1,5 @@
 pub mod Answers
+pub mod Connections
 pub mod Contents
 pub mod Counts
 pub mod Files

@@ -1,12 +1,14 @@
 //! The outside: sources, sinks and files, with what they tell of their content and their counts of faults.
 #![tactic(auto)]
 
+mod conn;
 mod files;
 mod host_files;
 mod mem_files;
 mod mem_sink;
 mod mem_source;
 mod opened_names;
+mod pair;
 mod plan;
 mod reading;
 mod sink;
@@ -16,11 +18,13 @@ mod system;
 mod transfer;
 mod whole;
 
+pub use conn::Conn;
 pub use files::{Files, OpenAnswer};
 pub use host_files::HostFiles;
 pub use mem_files::MemFiles;
 pub use mem_sink::MemSink;
 pub use mem_source::MemSource;
+pub use pair::Pair;
 pub use reading::{FileFault, read_file};
 pub use sink::{Sink, WriteAnswer};
 pub use source::{ReadAnswer, Source};

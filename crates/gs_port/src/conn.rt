@@ -1,0 +1,68 @@
+ghost use Rattle.std.specs.Prelude.{◌≡◌, ℕ, ◌<◌, ◌≤◌, ◌↔◌, Bool, true, List, [], Option, IfSome, length, take};
+ghost use Rattle.std.specs.Borrow.{GName};
+ghost use Rattle.gs_port.specs.Connections.{Aside};
+ghost use Rattle.gs_port.specs.Contents.{append_known, prepend_known};
+ghost use Rattle.gs_port.specs.Counts.{Rises};
+ghost use Rattle.gs_port.specs.Answers.{IfGot, IfTook, OnNothingTaken, OnReadFailed, OnWriteFailed, count_after_read, count_after_write};
+
+use crate::sink::WriteAnswer;
+use crate::source::ReadAnswer;
+
+/// A connection, of which bytes are read and to which bytes are written.
+pub trait Conn {
+    /// The source and the sink that it lends, if it lends some: the names of the borrows, which no call changes.
+    ghost ends: { Self → Option (GName × GName) };
+
+    /// Whether a connection is open.
+    ghost is_open: { Self → Bool };
+
+    /// The bytes of the connection that are left to read, where they are told.
+    ghost left: { Self → Option (List ℕ) };
+
+    /// The bytes that were written to the connection, where they are told.
+    ghost held: { Self → Option (List ℕ) };
+
+    /// The count of the reads that failed. It stands still at 2^64 - 1.
+    ghost reads: { Self → ℕ };
+
+    /// The count of the writes that failed. It stands still at 2^64 - 1.
+    ghost writes: { Self → ℕ };
+
+    /// What reads and writes leave as it was.
+    ghost aside: { Self → Aside };
+
+    /// Moves the next bytes of what is left into the front of `buf`, at most as many as `buf` is long, and 0 exactly
+    /// where nothing is left. `Failed` comes only where a failed read was counted, and moves nothing.
+    fn read(&mut self, buf: &mut [u8]) -> ReadAnswer
+        requires room { 0 < length buf.old }
+        requires current { is_open self.old ≡ true }
+        ensures within { IfGot result (λ n. n ≤ length buf.new) }
+        ensures moved { IfGot result (λ n. left self.old ≡ prepend_known (take n buf.new) (left self.new)) }
+        ensures end { IfGot result (λ n. IfSome (left self.old) (λ bytes. (n ≡ 0) ↔ (bytes ≡ []))) }
+        ensures unmoved { OnReadFailed result (left self.new ≡ left self.old) }
+        ensures failed { OnReadFailed result (Rises (reads self.old) (reads self.new)) }
+        ensures counts { reads self.old ≤ reads self.new }
+        ensures count { reads self.new ≡ count_after_read result (reads self.old) }
+        ensures same_held { held self.new ≡ held self.old }
+        ensures same_writes { writes self.new ≡ writes self.old }
+        ensures stays_open { is_open self.new ≡ true }
+        ensures same_aside { aside self.new ≡ aside self.old }
+        ensures same_ends { ends self.new ≡ ends self.old };
+
+    /// Writes bytes from the front of the piece, at least one unless it is empty. `Failed` comes only where a failed
+    /// write was counted. It writes nothing, and neither does `Memory`.
+    fn write(&mut self, piece: &[u8]) -> WriteAnswer
+        requires current { is_open self.old ≡ true }
+        ensures within { IfTook result (λ n. n ≤ length piece.now) }
+        ensures some { IfTook result (λ n. 0 < length piece.now → 0 < n) }
+        ensures appended { IfTook result (λ n. held self.new ≡ append_known (held self.old) (take n piece.now)) }
+        ensures unchanged { OnNothingTaken result (held self.new ≡ held self.old) }
+        ensures failed { OnWriteFailed result (Rises (writes self.old) (writes self.new)) }
+        ensures counts { writes self.old ≤ writes self.new }
+        ensures count { writes self.new ≡ count_after_write result (writes self.old) }
+        ensures same_left { left self.new ≡ left self.old }
+        ensures same_reads { reads self.new ≡ reads self.old }
+        ensures stays_open { is_open self.new ≡ true }
+        ensures same_aside { aside self.new ≡ aside self.old }
+        ensures same_ends { ends self.new ≡ ends self.old };
+}
