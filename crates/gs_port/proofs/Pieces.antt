@@ -10,6 +10,11 @@ front_moved items room at n e =
     let whole : take n room ≡ take n (drop at items) = e ∙ ap (take n) (take_rest items at) in
     sym (ap (λ front. front ++ drop (at + n) items) whole ∙ ap (λ rest. take n (drop at items) ++ rest) (sym (drop-drop n at items)) ∙ take-append-drop n (drop at items))
 
+-- the same: what was moved is behind what was moved before
+pub front_taken : (items room : List ℕ) (at n : ℕ) → take n room ≡ take n (take (length items - at) (drop at items)) → take (at + n) items ≡ take at items ++ take n room
+front_taken items room at n e =
+    take-add at n items ∙ ap (λ more. take at items ++ more) (sym (e ∙ ap (take n) (take_rest items at)))
+
 -- what is appended after the first bytes of a list are the next ones
 pub appended_further : (before now after : Option (List ℕ)) (bytes : List ℕ) (done n : ℕ) → now ≡ append_known before (take done bytes) → after ≡ append_known now (take n (take (length bytes - done) (drop done bytes))) → after ≡ append_known before (take (done + n) bytes)
 appended_further before now after bytes done n h k =

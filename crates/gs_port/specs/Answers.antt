@@ -8,6 +8,8 @@ use Rattle.gs_port.specs.declared.sink.WriteAnswer.{WriteAnswer}
 use Rattle.gs_port.specs.declared.sink.WriteAnswer.TheVariants as write
 use Rattle.gs_port.specs.declared.files.OpenAnswer.{OpenAnswer}
 use Rattle.gs_port.specs.declared.files.OpenAnswer.TheVariants as opening
+use Rattle.gs_port.specs.declared.door.AcceptAnswer.{AcceptAnswer}
+use Rattle.gs_port.specs.declared.door.AcceptAnswer.TheVariants as accepting
 use Rattle.gs_port.specs.declared.reading.FileFault.{FileFault}
 use Rattle.gs_port.specs.declared.reading.FileFault.TheVariants as file
 use Rattle.gs_port.specs.declared.whole.Whole.{Whole}
@@ -105,6 +107,36 @@ abbrev pub count_after_named : OpenAnswer → Option (List (List ℕ × List ℕ
 count_after_named opening.Opened files name count = count
 count_after_named opening.Failed files name count = counted_if_there files name count
 count_after_named opening.Memory files name count = count
+
+-- a fact for a connection that was accepted
+abbrev pub OnAccepted : AcceptAnswer → Type 0 → Type 0
+OnAccepted accepting.Accepted fact = fact
+OnAccepted accepting.Closed fact = Unit {0}
+OnAccepted accepting.Failed fact = Unit {0}
+
+-- a fact for an accept that found no connection, be it that none comes any more or for a fault
+abbrev pub OnNotAccepted : AcceptAnswer → Type 0 → Type 0
+OnNotAccepted accepting.Accepted fact = Unit {0}
+OnNotAccepted accepting.Closed fact = fact
+OnNotAccepted accepting.Failed fact = fact
+
+-- a fact for an accept after which no connection comes any more
+abbrev pub OnClosed : AcceptAnswer → Type 0 → Type 0
+OnClosed accepting.Accepted fact = Unit {0}
+OnClosed accepting.Closed fact = fact
+OnClosed accepting.Failed fact = Unit {0}
+
+-- a fact for an accept that failed
+abbrev pub OnAcceptFailed : AcceptAnswer → Type 0 → Type 0
+OnAcceptFailed accepting.Accepted fact = Unit {0}
+OnAcceptFailed accepting.Closed fact = Unit {0}
+OnAcceptFailed accepting.Failed fact = fact
+
+-- the count of faults after an accept: one more where it failed
+abbrev pub count_after_accept : AcceptAnswer → ℕ → ℕ
+count_after_accept accepting.Accepted count = count
+count_after_accept accepting.Closed count = count
+count_after_accept accepting.Failed count = counted count
 
 -- a fact about the first bytes of a file that has too many
 abbrev pub IfOver : Result (List ℕ) FileFault → (List ℕ → Type 0) → Type 0

@@ -1,30 +1,66 @@
 -- Connections, and the doors at which they come.
-use Rattle.std.specs.Prelude.{ℕ, Bool, false, List, Option, None}
+use Rattle.std.specs.Prelude.{ℕ, ◌-◌, Bool, true, false, List, [], ◌∷◌, ◌++◌, Option, Some, None, option_map}
+use Rattle.gs_port.specs.Counts.{counted}
+use Rattle.gs_port.specs.declared.files.OpenAnswer.{OpenAnswer}
+use Rattle.gs_port.specs.declared.files.OpenAnswer.TheVariants as opening
+use Rattle.gs_port.specs.declared.door.AcceptAnswer.{AcceptAnswer}
+use Rattle.gs_port.specs.declared.door.AcceptAnswer.TheVariants as accepting
 
--- a connection that was finished: the bytes that were read of it, those that were written to it, and how far the counts of
--- its reads and of its writes rose
+-- a connection that was finished: the bytes that were read of it and those that were written to it, where they are told, and
+-- how far the counts of its reads and of its writes rose
 pub record Finished : Type 0 where
-  pub read : List ℕ
-  pub written : List ℕ
+  pub read : Option (List ℕ)
+  pub written : Option (List ℕ)
   pub reads : ℕ
   pub writes : ℕ
 
--- what stood when a connection was accepted: its whole input, where that is told, and the counts of reads and of writes
-pub record Accepted : Type 0 where
-  pub input : Option (List ℕ)
-  pub reads : ℕ
-  pub writes : ℕ
-
--- what the reads and writes of a connection leave as it was, that is, of a door: its own count of faults, whether it was
--- opened, the inputs of the waiting connections and the finished ones, in order, where it tells them, and what stood at
--- its last accept
+-- what the reads and writes of a connection leave as it was, that is, of a door: its own count of faults, of opens and of
+-- accepts; whether it was opened; the inputs of the waiting connections and the finished connections, in order, where it tells
+-- them; and the counts of reads and of writes that stood at its last accept
 pub record Aside : Type 0 where
   pub faults : ℕ
   pub opened : Bool
   pub waiting : Option (List (List ℕ))
   pub finished : Option (List Finished)
-  pub accepted : Accepted
+  pub reads_then : ℕ
+  pub writes_then : ℕ
 
 -- of what is no door
 abbrev pub no_aside : Aside
-no_aside = record { faults = 0; opened = false; waiting = None; finished = None; accepted = record { input = None; reads = 0; writes = 0 } }
+no_aside = record { faults = 0; opened = false; waiting = None; finished = None; reads_then = 0; writes_then = 0 }
+
+-- the input of the first waiting connection, where it is told and one waits
+abbrev pub first_input : Option (List (List ℕ)) → Option (List ℕ)
+first_input None = None
+first_input (Some []) = None
+first_input (Some (input ∷ rest)) = Some input
+
+-- nothing was read of the first waiting connection yet, and nothing written to it
+abbrev pub first_begun : Option (List (List ℕ)) → Option (List ℕ)
+first_begun waiting = option_map (λ _. []) (first_input waiting)
+
+-- the waiting connections behind the first
+abbrev pub behind_first : Option (List (List ℕ)) → Option (List (List ℕ))
+behind_first None = None
+behind_first (Some []) = Some []
+behind_first (Some (input ∷ rest)) = Some rest
+
+-- what an open leaves: the door was opened, or a fault was counted
+abbrev pub after_open : OpenAnswer → Aside → Aside
+after_open opening.Opened aside = record aside { opened = true }
+after_open opening.Failed aside = record aside { faults = counted aside.faults }
+after_open opening.Memory aside = aside
+
+-- what an accept leaves, at these counts of reads and of writes
+abbrev pub after_accept : AcceptAnswer → ℕ → ℕ → Aside → Aside
+after_accept accepting.Accepted reads writes aside = record aside { waiting = behind_first aside.waiting; reads_then = reads; writes_then = writes }
+after_accept accepting.Closed reads writes aside = aside
+after_accept accepting.Failed reads writes aside = record aside { faults = counted aside.faults }
+
+-- the connection of which these bytes were read and to which these were written, as it is finished at these counts
+abbrev pub finished_now : Option (List ℕ) → Option (List ℕ) → ℕ → ℕ → Aside → Finished
+finished_now read written reads writes aside = record { read = read; written = written; reads = reads - aside.reads_then; writes = writes - aside.writes_then }
+
+-- what a finish leaves: one more connection is finished
+abbrev pub after_finish : Finished → Aside → Aside
+after_finish last aside = record aside { finished = option_map (λ before. before ++ last ∷ []) aside.finished }

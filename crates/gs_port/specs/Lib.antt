@@ -4,5 +4,6 @@ pub mod Contents
 pub mod Counts
 pub mod Files
 pub mod Folder
+pub mod Gate
 pub mod Memory
 pub mod System

@@ -1,5 +1,6 @@
--- Sources, sinks and files in memory.
-use Rattle.std.specs.Prelude.{ℕ, List, Option, Contains}
+-- Sources, sinks, files and doors in memory.
+use Rattle.std.specs.Prelude.{ℕ, Bool, List, Option, Contains}
+use Rattle.gs_port.specs.Connections.{Finished}
 use Rattle.gs_port.specs.Counts.{counted}
 
 -- which calls of an object in memory fail: those whose numbers, from 0, are listed; and the number of the next call
@@ -37,3 +38,25 @@ pub record MemFolder : Type 0 where
   pub plan : Plan
   pub count : ℕ
   pub opened : Option (List (List ℕ))
+
+-- a connection in memory: the bytes that are left, those that were read, and those that were written to it
+pub record MemConnection : Type 0 where
+  pub rest : List ℕ
+  pub taken : List ℕ
+  pub kept : List ℕ
+
+-- a door in memory: whether it was opened, the inputs of the waiting connections, the open one, the finished ones, the most
+-- that one read or write moves, the plan of the calls, the count of its own faults, the counts of reads and of writes, and
+-- those that stood at the last accept
+pub record MemGate : Type 0 where
+  pub opened : Bool
+  pub waiting : List (List ℕ)
+  pub current : Option MemConnection
+  pub finished : List Finished
+  pub most : ℕ
+  pub plan : Plan
+  pub faults : ℕ
+  pub reads : ℕ
+  pub writes : ℕ
+  pub reads_then : ℕ
+  pub writes_then : ℕ

@@ -19,6 +19,9 @@ pub trait Conn {
     /// The bytes of the connection that are left to read, where they are told.
     ghost left: { Self → Option (List ℕ) };
 
+    /// The bytes of the connection that were read, where they are told.
+    ghost taken: { Self → Option (List ℕ) };
+
     /// The bytes that were written to the connection, where they are told.
     ghost held: { Self → Option (List ℕ) };
 
@@ -38,8 +41,10 @@ pub trait Conn {
         requires current { is_open self.old ≡ true }
         ensures within { IfGot result (λ n. n ≤ length buf.new) }
         ensures moved { IfGot result (λ n. left self.old ≡ prepend_known (take n buf.new) (left self.new)) }
+        ensures taken { IfGot result (λ n. taken self.new ≡ append_known (taken self.old) (take n buf.new)) }
         ensures end { IfGot result (λ n. IfSome (left self.old) (λ bytes. (n ≡ 0) ↔ (bytes ≡ []))) }
         ensures unmoved { OnReadFailed result (left self.new ≡ left self.old) }
+        ensures none_taken { OnReadFailed result (taken self.new ≡ taken self.old) }
         ensures failed { OnReadFailed result (Rises (reads self.old) (reads self.new)) }
         ensures counts { reads self.old ≤ reads self.new }
         ensures count { reads self.new ≡ count_after_read result (reads self.old) }
@@ -61,6 +66,7 @@ pub trait Conn {
         ensures counts { writes self.old ≤ writes self.new }
         ensures count { writes self.new ≡ count_after_write result (writes self.old) }
         ensures same_left { left self.new ≡ left self.old }
+        ensures same_taken { taken self.new ≡ taken self.old }
         ensures same_reads { reads self.new ≡ reads self.old }
         ensures stays_open { is_open self.new ≡ true }
         ensures same_aside { aside self.new ≡ aside self.old }

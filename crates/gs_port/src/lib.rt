@@ -2,11 +2,14 @@
 #![tactic(auto)]
 
 mod conn;
+mod door;
 mod files;
 mod host_files;
+mod mem_door;
 mod mem_files;
 mod mem_sink;
 mod mem_source;
+mod mem_stream;
 mod opened_names;
 mod pair;
 mod plan;
@@ -19,8 +22,10 @@ mod transfer;
 mod whole;
 
 pub use conn::Conn;
+pub use door::{AcceptAnswer, Door};
 pub use files::{Files, OpenAnswer};
 pub use host_files::HostFiles;
+pub use mem_door::MemDoor;
 pub use mem_files::MemFiles;
 pub use mem_sink::MemSink;
 pub use mem_source::MemSource;

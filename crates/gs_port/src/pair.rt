@@ -1,4 +1,4 @@
-ghost use Rattle.std.specs.Prelude.{◌≡◌, true, Some};
+ghost use Rattle.std.specs.Prelude.{◌≡◌, true, None, Some};
 ghost use Rattle.gs_port.specs.Connections.{no_aside};
 
 use crate::conn::Conn;
@@ -31,6 +31,8 @@ impl<'a, S: Source, K: Sink> Conn for Pair<'a, S, K> {
     ghost is_open = { λ s. true };
 
     ghost left = { λ s. S.left s.source.now };
+
+    ghost taken = { λ s. None };
 
     ghost held = { λ s. K.held s.sink.now };
 

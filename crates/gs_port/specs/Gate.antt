@@ -1,0 +1,29 @@
+-- What a door in memory tells.
+use Rattle.std.specs.Prelude.{ℕ, List, Option, Some, None, option_map, slice_index_or}
+use Rattle.gs_port.specs.Connections.{Aside, Finished}
+use Rattle.gs_port.specs.Memory.{MemConnection, MemGate}
+
+-- how many connections are open
+abbrev pub number_open : Option MemConnection → ℕ
+number_open None = 0
+number_open (Some stream) = 1
+
+-- what is left of the open connection
+abbrev pub left_of : MemGate → Option (List ℕ)
+left_of gate = option_map (λ stream. stream.rest) gate.current
+
+-- what was read of the open connection
+abbrev pub taken_of : MemGate → Option (List ℕ)
+taken_of gate = option_map (λ stream. stream.taken) gate.current
+
+-- what was written to the open connection
+abbrev pub held_of : MemGate → Option (List ℕ)
+held_of gate = option_map (λ stream. stream.kept) gate.current
+
+-- what reads and writes leave as it was
+abbrev pub aside_of : MemGate → Aside
+aside_of gate = record { faults = gate.faults; opened = gate.opened; waiting = Some gate.waiting; finished = Some gate.finished; reads_then = gate.reads_then; writes_then = gate.writes_then }
+
+-- what was written to the finished connection with the number
+abbrev pub written_at : List Finished → ℕ → Option (List ℕ)
+written_at finished i = (slice_index_or finished i (record { read = None; written = None; reads = 0; writes = 0 })).written

@@ -1,0 +1,68 @@
+ghost use Rattle.std.specs.Prelude.{◌≡◌, ◌≢◌, ◌≤◌, [], true, false, IfSome, Some};
+ghost use Rattle.gs_port.specs.Connections.{after_accept, after_finish, after_open, finished_now, first_begun, first_input};
+ghost use Rattle.gs_port.specs.Counts.{Rises};
+ghost use Rattle.gs_port.specs.Answers.{OnAcceptFailed, OnAccepted, OnClosed, OnNotAccepted, OnNotOpened, OnOpenFailed, OnOpened};
+
+use crate::conn::Conn;
+use crate::files::OpenAnswer;
+
+/// What accepting a connection answers.
+#[derive(Clone, Copy, Debug, PartialEq, Eq)]
+pub enum AcceptAnswer {
+    /// The next connection is the open one.
+    Accepted,
+    /// No connection comes any more.
+    Closed,
+    /// A fault, which was counted.
+    Failed,
+}
+
+/// A door at which connections come, of which one is open at a time. What it sets aside of its reads and writes is its own
+/// count of faults, which are those of `open` and `accept`; whether it was opened; its waiting and its finished
+/// connections, where it tells them; and the counts of reads and of writes that stood at its last `accept`.
+pub trait Door: Conn {
+    /// Begins to listen at the address. `Failed` comes only where a fault was counted; it begins nothing, and neither does
+    /// `Memory`. What was opened stays so, and the connections stay as they are.
+    fn open(&mut self, address: &str) -> OpenAnswer
+        ensures opened { OnOpened result ((Self.aside self.new).opened ≡ true) }
+        ensures not_opened { OnNotOpened result ((Self.aside self.new).opened ≡ (Self.aside self.old).opened) }
+        ensures failed { OnOpenFailed result (Rises (Self.aside self.old).faults (Self.aside self.new).faults) }
+        ensures counts { (Self.aside self.old).faults ≤ (Self.aside self.new).faults }
+        ensures aside { Self.aside self.new ≡ after_open result (Self.aside self.old) }
+        ensures same_current { Self.is_open self.new ≡ Self.is_open self.old }
+        ensures same_left { Self.left self.new ≡ Self.left self.old }
+        ensures same_taken { Self.taken self.new ≡ Self.taken self.old }
+        ensures same_held { Self.held self.new ≡ Self.held self.old }
+        ensures same_reads { Self.reads self.new ≡ Self.reads self.old }
+        ensures same_writes { Self.writes self.new ≡ Self.writes self.old }
+        ensures same_ends { Self.ends self.new ≡ Self.ends self.old };
+
+    /// Takes the next connection as the open one: the first of those that wait, with all its input left, nothing read of it
+    /// and nothing written to it. `Closed` comes exactly where none is left, and `Failed` only where a fault was counted.
+    fn accept(&mut self) -> AcceptAnswer
+        requires none_open { Self.is_open self.old ≡ false }
+        requires listening { (Self.aside self.old).opened ≡ true }
+        ensures accepted { OnAccepted result (Self.is_open self.new ≡ true) }
+        ensures waited { OnAccepted result ((Self.aside self.old).waiting ≢ Some []) }
+        ensures whole { OnAccepted result (Self.left self.new ≡ first_input (Self.aside self.old).waiting) }
+        ensures unread { OnAccepted result (Self.taken self.new ≡ first_begun (Self.aside self.old).waiting) }
+        ensures unwritten { OnAccepted result (Self.held self.new ≡ first_begun (Self.aside self.old).waiting) }
+        ensures not_accepted { OnNotAccepted result (Self.is_open self.new ≡ false) }
+        ensures closed { OnClosed result (IfSome (Self.aside self.old).waiting (λ waiting. waiting ≡ [])) }
+        ensures failed { OnAcceptFailed result (Rises (Self.aside self.old).faults (Self.aside self.new).faults) }
+        ensures counts { (Self.aside self.old).faults ≤ (Self.aside self.new).faults }
+        ensures aside { Self.aside self.new ≡ after_accept result (Self.reads self.old) (Self.writes self.old) (Self.aside self.old) }
+        ensures same_reads { Self.reads self.new ≡ Self.reads self.old }
+        ensures same_writes { Self.writes self.new ≡ Self.writes self.old }
+        ensures same_ends { Self.ends self.new ≡ Self.ends self.old };
+
+    /// Ends the open connection, and puts it behind the finished ones: the bytes that were read of it and written to it, and
+    /// how far the counts of reads and of writes rose since it was accepted.
+    fn finish(&mut self)
+        requires current { Self.is_open self.old ≡ true }
+        ensures ended { Self.is_open self.new ≡ false }
+        ensures aside { Self.aside self.new ≡ after_finish (finished_now (Self.taken self.old) (Self.held self.old) (Self.reads self.old) (Self.writes self.old) (Self.aside self.old)) (Self.aside self.old) }
+        ensures same_reads { Self.reads self.new ≡ Self.reads self.old }
+        ensures same_writes { Self.writes self.new ≡ Self.writes self.old }
+        ensures same_ends { Self.ends self.new ≡ Self.ends self.old };
+}
