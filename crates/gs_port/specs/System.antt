@@ -1,9 +1,11 @@
 -- What the calls of the system answer.
-use Rattle.std.specs.Prelude.{ℕ, ◌==◌, ◌&&◌, not, if◌then◌else◌, Result, Ok, Err}
+use Rattle.std.specs.Prelude.{ℕ, ◌==◌, ◌&&◌, not, if◌then◌else◌, Option, Some, Result, Ok, Err}
 use Rattle.gs_port.specs.declared.source.ReadAnswer.{ReadAnswer}
 use Rattle.gs_port.specs.declared.source.ReadAnswer.TheVariants as read
 use Rattle.gs_port.specs.declared.sink.WriteAnswer.{WriteAnswer}
 use Rattle.gs_port.specs.declared.sink.WriteAnswer.TheVariants as write
+use Rattle.gs_port.specs.declared.door.AcceptAnswer.{AcceptAnswer}
+use Rattle.gs_port.specs.declared.door.AcceptAnswer.TheVariants as accepting
 
 -- the answer to a read, of which an error is a fault
 abbrev pub read_answer_of : {E : Type 0} → Result ℕ E → ReadAnswer
@@ -14,3 +16,13 @@ read_answer_of (Err error) = read.Failed
 abbrev pub write_answer_of : {E : Type 0} → ℕ → Result ℕ E → WriteAnswer
 write_answer_of length (Ok n) = if (n == 0) && not (length == 0) then write.Failed else write.Took n
 write_answer_of length (Err error) = write.Failed
+
+-- the answer to an accept, of which an error is a fault
+abbrev pub accept_answer_of : {T E : Type 0} → Result T E → AcceptAnswer
+accept_answer_of (Ok stream) = accepting.Accepted
+accept_answer_of (Err error) = accepting.Failed
+
+-- what is current behind an accept: what it gave, or what was current before
+abbrev pub accepted_now : {T E : Type 0} → Result T E → Option T → Option T
+accepted_now (Ok stream) before = Some stream
+accepted_now (Err error) before = before

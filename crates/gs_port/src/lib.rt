@@ -18,6 +18,7 @@ mod sink;
 mod source;
 mod stdio;
 mod system;
+mod tcp_door;
 mod transfer;
 mod whole;
 
@@ -34,6 +35,7 @@ pub use reading::{FileFault, read_file};
 pub use sink::{Sink, WriteAnswer};
 pub use source::{ReadAnswer, Source};
 pub use stdio::{StdinSource, StdoutSink};
+pub use tcp_door::TcpDoor;
 pub use whole::{Whole, write_whole};
 
 #[cfg(test)]

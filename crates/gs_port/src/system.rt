@@ -1,8 +1,9 @@
-ghost use Rattle.std.specs.Prelude.{◌≡◌, ◌≢◌, ◌≤◌, ◌↔◌};
+ghost use Rattle.std.specs.Prelude.{◌≡◌, ◌≢◌, ◌≤◌, ◌↔◌, ◌⊎◌, IsTrue};
 ghost use Rattle.std.specs.IoError.{error_kind};
-ghost use Rattle.gs_port.specs.Answers.{count_after_open, count_after_read, count_after_write};
-ghost use Rattle.gs_port.specs.System.{read_answer_of, write_answer_of};
+ghost use Rattle.gs_port.specs.Answers.{count_after_accept, count_after_open, count_after_read, count_after_write};
+ghost use Rattle.gs_port.specs.System.{accept_answer_of, accepted_now, read_answer_of, write_answer_of};
 
+use crate::door::AcceptAnswer;
 use crate::files::OpenAnswer;
 use crate::sink::WriteAnswer;
 use crate::source::ReadAnswer;
@@ -51,4 +52,35 @@ pub(crate) fn open_fault(error: Error, faults: &mut u64) -> OpenAnswer
     }
     *faults = faults.saturating_add(1);
     OpenAnswer::Failed
+}
+
+/// Whether an accept of the system that ends with the error is tried again: it was interrupted, or the peer gave up.
+pub(crate) fn is_tried_again(error: &Error) -> bool
+    ensures { IsTrue result ↔ ((error_kind error.now ≡ ErrorKind.Interrupted) ⊎ (error_kind error.now ≡ ErrorKind.ConnectionAborted)) }
+{
+    let kind = error.kind();
+    kind == ErrorKind::Interrupted || kind == ErrorKind::ConnectionAborted
+}
+
+/// What an accept of the system answers. What it gives becomes the current one. An error is a fault, which is counted.
+pub(crate) fn accept_answer<T: Drop>(
+    accepted: Result<T>,
+    current: &mut Option<T>,
+    faults: &mut u64,
+) -> AcceptAnswer
+    ensures answer { result ≡ accept_answer_of accepted }
+    ensures current { current.new ≡ accepted_now accepted current.old }
+    ensures count { faults.new ≡ count_after_accept result faults.old }
+    ensures counts { faults.old ≤ faults.new }
+{
+    match accepted {
+        Ok(stream) => {
+            *current = Some(stream);
+            AcceptAnswer::Accepted
+        }
+        Err(_) => {
+            *faults = faults.saturating_add(1);
+            AcceptAnswer::Failed
+        }
+    }
 }

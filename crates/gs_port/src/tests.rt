@@ -1,6 +1,10 @@
+ghost use Rattle.std.specs.Prelude.{◌≡◌, false, true};
+
 use super::*;
 use std::alloc::Global;
 use std::fs;
+use std::io::{Read, Write};
+use std::net::{Ipv4Addr, Shutdown, TcpStream};
 use std::test::Fail;
 
 #[test]
@@ -43,5 +47,40 @@ fn reads_files_of_the_system(rt: HostRuntime) -> Result<(), Fail> {
         assert_eq!(rt; outcome(alloc, &mut files, name, max), expected);
     }
     fs::remove_dir_all(&rt, "gs_port_files")?;
+    Ok(())
+}
+
+/// Accepts a connection, answers what one read of it gives by the same bytes, and finishes it.
+fn echo_once(door: &mut TcpDoor) -> AcceptAnswer
+    requires none_open { ⟦<TcpDoor as Conn>⟧.is_open door.old ≡ false }
+    requires listening { (⟦<TcpDoor as Conn>⟧.aside door.old).opened ≡ true }
+{
+    let answer = door.accept();
+    let mut block = [0; 16];
+    match answer {
+        AcceptAnswer::Accepted => {}
+        _ => return answer,
+    }
+    if let ReadAnswer::Got(moved) = door.read(&mut block) {
+        door.write(&block[..moved]);
+    }
+    door.finish();
+    answer
+}
+
+#[test]
+fn a_door_answers_a_client(rt: HostRuntime) -> Result<(), Fail> {
+    let mut door = TcpDoor::new(rt);
+    let OpenAnswer::Opened = door.open("127.0.0.1:0") else {
+        return Err(Fail::new("no port can be listened at"));
+    };
+    let port = door.port().unwrap_or(0);
+    let mut client = TcpStream::connect(&rt, (Ipv4Addr::LOCALHOST, port))?;
+    client.write_all(b"ping")?;
+    client.shutdown(Shutdown::Write)?;
+    assert_eq!(rt; echo_once(&mut door), AcceptAnswer::Accepted);
+    let mut reply = Vec::new(rt.alloc());
+    client.read_to_end(&mut reply)?;
+    assert_eq!(rt; reply.as_slice(), b"ping".as_slice());
     Ok(())
 }
