@@ -1,5 +1,7 @@
 -- What the calls of the system answer.
-use Rattle.std.specs.Prelude.{ℕ, ◌==◌, ◌&&◌, not, if◌then◌else◌, Option, Some, Result, Ok, Err}
+use Rattle.std.specs.Prelude.{◌≡◌, ◌⊎◌, ℕ, ◌==◌, ◌&&◌, not, if◌then◌else◌, Option, Some, Result, Ok, Err}
+use Rattle.std.specs.declared.io.ErrorKind.{ErrorKind}
+use Rattle.std.specs.declared.io.ErrorKind.TheVariants as kinds
 use Rattle.gs_port.specs.declared.source.ReadAnswer.{ReadAnswer}
 use Rattle.gs_port.specs.declared.source.ReadAnswer.TheVariants as read
 use Rattle.gs_port.specs.declared.sink.WriteAnswer.{WriteAnswer}
@@ -16,6 +18,10 @@ read_answer_of (Err error) = read.Failed
 abbrev pub write_answer_of : {E : Type 0} → ℕ → Result ℕ E → WriteAnswer
 write_answer_of length (Ok n) = if (n == 0) && not (length == 0) then write.Failed else write.Took n
 write_answer_of length (Err error) = write.Failed
+
+-- an accept that ends with an error of this kind is tried again: it was interrupted, or the peer gave up
+abbrev pub IsTriedAgain : ErrorKind → Type 0
+IsTriedAgain kind = (kind ≡ kinds.Interrupted) ⊎ (kind ≡ kinds.ConnectionAborted)
 
 -- the answer to an accept, of which an error is a fault
 abbrev pub accept_answer_of : {T E : Type 0} → Result T E → AcceptAnswer

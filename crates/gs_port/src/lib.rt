@@ -1,4 +1,4 @@
-//! The outside: sources, sinks and files, with what they tell of their content and their counts of faults.
+//! The outside: sources, sinks, files, connections and doors, with what they tell of their content and their counts of faults.
 #![tactic(auto)]
 
 mod conn;

@@ -1,7 +1,7 @@
-ghost use Rattle.std.specs.Prelude.{◌≡◌, ◌≢◌, ◌≤◌, ◌↔◌, ◌⊎◌, IsTrue};
+ghost use Rattle.std.specs.Prelude.{◌≡◌, ◌≢◌, ◌≤◌, ◌↔◌, IsTrue};
 ghost use Rattle.std.specs.IoError.{error_kind};
 ghost use Rattle.gs_port.specs.Answers.{count_after_accept, count_after_open, count_after_read, count_after_write};
-ghost use Rattle.gs_port.specs.System.{accept_answer_of, accepted_now, read_answer_of, write_answer_of};
+ghost use Rattle.gs_port.specs.System.{IsTriedAgain, accept_answer_of, accepted_now, read_answer_of, write_answer_of};
 
 use crate::door::AcceptAnswer;
 use crate::files::OpenAnswer;
@@ -56,7 +56,7 @@ pub(crate) fn open_fault(error: Error, faults: &mut u64) -> OpenAnswer
 
 /// Whether an accept of the system that ends with the error is tried again: it was interrupted, or the peer gave up.
 pub(crate) fn is_tried_again(error: &Error) -> bool
-    ensures { IsTrue result ↔ ((error_kind error.now ≡ ErrorKind.Interrupted) ⊎ (error_kind error.now ≡ ErrorKind.ConnectionAborted)) }
+    ensures { IsTrue result ↔ IsTriedAgain (error_kind error.now) }
 {
     let kind = error.kind();
     kind == ErrorKind::Interrupted || kind == ErrorKind::ConnectionAborted

@@ -1,5 +1,7 @@
-ghost use Rattle.std.specs.Prelude.{◌≡◌, false, None, is_some};
+ghost use Rattle.std.specs.Prelude.{◌≡◌, false, IfErr, None, is_some};
+ghost use Rattle.std.specs.IoError.{error_kind};
 ghost use Rattle.gs_port.specs.Connections.{no_aside};
+ghost use Rattle.gs_port.specs.System.{IsTriedAgain};
 
 use crate::conn::Conn;
 use crate::door::{AcceptAnswer, Door};
@@ -28,8 +30,11 @@ pub struct TcpDoor {
     writes_then: u64,
 }
 
-/// The next connection. An accept that the system interrupts or that a peer gives up is tried again.
-fn next_stream(listener: &TcpListener) -> Result<TcpStream> {
+/// The next connection. An accept that the system interrupts or that a peer gives up is tried again, more often than a listener
+/// lives to see.
+fn next_stream(listener: &TcpListener) -> Result<TcpStream>
+    ensures { IfErr result (λ error. ¬ IsTriedAgain (error_kind error)) }
+{
     for _ in 0..u64::MAX {
         match listener.accept() {
             Ok((stream, _)) => return Ok(stream),
@@ -37,7 +42,7 @@ fn next_stream(listener: &TcpListener) -> Result<TcpStream> {
             Err(error) => return Err(error),
         }
     }
-    Err(Error::from(ErrorKind::Interrupted))
+    Err(Error::from(ErrorKind::Other))
 }
 
 /// The connection, set up so that each write is sent at once, and no read or write waits longer than the peer is given.
