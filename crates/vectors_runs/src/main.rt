@@ -2,6 +2,7 @@
 //! how they are cut and which calls fail. The head of vector_cases says how a case and an answer are written.
 #![tactic(auto)]
 
+mod connections;
 mod lines;
 mod outside;
 mod runs;

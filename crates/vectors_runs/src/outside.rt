@@ -6,6 +6,7 @@
 //! - `open FAILS NAME BYTES .. / NAME..`: what an open of each name answers, and what a read of 4 bytes moves then.
 //! - `read_file FAILS NAME BYTES .. / NAME MAX ..`: what reading each file whole answers.
 
+use crate::connections;
 use gs_chars::Text;
 use gs_port::{
     FileFault, Files, MemFiles, MemSink, MemSource, OpenAnswer, ReadAnswer, Sink, Source,
@@ -25,12 +26,12 @@ pub fn answer(alloc: Global, call: &str, args: &[Text]) -> Answer {
         "write_whole" => written_whole(alloc, args),
         "open" => open(alloc, args),
         "read_file" => files_read(alloc, args),
-        _ => Err(Refusal::NoCase),
+        _ => connections::answer(alloc, call, args),
     }
 }
 
 /// What a read answers: the bytes that it moved to the front of the block, or that it failed.
-fn read_word(alloc: Global, moved: ReadAnswer, block: &[u8]) -> Answer {
+pub fn read_word(alloc: Global, moved: ReadAnswer, block: &[u8]) -> Answer {
     match moved {
         ReadAnswer::Got(n) => Ok(shown(alloc, &block[..n.min(block.len())])?),
         ReadAnswer::Failed => Ok(String::from_str(alloc, "Failed")?),
@@ -56,7 +57,7 @@ fn read(alloc: Global, args: &[Text]) -> Answer {
 }
 
 /// What a write answers: the number of bytes that it took, or that it failed.
-fn write_word(alloc: Global, taken: WriteAnswer) -> Answer {
+pub fn write_word(alloc: Global, taken: WriteAnswer) -> Answer {
     match taken {
         WriteAnswer::Took(n) => Ok(format!(in alloc; "{n}")?),
         WriteAnswer::Failed => Ok(String::from_str(alloc, "Failed")?),

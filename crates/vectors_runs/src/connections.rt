@@ -1,0 +1,117 @@
+//! Calls of gs_port over connections in memory. A turn reads at most 4 bytes, and writes what was read; its answer is what the
+//! read moved, or that it failed, and then how many bytes the write took, or that it failed.
+//!
+//! - `pair CUT FAILS BYTES / CUT FAILS`: what three turns over a source and a sink answer, then the bytes that the sink holds.
+//! - `door CUT FAILS INPUT..`: what an open answers and, where it is opened, what each of three accepts answers, or the three
+//!   turns of the connection, which is then finished; then the number of finished connections, and what each was written.
+
+ghost use Rattle.std.specs.Prelude.{◌≡◌, false, true, is_some};
+
+use crate::outside::{read_word, write_word};
+use gs_chars::Text;
+use gs_port::{AcceptAnswer, Conn, Door, MemDoor, OpenAnswer, Pair, ReadAnswer};
+use std::alloc::Global;
+use vector_cases::{
+    Answer, Refusal, add, arg, behind, cut_of, numbers_of, section, shown, sink_of, source_of,
+};
+
+/// The answer to a call of gs_port over connections.
+pub fn answer(alloc: Global, call: &str, args: &[Text]) -> Answer {
+    match call {
+        "pair" => pair(alloc, args),
+        "door" => door(alloc, args),
+        _ => Err(Refusal::NoCase),
+    }
+}
+
+/// What a turn answers.
+fn turn<C: Conn>(alloc: Global, conn: &mut C) -> Answer
+    requires { C.is_open conn.old ≡ true }
+    ensures open { C.is_open conn.new ≡ true }
+    ensures aside { C.aside conn.new ≡ C.aside conn.old }
+{
+    let mut block = [0; 4];
+    let moved = conn.read(&mut block);
+    let mut answer = read_word(alloc, moved, &block)?;
+    if let ReadAnswer::Got(n) = moved {
+        let taken = conn.write(&block[..n]);
+        add(&mut answer, write_word(alloc, taken)?.as_str())?;
+    }
+    Ok(answer)
+}
+
+/// What three turns answer.
+fn turns<C: Conn>(alloc: Global, conn: &mut C) -> Answer
+    requires { C.is_open conn.old ≡ true }
+    ensures open { C.is_open conn.new ≡ true }
+    ensures aside { C.aside conn.new ≡ C.aside conn.old }
+{
+    let mut answer = turn(alloc, conn)?;
+    add(&mut answer, turn(alloc, conn)?.as_str())?;
+    add(&mut answer, turn(alloc, conn)?.as_str())?;
+    Ok(answer)
+}
+
+fn pair(alloc: Global, args: &[Text]) -> Answer {
+    let mut source = source_of(alloc, section(args, 0)?)?;
+    let mut sink = sink_of(alloc, section(args, 1)?)?;
+    let mut answer = turns(alloc, &mut Pair::new(&mut source, &mut sink))?;
+    add(&mut answer, shown(alloc, sink.bytes())?.as_str())?;
+    Ok(answer)
+}
+
+/// What an accept answers, or the turns of the connection, which is finished then.
+fn visit(alloc: Global, door: &mut MemDoor) -> Answer
+    requires none_open { is_some door.old.current ≡ false }
+    requires listening { door.old.opened ≡ true }
+    ensures none_open { is_some door.new.current ≡ false }
+    ensures listening { door.new.opened ≡ true }
+{
+    match door.accept() {
+        AcceptAnswer::Accepted => {
+            let answer = turns(alloc, door);
+            door.finish();
+            answer
+        }
+        AcceptAnswer::Closed => Ok(String::from_str(alloc, "Closed")?),
+        AcceptAnswer::Failed => Ok(String::from_str(alloc, "Failed")?),
+    }
+}
+
+/// What three visits answer.
+fn visits(alloc: Global, door: &mut MemDoor) -> Answer
+    requires none_open { is_some door.old.current ≡ false }
+    requires listening { door.old.opened ≡ true }
+{
+    let mut answer = visit(alloc, door)?;
+    add(&mut answer, visit(alloc, door)?.as_str())?;
+    add(&mut answer, visit(alloc, door)?.as_str())?;
+    Ok(answer)
+}
+
+/// The number of finished connections, and what each was written.
+fn finished(alloc: Global, door: &MemDoor) -> Answer {
+    let mut answer = format!(in alloc; "{}", door.finished())?;
+    for i in 0..door.finished() {
+        add(&mut answer, shown(alloc, door.written(i))?.as_str())?;
+    }
+    Ok(answer)
+}
+
+fn door(alloc: Global, args: &[Text]) -> Answer {
+    let fails = numbers_of(alloc, arg(args, 1)?)?;
+    let mut inputs = Vec::new(alloc);
+    for input in behind(args, 2) {
+        inputs.push(input.as_bytes().to_vec(alloc)?)?;
+    }
+    let mut door = MemDoor::new(alloc, inputs, cut_of(args, 0)?, fails)?;
+    match door.open("memory") {
+        OpenAnswer::Opened => {
+            let mut answer = visits(alloc, &mut door)?;
+            add(&mut answer, finished(alloc, &door)?.as_str())?;
+            Ok(answer)
+        }
+        OpenAnswer::Failed => Ok(String::from_str(alloc, "Failed")?),
+        OpenAnswer::Memory => Err(Refusal::Memory),
+    }
+}
