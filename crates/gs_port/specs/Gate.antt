@@ -1,7 +1,11 @@
 -- What a door in memory tells.
-use Rattle.std.specs.Prelude.{ℕ, List, Option, Some, None, option_map, slice_index_or}
+use Rattle.std.specs.Prelude.{ℕ, false, List, [], Option, Some, None, option_map, slice_index_or}
 use Rattle.gs_port.specs.Connections.{Aside, Finished}
 use Rattle.gs_port.specs.Memory.{MemConnection, MemGate}
+
+-- a door with these inputs that was not opened yet
+abbrev pub shut_gate : List (List ℕ) → ℕ → List ℕ → MemGate
+shut_gate inputs most fails = record { opened = false; waiting = inputs; current = None; finished = []; most = most; plan = record { fails = fails; next = 0 }; faults = 0; reads = 0; writes = 0; reads_then = 0; writes_then = 0 }
 
 -- how many connections are open
 abbrev pub number_open : Option MemConnection → ℕ

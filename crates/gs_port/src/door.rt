@@ -51,7 +51,8 @@ pub trait Door: Conn {
         ensures closed { OnClosed result (IfSome (Self.aside self.old).waiting (λ waiting. waiting ≡ [])) }
         ensures failed { OnAcceptFailed result (Rises (Self.aside self.old).faults (Self.aside self.new).faults) }
         ensures counts { (Self.aside self.old).faults ≤ (Self.aside self.new).faults }
-        ensures aside { Self.aside self.new ≡ after_accept result (Self.reads self.old) (Self.writes self.old) (Self.aside self.old) }
+        ensures aside { Self.aside self.new ≡ after_accept result (Self.reads self.old) (Self.writes self.old)
+            (Self.aside self.old) }
         ensures same_reads { Self.reads self.new ≡ Self.reads self.old }
         ensures same_writes { Self.writes self.new ≡ Self.writes self.old }
         ensures same_ends { Self.ends self.new ≡ Self.ends self.old };
@@ -61,7 +62,8 @@ pub trait Door: Conn {
     fn finish(&mut self)
         requires current { Self.is_open self.old ≡ true }
         ensures ended { Self.is_open self.new ≡ false }
-        ensures aside { Self.aside self.new ≡ after_finish (finished_now (Self.taken self.old) (Self.held self.old) (Self.reads self.old) (Self.writes self.old) (Self.aside self.old)) (Self.aside self.old) }
+        ensures aside { Self.aside self.new ≡ after_finish (finished_now (Self.taken self.old) (Self.held self.old)
+            (Self.reads self.old) (Self.writes self.old) (Self.aside self.old)) (Self.aside self.old) }
         ensures same_reads { Self.reads self.new ≡ Self.reads self.old }
         ensures same_writes { Self.writes self.new ≡ Self.writes self.old }
         ensures same_ends { Self.ends self.new ≡ Self.ends self.old };

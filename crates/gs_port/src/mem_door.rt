@@ -3,7 +3,7 @@ ghost use Rattle.gs_port.specs.Connections.{after_accept, after_finish, after_op
 ghost use Rattle.gs_port.specs.Contents.{append_known, prepend_known};
 ghost use Rattle.gs_port.specs.Counts.{Rises};
 ghost use Rattle.gs_port.specs.Memory.{FailsNow, after_call};
-ghost use Rattle.gs_port.specs.Gate.{aside_of, held_of, left_of, taken_of, written_at};
+ghost use Rattle.gs_port.specs.Gate.{aside_of, held_of, left_of, shut_gate, taken_of, written_at};
 ghost use Rattle.gs_port.specs.Answers.{IfGot, IfTook, OnAcceptFailed, OnAccepted, OnClosed, OnNotAccepted, OnNotOpened, OnNothingTaken, OnOpenFailed, OnOpened, OnReadFailed, OnWriteFailed, count_after_read, count_after_write};
 
 use crate::conn::Conn;
@@ -76,7 +76,7 @@ impl MemDoor {
         fails: Vec<u64>,
     ) -> Result<MemDoor, Memory>
         requires some { 0 < cut }
-        ensures { IfOk result (λ door. door ≡ record { opened = false; waiting = map (λ input. input.items) inputs.items; current = None; finished = []; most = cut; plan = record { fails = fails.items; next = 0 }; faults = 0; reads = 0; writes = 0; reads_then = 0; writes_then = 0 }) }
+        ensures { IfOk result (λ door. door ≡ shut_gate (map (λ input. input.items) inputs.items) cut fails.items) }
     {
         let finished = Vec::with_capacity(alloc, inputs.len())?;
         Ok(MemDoor {
@@ -144,7 +144,8 @@ impl Conn for MemDoor {
         ensures same_writes { self.new.writes ≡ self.old.writes }
         ensures stays_open { is_some self.new.current ≡ true }
         ensures same_aside { aside_of self.new ≡ aside_of self.old }
-        ensures most { IfGot result (λ n. IfSome (left_of self.old) (λ bytes. n ≡ min (min self.old.most (length buf.new)) (length bytes))) }
+        ensures most { IfGot result (λ n. IfSome (left_of self.old)
+            (λ bytes. n ≡ min (min self.old.most (length buf.new)) (length bytes))) }
         ensures planned { OnReadFailed result (FailsNow self.old.plan) }
         ensures unplanned { IfGot result (λ _. ¬ FailsNow self.old.plan) }
         ensures same_most { self.new.most ≡ self.old.most }
@@ -264,7 +265,8 @@ impl Door for MemDoor {
     fn finish(&mut self)
         requires current { is_some self.old.current ≡ true }
         ensures ended { is_some self.new.current ≡ false }
-        ensures aside { aside_of self.new ≡ after_finish (finished_now (taken_of self.old) (held_of self.old) self.old.reads self.old.writes (aside_of self.old)) (aside_of self.old) }
+        ensures aside { aside_of self.new ≡ after_finish (finished_now (taken_of self.old) (held_of self.old)
+            self.old.reads self.old.writes (aside_of self.old)) (aside_of self.old) }
         ensures same_reads { self.new.reads ≡ self.old.reads }
         ensures same_writes { self.new.writes ≡ self.old.writes }
         ensures same_most { self.new.most ≡ self.old.most }
