@@ -1,0 +1,5 @@
+pub mod Fields
+pub mod Heads
+pub mod Wishes
+pub mod Answers
+pub mod Replies

@@ -1,0 +1,61 @@
+ghost use Rattle.std.specs.Prelude.{◌≡◌, ◌+◌, ◌≤◌, drop, length};
+ghost use Rattle.std.specs.List.{after_first, before_first, position_or_len};
+ghost use Rattle.gs_dlink.specs.Uris.{is_byte, path_of, query_of, separates_parts};
+
+use memchr::{memchr, memchr2};
+
+/// The place of the first such byte, or the length of the text.
+pub(crate) fn place_of(text: &[u8], byte: u8) -> usize
+    ensures place { result ≡ position_or_len (is_byte byte) text.now }
+    ensures within { result ≤ length text.now }
+{
+    memchr(byte, text).unwrap_or(text.len())
+}
+
+/// The place of the first byte that separates the parts of a query, or the length of the text.
+pub(crate) fn part_len(text: &[u8]) -> usize
+    ensures place { result ≡ position_or_len separates_parts text.now }
+    ensures within { result ≤ length text.now }
+{
+    memchr2(b'&', b';', text).unwrap_or(text.len())
+}
+
+/// What stands before the first such byte, or all of the text.
+pub(crate) fn before(text: &[u8], byte: u8) -> &[u8]
+    ensures { result.now ≡ before_first (is_byte byte) text.now }
+{
+    &text[..place_of(text, byte)]
+}
+
+/// What stands behind a place of the text, and nothing where the text ends there.
+pub(crate) fn after(text: &[u8], place: usize) -> &[u8]
+    requires { place ≤ length text.now }
+    ensures { result.now ≡ drop (place + 1) text.now }
+{
+    if place < text.len() {
+        &text[place + 1..]
+    } else {
+        &text[place..]
+    }
+}
+
+/// What stands behind the first such byte, or nothing.
+pub(crate) fn behind(text: &[u8], byte: u8) -> &[u8]
+    ensures { result.now ≡ after_first (is_byte byte) text.now }
+{
+    after(text, place_of(text, byte))
+}
+
+/// The path of a target.
+pub(crate) fn path_of(target: &[u8]) -> &[u8]
+    ensures { result.now ≡ path_of target.now }
+{
+    before(before(target, b'#'), b'?')
+}
+
+/// The query of a target.
+pub(crate) fn query_of(target: &[u8]) -> &[u8]
+    ensures { result.now ≡ query_of target.now }
+{
+    behind(before(target, b'#'), b'?')
+}

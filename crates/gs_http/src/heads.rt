@@ -1,0 +1,79 @@
+ghost use Rattle.std.specs.Prelude.{◌≡◌, length, IfSome, MatchOption};
+ghost use Rattle.httparse.specs.Grammar.{RequestHead};
+ghost use Rattle.httparse.specs.Spans.{IsRequestAt, IsRequestWithin};
+ghost use Rattle.gs_http.specs.Heads.{IsWhole, asked_by, asked_of, has_lone_feed, is_lone, is_refused};
+
+use crate::fields::is_shown;
+use crate::request::Request;
+use crate::sign::Sign;
+use httparse::Status;
+use httparse::spans::{HeaderSpan, RequestSpans, parse_request};
+
+/// Where the parts of a head lie, where the bytes are a head and nothing else, with as many fields at most as there are spans.
+pub(crate) fn whole_head(head: &[u8], spans: &mut [HeaderSpan]) -> Option<RequestSpans>
+    requires { length spans.old ≡ 64 }
+    ensures within { IfSome result (IsRequestWithin head.now spans.new) }
+    ensures whole { MatchOption result ((h : RequestHead) → ¬ (IsWhole head.now h))
+        (λ parts. (h : RequestHead) × IsWhole head.now h × IsRequestAt head.now spans.new parts h) }
+{
+    match parse_request(head, spans) {
+        Ok(Status::Complete(parts)) => {
+            if parts.len == head.len() {
+                Some(parts)
+            } else {
+                None
+            }
+        }
+        _ => None,
+    }
+}
+
+/// The request whose parts lie there.
+pub(crate) fn request_at<'a>(
+    head: &'a [u8],
+    spans: &'a [HeaderSpan],
+    parts: RequestSpans,
+) -> Request<'a>
+    requires { IsRequestWithin head.now spans.now parts }
+    ensures says { (h : RequestHead) → IsRequestAt head.now spans.now parts h → asked_by result ≡ asked_of h }
+    ensures head { result.head.now ≡ head.now }
+{
+    Request {
+        method: parts.method.of(head),
+        target: parts.path.of(head),
+        minor: parts.version,
+        head,
+        fields: &spans[..parts.headers],
+    }
+}
+
+/// Whether a byte is a line feed without a carriage return before it.
+fn is_lone(before: u8, c: u8) -> bool
+    ensures { result ≡ is_lone (before, c) }
+{
+    c == b'\n' && before != b'\r'
+}
+
+/// Whether some line feed stands without a carriage return before it.
+fn has_lone_feed(head: &[u8]) -> bool
+    ensures { result ≡ has_lone_feed head.now }
+{
+    let mut before = 0;
+    for c in head {
+        if is_lone(before, *c) {
+            return true;
+        }
+        before = *c;
+    }
+    false
+}
+
+/// Whether the request is not answered: for a lone line feed, or a body.
+#[tactic(auto, unfolding(crate::specs::Heads::is_refused))]
+pub(crate) fn is_refused(request: &Request<'_>) -> bool
+    ensures { result ≡ is_refused request.now.head.now (asked_by request.now).fields }
+{
+    has_lone_feed(request.head)
+        || is_shown(request, Sign::Encoded)
+        || is_shown(request, Sign::Sized)
+}

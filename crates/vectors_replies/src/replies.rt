@@ -1,0 +1,73 @@
+//! Calls of gs_http, by the built-in table of application identifiers. `gs1:` stands for https://ref.gs1.org/voc/. STORE is the
+//! name of a linkset that stands in this file, or the text of one.
+//!
+//! - `reply STORE DESCRIBE LAST HEAD`, with DESCRIBE the resolver description file or `-`, and LAST `last` or `-`: the bytes of
+//!   the reply, and `closes` or `stays`.
+
+use gs_ai::AiTable;
+use gs_chars::Text;
+use gs_http::{Settings, reply};
+use gs_links::Store;
+use gs_tables::TableSet;
+use std::alloc::{AllocError, Global};
+use vector_cases::{Answer, Refusal, add, arg, shown};
+
+/// What `gs1:` stands for.
+const VOC: &[u8] = b"https://ref.gs1.org/voc/";
+
+/// A trade item with a default link and product information, and a lot of it with a link of its own.
+const LOTS: &[u8] = br#"{"linkset":[{"anchor":"https://id.gs1.org/01/09506000134352","gs1:defaultLink":[{"href":"https://example.com/p"}],"gs1:pip":[{"href":"https://example.com/pip"}]},{"anchor":"/01/09506000134352/10/ABC","gs1:defaultLink":[{"href":"https://example.com/lot"}]}]}"#;
+
+/// A place with two links of one relation.
+const PLACE: &[u8] = br#"{"linkset":[{"anchor":"/414/0614141000012","gs1:defaultLink":[{"href":"https://a.example/1"},{"href":"https://a.example/2"}]}]}"#;
+
+/// The linkset of a name, or the text itself.
+fn linkset_of(name: &[u8]) -> &[u8] {
+    if name == b"lots".as_slice() {
+        LOTS
+    } else if name == b"place".as_slice() {
+        PLACE
+    } else {
+        name
+    }
+}
+
+/// The store of a linkset.
+fn store_of(alloc: Global, table: &AiTable, text: &[u8]) -> Result<Store, Refusal> {
+    let Ok(doc) = gs_linkset::read(alloc, text) else {
+        return Err(Refusal::NoCase);
+    };
+    match Store::load(alloc, table, VOC, doc) {
+        Ok(store) => Ok(store),
+        Err(_) => Err(Refusal::NoCase),
+    }
+}
+
+/// The settings with this description, or with none where it is a hyphen.
+fn settings_of(alloc: Global, describe: &[u8]) -> Result<Settings, Refusal> {
+    let voc = Text::from_bytes(alloc, VOC)?;
+    let describe = if describe == b"-".as_slice() {
+        None
+    } else {
+        Some(Text::from_bytes(alloc, describe)?)
+    };
+    Ok(Settings { voc, describe })
+}
+
+/// The answer to a call of gs_http.
+pub fn answer(alloc: Global, set: &TableSet, call: &str, args: &[Text]) -> Answer {
+    match call {
+        "reply" => replied(alloc, set.ais(), args),
+        _ => Err(Refusal::NoCase),
+    }
+}
+
+fn replied(alloc: Global, table: &AiTable, args: &[Text]) -> Answer {
+    let store = store_of(alloc, table, linkset_of(arg(args, 0)?))?;
+    let settings = settings_of(alloc, arg(args, 1)?)?;
+    let last = arg(args, 2)? == b"last".as_slice();
+    let reply = reply(alloc, table, &store, &settings, arg(args, 3)?, last)?;
+    let mut answer = shown(alloc, reply.bytes.as_bytes())?;
+    add(&mut answer, if reply.close { "closes" } else { "stays" })?;
+    Ok(answer)
+}
