@@ -2,7 +2,7 @@
 //! head of vector_cases says how a case and an answer are written.
 #![tactic(auto)]
 
-mod replies;
+mod heads;
 
 use gs_chars::Text;
 use gs_tables::{TableSet, builtin};
@@ -19,7 +19,7 @@ struct Replies {
 impl Calls for Replies {
     fn answer(&self, alloc: Global, library: &str, call: &str, args: &[Text]) -> Answer {
         match library {
-            "gs_http" => replies::answer(alloc, &self.set, call, args),
+            "gs_http" => heads::answer(alloc, &self.set, call, args),
             _ => Err(Refusal::NoCase),
         }
     }
