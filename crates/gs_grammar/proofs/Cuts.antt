@@ -58,10 +58,10 @@ pub nil_never : (w : List ℕ) → 0 < length w → Finds [] w Never
 nil_never w h d = let e = ap length (derives_nil w d.values d.words d.derives).0 in omega arith
 
 -- a split of a derivation
-record SplitOf (item : Item) (items : List Item) (w : List ℕ) (words : List (List ℕ)) : Type 0 where
-  place : ℕ
-  split : AtCut item items w place
-  words_are : words ≡ take place w ∷ split.words
+pub record SplitOf (item : Item) (items : List Item) (w : List ℕ) (words : List (List ℕ)) : Type 0 where
+  pub place : ℕ
+  pub split : AtCut item items w place
+  pub words_are : words ≡ take place w ∷ split.words
 
 split_from : (item : Item) (items : List Item) (w value first rest : List ℕ) (values' words' words : List (List ℕ)) → w ≡ first ++ rest → Word item value first → Derives items rest values' words' → words ≡ first ∷ words' → SplitOf item items w words
 split_from item items w value first rest values' words' words e h d f =
@@ -74,7 +74,7 @@ split_from item items w value first rest values' words' words e h d f =
       words_are = rw front f;
     }
 
-to_cut : (item : Item) (items : List Item) (w : List ℕ) (values words : List (List ℕ)) → Derives (item ∷ items) w values words → SplitOf item items w words
+pub to_cut : (item : Item) (items : List Item) (w : List ℕ) (values words : List (List ℕ)) → Derives (item ∷ items) w values words → SplitOf item items w words
 to_cut item items w values words d =
     let f = derives_uncons item items w values words d in
     split_from item items w f.value f.first f.rest f.values' f.words' words f.whole f.word f.derives f.words_are

@@ -1,6 +1,7 @@
 //! Items, options and levels: the grammars of tags and EPC URIs, and the readings of a text in a level.
 #![tactic(auto)]
 
+mod bit_symbols;
 mod bit_words;
 mod bit_writing;
 mod escaped;
@@ -15,11 +16,11 @@ mod read;
 mod reading;
 mod splits;
 mod tally;
-mod unpack;
 mod wide;
 mod words;
 mod writing;
 
+pub use bit_symbols::unpack;
 pub use bit_writing::write_bits;
 pub use fault::{OptFault, Why, WriteFault};
 pub use holding::holds;
@@ -34,4 +35,5 @@ pub use opt::Opt;
 pub use read::{read_bits, read_text};
 pub use reading::Reading;
 pub use tally::read_option;
+pub use words::value_of;
 pub use writing::write_text;

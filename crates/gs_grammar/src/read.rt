@@ -3,11 +3,11 @@ ghost use Rattle.gs_grammar.specs.Ambiguity.{IsUnambiguous};
 ghost use Rattle.gs_grammar.specs.Readings.{Reads};
 ghost use Rattle.gs_grammar.specs.Searches.{FindsOption};
 
+use crate::bit_symbols::unpack;
 use crate::level::Level;
 use crate::opt::Opt;
 use crate::reading::Reading;
 use crate::splits::{is_derived, values_of};
-use crate::unpack::unpack;
 use gs_bits::BitBuf;
 use std::alloc::Global;
 

@@ -1,0 +1,5 @@
+pub mod Trails
+pub mod OptionMachines
+pub mod Guides
+pub mod Whole
+pub mod Finding
