@@ -274,34 +274,6 @@ first_item items item others e h = All-head IsItem item others (rw e at h)
 pub other_items : (items : List Item) (item : Item) (others : List Item) → items ≡ item ∷ others → All IsItem items → All IsItem others
 other_items items item others e h = All-tail IsItem item others (rw e at h)
 
--- the values so far, where the items to come derive the rest
-pub record Gathers (items : List Item) (w : List ℕ) (left : List Item) (rest : List ℕ) (values : List (List ℕ)) : Type 0 where
-  pub back : (vs : List (List ℕ)) → HasValues left rest vs → HasValues items w (values ++ vs)
-  pub derived : IsDerived left rest
-
-pub gathers_start : (items : List Item) (w : List ℕ) → IsDerived items w → Gathers items w items w []
-gathers_start items w d = record { back = λ vs h. h; derived = d }
-
-pub gathers_step : (items : List Item) (w : List ℕ) (left : List Item) (rest : List ℕ) (values : List (List ℕ)) (item : Item) (others : List Item) (cut : ℕ) (value : List ℕ) → Gathers items w left rest values → left ≡ item ∷ others → AtCut item others rest cut → Word item value (take cut rest) → Gathers items w others (drop cut rest) (values ++ value ∷ [])
-gathers_step items w left rest values item others cut value g s split word =
-    record {
-      back = λ vs h.
-          let d = derives_cons item others value (take cut rest) (drop cut rest) vs h.words word h.derives in
-          let whole : Derives (item ∷ others) rest (value ∷ vs) (take cut rest ∷ h.words) = rw take-append-drop at d in
-          let one : HasValues left rest (value ∷ vs) = record { words = take cut rest ∷ h.words; derives = rw s whole } in
-          rw append_assoc (g.back (value ∷ vs) one);
-      derived = record { values = split.values; words = split.words; derives = split.rest };
-    }
-
-pub gathers_end : (items : List Item) (w : List ℕ) (left : List Item) (rest : List ℕ) (values : List (List ℕ)) → Gathers items w left rest values → length left ≡ 0 → HasValues items w values
-gathers_end items w left rest values g h =
-    let nil : left ≡ [] = nil_from_length left h in
-    let d : IsDerived [] rest = rw nil at g.derived in
-    let n = derives_nil rest d.values d.words d.derives in
-    let none : HasValues [] rest [] = record { words = d.words; derives = subst (λ (vs : List (List ℕ)). Derives [] rest vs d.words) n.1 d.derives } in
-    let r = g.back [] (rw nil none) in
-    rw append-nil at r
-
 -- the numbers so far, where the items to come derive the rest
 pub record Tallies (items : List Item) (w : List ℕ) (left : List Item) (rest : List ℕ) (numbers : List ℕ) : Type 0 where
   pub back : (values words : List (List ℕ)) → Derives left rest values words → HasNumbers items w (numbers ++ numbers_of_words left words)

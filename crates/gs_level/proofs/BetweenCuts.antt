@@ -1,11 +1,11 @@
 -- The words between the cuts of a derivation.
-use Rattle.std.proofs.Common.{◌≡◌, ℕ, ◌<◌, ◌≤◌, ◌+◌, ◌-◌, List, [], ◌∷◌, length, get_or, take, drop, refl, sym, ◌∙◌, ap, subst, arith}
-use Rattle.std.proofs.lemmas.List.{length-take-le}
+use Rattle.std.proofs.Common.{◌≡◌, ℕ, ◌<◌, ◌≤◌, ◌+◌, ◌-◌, List, [], ◌∷◌, ◌++◌, length, get_or, take, drop, refl, sym, ◌∙◌, ap, subst, arith}
+use Rattle.std.proofs.lemmas.List.{length-take-le, take-append-drop, append_assoc, append-nil, nil_from_length}
 use Rattle.gs_grammar.specs.declared.item.Item.{Item}
-use Rattle.gs_grammar.specs.Words.{IsWord}
-use Rattle.gs_grammar.specs.Derivations.{Derives, IsDerived}
+use Rattle.gs_grammar.specs.Words.{IsWord, Word}
+use Rattle.gs_grammar.specs.Derivations.{Derives, IsDerived, HasValues}
 use Rattle.gs_grammar.specs.Searches.{AtCut}
-use Rattle.gs_grammar.proofs.Cuts.{to_cut}
+use Rattle.gs_grammar.proofs.Cuts.{to_cut, derives_cons, derives_nil}
 use Rattle.gs_compile.specs.Places.{cuts_from}
 use Rattle.gs_level.specs.Trails.{HasCuts}
 use Rattle.gs_level.proofs.Dropped.{part_at}
@@ -66,3 +66,31 @@ next_cut left item others rest place number cuts e h =
         cuts_are = sym first.others ∙ ap (λ (p : ℕ). cuts_from p s.split.words) (sym second.here);
       };
     }
+
+-- the values so far, where the items to come derive the rest
+pub record Gathers (items : List Item) (w : List ℕ) (left : List Item) (rest : List ℕ) (values : List (List ℕ)) : Type 0 where
+  pub back : (vs : List (List ℕ)) → HasValues left rest vs → HasValues items w (values ++ vs)
+  pub derived : IsDerived left rest
+
+pub gathers_start : (items : List Item) (w : List ℕ) → IsDerived items w → Gathers items w items w []
+gathers_start items w d = record { back = λ vs h. h; derived = d }
+
+pub gathers_step : (items : List Item) (w : List ℕ) (left : List Item) (rest : List ℕ) (values : List (List ℕ)) (item : Item) (others : List Item) (cut : ℕ) (value : List ℕ) → Gathers items w left rest values → left ≡ item ∷ others → AtCut item others rest cut → Word item value (take cut rest) → Gathers items w others (drop cut rest) (values ++ value ∷ [])
+gathers_step items w left rest values item others cut value g s split word =
+    record {
+      back = λ vs h.
+          let d = derives_cons item others value (take cut rest) (drop cut rest) vs h.words word h.derives in
+          let whole : Derives (item ∷ others) rest (value ∷ vs) (take cut rest ∷ h.words) = rw take-append-drop at d in
+          let one : HasValues left rest (value ∷ vs) = record { words = take cut rest ∷ h.words; derives = rw s whole } in
+          rw append_assoc (g.back (value ∷ vs) one);
+      derived = record { values = split.values; words = split.words; derives = split.rest };
+    }
+
+pub gathers_end : (items : List Item) (w : List ℕ) (left : List Item) (rest : List ℕ) (values : List (List ℕ)) → Gathers items w left rest values → length left ≡ 0 → HasValues items w values
+gathers_end items w left rest values g h =
+    let nil : left ≡ [] = nil_from_length left h in
+    let d : IsDerived [] rest = rw nil at g.derived in
+    let n = derives_nil rest d.values d.words d.derives in
+    let none : HasValues [] rest [] = record { words = d.words; derives = subst (λ (vs : List (List ℕ)). Derives [] rest vs d.words) n.1 d.derives } in
+    let r = g.back [] (rw nil none) in
+    rw append-nil at r

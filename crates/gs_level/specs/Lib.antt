@@ -1,3 +1,4 @@
+pub mod Readings
 pub mod Trails
 pub mod OptionMachines
 pub mod Guides

@@ -63,7 +63,8 @@ impl Level {
 
     /// Whether the level's symbols are bits.
     pub fn bit_level(&self) -> bool
-        ensures { result ≡ self.now.bit_level }
+        ensures is { result ≡ self.now.bit_level }
+        ensures of_kind { AreOfKind self.now.bit_level self.now.options }
     {
         self.bit_level
     }

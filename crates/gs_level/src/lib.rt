@@ -9,8 +9,10 @@ mod machines;
 mod one;
 mod probing;
 mod read;
+mod reading;
 mod trail;
 mod values;
 
 pub use level::Level;
 pub use read::{read_bits, read_text};
+pub use reading::Reading;

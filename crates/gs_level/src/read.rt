@@ -1,11 +1,12 @@
 ghost use Rattle.gs_grammar.specs.Levels.{item_lists};
 ghost use Rattle.gs_grammar.specs.Ambiguity.{IsUnambiguous};
-ghost use Rattle.gs_grammar.specs.Readings.{Reads};
+ghost use Rattle.gs_level.specs.Readings.{Reads};
 
 use crate::finding::find;
 use crate::level::Level;
+use crate::reading::Reading;
 use gs_bits::BitBuf;
-use gs_grammar::{Reading, unpack};
+use gs_grammar::unpack;
 use std::alloc::Global;
 
 /// The reading of the symbols by the options.

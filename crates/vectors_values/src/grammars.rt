@@ -15,9 +15,10 @@ use crate::bits::{bits_word, buffer};
 use gs_bits::BitBuf;
 use gs_chars::{List, Text};
 use gs_grammar::{
-    Item, Level, Opt, OptFault, Reading, WriteFault, holds, read_bits, read_option, read_text,
+    Item, Opt, OptFault, WriteFault, holds, read_option,
     write_bits, write_text,
 };
+use gs_level::{Level, Reading, read_bits, read_text};
 use gs_share::{Shared, first_share};
 use std::alloc::Global;
 use vector_cases::{Answer, Refusal, add, arg, behind, item_of, shown, shown_all};

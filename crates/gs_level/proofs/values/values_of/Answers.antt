@@ -1,6 +1,6 @@
 use Rattle.std.proofs.Common.{arith}
-use Rattle.gs_grammar.proofs.Cuts.{gathers_step, gathers_end, first_item, other_items}
-use Rattle.gs_level.proofs.BetweenCuts.{next_cut}
+use Rattle.gs_grammar.proofs.Cuts.{first_item, other_items}
+use Rattle.gs_level.proofs.BetweenCuts.{next_cut, gathers_step, gathers_end}
 use Rattle.gs_level.proofs.values.values_of.Goals as goal
 
 pub overflow_add-number : goal.overflow_add-number

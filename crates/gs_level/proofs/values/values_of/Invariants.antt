@@ -1,7 +1,6 @@
 use Rattle.std.proofs.Common.{length, All}
 use Rattle.gs_grammar.specs.Items.{IsItem}
-use Rattle.gs_grammar.proofs.Cuts.{Gathers}
-use Rattle.gs_level.proofs.BetweenCuts.{Ahead}
+use Rattle.gs_level.proofs.BetweenCuts.{Ahead, Gathers}
 use Rattle.gs_level.proofs.values.values_of.Given as goal
 
 abbrev pub invariant-loop-item : goal.invariant-loop-item

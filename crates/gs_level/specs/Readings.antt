@@ -1,8 +1,8 @@
 -- What a reading says of a list of symbols.
 use Rattle.std.specs.Prelude.{ℕ, List}
 use Rattle.gs_grammar.specs.declared.item.Item.{Item}
-use Rattle.gs_grammar.specs.declared.reading.Reading.{Reading}
-use Rattle.gs_grammar.specs.declared.reading.Reading.TheVariants.{One, Nothing, Memory}
+use Rattle.gs_level.specs.declared.reading.Reading.{Reading}
+use Rattle.gs_level.specs.declared.reading.Reading.TheVariants.{One, Nothing, Memory}
 use Rattle.gs_grammar.specs.Derivations.{Derivation, OneDerivation}
 
 -- The answer for the list of symbols in the level: the option and the values of the only derivation, or that there is none.
