@@ -1,5 +1,5 @@
 ghost use Rattle.std.specs.Prelude.{IfOk, List, ℕ};
-ghost use Rattle.gs_grammar.specs.Readings.{Reads};
+ghost use Rattle.gs_level.specs.Readings.{Reads};
 ghost use Rattle.gs_epc.specs.Epcs.{IsOfSet, options_of};
 ghost use Rattle.gs_epc.specs.Readings.{ReadsAs, ReadsHex};
 
@@ -7,7 +7,7 @@ use crate::epc::Epc;
 use crate::fault::EpcFault;
 use crate::fields::epc_of;
 use gs_bits::BitBuf;
-use gs_grammar::{Reading, read_bits, read_text};
+use gs_level::{Reading, read_bits, read_text};
 use gs_tables::{LevelName, TableSet};
 use std::alloc::Global;
 

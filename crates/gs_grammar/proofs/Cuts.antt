@@ -58,10 +58,10 @@ pub nil_never : (w : List ℕ) → 0 < length w → Finds [] w Never
 nil_never w h d = let e = ap length (derives_nil w d.values d.words d.derives).0 in omega arith
 
 -- a split of a derivation
-record SplitOf (item : Item) (items : List Item) (w : List ℕ) (words : List (List ℕ)) : Type 0 where
-  place : ℕ
-  split : AtCut item items w place
-  words_are : words ≡ take place w ∷ split.words
+pub record SplitOf (item : Item) (items : List Item) (w : List ℕ) (words : List (List ℕ)) : Type 0 where
+  pub place : ℕ
+  pub split : AtCut item items w place
+  pub words_are : words ≡ take place w ∷ split.words
 
 split_from : (item : Item) (items : List Item) (w value first rest : List ℕ) (values' words' words : List (List ℕ)) → w ≡ first ++ rest → Word item value first → Derives items rest values' words' → words ≡ first ∷ words' → SplitOf item items w words
 split_from item items w value first rest values' words' words e h d f =
@@ -74,7 +74,7 @@ split_from item items w value first rest values' words' words e h d f =
       words_are = rw front f;
     }
 
-to_cut : (item : Item) (items : List Item) (w : List ℕ) (values words : List (List ℕ)) → Derives (item ∷ items) w values words → SplitOf item items w words
+pub to_cut : (item : Item) (items : List Item) (w : List ℕ) (values words : List (List ℕ)) → Derives (item ∷ items) w values words → SplitOf item items w words
 to_cut item items w values words d =
     let f = derives_uncons item items w values words d in
     split_from item items w f.value f.first f.rest f.values' f.words' words f.whole f.word f.derives f.words_are
@@ -273,34 +273,6 @@ first_item items item others e h = All-head IsItem item others (rw e at h)
 
 pub other_items : (items : List Item) (item : Item) (others : List Item) → items ≡ item ∷ others → All IsItem items → All IsItem others
 other_items items item others e h = All-tail IsItem item others (rw e at h)
-
--- the values so far, where the items to come derive the rest
-pub record Gathers (items : List Item) (w : List ℕ) (left : List Item) (rest : List ℕ) (values : List (List ℕ)) : Type 0 where
-  pub back : (vs : List (List ℕ)) → HasValues left rest vs → HasValues items w (values ++ vs)
-  pub derived : IsDerived left rest
-
-pub gathers_start : (items : List Item) (w : List ℕ) → IsDerived items w → Gathers items w items w []
-gathers_start items w d = record { back = λ vs h. h; derived = d }
-
-pub gathers_step : (items : List Item) (w : List ℕ) (left : List Item) (rest : List ℕ) (values : List (List ℕ)) (item : Item) (others : List Item) (cut : ℕ) (value : List ℕ) → Gathers items w left rest values → left ≡ item ∷ others → AtCut item others rest cut → Word item value (take cut rest) → Gathers items w others (drop cut rest) (values ++ value ∷ [])
-gathers_step items w left rest values item others cut value g s split word =
-    record {
-      back = λ vs h.
-          let d = derives_cons item others value (take cut rest) (drop cut rest) vs h.words word h.derives in
-          let whole : Derives (item ∷ others) rest (value ∷ vs) (take cut rest ∷ h.words) = rw take-append-drop at d in
-          let one : HasValues left rest (value ∷ vs) = record { words = take cut rest ∷ h.words; derives = rw s whole } in
-          rw append_assoc (g.back (value ∷ vs) one);
-      derived = record { values = split.values; words = split.words; derives = split.rest };
-    }
-
-pub gathers_end : (items : List Item) (w : List ℕ) (left : List Item) (rest : List ℕ) (values : List (List ℕ)) → Gathers items w left rest values → length left ≡ 0 → HasValues items w values
-gathers_end items w left rest values g h =
-    let nil : left ≡ [] = nil_from_length left h in
-    let d : IsDerived [] rest = rw nil at g.derived in
-    let n = derives_nil rest d.values d.words d.derives in
-    let none : HasValues [] rest [] = record { words = d.words; derives = subst (λ (vs : List (List ℕ)). Derives [] rest vs d.words) n.1 d.derives } in
-    let r = g.back [] (rw nil none) in
-    rw append-nil at r
 
 -- the numbers so far, where the items to come derive the rest
 pub record Tallies (items : List Item) (w : List ℕ) (left : List Item) (rest : List ℕ) (numbers : List ℕ) : Type 0 where

@@ -8,7 +8,6 @@ use Rattle.gs_chars.proofs.TruthsAndLists.{place_left}
 use Rattle.gs_grammar.specs.declared.item.Item.{Item}
 use Rattle.gs_grammar.specs.Derivations.{Derives, IsDerived, HasValues, Derivation, AreSame, OneDerivation, TwoDerivations}
 use Rattle.gs_grammar.specs.Ambiguity.{IsUnambiguous}
-use Rattle.gs_grammar.specs.Searches.{DerivedBy}
 use Rattle.gs_grammar.specs.Levels.{OptionForm, item_lists}
 use Rattle.gs_grammar.proofs.OneReading.{only_derivation}
 use Rattle.gs_grammar.proofs.Ways.{Found, Never, Once, Twice, Finds, FoundOption, NoOption, OneOption, TwoReadings, FindsInLevel, joined_option}
@@ -121,38 +120,3 @@ level_step level items w (OneOption before) Never h m = (h.0, still_one level it
 level_step level items w (OneOption before) Once h m = one_and_last level items w h.1.derivation (record { values = m.values; words = m.words; derives = m.derives })
 level_step level items w (OneOption before) Twice h m = now_two level items w m
 level_step level items w TwoReadings more h m = still_two level (items ∷ []) w h
-
--- the search, at the options of a level
-
-item_list_at : (options : List OptionForm) (n : ℕ) (option : OptionForm) → n < length options → option ≡ get_or options n option → slice_get (item_lists options) n ≡ Some option.items
-item_list_at options n option b r =
-    slice_get-map (λ (o : OptionForm). o.items) options n ∙ ap (option_map (λ (o : OptionForm). o.items)) (slice_get-get_or options n option b ∙ ap Some (sym r))
-
--- the option derives the list
-pub option_found : (options : List OptionForm) (w : List ℕ) (n : ℕ) (option : OptionForm) → n < length options → option ≡ get_or options n option → IsDerived option.items w → DerivedBy (item_lists options) w n
-option_found options w n option b r d = record { items = option.items; of_level = item_list_at options n option b r; derived = d }
-
--- none of the options before derives the list, and this one does not
-pub option_none : (options : List OptionForm) (w : List ℕ) (n : ℕ) (option : OptionForm) → n < length options → option ≡ get_or options n option → (Derivation (item_lists (take n options)) w → ⊥) → (test : Bool) → (IsTrue test ↔ IsDerived option.items w) → test ≡ false → Derivation (item_lists (take (n + 1) options)) w → ⊥
-option_none options w n option b r h test tells e =
-    let next = still_none (item_lists (take n options)) option.items w h (λ d. let t = tells.1 d in let f : false ≡ true = sym e ∙ t in cc) in
-    let front : take (n + 1) options ≡ take n options ++ option ∷ [] = take_more options n option b ∙ ap (λ (o : OptionForm). take n options ++ o ∷ []) (sym r) in
-    rw (front, map-append) next
-
-pub option_number : (options : List OptionForm) (w : List ℕ) (n : ℕ) → DerivedBy (item_lists options) w n → n < length options
-option_number options w n h =
-    let within = slice_get_within (item_lists options) n h.items h.of_level in
-    let count = length-map options (λ (o : OptionForm). o.items) in
-    omega arith
-
-pub option_derives : (options : List OptionForm) (w : List ℕ) (n : ℕ) (option : OptionForm) → n < length options → option ≡ get_or options n option → DerivedBy (item_lists options) w n → IsDerived option.items w
-option_derives options w n option b r h =
-    let same : Some h.items ≡ Some option.items = sym h.of_level ∙ item_list_at options n option b r in
-    let its : h.items ≡ option.items = cc in
-    rw its at h.derived
-
--- the derivation that was found is the only one of a level that is not ambiguous
-pub option_values : (options : List OptionForm) (w : List ℕ) (n : ℕ) (option : OptionForm) (values : List (List ℕ)) → IsUnambiguous (item_lists options) → n < length options → option ≡ get_or options n option → HasValues option.items w values → OneDerivation (item_lists options) w n values
-option_values options w n option values clear b r v =
-    let found : Derivation (item_lists options) w = record { option = n; items = option.items; values = values; words = v.words; of_level = item_list_at options n option b r; derives = v.derives } in
-    only_derivation (item_lists options) w clear found

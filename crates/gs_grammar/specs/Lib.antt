@@ -5,7 +5,6 @@ pub mod Numerals
 pub mod Levels
 pub mod Derivations
 pub mod Ambiguity
-pub mod Readings
 pub mod Counts
 pub mod Searches
 pub mod Writing

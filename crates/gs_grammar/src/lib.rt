@@ -1,6 +1,7 @@
-//! Items, options and levels: the grammars of tags and EPC URIs, and the readings of a text in a level.
+//! Items and options: the grammars of tags and EPC URIs, what their words are, and what is written of values.
 #![tactic(auto)]
 
+mod bit_symbols;
 mod bit_words;
 mod bit_writing;
 mod escaped;
@@ -8,18 +9,15 @@ mod fault;
 mod holding;
 mod item;
 mod laws;
-mod level;
 mod numerals;
 mod opt;
-mod read;
-mod reading;
 mod splits;
 mod tally;
-mod unpack;
 mod wide;
 mod words;
 mod writing;
 
+pub use bit_symbols::unpack;
 pub use bit_writing::write_bits;
 pub use fault::{OptFault, Why, WriteFault};
 pub use holding::holds;
@@ -29,9 +27,7 @@ pub use laws::{
     unambiguous_levels_read_alone, what_is_written_is_derived, what_is_written_is_read,
     word_fixes_its_value, word_writes_its_value, words_without_values,
 };
-pub use level::Level;
 pub use opt::Opt;
-pub use read::{read_bits, read_text};
-pub use reading::Reading;
 pub use tally::read_option;
+pub use words::value_of;
 pub use writing::write_text;

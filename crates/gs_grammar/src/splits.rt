@@ -1,12 +1,10 @@
-ghost use Rattle.std.specs.Prelude.{◌∷◌, ◌↔◌, All, IfOk, IsTrue};
+ghost use Rattle.std.specs.Prelude.{◌∷◌, ◌↔◌, All, IsTrue};
 ghost use Rattle.gs_grammar.specs.Items.{IsItem};
-ghost use Rattle.gs_grammar.specs.Derivations.{IsDerived, HasValues};
+ghost use Rattle.gs_grammar.specs.Derivations.{IsDerived};
 ghost use Rattle.gs_grammar.specs.Searches.{AtCut};
 
 use crate::item::Item;
-use crate::words::{is_word, value_of};
-use gs_chars::{List, Memory, Text};
-use std::alloc::Global;
+use crate::words::is_word;
 
 /// Whether the items derive the symbols. It tries each split into a word of the first item and the rest, and stops at the
 /// first derivation.
@@ -55,22 +53,4 @@ pub fn first_cut(item: &Item, others: &[Item], symbols: &[u8]) -> usize
         }
     }
     unreachable!()
-}
-
-/// The values of a derivation of the symbols by the items.
-pub fn values_of(alloc: Global, items: &[Item], symbols: &[u8]) -> Result<List<Text>, Memory>
-    requires items { All IsItem items.now }
-    requires derived { IsDerived items.now symbols.now }
-    ensures { IfOk result (λ values. HasValues items.now symbols.now values) }
-{
-    let mut left = items;
-    let mut rest = symbols;
-    let mut values = Vec::new(alloc);
-    while let Some((item, others)) = left.split_first() {
-        let (word, behind) = rest.split_at(first_cut(item, others, rest));
-        values.push(value_of(alloc, item, word)?)?;
-        left = others;
-        rest = behind;
-    }
-    Ok(List::from_vec(values))
 }

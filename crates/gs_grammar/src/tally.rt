@@ -3,10 +3,10 @@ ghost use Rattle.std.specs.Bool.{MatchBool};
 ghost use Rattle.gs_grammar.specs.Items.{IsItem};
 ghost use Rattle.gs_grammar.specs.Derivations.{HasNumbers, IsDerived};
 
+use crate::bit_symbols::unpack;
 use crate::item::Item;
 use crate::opt::Opt;
 use crate::splits::{first_cut, is_derived};
-use crate::unpack::unpack;
 use crate::words::number_of_word;
 use gs_bits::BitBuf;
 

@@ -1,63 +1,19 @@
 -- The machines of the options of a level.
-use Rattle.std.proofs.Common.{◌≡◌, ℕ, ◌<◌, ◌+◌, ◌++◌, zero, suc, Bool, true, All, List, [], ◌∷◌, length, get_or, Some, None, refl, sym, ◌∙◌, ap, subst, inl, inr, arith, length-append}
+use Rattle.std.proofs.Common.{◌≡◌, ℕ, suc, Bool, true, List, [], ◌∷◌, length, get_or, Some, refl, sym, ◌∙◌, ap, subst, arith}
 use Rattle.std.specs.List.{slice_get}
-use Rattle.std.proofs.lemmas.Bool.{cases_eq}
 use Rattle.std.proofs.lemmas.Option.{slice_get-map, get_or_from_slice_get}
-use Rattle.gs_chars.proofs.TruthsAndLists.{same_at, within, mapped_some, read_at}
+use Rattle.gs_chars.proofs.TruthsAndLists.{within, mapped_some}
 use Rattle.gs_grammar.specs.declared.item.Item.{Item}
-use Rattle.gs_grammar.specs.Items.{IsItem}
-use Rattle.gs_grammar.specs.Levels.{OptionForm, LevelForm, KeepBounds, AreOfKind, item_lists}
+use Rattle.gs_grammar.specs.Levels.{OptionForm, LevelForm, AreOfKind, item_lists}
 use Rattle.gs_grammar.specs.Ambiguity.{IsAmbiguous, ShowsFirstShare, shown_symbols}
 use Rattle.gs_bits.specs.Bits.{AreBits}
 use Rattle.gs_machine.specs.Machines.{AutoForm}
 use Rattle.gs_ambig.specs.Shares.{Share, IsFirstDouble}
-use Rattle.gs_compile.specs.ItemTables.{machine_of}
-use Rattle.gs_compile.specs.Readers.{ReadsItems}
 use Rattle.gs_compile.specs.Places.{CutsAreThoseOfDerivations}
 use Rattle.gs_compile.proofs.Joining.{cuts_law}
-use Rattle.gs_compile.proofs.WholeMachines.{machine_rules}
-use Rattle.gs_share.specs.OptionMachines.{IsMachineOf, AreMachinesOf}
+use Rattle.gs_level.specs.OptionMachines.{AreMachinesOf}
 use Rattle.gs_share.proofs.BitSymbols.{bits_of_option}
 use Rattle.gs_share.proofs.SharedLists.{HaveCuts, there, first_of_double, not_ambiguous}
-
-pub machine_is : (auto : AutoForm) (option : OptionForm) (items : List Item) → items ≡ option.items → All IsItem items → KeepBounds option.bit_level option.items → auto ≡ machine_of option.items → ReadsItems auto option.items → IsMachineOf auto option
-machine_is auto option items e each bounds m reads =
-    let here : All IsItem option.items = rw e at each in
-    record { rules = rw m (machine_rules option.items here); reads = reads; bounds = bounds }
-
--- the machines so far
-pub record SoFar (machines : List AutoForm) (options : List OptionForm) (n : ℕ) : Type 0 where
-  pub count : length machines ≡ n
-  pub each : (k : ℕ) (form : AutoForm) (option : OptionForm) → slice_get machines k ≡ Some form → slice_get options k ≡ Some option → IsMachineOf form option
-
-pub none_yet : (options : List OptionForm) → SoFar [] options 0
-none_yet options = record { count = refl; each = λ k form option e f. absurd (let g : None ≡ Some form = e in cc) }
-
-front_at : {X : Type 0} (xs : List X) (y x : X) (k : ℕ) → slice_get (xs ++ y ∷ []) k ≡ Some x → (k ≡ length xs → ⊥) → slice_get xs k ≡ Some x
-front_at [] y x zero e n = absurd (n refl)
-front_at [] y x (suc k) e n = e
-front_at (z ∷ xs) y x zero e n = e
-front_at (z ∷ xs) y x (suc k) e n = front_at xs y x k e (λ f. n (ap suc f))
-
-last_at : {X : Type 0} (xs : List X) (y x : X) → slice_get (xs ++ y ∷ []) (length xs) ≡ Some x → y ≡ x
-last_at [] y x e = cc
-last_at (z ∷ xs) y x e = last_at xs y x e
-
-pub one_more : (machines new : List AutoForm) (options : List OptionForm) (n : ℕ) (auto : AutoForm) (option : OptionForm) → SoFar machines options n → n < length options → option ≡ get_or options n option → IsMachineOf auto option → new ≡ machines ++ auto ∷ [] → SoFar new options (n + 1)
-one_more machines new options n auto option h l at is e =
-    let c = h.count in
-    let more = length-append machines (auto ∷ []) in
-    let all : (k : ℕ) (form : AutoForm) (other : OptionForm) → slice_get (machines ++ auto ∷ []) k ≡ Some form → slice_get options k ≡ Some other → IsMachineOf form other = λ k form other f g. elim (cases_eq k n) as (λ _. IsMachineOf form other) [
-      | inr m ↦ h.each k form other (front_at machines auto form k f (λ p. m (p ∙ c))) g
-      | inl p ↦
-          let last : auto ≡ form = last_at machines auto form (ap (slice_get (machines ++ auto ∷ [])) (c ∙ sym p) ∙ f) in
-          let same : option ≡ other = same_at options n k option other (read_at options n option l at) g (sym p) in
-          subst (λ (x : AutoForm). IsMachineOf x other) last (subst (λ (x : OptionForm). IsMachineOf auto x) same is)
-    ] in
-    rw e (record { count = more ∙ omega arith; each = all })
-
-pub all_machines : (machines : List AutoForm) (options : List OptionForm) (n : ℕ) → SoFar machines options n → n ≡ length options → AreMachinesOf machines options
-all_machines machines options n h e = record { count = h.count ∙ e; each = h.each }
 
 -- their cuts are those of the derivations by the options
 

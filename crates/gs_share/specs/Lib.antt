@@ -1,2 +1,1 @@
 pub mod FirstShares
-pub mod OptionMachines

@@ -2,7 +2,6 @@
 #![tactic(auto)]
 
 mod laws;
-mod machines;
 mod shared;
 mod sharing;
 

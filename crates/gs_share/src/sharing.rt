@@ -3,11 +3,10 @@ ghost use Rattle.gs_bits.specs.Bits.{AreBits};
 ghost use Rattle.gs_grammar.specs.Ambiguity.{shown_symbols};
 ghost use Rattle.gs_share.specs.FirstShares.{IsFirstShared};
 
-use crate::machines::machines_of;
 use crate::shared::Shared;
 use gs_ambig::{Verdict, check};
 use gs_chars::{Memory, Text};
-use gs_grammar::Level;
+use gs_level::Level;
 use std::alloc::Global;
 
 /// The digit of each bit.
@@ -39,8 +38,7 @@ fn shown(alloc: Global, bit_level: bool, symbols: Text) -> Result<Text, Memory>
 pub fn first_share(alloc: Global, level: &Level) -> Result<Option<Shared>, Memory>
     ensures { IfOk result (IsFirstShared level.now) }
 {
-    let machines = machines_of(alloc, level.options())?;
-    match check(alloc, machines.as_slice())? {
+    match check(alloc, level.machines())? {
         Verdict::Clear => Ok(None),
         Verdict::Double { i, j, word } => {
             let text = shown(alloc, level.bit_level(), word)?;

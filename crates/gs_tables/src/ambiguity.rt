@@ -1,7 +1,7 @@
 ghost use Rattle.gs_tables.specs.Judged.{AreJudged, IsLevelJudged, by_name};
 
 use gs_document::{LevelName, LoadFault};
-use gs_grammar::Level;
+use gs_level::Level;
 use gs_share::first_share;
 use std::alloc::Global;
 

@@ -15,7 +15,8 @@ use gs_chars::{List, Memory, Text};
 use gs_document::{
     Field, FieldItem, Kind, KindRow, LevelName, LoadFault, OptInfo, OptionRow, SerialAt,
 };
-use gs_grammar::{Item, Level, Opt};
+use gs_grammar::{Item, Opt};
+use gs_level::Level;
 use std::alloc::Global;
 
 /// The table of the application identifiers, or their first fault.

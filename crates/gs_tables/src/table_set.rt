@@ -11,7 +11,7 @@ use crate::rules::{check_limits, check_rows, check_version};
 use gs_ai::AiTable;
 use gs_chars::List;
 use gs_document::{Document, Kind, LevelName, LoadFault, OptInfo, read_document};
-use gs_grammar::Level;
+use gs_level::Level;
 use std::alloc::Global;
 use std::marker::Model;
 

@@ -2,9 +2,6 @@
 //!
 //! - `holds ITEM VALUE`: `Ok`, or why not.
 //! - `option LEVEL ITEM..`, with LEVEL `text` or `bits`: the size and the number of items, or the fault.
-//! - `read_text TEXT ITEM.. | ITEM..`: the number of the option and the values of its items, or `Nothing`; of options that are
-//!   ambiguous `Ambiguous` and the numbers of the two that share a list.
-//! - `read_bits HEX ITEM.. | ITEM..`: the same over the bits of hexadecimal digits.
 //! - `read_option HEX ITEM..`: the numbers of the items of one option, or `false`.
 //! - `write_text ITEM.. = VALUE..`: the text, or the fault. `write_bits ITEM.. = VALUE..`: the bits, or the fault.
 
@@ -14,21 +11,15 @@ ghost use Rattle.gs_grammar.specs.Levels.{AreOfKind, OptionForm};
 use crate::bits::{bits_word, buffer};
 use gs_bits::BitBuf;
 use gs_chars::{List, Text};
-use gs_grammar::{
-    Item, Level, Opt, OptFault, Reading, WriteFault, holds, read_bits, read_option, read_text,
-    write_bits, write_text,
-};
-use gs_share::{Shared, first_share};
+use gs_grammar::{Item, Opt, OptFault, WriteFault, holds, read_option, write_bits, write_text};
 use std::alloc::Global;
-use vector_cases::{Answer, Refusal, add, arg, behind, item_of, shown, shown_all};
+use vector_cases::{Answer, Refusal, add, arg, behind, item_of, shown};
 
 /// The answer to a call of gs_grammar.
 pub fn answer(alloc: Global, call: &str, args: &[Text]) -> Answer {
     match call {
         "holds" => held(alloc, arg(args, 0)?, arg(args, 1)?),
         "option" => option(alloc, arg(args, 0)?, behind(args, 1)),
-        "read_text" => text_read(alloc, arg(args, 0)?, behind(args, 1)),
-        "read_bits" => bits_read(alloc, arg(args, 0)?, behind(args, 1)),
         "read_option" => option_read(alloc, arg(args, 0)?, behind(args, 1)),
         "write_text" => text_written(alloc, args),
         "write_bits" => bits_written(alloc, args),
@@ -90,48 +81,6 @@ pub fn options_of(alloc: Global, bit_level: bool, words: &[Text]) -> Result<Vec<
         options.push(option_of(alloc, bit_level, group)?)?;
     }
     Ok(options)
-}
-
-/// The level of the words.
-fn level_of(alloc: Global, bit_level: bool, words: &[Text]) -> Result<Level, Refusal> {
-    let options = options_of(alloc, bit_level, words)?;
-    Ok(Level::new(alloc, bit_level, options)?)
-}
-
-/// The words of a reading.
-fn reading_words(alloc: Global, reading: Reading) -> Answer {
-    match reading {
-        Reading::One { option, values } => {
-            let words = shown_all(alloc, values.items())?;
-            Ok(format!(in alloc; "{option} {words}")?)
-        }
-        Reading::Nothing => Ok(String::from_str(alloc, "Nothing")?),
-        Reading::Memory => Err(Refusal::Memory),
-    }
-}
-
-/// The numbers of two options that share a list.
-fn pair_words(alloc: Global, pair: &Shared) -> Answer {
-    let first = pair.first;
-    let second = pair.second;
-    Ok(format!(in alloc; "Ambiguous {first} {second}")?)
-}
-
-fn text_read(alloc: Global, text: &[u8], words: &[Text]) -> Answer {
-    let level = level_of(alloc, false, words)?;
-    if let Some(pair) = first_share(alloc, &level)? {
-        return pair_words(alloc, &pair);
-    }
-    reading_words(alloc, read_text(alloc, &level, text))
-}
-
-fn bits_read(alloc: Global, digits: &[u8], words: &[Text]) -> Answer {
-    let level = level_of(alloc, true, words)?;
-    let bits = buffer::<64>(digits)?;
-    if let Some(pair) = first_share(alloc, &level)? {
-        return pair_words(alloc, &pair);
-    }
-    reading_words(alloc, read_bits(alloc, &level, &bits))
 }
 
 fn option_read(alloc: Global, digits: &[u8], words: &[Text]) -> Answer {

@@ -11,7 +11,7 @@ use crate::grammars::options_of;
 use gs_ambig::{Verdict, check};
 use gs_chars::{List, Text};
 use gs_compile::compile;
-use gs_grammar::Level;
+use gs_level::Level;
 use gs_machine::{Auto, Edge};
 use gs_share::first_share;
 use std::alloc::Global;

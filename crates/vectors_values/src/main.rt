@@ -6,6 +6,7 @@ mod bits;
 mod characters;
 mod documents;
 mod grammars;
+mod levels;
 mod linksets;
 mod machines;
 mod prefixes;
@@ -25,6 +26,7 @@ impl Calls for Values {
             "gs_bits" => bits::answer(alloc, call, args),
             "gs_json" => documents::answer(alloc, call, args),
             "gs_grammar" => grammars::answer(alloc, call, args),
+            "gs_level" => levels::answer(alloc, call, args),
             "gs_linkset" => linksets::answer(alloc, call, args),
             "gs_prefix" => prefixes::answer(alloc, call, args),
             "gs_machine" | "gs_ambig" | "gs_compile" | "gs_share" => {

@@ -1,0 +1,56 @@
+-- What the loops of the trail keep.
+use Rattle.std.proofs.Common.{◌≡◌, ℕ, ◌<◌, ◌≤◌, ◌+◌, List, [], ◌∷◌, ◌++◌, length, get_or, drop, zero, suc, refl, sym, ◌∙◌, ap, arith, length-append, add-one}
+use Rattle.std.proofs.lemmas.List.{get_or_append_left, append-nil, append_assoc, get_or_default}
+use Rattle.std.proofs.Math.Seq.{drop-cons}
+use Rattle.gs_machine.specs.declared.edge.Edge.{Edge}
+use Rattle.gs_machine.specs.Walks.{edges_at}
+use Rattle.gs_level.specs.declared.trail.Entry.{Entry}
+use Rattle.gs_level.specs.Trails.{successors, layer, entry_at}
+
+-- the entries so far, where those before a number of the first ones were gone over
+pub record SoMany (table : List (List Edge)) (symbol from : ℕ) (first trail : List Entry) (number : ℕ) : Type 0 where
+  pub more : List Entry
+  pub are : trail ≡ first ++ more
+  pub whole : more ++ layer table symbol number (drop number first) ≡ layer table symbol from (drop from first)
+
+pub so_many_start : (table : List (List Edge)) (symbol from : ℕ) (first trail : List Entry) → trail ≡ first → SoMany table symbol from first trail from
+so_many_start table symbol from first trail e = record { more = []; are = e ∙ sym (append-nil first); whole = refl }
+
+pub so_many_entry : (table : List (List Edge)) (symbol from : ℕ) (first trail : List Entry) (number : ℕ) (entry : Entry) → SoMany table symbol from first trail number → number < length first → entry ≡ get_or trail number entry → entry ≡ get_or first number entry
+so_many_entry table symbol from first trail number entry h l e = e ∙ ap (λ (xs : List Entry). get_or xs number entry) h.are ∙ get_or_append_left first h.more entry number l
+
+pub so_many_step : (table : List (List Edge)) (symbol from : ℕ) (first trail new : List Entry) (number : ℕ) (entry : Entry) (edges : List Edge) → SoMany table symbol from first trail number → number < length first → entry ≡ get_or trail number entry → edges ≡ edges_at table entry.state → new ≡ trail ++ successors edges symbol number → SoMany table symbol from first new (number + 1)
+so_many_step table symbol from first trail new number entry edges h l e f is =
+    let here = so_many_entry table symbol from first trail number entry h l e in
+    let parts : drop number first ≡ entry ∷ drop (suc number) first = drop-cons first number entry l ∙ ap (λ (x : Entry). x ∷ drop (suc number) first) (sym here) in
+    let rest : layer table symbol number (drop number first) ≡ successors (edges_at table entry.state) symbol number ++ layer table symbol (number + 1) (drop (suc number) first) = ap (layer table symbol number) parts in
+    let more : h.more ++ (successors (edges_at table entry.state) symbol number ++ layer table symbol (number + 1) (drop (suc number) first)) ≡ layer table symbol from (drop from first) = ap (λ (xs : List Entry). h.more ++ xs) (sym rest) ∙ h.whole in
+    record {
+      more = h.more ++ successors (edges_at table entry.state) symbol number;
+      are = is ∙ ap (λ (xs : List Entry). xs ++ successors edges symbol number) h.are ∙ ap (λ (es : List Edge). first ++ h.more ++ successors es symbol number) f ∙ append_assoc first h.more (successors (edges_at table entry.state) symbol number);
+      whole = append_assoc h.more (successors (edges_at table entry.state) symbol number) (layer table symbol (number + 1) (drop (number + 1) first)) ∙ rw add-one (rw add-one at more);
+    }
+
+none_from : (xs : List Entry) (n : ℕ) → length xs ≤ n → drop n xs ≡ []
+none_from [] zero l = refl
+none_from [] (suc n) l = refl
+none_from (x ∷ xs) zero l = absurd (omega arith)
+none_from (x ∷ xs) (suc n) l = none_from xs n (omega arith)
+
+pub so_many_end : (table : List (List Edge)) (symbol from : ℕ) (first trail : List Entry) (number : ℕ) → SoMany table symbol from first trail number → length first ≤ number → trail ≡ first ++ layer table symbol from (drop from first)
+so_many_end table symbol from first trail number h l =
+    let none : drop number first ≡ [] = none_from first number l in
+    let all : h.more ++ [] ≡ layer table symbol from (drop from first) = ap (λ (xs : List Entry). h.more ++ layer table symbol number xs) (sym none) ∙ h.whole in
+    h.are ∙ ap (λ (xs : List Entry). first ++ xs) (sym (append-nil h.more) ∙ all)
+
+pub so_many_within : (table : List (List Edge)) (symbol from : ℕ) (first trail : List Entry) (number : ℕ) → SoMany table symbol from first trail number → number < length first → number < length trail
+so_many_within table symbol from first trail number h l =
+    let e = ap length h.are in
+    let c = length-append first h.more in
+    omega arith
+
+pub so_many_state : (table : List (List Edge)) (symbol from : ℕ) (first trail : List Entry) (number states : ℕ) (entry : Entry) → SoMany table symbol from first trail number → number < length first → entry ≡ get_or trail number entry → ((k : ℕ) → k < length first → (entry_at first k).state < states) → entry.state < states
+so_many_state table symbol from first trail number states entry h l e all =
+    let here = so_many_entry table symbol from first trail number entry h l e in
+    let same : entry ≡ entry_at first number = here ∙ get_or_default first number entry (record { state = 0; back = 0 }) l in
+    rw (ap (λ (x : Entry). x.state) same) (all number l)

@@ -1,0 +1,9 @@
+mod Dropped
+mod Layers
+mod Entries
+mod Following
+mod CutsBack
+mod BetweenCuts
+mod Fitting
+mod Literals
+mod Readers

@@ -1,0 +1,6 @@
+pub mod Readings
+pub mod Trails
+pub mod OptionMachines
+pub mod Guides
+pub mod Whole
+pub mod Finding

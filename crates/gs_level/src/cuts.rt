@@ -1,0 +1,54 @@
+ghost use Rattle.std.specs.Prelude.{◌≡◌, ◌∷◌, OnOk, IfOk, if◌then◌else◌};
+ghost use Rattle.gs_compile.specs.Places.{is_border};
+ghost use Rattle.gs_level.specs.Trails.{IsTrail, AreCuts};
+
+use crate::trail::Entry;
+use gs_chars::Memory;
+use gs_machine::Auto;
+use std::alloc::Global;
+
+/// Whether the state is one of the borders.
+fn is_border(borders: &[usize], state: usize) -> bool
+    ensures { result ≡ is_border borders.now state }
+{
+    borders.iter().any(|border| *border == state)
+}
+
+/// Puts the place in front of the cuts where the state is a border.
+fn push_cut(
+    cuts: &mut Vec<usize>,
+    borders: &[usize],
+    state: usize,
+    place: usize,
+) -> Result<(), Memory>
+    ensures { OnOk result (cuts.new.items ≡ (if is_border borders.now state then place ∷ cuts.old.items else cuts.old.items)) }
+{
+    if is_border(borders, state) {
+        cuts.insert(0, place)?;
+    }
+    Ok(())
+}
+
+/// The cuts of the accepting run whose last entry has this number.
+pub fn cuts_of(
+    alloc: Global,
+    machine: &Auto,
+    trail: &[Entry],
+    number: usize,
+    symbols: &[u8],
+) -> Result<Vec<usize>, Memory>
+    requires { IsTrail machine.now trail.now symbols.now number }
+    ensures { IfOk result (λ cuts. AreCuts machine.now symbols.now cuts.items) }
+{
+    let borders = machine.borders();
+    let mut cuts = Vec::with_capacity(alloc, borders.len())?;
+    let mut entry = number;
+    let mut place = symbols.len();
+    push_cut(&mut cuts, borders, trail[entry].state, place)?;
+    while place > 0 {
+        entry = trail[entry].back;
+        place -= 1;
+        push_cut(&mut cuts, borders, trail[entry].state, place)?;
+    }
+    Ok(cuts)
+}

@@ -1,0 +1,92 @@
+ghost use Rattle.std.specs.Prelude.{◌↔◌, ◌≤◌, ◌<◌, ◌+◌, IsTrue, IfOk, IfSome, IfNone, length};
+ghost use Rattle.gs_level.specs.Guides.{StandsAt, BeginAll};
+ghost use Rattle.gs_level.specs.Finding.{ReadBy, NoneReads};
+
+use crate::guides::{Group, Probe};
+use crate::level::Level;
+use crate::one::read_items;
+use crate::trail::Entry;
+use gs_chars::{List, Memory, Text};
+use std::alloc::Global;
+
+/// An option that derives a list of symbols, and the values of a derivation.
+#[derive(Debug, Drop)]
+pub struct Found {
+    pub option: usize,
+    pub values: List<Text>,
+}
+
+/// Whether the literal stands in the symbols at this place.
+fn stands_at(symbols: &[u8], place: usize, literal: &[u8]) -> bool
+    ensures { IsTrue result ↔ StandsAt place literal.now symbols.now }
+{
+    match symbols.get(place..) {
+        Some(rest) => rest.starts_with(literal),
+        None => literal.is_empty(),
+    }
+}
+
+/// What the option of this number reads of the symbols.
+fn read_option(
+    alloc: Global,
+    level: &Level,
+    option: usize,
+    symbols: &[u8],
+    trail: &mut Vec<Entry>,
+) -> Result<Option<Found>, Memory>
+    requires { option < length level.now.options }
+    ensures found { IfOk result (λ found. IfSome found (λ read. ReadBy level.now.options symbols.now read.option read.values)) }
+    ensures none { IfOk result (λ found. IfNone found (NoneReads level.now.options option (option + 1) symbols.now)) }
+{
+    let probe = &level.probes()[option];
+    if !stands_at(symbols, probe.place, probe.literal.as_bytes()) {
+        return Ok(None);
+    }
+    let machine = &level.machines()[option];
+    let items = level.options()[option].items();
+    match read_items(alloc, machine, items, symbols, trail)? {
+        Some(values) => Ok(Some(Found { option, values })),
+        None => Ok(None),
+    }
+}
+
+/// What the first option of the group reads of the symbols that reads them. The group has the options from this number on.
+fn read_group(
+    alloc: Global,
+    level: &Level,
+    from: usize,
+    group: &Group,
+    symbols: &[u8],
+    trail: &mut Vec<Entry>,
+) -> Result<Option<Found>, Memory>
+    requires within { group.now.end ≤ length level.now.options }
+    requires begin { BeginAll level.now.options from group.now.end group.now.literal }
+    ensures found { IfOk result (λ found. IfSome found (λ read. ReadBy level.now.options symbols.now read.option read.values)) }
+    ensures none { IfOk result (λ found. IfNone found (NoneReads level.now.options from group.now.end symbols.now)) }
+{
+    if !stands_at(symbols, 0, group.literal.as_bytes()) {
+        return Ok(None);
+    }
+    for option in from..group.end {
+        if let Some(found) = read_option(alloc, level, option, symbols, trail)? {
+            return Ok(Some(found));
+        }
+    }
+    Ok(None)
+}
+
+/// What the first option of the level reads of the symbols that reads them.
+pub fn find(alloc: Global, level: &Level, symbols: &[u8]) -> Result<Option<Found>, Memory>
+    ensures found { IfOk result (λ found. IfSome found (λ read. ReadBy level.now.options symbols.now read.option read.values)) }
+    ensures none { IfOk result (λ found. IfNone found (NoneReads level.now.options 0 (length level.now.options) symbols.now)) }
+{
+    let mut trail = Vec::with_capacity(alloc, symbols.len())?;
+    let mut from = 0;
+    for group in level.groups() {
+        if let Some(found) = read_group(alloc, level, from, group, symbols, &mut trail)? {
+            return Ok(Some(found));
+        }
+        from = group.end;
+    }
+    Ok(None)
+}

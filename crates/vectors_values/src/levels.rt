@@ -1,0 +1,64 @@
+//! Calls of gs_level. An ITEM is a word of an item, and an option its items; options are divided by `|`.
+//!
+//! - `read_text TEXT ITEM.. | ITEM..`: the number of the option and the values of its items, or `Nothing`; of options that are
+//!   ambiguous `Ambiguous` and the numbers of the two that share a list.
+//! - `read_bits HEX ITEM.. | ITEM..`: the same over the bits of hexadecimal digits.
+
+use crate::bits::buffer;
+use crate::grammars::options_of;
+use gs_chars::Text;
+use gs_level::{Level, Reading, read_bits, read_text};
+use gs_share::{Shared, first_share};
+use std::alloc::Global;
+use vector_cases::{Answer, Refusal, arg, behind, shown_all};
+
+/// The answer to a call of gs_level.
+pub fn answer(alloc: Global, call: &str, args: &[Text]) -> Answer {
+    match call {
+        "read_text" => text_read(alloc, arg(args, 0)?, behind(args, 1)),
+        "read_bits" => bits_read(alloc, arg(args, 0)?, behind(args, 1)),
+        _ => Err(Refusal::NoCase),
+    }
+}
+
+/// The level of the words.
+fn level_of(alloc: Global, bit_level: bool, words: &[Text]) -> Result<Level, Refusal> {
+    let options = options_of(alloc, bit_level, words)?;
+    Ok(Level::new(alloc, bit_level, options)?)
+}
+
+/// The words of a reading.
+fn reading_words(alloc: Global, reading: Reading) -> Answer {
+    match reading {
+        Reading::One { option, values } => {
+            let words = shown_all(alloc, values.items())?;
+            Ok(format!(in alloc; "{option} {words}")?)
+        }
+        Reading::Nothing => Ok(String::from_str(alloc, "Nothing")?),
+        Reading::Memory => Err(Refusal::Memory),
+    }
+}
+
+/// The numbers of two options that share a list.
+fn pair_words(alloc: Global, pair: &Shared) -> Answer {
+    let first = pair.first;
+    let second = pair.second;
+    Ok(format!(in alloc; "Ambiguous {first} {second}")?)
+}
+
+fn text_read(alloc: Global, text: &[u8], words: &[Text]) -> Answer {
+    let level = level_of(alloc, false, words)?;
+    if let Some(pair) = first_share(alloc, &level)? {
+        return pair_words(alloc, &pair);
+    }
+    reading_words(alloc, read_text(alloc, &level, text))
+}
+
+fn bits_read(alloc: Global, digits: &[u8], words: &[Text]) -> Answer {
+    let level = level_of(alloc, true, words)?;
+    let bits = buffer::<64>(digits)?;
+    if let Some(pair) = first_share(alloc, &level)? {
+        return pair_words(alloc, &pair);
+    }
+    reading_words(alloc, read_bits(alloc, &level, &bits))
+}
