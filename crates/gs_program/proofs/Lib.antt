@@ -1,6 +1,9 @@
 pub mod WordLemmas
 pub mod PairLemmas
 pub mod RequestLemmas
+pub mod RangeLemmas
+pub mod FileLoads
+pub mod OpenedNames
 pub mod PrefixLoads
 pub mod LoadLemmas
 pub mod ReadLemmas

@@ -106,9 +106,12 @@ pub record AsksForLines (words : List (List ℕ)) : Type 0 where
   pub order : WordsInOrder words asked
   pub lines : answers_lines asked.command ≡ true
 
--- the names of the files that are read, in their order
+-- the names of the files that are read behind the tables, and of all, in their order
+abbrev pub names_behind : FileNames → List (List ℕ)
+names_behind files = option_to_list files.prefixes ++ option_to_list files.links
+
 abbrev pub names_in_order : FileNames → List (List ℕ)
-names_in_order files = option_to_list files.tables ++ option_to_list files.prefixes
+names_in_order files = option_to_list files.tables ++ names_behind files
 
 -- the words name a file
 pub record NamesFile (words : List (List ℕ)) (name : List ℕ) : Type 0 where
