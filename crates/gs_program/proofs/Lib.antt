@@ -5,6 +5,7 @@ pub mod RangeLemmas
 pub mod FileLoads
 pub mod OpenedNames
 pub mod PrefixLoads
+pub mod LinkLoads
 pub mod LoadLemmas
 pub mod ReadLemmas
 pub mod RanLemmas

@@ -67,14 +67,14 @@ found_taken : (rows : List NameRow) (name value : List ℕ) (pairs : List (List 
 found_taken rows name value [] none_taken e = absurd (let f : None ≡ Some value = e in cc)
 found_taken rows name value ((n, v) ∷ pairs) (one_taken _ _ _ first once taken) e = elim (true_or_false (bytes_eq n name)) as (λ _. takes rows name value ≡ true) [
   | inl is ↦
-    let here : look_up name ((n, v) ∷ pairs) ≡ Some v = rw is refl in
-    let found : Some v ≡ Some value = sym here ∙ e in
-    let same : v ≡ value = cc in
-    let names : n ≡ name = equal_bytes n name is in
-    rw (← names, ← same) first
+      let here : look_up name ((n, v) ∷ pairs) ≡ Some v = rw is refl in
+      let found : Some v ≡ Some value = sym here ∙ e in
+      let same : v ≡ value = cc in
+      let names : n ≡ name = equal_bytes n name is in
+      rw (← names, ← same) first
   | inr other ↦
-    let later : look_up name ((n, v) ∷ pairs) ≡ look_up name pairs = rw other refl in
-    found_taken rows name value pairs taken (sym later ∙ e)
+      let later : look_up name ((n, v) ∷ pairs) ≡ look_up name pairs = rw other refl in
+      found_taken rows name value pairs taken (sym later ∙ e)
 ]
 
 pub found_in_range : (rows : List NameRow) (name : Name) (value : List ℕ) (pairs : List (List ℕ × List ℕ)) → AreTaken rows pairs → look_up (name_word name) pairs ≡ Some value → in_range name value ≡ true

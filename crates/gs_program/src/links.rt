@@ -1,10 +1,10 @@
 ghost use Rattle.std.specs.Prelude.{◌≡◌, ◌≤◌, [], ◌∷◌, Ok, Some, None, option_to_list, true};
-ghost use Rattle.std.specs.List.{list_all};
-ghost use Rattle.gs_links.specs.Loading.{is_visible, load_answer};
+ghost use Rattle.gs_links.specs.Loading.{load_answer};
 ghost use Rattle.gs_linkset.specs.Answers.{read_answer};
 ghost use Rattle.gs_port.specs.Files.{AddsNames};
 ghost use Rattle.gs_program.specs.declared.file_kind.FileKind.TheVariants.{Links as OfLinks};
 ghost use Rattle.gs_program.specs.Loads.{LinksGive, LoadedBy, links_verdict, store_verdict};
+ghost use Rattle.gs_program.specs.Ranges.{is_vocabulary};
 ghost use Rattle.gs_program.specs.Reads.{JudgedAs};
 ghost use Rattle.gs_program.specs.Requests.{told_name};
 
@@ -21,16 +21,11 @@ use gs_port::Files;
 use std::alloc::Global;
 
 /// The store of a linkset.
-fn load_store(
-    alloc: Global,
-    ais: &AiTable,
-    voc: &[u8],
-    doc: LinkDoc,
-) -> Result<Store, Unloaded>
-    requires { list_all is_visible voc.now ≡ true }
+fn load_store(alloc: Global, ais: &AiTable, voc: &str, doc: LinkDoc) -> Result<Store, Unloaded>
+    requires { is_vocabulary voc.now ≡ true }
     ensures { JudgedAs OfLinks (store_verdict (load_answer ais.now voc.now doc)) result }
 {
-    match Store::load(alloc, ais, voc, doc) {
+    match Store::load(alloc, ais, voc.as_bytes(), doc) {
         Ok(store) => Ok(store),
         Err(StoreFault::Memory) => Err(Unloaded::Memory),
         Err(fault) => Err(Unloaded::Refused(Refusal {
@@ -41,8 +36,8 @@ fn load_store(
 }
 
 /// The links that the bytes of a file are.
-fn judge(alloc: Global, ais: &AiTable, voc: &[u8], bytes: &[u8]) -> Result<Store, Unloaded>
-    requires { list_all is_visible voc.now ≡ true }
+fn judge(alloc: Global, ais: &AiTable, voc: &str, bytes: &[u8]) -> Result<Store, Unloaded>
+    requires { is_vocabulary voc.now ≡ true }
     ensures { JudgedAs OfLinks (links_verdict ais.now voc.now (read_answer bytes.now)) result }
 {
     match read(alloc, bytes) {
@@ -59,11 +54,11 @@ fn judge(alloc: Global, ais: &AiTable, voc: &[u8], bytes: &[u8]) -> Result<Store
 fn load_named<F: Files>(
     alloc: Global,
     ais: &AiTable,
-    voc: &[u8],
+    voc: &str,
     name: &str,
     files: &mut F,
 ) -> Result<Store, Unloaded>
-    requires { list_all is_visible voc.now ≡ true }
+    requires { is_vocabulary voc.now ≡ true }
     ensures loaded { LoadedBy (LinksGive (F.files files.old) ais.now voc.now (Some name.now)) (F.faults files.old) (F.faults files.new) result }
     ensures opened { AddsNames (F.opened files.old) (name.now ∷ []) (F.opened files.new) }
     ensures told { F.files files.new ≡ F.files files.old }
@@ -77,8 +72,8 @@ fn load_named<F: Files>(
 
 /// The store of no link.
 #[tactic(auto, unfolding(gs_linkset::specs::LinkShapes::new_answer))]
-fn load_no_link(alloc: Global, ais: &AiTable, voc: &[u8]) -> Result<Store, Unloaded>
-    requires { list_all is_visible voc.now ≡ true }
+fn load_no_link(alloc: Global, ais: &AiTable, voc: &str) -> Result<Store, Unloaded>
+    requires { is_vocabulary voc.now ≡ true }
     ensures { JudgedAs OfLinks (Ok []) result }
 {
     match LinkDoc::new(List::from_vec(Vec::new(alloc))) {
@@ -91,11 +86,11 @@ fn load_no_link(alloc: Global, ais: &AiTable, voc: &[u8]) -> Result<Store, Unloa
 pub fn load_links<F: Files>(
     alloc: Global,
     ais: &AiTable,
-    voc: &[u8],
+    voc: &str,
     name: Option<&str>,
     files: &mut F,
 ) -> Result<Store, Unloaded>
-    requires { list_all is_visible voc.now ≡ true }
+    requires { is_vocabulary voc.now ≡ true }
     ensures loaded { LoadedBy (LinksGive (F.files files.old) ais.now voc.now (told_name name.entry)) (F.faults files.old) (F.faults files.new) result }
     ensures opened { AddsNames (F.opened files.old) (option_to_list (told_name name.entry)) (F.opened files.new) }
     ensures unopened { told_name name.entry ≡ None → files.new ≡ files.old }

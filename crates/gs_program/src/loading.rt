@@ -55,7 +55,7 @@ fn load_last<F: Files>(
     match load_links(
         alloc,
         tables.ais(),
-        request.values.voc.as_bytes(),
+        request.values.voc,
         request.files.links,
         files,
     ) {
