@@ -97,6 +97,7 @@ abbrev pub links_verdict : List AiRow → List ℕ → Result (List Context) Jso
 links_verdict ais voc (Ok contexts) = store_verdict (store_answer ais voc contexts)
 links_verdict ais voc (Err fault) = Err (Linkset fault)
 
+-- the verdict on links by their bytes
 abbrev pub JudgesLinks : List AiRow → List ℕ → List ℕ → Result (List Link) FileFault → Type 0
 JudgesLinks ais voc bytes verdict = verdict ≡ links_verdict ais voc (read_answer bytes)
 

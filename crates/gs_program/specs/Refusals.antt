@@ -114,10 +114,11 @@ anchor_text (anchor.Link fault) = reason_text (link_reason fault)
 anchor_text (anchor.Ident fault) = reason_text (Ident fault)
 anchor_text anchor.Attributes = codes "attributes"
 
--- the anchor of a context, and the context, the relation and the target of an `href`
+-- the context of an anchor that is none, and why
 abbrev pub bad_anchor_text : ℕ → AnchorWhy → List ℕ
 bad_anchor_text i why = numbered (codes "bad-anchor") i ++ 32 ∷ anchor_text why
 
+-- the context, the relation and the target of an `href` that is none
 abbrev pub bad_href_text : ℕ → ℕ → ℕ → List ℕ
 bad_href_text i r t = numbered (numbered_twice (codes "bad-href") i r) t
 

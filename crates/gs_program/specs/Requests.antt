@@ -106,10 +106,11 @@ pub record AsksForLines (words : List (List ℕ)) : Type 0 where
   pub order : WordsInOrder words asked
   pub lines : answers_lines asked.command ≡ true
 
--- the names of the files that are read behind the tables, and of all, in their order
+-- the names of the files that are read behind the tables, in their order
 abbrev pub names_behind : FileNames → List (List ℕ)
 names_behind files = option_to_list files.prefixes ++ option_to_list files.links
 
+-- the names of the files that are read, in their order
 abbrev pub names_in_order : FileNames → List (List ℕ)
 names_in_order files = option_to_list files.tables ++ names_behind files
 
