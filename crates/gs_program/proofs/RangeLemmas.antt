@@ -57,7 +57,7 @@ row_in_range row name value e =
 
 taken_in_range : (rows : List NameRow) (name : Name) (value : List ℕ) → takes rows (name_word name) value ≡ true → in_range name value ≡ true
 taken_in_range [] name value e = absurd (let f : false ≡ true = e in cc)
-taken_in_range (row ∷ rows) name value e = elim (either _ _ e) as (λ _. in_range name value ≡ true) [
+taken_in_range (row ∷ rows) name value e = elim (either (bytes_eq (name_word row.name) (name_word name) && in_range row.name value) (takes rows (name_word name) value) e) as (λ _. in_range name value ≡ true) [
   | inl here ↦ row_in_range row name value here
   | inr later ↦ taken_in_range rows name value later
 ]
