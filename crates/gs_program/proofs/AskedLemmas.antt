@@ -37,14 +37,14 @@ command_some (Canon form) loaded input keeps =
     (record { output = o.output; status = o.status }, o.answers)
 command_some Check loaded input keeps = (record { output = counts_line loaded; status = status.Done }, refl)
 
-asked_from : (asked : Asked) (world : World) (answer : Result Loaded Stop) → FilesGive world.files asked.files answer → HasSome (AskedRun asked world)
+asked_from : (asked : Asked) (world : World) (answer : Result Loaded Stop) → FilesGive world.files asked answer → HasSome (AskedRun asked world)
 asked_from asked world (Ok loaded) gives =
-    let c = command_some asked.command loaded world.input (loaded_of world.files asked.files loaded gives) in
+    let c = command_some asked.command loaded world.input (loaded_of world.files asked loaded gives) in
     (c.0, ran loaded gives c.1)
 asked_from asked world (Err stop) gives = (stopped stop, stops stop gives refl)
 
 pub asked_some : (asked : Asked) (world : World) → HasSome (AskedRun asked world)
-asked_some asked world = let f = files_some world.files asked.files in asked_from asked world f.0 f.1
+asked_some asked world = let f = files_some world.files asked in asked_from asked world f.0 f.1
 
 begins_nothing : (asked : Asked) (world : World) → BeginsOne (AskedRun asked world) []
 begins_nothing asked world = let o = asked_some asked world in record { outcome = o.0; is = o.1; begins = (0, refl) }
@@ -61,10 +61,10 @@ never_refused status.WriteFault fact un = tt
 never_refused status.InputLong fact un = tt
 never_refused status.Memory fact un = tt
 
-begins_asked : (asked : Asked) (world : World) (loaded : Loaded) (output : List ℕ) → FilesGive world.files asked.files (Ok loaded) → BeginsOne (CommandRun asked.command loaded world.input) output → BeginsOne (AskedRun asked world) output
+begins_asked : (asked : Asked) (world : World) (loaded : Loaded) (output : List ℕ) → FilesGive world.files asked (Ok loaded) → BeginsOne (CommandRun asked.command loaded world.input) output → BeginsOne (AskedRun asked world) output
 begins_asked asked world loaded output gives b = record { outcome = b.outcome; is = ran loaded gives b.is; begins = b.begins }
 
-pub asked_of_command : (asked : Asked) (world : World) (before now : Counts) (left : Option (List ℕ)) (loaded : Loaded) (outcome : Outcome) → FilesGive world.files asked.files (Ok loaded) → before.file_faults ≤ now.file_faults → Ran asked.command loaded (record { input = world.input; input_faults = before.input_faults; output_faults = before.output_faults }) (record { input = left; input_faults = now.input_faults; output_faults = now.output_faults }) outcome → AskedRan asked world before now left outcome
+pub asked_of_command : (asked : Asked) (world : World) (before now : Counts) (left : Option (List ℕ)) (loaded : Loaded) (outcome : Outcome) → FilesGive world.files asked (Ok loaded) → before.file_faults ≤ now.file_faults → Ran asked.command loaded (record { input = world.input; input_faults = before.input_faults; output_faults = before.output_faults }) (record { input = left; input_faults = now.input_faults; output_faults = now.output_faults }) outcome → AskedRan asked world before now left outcome
 asked_of_command asked world before now left loaded outcome gives counts r = record {
   written = when_map (is_written outcome.status) (λ run. ran loaded gives run) r.written;
   begun = when_map (is_cut_short outcome.status) (begins_asked asked world loaded outcome.output gives) r.begun;
@@ -94,19 +94,19 @@ when_both A B status.InputLong a b = tt
 when_both A B status.Memory a b = tt
 
 -- after a fault of the input the lines that had ended were answered
-pub ended_of_command : (nothing : Type 0) (asked : Asked) (world : World) (before now : Moment) (held holds : Option (List ℕ)) (loaded : Loaded) (s : Status) → FilesGive world.files asked.files (Ok loaded) → before.input ≡ world.input → Appends held holds (λ out. Ran asked.command loaded before now (record { output = out; status = s })) → OnReadFault s (nothing ⊎ (Rises before.input_faults now.input_faults × Appends held holds (AskedEnded asked world.files world.input now.input)))
+pub ended_of_command : (nothing : Type 0) (asked : Asked) (world : World) (before now : Moment) (held holds : Option (List ℕ)) (loaded : Loaded) (s : Status) → FilesGive world.files asked (Ok loaded) → before.input ≡ world.input → Appends held holds (λ out. Ran asked.command loaded before now (record { output = out; status = s })) → OnReadFault s (nothing ⊎ (Rises before.input_faults now.input_faults × Appends held holds (AskedEnded asked world.files world.input now.input)))
 ended_of_command nothing asked world before now held holds loaded s gives same a =
     when_map (is_read_fault s) (λ both. inr (both.0, (a.0, a.1, rw (← same) (record { loaded = loaded; loads = gives; ended = both.1 }))))
     (when_both _ _ s a.2.read_fault a.2.ended)
 
 -- ---- a file is refused
 
-begins_refusal : (asked : Asked) (world : World) (refusal : Refusal) (output : List ℕ) → FilesGive world.files asked.files (Err (refused refusal)) → IsInitialPart output (refused_line refusal) → BeginsOne (AskedRun asked world) output
+begins_refusal : (asked : Asked) (world : World) (refusal : Refusal) (output : List ℕ) → FilesGive world.files asked (Err (refused refusal)) → IsInitialPart output (refused_line refusal) → BeginsOne (AskedRun asked world) output
 begins_refusal asked world refusal output gives part =
     record { outcome = stopped (refused refusal); is = stops (refused refusal) gives refl; begins = part }
 
 -- the facts of a run that leaves its input
-asked_by : (asked : Asked) (world : World) (before now : Counts) (output : List ℕ) (s : Status) → OnWritten s (AskedRun asked world (record { output = output; status = s })) → OnCutShort s (BeginsOne (AskedRun asked world) output) → OnReadFault s (Rises before.file_faults now.file_faults ⊎ FilesGive world.files asked.files (Err missing)) → OnWriteFault s (Rises before.output_faults now.output_faults) → OnRefused s ((refusal : Refusal) × FilesGive world.files asked.files (Err (refused refusal))) → s ≢ status.Done → s ≢ status.SomeRefused → s ≢ status.InputLong → s ≢ status.Usage → before.file_faults ≤ now.file_faults → before.input_faults ≡ now.input_faults → before.output_faults ≤ now.output_faults → AskedRan asked world before now world.input (record { output = output; status = s })
+asked_by : (asked : Asked) (world : World) (before now : Counts) (output : List ℕ) (s : Status) → OnWritten s (AskedRun asked world (record { output = output; status = s })) → OnCutShort s (BeginsOne (AskedRun asked world) output) → OnReadFault s (Rises before.file_faults now.file_faults ⊎ FilesGive world.files asked (Err missing)) → OnWriteFault s (Rises before.output_faults now.output_faults) → OnRefused s ((refusal : Refusal) × FilesGive world.files asked (Err (refused refusal))) → s ≢ status.Done → s ≢ status.SomeRefused → s ≢ status.InputLong → s ≢ status.Usage → before.file_faults ≤ now.file_faults → before.input_faults ≡ now.input_faults → before.output_faults ≤ now.output_faults → AskedRan asked world before now world.input (record { output = output; status = s })
 asked_by asked world before now output status.Done written begun read write refusal done some long usage files inputs outputs = absurd (done refl)
 asked_by asked world before now output status.SomeRefused written begun read write refusal done some long usage files inputs outputs = absurd (some refl)
 asked_by asked world before now output status.InputLong written begun read write refusal done some long usage files inputs outputs = absurd (long refl)
@@ -116,7 +116,7 @@ asked_by asked world before now output status.ReadFault written begun read write
 asked_by asked world before now output status.WriteFault written begun read write refusal done some long usage files inputs outputs = record { written = tt; begun = begun; read_fault = tt; write_fault = write; refusal = tt; to_end = tt; long = tt; few = takes_nothing (input_limit + 1) world.input; file_counts = files; input_counts = omega arith; output_counts = outputs; no_usage = usage }
 asked_by asked world before now output status.Memory written begun read write refusal done some long usage files inputs outputs = record { written = tt; begun = begun; read_fault = tt; write_fault = tt; refusal = tt; to_end = tt; long = tt; few = takes_nothing (input_limit + 1) world.input; file_counts = files; input_counts = omega arith; output_counts = outputs; no_usage = usage }
 
-pub asked_of_refusal : (asked : Asked) (world : World) (before now : Counts) (refusal : Refusal) (output : List ℕ) (s : Status) → FilesGive world.files asked.files (Err (refused refusal)) → PrintedAs status.Refused (refused_line refusal) output s → OnWriteFault s (Rises before.output_faults now.output_faults) → before.file_faults ≤ now.file_faults → before.input_faults ≡ now.input_faults → before.output_faults ≤ now.output_faults → AskedRan asked world before now world.input (record { output = output; status = s })
+pub asked_of_refusal : (asked : Asked) (world : World) (before now : Counts) (refusal : Refusal) (output : List ℕ) (s : Status) → FilesGive world.files asked (Err (refused refusal)) → PrintedAs status.Refused (refused_line refusal) output s → OnWriteFault s (Rises before.output_faults now.output_faults) → before.file_faults ≤ now.file_faults → before.input_faults ≡ now.input_faults → before.output_faults ≤ now.output_faults → AskedRan asked world before now world.input (record { output = output; status = s })
 asked_of_refusal asked world before now refusal output s gives printed write files inputs outputs = by (printed_case status.Refused (refused_line refusal) output s printed)
   where
     by : PrintedCase status.Refused (refused_line refusal) output s → AskedRan asked world before now world.input (record { output = output; status = s })
@@ -135,7 +135,7 @@ no_read_fault fact line output s printed = by (printed_case status.Refused line 
 
 -- ---- nothing was loaded
 
-pub asked_of_fault : (asked : Asked) (world : World) (before now : Counts) → LoadedBy (FilesGive world.files asked.files) before.file_faults now.file_faults (Err unloaded.ReadFault) → before.file_faults ≤ now.file_faults → before.input_faults ≡ now.input_faults → before.output_faults ≡ now.output_faults → AskedRan asked world before now world.input (record { output = []; status = status.ReadFault })
+pub asked_of_fault : (asked : Asked) (world : World) (before now : Counts) → LoadedBy (FilesGive world.files asked) before.file_faults now.file_faults (Err unloaded.ReadFault) → before.file_faults ≤ now.file_faults → before.input_faults ≡ now.input_faults → before.output_faults ≡ now.output_faults → AskedRan asked world before now world.input (record { output = []; status = status.ReadFault })
 asked_of_fault asked world before now cause files inputs outputs =
     asked_by asked world before now [] status.ReadFault tt (begins_nothing asked world) cause tt tt (λ e. cc) (λ e. cc) (λ e. cc) (λ e. cc) files inputs (omega arith)
 

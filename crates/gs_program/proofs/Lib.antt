@@ -1,7 +1,11 @@
 pub mod WordLemmas
 pub mod PairLemmas
 pub mod RequestLemmas
+pub mod RangeLemmas
+pub mod FileLoads
+pub mod OpenedNames
 pub mod PrefixLoads
+pub mod LinkLoads
 pub mod LoadLemmas
 pub mod ReadLemmas
 pub mod RanLemmas

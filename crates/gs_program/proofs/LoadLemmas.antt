@@ -2,10 +2,13 @@
 use Rattle.std.proofs.Common.{◌≡◌, ℕ, ◌<◌, ◌≤◌, List, [], Option, Some, None, length, refl, sym, ◌∙◌, ap, inl, inr, arith}
 use Rattle.std.specs.Prelude.{Result, Ok, Err}
 use Rattle.std.proofs.lemmas.Bool.Decides.{leb_tells}
+use Rattle.gs_ai.specs.declared.row.AiRow.{AiRow}
 use Rattle.gs_document.specs.declared.fault.LoadFault.{LoadFault}
 use Rattle.gs_document.specs.declared.level_name.LevelName.{LevelName}
+use Rattle.gs_linkset.specs.Answers.{read_answer}
 use Rattle.gs_port.specs.Files.{IsAbsent, IsFile, file_of}
 use Rattle.gs_prefix.specs.Answers.{load_answer}
+use Rattle.gs_prefix.specs.declared.entry.PrefixEntry.{PrefixEntry}
 use Rattle.gs_tables.specs.Judged.{Judged}
 use Rattle.gs_tables.specs.Shapes.{AreAlike, BuiltInAnswer, HasMemory, LoadAnswer, Shape, but_text, same}
 use Rattle.gs_tables.specs.Tables.{TableRows}
@@ -18,9 +21,9 @@ use Rattle.gs_program.specs.declared.file_kind.FileKind.TheVariants as kind
 use Rattle.gs_program.specs.declared.loading.Loaded.{Loaded}
 use Rattle.gs_program.specs.declared.refusal.FileFault.{FileFault}
 use Rattle.gs_program.specs.declared.refusal.FileFault.TheVariants.{Over}
-use Rattle.gs_program.specs.Loads.{FileGives, FilesGive, Gives, GivesBehind, IsLoadedOf, IsNoPrefix, JudgesPrefixes, JudgesTables, PrefixesGive, Stop, TablesGive, prefixes_verdict, absent, judged, missing, of_verdict, tables_verdict, too_large}
+use Rattle.gs_program.specs.Loads.{FileGives, FilesGive, Gives, GivesBehind, GivesLinks, IsLoadedOf, IsNoLink, IsNoPrefix, JudgesLinks, JudgesPrefixes, JudgesTables, LinksGive, PrefixesGive, Stop, TablesGive, links_verdict, prefixes_verdict, absent, judged, missing, of_verdict, tables_verdict, too_large}
 use Rattle.gs_program.specs.Refusals.{file_limit}
-use Rattle.gs_program.specs.Requests.{FileNames}
+use Rattle.gs_program.specs.Requests.{Asked}
 use Rattle.gs_program.specs.Runs.{ambiguous}
 
 -- ---- at most one answer
@@ -104,15 +107,25 @@ prefixes_one files name = gives_one files kind.Prefixes JudgesPrefixes IsNoPrefi
     (λ bytes x y e f. one_stop (ap (of_verdict kind.Prefixes) (e ∙ sym f)))
     (λ x y e f. one_stop (ap (of_verdict kind.Prefixes) (e ∙ sym f)))
 
-behind_one : (files : List (List ℕ × List ℕ)) (names : FileNames) (set : TableRows) → AreAlikeAll (GivesBehind (Some files) names set)
-behind_one files names set = then_alike (PrefixesGive (Some files) names.prefixes) (IsLoadedOf set) (prefixes_one files names.prefixes)
-    (λ list x y e f. one_stop (e ∙ sym f))
+links_one : (files : List (List ℕ × List ℕ)) (ais : List AiRow) (voc : List ℕ) (name : Option (List ℕ)) → AreAlikeAll (LinksGive (Some files) ais voc name)
+links_one files ais voc name = gives_one files kind.Links (JudgesLinks ais voc) IsNoLink name
+    (λ bytes x y e f. one_stop (ap (of_verdict kind.Links) (e ∙ sym f)))
+    (λ x y e f. one_stop (ap (of_verdict kind.Links) (e ∙ sym f)))
 
-pub files_one : (files : List (List ℕ × List ℕ)) (names : FileNames) (a b : Result Loaded Stop) → FilesGive (Some files) names a → FilesGive (Some files) names b → AlikeStops a b
-files_one files names = then_alike (TablesGive (Some files) names.tables) (GivesBehind (Some files) names)
-    (gives_one files kind.Tables (λ bytes. JudgesTables (LoadAnswer bytes)) (JudgesTables BuiltInAnswer) names.tables
+last_one : (files : List (List ℕ × List ℕ)) (asked : Asked) (set : TableRows) (list : List PrefixEntry) → AreAlikeAll (GivesLinks (Some files) asked set list)
+last_one files asked set list = then_alike (LinksGive (Some files) set.ais asked.values.voc asked.files.links) (IsLoadedOf set list)
+    (links_one files set.ais asked.values.voc asked.files.links)
+    (λ links x y e f. one_stop (e ∙ sym f))
+
+behind_one : (files : List (List ℕ × List ℕ)) (asked : Asked) (set : TableRows) → AreAlikeAll (GivesBehind (Some files) asked set)
+behind_one files asked set = then_alike (PrefixesGive (Some files) asked.files.prefixes) (GivesLinks (Some files) asked set) (prefixes_one files asked.files.prefixes)
+    (last_one files asked set)
+
+pub files_one : (files : List (List ℕ × List ℕ)) (asked : Asked) (a b : Result Loaded Stop) → FilesGive (Some files) asked a → FilesGive (Some files) asked b → AlikeStops a b
+files_one files asked = then_alike (TablesGive (Some files) asked.files.tables) (GivesBehind (Some files) asked)
+    (gives_one files kind.Tables (λ bytes. JudgesTables (LoadAnswer bytes)) (JudgesTables BuiltInAnswer) asked.files.tables
     (λ bytes. tables_one (Shape bytes) (ruling_of_bytes bytes)) (tables_one RuledRows ruling_of_builtin))
-    (behind_one files names)
+    (behind_one files asked)
 
 -- ---- an answer
 
@@ -141,12 +154,20 @@ tables_some Answer some = (tables_verdict some.0, record { answer = some.0; enou
 prefixes_some : (files : Option (List (List ℕ × List ℕ))) (name : Option (List ℕ)) → HasSome (PrefixesGive files name)
 prefixes_some files name = gives_some files kind.Prefixes JudgesPrefixes IsNoPrefix name (λ bytes. (prefixes_verdict (load_answer bytes), refl)) (Ok [], refl)
 
-behind_some : (files : Option (List (List ℕ × List ℕ))) (names : FileNames) (set : TableRows) → HasSome (GivesBehind files names set)
-behind_some files names set = then_some (PrefixesGive files names.prefixes) (IsLoadedOf set) (prefixes_some files names.prefixes)
-    (λ list gives. (Ok (record { tables = set; prefixes = list }), refl))
+links_some : (files : Option (List (List ℕ × List ℕ))) (ais : List AiRow) (voc : List ℕ) (name : Option (List ℕ)) → HasSome (LinksGive files ais voc name)
+links_some files ais voc name = gives_some files kind.Links (JudgesLinks ais voc) IsNoLink name (λ bytes. (links_verdict ais voc (read_answer bytes), refl)) (Ok [], refl)
 
-pub files_some : (files : Option (List (List ℕ × List ℕ))) (names : FileNames) → HasSome (FilesGive files names)
-files_some files names = then_some (TablesGive files names.tables) (GivesBehind files names)
-    (gives_some files kind.Tables (λ bytes. JudgesTables (LoadAnswer bytes)) (JudgesTables BuiltInAnswer) names.tables
+last_some : (files : Option (List (List ℕ × List ℕ))) (asked : Asked) (set : TableRows) (list : List PrefixEntry) → HasSome (GivesLinks files asked set list)
+last_some files asked set list = then_some (LinksGive files set.ais asked.values.voc asked.files.links) (IsLoadedOf set list)
+    (links_some files set.ais asked.values.voc asked.files.links)
+    (λ links gives. (Ok (record { tables = set; prefixes = list; links = links }), refl))
+
+behind_some : (files : Option (List (List ℕ × List ℕ))) (asked : Asked) (set : TableRows) → HasSome (GivesBehind files asked set)
+behind_some files asked set = then_some (PrefixesGive files asked.files.prefixes) (GivesLinks files asked set) (prefixes_some files asked.files.prefixes)
+    (λ list gives. last_some files asked set list)
+
+pub files_some : (files : Option (List (List ℕ × List ℕ))) (asked : Asked) → HasSome (FilesGive files asked)
+files_some files asked = then_some (TablesGive files asked.files.tables) (GivesBehind files asked)
+    (gives_some files kind.Tables (λ bytes. JudgesTables (LoadAnswer bytes)) (JudgesTables BuiltInAnswer) asked.files.tables
     (λ bytes. tables_some (LoadAnswer bytes) (judged_some (Shape bytes) (ruling_of_bytes bytes))) (tables_some BuiltInAnswer (judged_some RuledRows ruling_of_builtin)))
-    (λ set gives. behind_some files names set)
+    (λ set gives. behind_some files asked set)

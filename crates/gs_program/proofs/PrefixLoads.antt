@@ -9,8 +9,8 @@ use Rattle.gs_prefix.specs.declared.fault.PrefixFault.TheVariants as prefix
 use Rattle.gs_program.specs.declared.file_kind.FileKind.TheVariants as kind
 use Rattle.gs_program.specs.declared.loading.Unloaded.{Unloaded}
 use Rattle.gs_program.specs.declared.loading.Unloaded.TheVariants as unloaded
-use Rattle.gs_program.specs.Loads.{LoadedBy, PrefixesGive, Stop, absent, judged, of_verdict, prefixes_verdict, refused, too_large}
-use Rattle.gs_program.specs.Reads.{PrefixesUnloadedAs, ReadBy}
+use Rattle.gs_program.specs.Loads.{LoadedBy, PrefixesGive, Stop, judged, of_verdict, prefixes_verdict, refused}
+use Rattle.gs_program.specs.Reads.{PrefixesUnloadedAs}
 use Rattle.gs_program.specs.Refusals.{file_limit}
 
 -- a list that was judged is loaded, or refused, or there was want of memory
@@ -30,10 +30,3 @@ pub file_loaded : (files : Option (List (List ℕ × List ℕ))) (name bytes : L
 file_loaded files name bytes before now answer result is few load u =
     told_prefixes (PrefixesGive files (Some name)) before now answer (load_answer bytes) result load u
     (judged bytes (prefixes_verdict (load_answer bytes)) is few refl refl)
-
--- a file that was not read
-pub file_unloaded : (files : Option (List (List ℕ × List ℕ))) (name : List ℕ) (before now : ℕ) (u : Unloaded) → ReadBy files kind.Prefixes name before now (Err u) → LoadedBy (PrefixesGive files (Some name)) before now (Err u)
-file_unloaded files name before now unloaded.Memory r = tt
-file_unloaded files name before now unloaded.ReadFault (inl rises) = inl rises
-file_unloaded files name before now unloaded.ReadFault (inr none) = inr (absent none refl)
-file_unloaded files name before now (unloaded.Refused refusal) r = too_large r.0 r.1 r.2 (ap (λ x. Err (refused x)) r.3)

@@ -56,12 +56,12 @@ same_loaded loaded loaded' (two_texts name i j text text' e f) = absurd (let g :
 
 pub asked_one : (asked : Asked) (files : List (List ℕ × List ℕ)) (input : List ℕ) (one other : Outcome) → AskedRun asked (told files input) one → AskedRun asked (told files input) other → AreAlike one other
 asked_one asked files input one other (ran loaded gives a) (ran loaded' gives' b) =
-    let is = same_loaded loaded loaded' (files_one files asked.files (Ok loaded) (Ok loaded') gives gives') in
+    let is = same_loaded loaded loaded' (files_one files asked (Ok loaded) (Ok loaded') gives gives') in
     let moved : CommandRun asked.command loaded (Some input) other = rw is b in
-    same (command_one asked.command loaded input (loaded_of (Some files) asked.files loaded gives) one other a moved)
-asked_one asked files input one other (ran loaded gives a) (stops stop gives' b) = absurd (not_alike loaded stop (files_one files asked.files (Ok loaded) (Err stop) gives gives'))
-asked_one asked files input one other (stops stop gives a) (ran loaded gives' b) = absurd (not_alike loaded stop (files_one files asked.files (Ok loaded) (Err stop) gives' gives))
-asked_one asked files input one other (stops stop gives a) (stops stop' gives' b) = stops_alike stop stop' one other a b (files_one files asked.files (Err stop) (Err stop') gives gives')
+    same (command_one asked.command loaded input (loaded_of (Some files) asked loaded gives) one other a moved)
+asked_one asked files input one other (ran loaded gives a) (stops stop gives' b) = absurd (not_alike loaded stop (files_one files asked (Ok loaded) (Err stop) gives gives'))
+asked_one asked files input one other (stops stop gives a) (ran loaded gives' b) = absurd (not_alike loaded stop (files_one files asked (Ok loaded) (Err stop) gives' gives))
+asked_one asked files input one other (stops stop gives a) (stops stop' gives' b) = stops_alike stop stop' one other a b (files_one files asked (Err stop) (Err stop') gives gives')
 
 pub run_one : (words : List (List ℕ)) (files : List (List ℕ × List ℕ)) (input : List ℕ) (one other : Outcome) → DefinedRun words (told files input) one → DefinedRun words (told files input) other → AreAlike one other
 run_one words files input one other (by_request asked order a) (by_request asked' order' b) =

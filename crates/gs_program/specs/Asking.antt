@@ -22,7 +22,7 @@ pub record Counts : Type 0 where
 -- there.
 abbrev pub ReadCause : Asked → World → Counts → Counts → Type 0
 ReadCause asked world before now = Rises before.input_faults now.input_faults
-    ⊎ (Rises before.file_faults now.file_faults ⊎ FilesGive world.files asked.files (Err missing))
+    ⊎ (Rises before.file_faults now.file_faults ⊎ FilesGive world.files asked (Err missing))
 
 -- What a run ensures of what it is asked: what it wrote and its status, and the cause of each.
 pub record AskedRan (asked : Asked) (world : World) (before now : Counts) (left : Option (List ℕ)) (outcome : Outcome) : Type 0 where
@@ -30,7 +30,7 @@ pub record AskedRan (asked : Asked) (world : World) (before now : Counts) (left 
   pub begun : OnCutShort outcome.status (BeginsOne (AskedRun asked world) outcome.output)
   pub read_fault : OnReadFault outcome.status (ReadCause asked world before now)
   pub write_fault : OnWriteFault outcome.status (Rises before.output_faults now.output_faults)
-  pub refusal : OnRefused outcome.status ((refusal : Refusal) × FilesGive world.files asked.files (Err (refused refusal)))
+  pub refusal : OnRefused outcome.status ((refusal : Refusal) × FilesGive world.files asked (Err (refused refusal)))
   pub to_end : OnAnswered outcome.status (answers_lines asked.command ≡ true → IsAtEnd left)
   pub long : OnInputLong outcome.status (TakesMoreThan input_limit world.input left)
   pub few : TakesAtMost (input_limit + 1) world.input left

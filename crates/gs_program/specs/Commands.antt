@@ -5,7 +5,7 @@ use Rattle.gs_translate.specs.declared.form.Form.TheVariants.{Hex, Tag, Pure, Ra
 use Rattle.gs_program.specs.declared.command.Command.{Command}
 use Rattle.gs_program.specs.declared.command.Command.TheVariants.{Canon, Check}
 use Rattle.gs_program.specs.declared.name.Name.{Name}
-use Rattle.gs_program.specs.declared.name.Name.TheVariants.{Prefixes, Tables}
+use Rattle.gs_program.specs.declared.name.Name.TheVariants.{Links, Prefixes, Tables, Voc}
 use Rattle.gs_program.specs.declared.name.NameRow.{NameRow}
 
 -- the word of a form
@@ -29,7 +29,7 @@ optional name = record { name = name; required = false }
 -- the names that a command takes
 abbrev pub names_of : Command → List NameRow
 names_of (Canon form) = optional Tables ∷ []
-names_of Check = optional Tables ∷ optional Prefixes ∷ []
+names_of Check = optional Tables ∷ optional Prefixes ∷ optional Links ∷ optional Voc ∷ []
 
 -- the command answers the lines of the input, and so uses the input
 abbrev pub answers_lines : Command → Bool

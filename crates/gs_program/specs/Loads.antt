@@ -1,6 +1,13 @@
 -- What files give, and the rows in their place where they are not named.
 use Rattle.std.specs.Prelude.{◌≡◌, ◌⊎◌, ℕ, ◌<◌, ◌≤◌, List, [], length, take, Option, Some, None, Result, Ok, Err}
+use Rattle.gs_ai.specs.declared.row.AiRow.{AiRow}
 use Rattle.gs_document.specs.declared.fault.LoadFault.{LoadFault}
+use Rattle.gs_json.specs.declared.fault.JsonFault.{JsonFault}
+use Rattle.gs_links.specs.declared.fault.StoreFault.{StoreFault}
+use Rattle.gs_links.specs.declared.link.Link.{Link}
+use Rattle.gs_links.specs.Loading.{load_answer as store_answer}
+use Rattle.gs_linkset.specs.declared.link_types.Context.{Context}
+use Rattle.gs_linkset.specs.Answers.{read_answer}
 use Rattle.gs_port.specs.Counts.{Rises}
 use Rattle.gs_port.specs.Files.{AddsNames, IsAbsent, IsFile}
 use Rattle.gs_prefix.specs.Answers.{load_answer}
@@ -15,10 +22,10 @@ use Rattle.gs_program.specs.declared.loading.Loaded.{Loaded}
 use Rattle.gs_program.specs.declared.loading.Unloaded.{Unloaded}
 use Rattle.gs_program.specs.declared.loading.Unloaded.TheVariants.{Refused, ReadFault, Memory}
 use Rattle.gs_program.specs.declared.refusal.FileFault.{FileFault}
-use Rattle.gs_program.specs.declared.refusal.FileFault.TheVariants.{Over, Tables, Prefixes}
+use Rattle.gs_program.specs.declared.refusal.FileFault.TheVariants.{Over, Tables, Prefixes, Linkset, Store}
 use Rattle.gs_program.specs.declared.refusal.Refusal.{Refusal}
 use Rattle.gs_program.specs.Refusals.{file_limit}
-use Rattle.gs_program.specs.Requests.{FileNames}
+use Rattle.gs_program.specs.Requests.{Asked}
 
 -- why a run goes no further than its files: one is not there, or is refused
 pub data Stop : Type 0 where
@@ -80,17 +87,43 @@ IsNoPrefix verdict = verdict ≡ Ok []
 abbrev pub PrefixesGive : Option (List (List ℕ × List ℕ)) → Option (List ℕ) → Result (List PrefixEntry) Stop → Type 0
 PrefixesGive files name answer = Gives files kind.Prefixes JudgesPrefixes IsNoPrefix name answer
 
--- what is loaded of these tables and this list
-abbrev pub IsLoadedOf : TableRows → List PrefixEntry → Result Loaded Stop → Type 0
-IsLoadedOf set list answer = answer ≡ Ok (record { tables = set; prefixes = list })
+-- the verdict on a linkset by the answer of its load as a store
+abbrev pub store_verdict : Result (List Link) StoreFault → Result (List Link) FileFault
+store_verdict (Ok links) = Ok links
+store_verdict (Err fault) = Err (Store fault)
+
+-- the verdict on links by the answer of reading them as a linkset, over application identifiers and a vocabulary
+abbrev pub links_verdict : List AiRow → List ℕ → Result (List Context) JsonFault → Result (List Link) FileFault
+links_verdict ais voc (Ok contexts) = store_verdict (store_answer ais voc contexts)
+links_verdict ais voc (Err fault) = Err (Linkset fault)
+
+-- the verdict on links by their bytes
+abbrev pub JudgesLinks : List AiRow → List ℕ → List ℕ → Result (List Link) FileFault → Type 0
+JudgesLinks ais voc bytes verdict = verdict ≡ links_verdict ais voc (read_answer bytes)
+
+-- the store of no link
+abbrev pub IsNoLink : Result (List Link) FileFault → Type 0
+IsNoLink verdict = verdict ≡ Ok []
+
+-- the links of the named file, or none where none is named
+abbrev pub LinksGive : Option (List (List ℕ × List ℕ)) → List AiRow → List ℕ → Option (List ℕ) → Result (List Link) Stop → Type 0
+LinksGive files ais voc name answer = Gives files kind.Links (JudgesLinks ais voc) IsNoLink name answer
+
+-- what is loaded of these tables, this list and these links
+abbrev pub IsLoadedOf : TableRows → List PrefixEntry → List Link → Result Loaded Stop → Type 0
+IsLoadedOf set list links answer = answer ≡ Ok (record { tables = set; prefixes = list; links = links })
+
+-- what the file of links gives behind these tables and this list
+abbrev pub GivesLinks : Option (List (List ℕ × List ℕ)) → Asked → TableRows → List PrefixEntry → Result Loaded Stop → Type 0
+GivesLinks files asked set list answer = Then (LinksGive files set.ais asked.values.voc asked.files.links) (IsLoadedOf set list) answer
 
 -- what the files behind the tables give
-abbrev pub GivesBehind : Option (List (List ℕ × List ℕ)) → FileNames → TableRows → Result Loaded Stop → Type 0
-GivesBehind files names set answer = Then (PrefixesGive files names.prefixes) (IsLoadedOf set) answer
+abbrev pub GivesBehind : Option (List (List ℕ × List ℕ)) → Asked → TableRows → Result Loaded Stop → Type 0
+GivesBehind files asked set answer = Then (PrefixesGive files asked.files.prefixes) (GivesLinks files asked set) answer
 
 -- What the files give, in their order, of what is asked of each, or the first that is not there, is too large or is refused.
-abbrev pub FilesGive : Option (List (List ℕ × List ℕ)) → FileNames → Result Loaded Stop → Type 0
-FilesGive files names answer = Then (TablesGive files names.tables) (GivesBehind files names) answer
+abbrev pub FilesGive : Option (List (List ℕ × List ℕ)) → Asked → Result Loaded Stop → Type 0
+FilesGive files asked answer = Then (TablesGive files asked.files.tables) (GivesBehind files asked) answer
 
 -- The answer of a load, by what the files give: a fault comes only where the files counted one, or where the first that is
 -- not loaded is not there.

@@ -12,6 +12,7 @@ use Rattle.gs_program.specs.declared.file_kind.FileKind.{FileKind}
 use Rattle.gs_program.specs.declared.file_kind.FileKind.TheVariants as kind
 use Rattle.gs_program.specs.declared.loading.Unloaded.{Unloaded}
 use Rattle.gs_program.specs.declared.loading.Unloaded.TheVariants.{Refused, ReadFault, Memory}
+use Rattle.gs_program.specs.declared.refusal.FileFault.{FileFault}
 use Rattle.gs_program.specs.declared.refusal.FileFault.TheVariants.{Over}
 use Rattle.gs_program.specs.Loads.{of_verdict, prefixes_verdict, refused, tables_verdict}
 use Rattle.gs_program.specs.Refusals.{file_limit}
@@ -29,6 +30,13 @@ UnloadedAs answer (Ok set) = answer ≡ Ok set
 UnloadedAs answer (Err Memory) = Unit {0}
 UnloadedAs answer (Err ReadFault) = ⊥
 UnloadedAs answer (Err (Refused refusal)) = HasMemory answer × (of_verdict kind.Tables (tables_verdict answer) ≡ Err (refused refusal))
+
+-- a verdict on a file of a kind, with want of memory in place of any
+abbrev pub JudgedAs : {A : Type 0} → FileKind → Result A FileFault → Result A Unloaded → Type 0
+JudgedAs kind verdict (Ok a) = verdict ≡ Ok a
+JudgedAs kind verdict (Err Memory) = Unit {0}
+JudgedAs kind verdict (Err ReadFault) = ⊥
+JudgedAs kind verdict (Err (Refused refusal)) = of_verdict kind verdict ≡ Err (refused refusal)
 
 -- the answer of a load of company prefix lengths, with want of memory as no refusal
 abbrev pub PrefixesUnloadedAs : Result (List PrefixEntry) PrefixFault → Result (List PrefixEntry) Unloaded → Type 0

@@ -10,23 +10,32 @@ use Rattle.gs_document.specs.declared.level_name.LevelName.{LevelName}
 use Rattle.gs_document.specs.declared.level_name.LevelName.TheVariants.{Binary, Tag, Pure}
 use Rattle.gs_json.specs.declared.fault.JsonFault.{JsonFault}
 use Rattle.gs_json.specs.declared.fault.JsonFault.TheVariants as json
+use Rattle.gs_links.specs.declared.fault.AnchorWhy.{AnchorWhy}
+use Rattle.gs_links.specs.declared.fault.AnchorWhy.TheVariants as anchor
+use Rattle.gs_links.specs.declared.fault.StoreFault.{StoreFault}
+use Rattle.gs_links.specs.declared.fault.StoreFault.TheVariants as store
 use Rattle.gs_prefix.specs.declared.fault.PrefixFault.{PrefixFault}
 use Rattle.gs_prefix.specs.declared.fault.PrefixFault.TheVariants as prefix
+use Rattle.gs_translate.specs.declared.reason.Reason.TheVariants.{Ident}
+use Rattle.gs_translate.specs.Meanings.{link_reason}
+use Rattle.gs_translate.specs.Reasons.{reason_text}
 use Rattle.gs_program.specs.declared.file_kind.FileKind.{FileKind}
 use Rattle.gs_program.specs.declared.file_kind.FileKind.TheVariants as kind
 use Rattle.gs_program.specs.declared.refusal.Refusal.{Refusal}
 use Rattle.gs_program.specs.declared.refusal.FileFault.{FileFault}
-use Rattle.gs_program.specs.declared.refusal.FileFault.TheVariants.{Over, Tables, Prefixes}
+use Rattle.gs_program.specs.declared.refusal.FileFault.TheVariants.{Over, Tables, Prefixes, Linkset, Store}
 
 -- the word that a refusal of a kind of file is printed with
 abbrev pub file_word : FileKind → List ℕ
 file_word kind.Tables = codes "tables"
 file_word kind.Prefixes = codes "prefixes"
+file_word kind.Links = codes "links"
 
 -- the most bytes of a kind of file
 abbrev pub file_limit : FileKind → ℕ
 file_limit kind.Tables = 1048576
 file_limit kind.Prefixes = 4194304
+file_limit kind.Links = 16777216
 
 -- a place as it is printed: a question mark for each byte that is no visible character of ISO 646
 abbrev pub shown_byte : ℕ → ℕ
@@ -99,11 +108,34 @@ prefixes_text (prefix.Twice i) = numbered (codes "twice") i
 prefixes_text prefix.Limit = codes "limit"
 prefixes_text prefix.Memory = codes "memory"
 
+-- why an anchor is none: the text that is printed behind `no ` for the same fault of a link or of an identity
+abbrev pub anchor_text : AnchorWhy → List ℕ
+anchor_text (anchor.Link fault) = reason_text (link_reason fault)
+anchor_text (anchor.Ident fault) = reason_text (Ident fault)
+anchor_text anchor.Attributes = codes "attributes"
+
+-- the context of an anchor that is none, and why
+abbrev pub bad_anchor_text : ℕ → AnchorWhy → List ℕ
+bad_anchor_text i why = numbered (codes "bad-anchor") i ++ 32 ∷ anchor_text why
+
+-- the context, the relation and the target of an `href` that is none
+abbrev pub bad_href_text : ℕ → ℕ → ℕ → List ℕ
+bad_href_text i r t = numbered (numbered_twice (codes "bad-href") i r) t
+
+-- a fault of a linkset as a store of links
+abbrev pub store_text : StoreFault → List ℕ
+store_text store.TooMany = codes "too-many"
+store_text (store.BadAnchor i why) = bad_anchor_text i why
+store_text (store.BadHref i r t) = bad_href_text i r t
+store_text store.Memory = codes "memory"
+
 -- why a file is refused
 abbrev pub fault_text : FileFault → List ℕ
 fault_text Over = codes "over"
 fault_text (Tables fault) = tables_text fault
 fault_text (Prefixes fault) = prefixes_text fault
+fault_text (Linkset fault) = codes "json " ++ json_text fault
+fault_text (Store fault) = store_text fault
 
 -- the line of a refused file: `refused WHICH REASON`, and a line feed
 abbrev pub refused_line : Refusal → List ℕ

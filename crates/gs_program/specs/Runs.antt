@@ -26,8 +26,8 @@ stopped (refused refusal) = record { output = refused_line refusal; status = sta
 
 -- What is left where this is asked: the files are loaded and the command runs, or it goes no further than the files.
 pub data AskedRun (asked : Asked) (world : World) (outcome : Outcome) : Type 0 where
-  ran : (loaded : Loaded) → FilesGive world.files asked.files (Ok loaded) → CommandRun asked.command loaded world.input outcome → AskedRun asked world outcome
-  stops : (stop : Stop) → FilesGive world.files asked.files (Err stop) → outcome ≡ stopped stop → AskedRun asked world outcome
+  ran : (loaded : Loaded) → FilesGive world.files asked (Ok loaded) → CommandRun asked.command loaded world.input outcome → AskedRun asked world outcome
+  stops : (stop : Stop) → FilesGive world.files asked (Err stop) → outcome ≡ stopped stop → AskedRun asked world outcome
 
 -- What a run with these words leaves in this world: what they ask for, or the usage line where they are not in order.
 pub data DefinedRun (words : List (List ℕ)) (world : World) (outcome : Outcome) : Type 0 where
@@ -51,7 +51,7 @@ BeginsRun words world output = BeginsOne (DefinedRun words world) output
 -- what the command that is asked for has written after a fault of the input, by what was taken of it
 pub record AskedEnded (asked : Asked) (files : Option (List (List ℕ × List ℕ))) (before now : Option (List ℕ)) (output : List ℕ) : Type 0 where
   pub loaded : Loaded
-  pub loads : FilesGive files asked.files (Ok loaded)
+  pub loads : FilesGive files asked (Ok loaded)
   pub ended : CommandEnded asked.command loaded before now output
 
 -- what a run with these words has written after a fault of the input, by what was taken of it
@@ -64,14 +64,14 @@ pub record EndedRun (words : List (List ℕ)) (files : Option (List (List ℕ ×
 pub record IsMissing (words : List (List ℕ)) (files : Option (List (List ℕ × List ℕ))) : Type 0 where
   pub asked : Asked
   pub order : WordsInOrder words asked
-  pub gives : FilesGive files asked.files (Err missing)
+  pub gives : FilesGive files asked (Err missing)
 
 -- the words ask for files, and the first that is not loaded is refused
 pub record IsRefused (words : List (List ℕ)) (files : Option (List (List ℕ × List ℕ))) : Type 0 where
   pub asked : Asked
   pub order : WordsInOrder words asked
   pub refusal : Refusal
-  pub gives : FilesGive files asked.files (Err (refused refusal))
+  pub gives : FilesGive files asked (Err (refused refusal))
 
 -- all files that the words name were opened, in their order, where it is told
 pub record OpensAll (words : List (List ℕ)) (before now : Option (List (List ℕ))) : Type 0 where

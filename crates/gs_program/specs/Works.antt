@@ -23,7 +23,7 @@ counts_line loaded =
     codes "ok" ++ codes " ais " ++ decimal (length loaded.tables.ais) ++ codes " kinds " ++ decimal (length loaded.tables.kinds)
     ++ codes " binary " ++ decimal (length loaded.tables.binary.info) ++ codes " tag " ++ decimal (length loaded.tables.tag.info)
     ++ codes " pure " ++ decimal (length loaded.tables.pure.info) ++ codes " prefixes " ++ decimal (length loaded.prefixes)
-    ++ codes " links 0" ++ 10 ∷ []
+    ++ codes " links " ++ decimal (length loaded.links) ++ 10 ∷ []
 
 -- what a command leaves, over what was loaded and an input, as far as it is told
 abbrev pub CommandRun : Command → Loaded → Option (List ℕ) → Outcome → Type 0

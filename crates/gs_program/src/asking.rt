@@ -1,4 +1,4 @@
-ghost use Rattle.std.specs.Prelude.{◌≡◌, ◌⊎◌, ◌≤◌, [], false};
+ghost use Rattle.std.specs.Prelude.{◌≡◌, ◌⊎◌, ◌≤◌, [], false, true};
 ghost use Rattle.gs_lines.specs.Outputs.{Appends};
 ghost use Rattle.gs_lines.specs.Printing.{PrintedAs};
 ghost use Rattle.gs_lines.specs.Statuses.{OnAnswered, OnReadFault, OnRefused, OnWriteFault};
@@ -7,6 +7,7 @@ ghost use Rattle.gs_port.specs.Files.{AddsNames};
 ghost use Rattle.gs_program.specs.Asking.{AskedRan};
 ghost use Rattle.gs_program.specs.Commands.{answers_lines};
 ghost use Rattle.gs_program.specs.Loads.{OpensFirst};
+ghost use Rattle.gs_program.specs.Ranges.{is_vocabulary};
 ghost use Rattle.gs_program.specs.Refusals.{refused_line};
 ghost use Rattle.gs_program.specs.Requests.{names_in_order, told_request};
 ghost use Rattle.gs_program.specs.Runs.{AskedEnded};
@@ -42,6 +43,7 @@ pub fn run_request<F: Files, S: Source, K: Sink>(
     input: &mut S,
     output: &mut K,
 ) -> Status
+    requires { is_vocabulary request.values.voc.now ≡ true }
     ensures ran { Appends (K.held output.old) (K.held output.new) (λ out. AskedRan (told_request request.entry)
         (record { files = F.files files.old; input = S.left input.old })
         (record { file_faults = F.faults files.old; input_faults = S.faults input.old; output_faults = K.faults output.old })
@@ -57,7 +59,7 @@ pub fn run_request<F: Files, S: Source, K: Sink>(
     ensures unopened { names_in_order (told_request request.entry).files ≡ [] → files.new ≡ files.old }
     ensures told { F.files files.new ≡ F.files files.old }
 {
-    match load_files(alloc, request.files, files) {
+    match load_files(alloc, request, files) {
         Ok(loaded) => run_command(alloc, request.command, &loaded, input, output),
         Err(Unloaded::Refused(refusal)) => print_refusal(alloc, &refusal, output),
         Err(Unloaded::ReadFault) => Status::ReadFault,

@@ -22,7 +22,8 @@ fn append_count(alloc: Global, line: &mut Vec<u8>, word: &[u8], count: usize) ->
     Ok(())
 }
 
-/// The line of counts: the numbers of application identifiers, of kinds, of the options of each level and of company prefixes.
+/// The line of counts: the numbers of application identifiers, of kinds, of the options of each level, of company prefixes and
+/// of links.
 fn counts_line(alloc: Global, loaded: &Loaded) -> Result<Vec<u8>, Memory>
     ensures { IfOk result (λ line. line.items ≡ counts_line loaded.now) }
 {
@@ -39,7 +40,7 @@ fn counts_line(alloc: Global, loaded: &Loaded) -> Result<Vec<u8>, Memory>
     append_count(alloc, &mut line, b" tag ", set.info(LevelName::Tag).len())?;
     append_count(alloc, &mut line, b" pure ", set.info(LevelName::Pure).len())?;
     append_count(alloc, &mut line, b" prefixes ", loaded.prefixes.len())?;
-    line.extend_from_slice(b" links 0")?;
+    append_count(alloc, &mut line, b" links ", loaded.links.len())?;
     line.push(b'\n')?;
     Ok(line)
 }

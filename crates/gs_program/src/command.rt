@@ -25,6 +25,18 @@ const PREFIXES: NameRow = NameRow {
     required: false,
 };
 
+/// The name of the file of links, which may be absent.
+const LINKS: NameRow = NameRow {
+    name: Name::Links,
+    required: false,
+};
+
+/// The name of the vocabulary, which may be absent.
+const VOC: NameRow = NameRow {
+    name: Name::Voc,
+    required: false,
+};
+
 impl Command {
     /// The names that the command takes.
     pub fn names(self) -> &'static [NameRow]
@@ -32,7 +44,7 @@ impl Command {
     {
         match self {
             Command::Canon(_) => &[TABLES],
-            Command::Check => &[TABLES, PREFIXES],
+            Command::Check => &[TABLES, PREFIXES, LINKS, VOC],
         }
     }
 }

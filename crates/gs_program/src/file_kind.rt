@@ -8,6 +8,8 @@ pub enum FileKind {
     Tables,
     /// The company prefix lengths.
     Prefixes,
+    /// The links.
+    Links,
 }
 
 impl FileKind {
@@ -18,6 +20,7 @@ impl FileKind {
         match self {
             FileKind::Tables => b"tables",
             FileKind::Prefixes => b"prefixes",
+            FileKind::Links => b"links",
         }
     }
 
@@ -28,6 +31,7 @@ impl FileKind {
         match self {
             FileKind::Tables => 1_048_576,
             FileKind::Prefixes => 4_194_304,
+            FileKind::Links => 16_777_216,
         }
     }
 }

@@ -1,4 +1,6 @@
 use crate::file_kind::FileKind;
+use gs_json::JsonFault;
+use gs_links::StoreFault;
 use gs_prefix::PrefixFault;
 use gs_tables::LoadFault;
 
@@ -11,6 +13,10 @@ pub enum FileFault {
     Tables(LoadFault),
     /// The list of company prefix lengths breaks a rule, which is never want of memory.
     Prefixes(PrefixFault),
+    /// The links are no linkset, which is never want of memory.
+    Linkset(JsonFault),
+    /// The linkset breaks a rule of links, which is never want of memory.
+    Store(StoreFault),
 }
 
 /// A file that is refused.

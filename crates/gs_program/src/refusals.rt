@@ -1,6 +1,8 @@
-ghost use Rattle.std.specs.Prelude.{◌≡◌, ◌∷◌, ◌++◌, IfOk, OnOk, codes, decimal};
+ghost use Rattle.std.specs.Prelude.{◌≡◌, ◌∷◌, ◌++◌, IfOk, OnOk, codes};
 ghost use Rattle.gs_program.specs.Refusals.{ai_text, ambiguous_text, fault_text, json_text, level_text, limit_text, numbered, numbered_twice, of_level, prefixes_text, refused_line, shown, shown_byte, tables_text};
 
+use crate::link_refusals::append_store;
+use crate::numbered::{append_number, append_numbered, append_numbered_twice};
 use crate::refusal::{FileFault, Refusal};
 use gs_ai::AiFault;
 use gs_chars::Memory;
@@ -24,42 +26,6 @@ fn append_place(out: &mut Vec<u8>, place: &[u8]) -> Result<(), Memory>
         out.push(shown_byte(*c))?;
     }
     Ok(())
-}
-
-/// Appends a space and a number.
-fn append_number(alloc: Global, out: &mut Vec<u8>, number: usize) -> Result<(), Memory>
-    ensures { OnOk result (out.new.items ≡ out.old.items ++ 32 ∷ decimal number) }
-{
-    let number = format!(in alloc; "{number}")?;
-    out.push(b' ')?;
-    Ok(out.extend_from_slice(number.as_bytes())?)
-}
-
-/// Appends a word, and behind it a space and a number.
-fn append_numbered(
-    alloc: Global,
-    out: &mut Vec<u8>,
-    word: &[u8],
-    number: usize,
-) -> Result<(), Memory>
-    ensures { OnOk result (out.new.items ≡ out.old.items ++ numbered word.now number) }
-{
-    out.extend_from_slice(word)?;
-    append_number(alloc, out, number)
-}
-
-/// Appends a word, and behind it two numbers, each after a space.
-fn append_numbered_twice(
-    alloc: Global,
-    out: &mut Vec<u8>,
-    word: &[u8],
-    first: usize,
-    second: usize,
-) -> Result<(), Memory>
-    ensures { OnOk result (out.new.items ≡ out.old.items ++ numbered_twice word.now first second) }
-{
-    append_numbered(alloc, out, word, first)?;
-    append_number(alloc, out, second)
 }
 
 /// The name of a level.
@@ -234,6 +200,8 @@ fn append_fault(alloc: Global, out: &mut Vec<u8>, fault: &FileFault) -> Result<(
         FileFault::Over => Ok(out.extend_from_slice(b"over")?),
         FileFault::Tables(fault) => append_tables(alloc, out, fault),
         FileFault::Prefixes(fault) => append_prefixes(alloc, out, fault),
+        FileFault::Linkset(fault) => append_form(out, fault),
+        FileFault::Store(fault) => append_store(alloc, out, fault),
     }
 }
 

@@ -27,6 +27,6 @@ pub use meaning::Meaning;
 pub use options::Options;
 pub use reading::read;
 pub use reason::Reason;
-pub use reason_text::append_reason;
+pub use reason_text::{append_ident, append_reason};
 pub use target::Target;
 pub use translating::translate;

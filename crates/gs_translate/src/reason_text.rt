@@ -93,8 +93,8 @@ fn append_placed(alloc: Global, out: &mut Vec<u8>, word: &[u8], place: usize) ->
     Ok(out.extend_from_slice(place.as_bytes())?)
 }
 
-/// Appends why elements have no identity.
-fn append_ident(out: &mut Vec<u8>, fault: &IdentFault) -> Result<(), Memory>
+/// Appends why elements have no identity, as it is printed.
+pub fn append_ident(out: &mut Vec<u8>, fault: &IdentFault) -> Result<(), Memory>
     ensures { OnOk result (out.new.items ≡ out.old.items ++ ident_text fault.now) }
 {
     match fault {

@@ -4,7 +4,7 @@
 //!
 //! - `read DOC`: the linkset, or the fault.
 //! - `write DOC`: what is written of the linkset that DOC is, or the fault.
-//! - `new ANCHOR NAME HREF..`: what is written of the linkset of one context with one relation, or the refusal.
+//! - `new ANCHOR NAME HREF.. / NAME HREF..`: what is written of the linkset of one context with these relations, or the refusal.
 //! - `copy DOC`: a copy of the first target, `None` where there is none, or the fault.
 
 use gs_chars::{List, Memory, Text};
@@ -17,7 +17,7 @@ pub fn answer(alloc: Global, call: &str, args: &[Text]) -> Answer {
     match call {
         "read" => read(alloc, arg(args, 0)?),
         "write" => write(alloc, arg(args, 0)?),
-        "new" => made(alloc, arg(args, 0)?, arg(args, 1)?, behind(args, 2)),
+        "new" => made(alloc, arg(args, 0)?, behind(args, 1)),
         "copy" => copy(alloc, arg(args, 0)?),
         _ => Err(Refusal::NoCase),
     }
@@ -121,16 +121,24 @@ fn targets_of(alloc: Global, references: &[Text]) -> Result<List<Target>, Memory
     Ok(List::from_vec(targets))
 }
 
-fn made(alloc: Global, anchor: &[u8], name: &[u8], references: &[Text]) -> Answer {
+/// Relations, each a name and its references, with `/` between them.
+fn relations_of(alloc: Global, words: &[Text]) -> Result<List<Relation>, Refusal> {
     let mut relations = Vec::new(alloc);
-    relations.push(Relation {
-        name: Text::from_bytes(alloc, name)?,
-        targets: targets_of(alloc, references)?,
-    })?;
+    for part in words.split(|word| word.as_bytes() == b"/".as_slice()) {
+        relations.push(Relation {
+            name: Text::from_bytes(alloc, arg(part, 0)?)?,
+            targets: targets_of(alloc, behind(part, 1))?,
+        })?;
+    }
+    Ok(List::from_vec(relations))
+}
+
+fn made(alloc: Global, anchor: &[u8], words: &[Text]) -> Answer {
+    let relations = relations_of(alloc, words)?;
     let mut contexts = Vec::new(alloc);
     contexts.push(Context {
         anchor: Text::from_bytes(alloc, anchor)?,
-        relations: List::from_vec(relations),
+        relations,
     })?;
     match LinkDoc::new(List::from_vec(contexts)) {
         Ok(doc) => written(alloc, &doc),

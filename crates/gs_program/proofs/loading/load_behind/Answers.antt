@@ -1,14 +1,33 @@
-use Rattle.std.proofs.Common.{refl}
-use Rattle.gs_translate.specs.Steps.{goes_on}
-use Rattle.gs_program.specs.Loads.{IsLoadedOf, PrefixesGive}
-use Rattle.gs_program.specs.Requests.{told_name}
-use Rattle.gs_program.proofs.ReadLemmas.{not_loaded}
+use Rattle.std.proofs.Common.{option_to_list}
+use Rattle.gs_program.specs.Loads.{GivesLinks, PrefixesGive}
+use Rattle.gs_program.specs.Requests.{told_name, told_request}
+use Rattle.gs_program.proofs.FileLoads.{loads_on, not_loaded}
+use Rattle.gs_program.proofs.OpenedNames.{adds_both, opens_all, opens_front, whatever_given}
 use Rattle.gs_program.proofs.loading.load_behind.Goals as goal
 
 pub returns-in-Ok-clause-loaded : goal.returns-in-Ok-clause-loaded
-returns-in-Ok-clause-loaded g c = goes_on c.in-Ok.prefixes c.in-Ok.ensures.loaded refl
+returns-in-Ok-clause-loaded g c =
+    loads_on (PrefixesGive (g.F.Files.files c.args.files.now) (told_name c.args.request.files.prefixes)) (GivesLinks (g.F.Files.files c.args.files.now) (told_request c.args.request) c.args.tables)
+    (g.F.Files.faults c.args.files.now) (g.F.Files.faults c.load_prefixes.new.files) (g.F.Files.faults c.load_last.new.files) c.in-Ok.prefixes c.load_last.result
+    c.in-Ok.ensures.loaded c.in-Ok.ensures.counts (rw c.in-Ok.ensures.told at c.load_last.ensures.loaded)
+
+pub returns-in-Ok-clause-opened : goal.returns-in-Ok-clause-opened
+returns-in-Ok-clause-opened g c =
+    opens_all _ _ _
+    (adds_both (g.F.Files.opened c.args.files.now) (g.F.Files.opened c.load_prefixes.new.files) (g.F.Files.opened c.load_last.new.files)
+    (option_to_list (told_name c.args.request.files.prefixes)) (option_to_list (told_name c.args.request.files.links)) c.in-Ok.ensures.opened c.load_last.ensures.opened)
+
+pub returns-in-Ok-clause-all_opened : goal.returns-in-Ok-clause-all_opened
+returns-in-Ok-clause-all_opened g c =
+    whatever_given c.load_last.result _
+    (adds_both (g.F.Files.opened c.args.files.now) (g.F.Files.opened c.load_prefixes.new.files) (g.F.Files.opened c.load_last.new.files)
+    (option_to_list (told_name c.args.request.files.prefixes)) (option_to_list (told_name c.args.request.files.links)) c.in-Ok.ensures.opened c.load_last.ensures.opened)
 
 pub returns-in-Err-clause-loaded : goal.returns-in-Err-clause-loaded
 returns-in-Err-clause-loaded g c =
-    not_loaded (PrefixesGive (g.F.Files.files c.args.files.now) (told_name c.args.names.prefixes)) (IsLoadedOf c.args.tables)
+    not_loaded (PrefixesGive (g.F.Files.files c.args.files.now) (told_name c.args.request.files.prefixes)) (GivesLinks (g.F.Files.files c.args.files.now) (told_request c.args.request) c.args.tables)
     (g.F.Files.faults c.args.files.now) (g.F.Files.faults c.load_prefixes.new.files) c.in-Err.unloaded c.in-Err.ensures.loaded
+
+pub returns-in-Err-clause-opened : goal.returns-in-Err-clause-opened
+returns-in-Err-clause-opened g c =
+    opens_front (option_to_list (told_name c.args.request.files.prefixes)) (option_to_list (told_name c.args.request.files.links)) _ _ c.in-Err.ensures.opened

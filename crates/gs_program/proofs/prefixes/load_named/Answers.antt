@@ -1,4 +1,7 @@
-use Rattle.gs_program.proofs.PrefixLoads.{file_loaded, file_unloaded}
+use Rattle.gs_program.specs.declared.file_kind.FileKind.TheVariants.{Prefixes}
+use Rattle.gs_program.specs.Loads.{JudgesPrefixes}
+use Rattle.gs_program.proofs.FileLoads.{file_unloaded}
+use Rattle.gs_program.proofs.PrefixLoads.{file_loaded}
 use Rattle.gs_program.proofs.prefixes.load_named.Goals as goal
 
 pub returns-in-Ok-clause-loaded : goal.returns-in-Ok-clause-loaded
@@ -8,4 +11,4 @@ returns-in-Ok-clause-loaded g c =
 
 pub returns-in-Err-clause-loaded : goal.returns-in-Err-clause-loaded
 returns-in-Err-clause-loaded g c =
-    file_unloaded (g.F.Files.files c.args.files.now) c.args.name.now (g.F.Files.faults c.args.files.now) (g.F.Files.faults c.read_named.new.files) c.in-Err.unloaded c.in-Err.ensures.read
+    file_unloaded (g.F.Files.files c.args.files.now) Prefixes JudgesPrefixes c.args.name.now (g.F.Files.faults c.args.files.now) (g.F.Files.faults c.read_named.new.files) c.in-Err.unloaded c.in-Err.ensures.read

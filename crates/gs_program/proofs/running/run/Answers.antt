@@ -3,8 +3,12 @@ use Rattle.gs_lines.specs.Statuses.{is_answered}
 use Rattle.gs_lines.proofs.StatusLemmas.{when_map}
 use Rattle.gs_program.specs.Requests.{told_request}
 use Rattle.gs_program.specs.Runs.{named}
+use Rattle.gs_program.proofs.RangeLemmas.{vocabulary_in_order}
 use Rattle.gs_program.proofs.RunLemmas.{begun_of, defined_of, read_fault_of, refused_of, unopened_of, usage_begun}
 use Rattle.gs_program.proofs.running.run.Goals as goal
+
+pub run_request-requires : goal.run_request-requires
+run_request-requires g c = vocabulary_in_order (map string_bytes c.args.words.now) (told_request c.in-Some.request) c.in-Some.ensures.request
 
 pub returns-in-Some-clause-defined : goal.returns-in-Some-clause-defined
 returns-in-Some-clause-defined g c =

@@ -1,4 +1,4 @@
-use Rattle.gs_program.proofs.ReadLemmas.{adds_none}
+use Rattle.gs_program.proofs.OpenedNames.{adds_none}
 use Rattle.gs_program.proofs.tables.load_tables.Goals as goal
 
 pub returns-in-None-clause-loaded : goal.returns-in-None-clause-loaded
