@@ -9,7 +9,7 @@ use Rattle.gs_program.specs.declared.command.Command.TheVariants.{Canon, Check}
 use Rattle.gs_program.specs.declared.name.NameRow.{NameRow}
 use Rattle.gs_program.specs.Commands.{form_word, names_of}
 use Rattle.gs_program.specs.Names.{AreOfRows, ArePairs, has_required, look_up, takes}
-use Rattle.gs_program.specs.Requests.{Asked, Asks, AsksForCanon, WordsInOrder, named_files}
+use Rattle.gs_program.specs.Requests.{Asked, Asks, AsksForCanon, WordsInOrder, asked_of}
 use Rattle.gs_program.proofs.PairLemmas.{not_behind, not_once, not_taken, of_no_word, of_one_word, one_more, same_pairs}
 use Rattle.gs_program.proofs.RequestLemmas.{asks_for_canon, asks_for_check, asks_of_form, canon_of_form, form_of, no_form, no_word, order_of_canon, order_of_check, other_form, other_word, word_of_form}
 
@@ -68,7 +68,7 @@ lacks command words pairs of lacking asked a =
 
 asks_of_pairs : (command : Command) (words : List (List ℕ)) → HasSome (λ (pairs : List (List ℕ × List ℕ)). AreOfRows (names_of command) words pairs) → Decided (Asks command words)
 asks_of_pairs command words pairs = elim (true_or_false (has_required (names_of command) pairs.0)) as (λ _. Decided (Asks command words)) [
-  | inl all ↦ inl (record { command = command; files = named_files pairs.0 }, record { pairs = pairs.0; of_rows = pairs.1; required = all; is = refl })
+  | inl all ↦ inl (asked_of command pairs.0, record { pairs = pairs.0; of_rows = pairs.1; required = all; is = refl })
   | inr none ↦ inr (lacks command words pairs.0 pairs.1 none)
 ]
 

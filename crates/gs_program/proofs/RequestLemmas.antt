@@ -7,7 +7,7 @@ use Rattle.gs_translate.specs.Steps.{HasOne}
 use Rattle.gs_program.specs.declared.command.Command.{Command}
 use Rattle.gs_program.specs.declared.command.Command.TheVariants.{Canon, Check}
 use Rattle.gs_program.specs.Commands.{command_words, form_word}
-use Rattle.gs_program.specs.Requests.{Asked, Asks, AsksForCanon, NotInOrder, WordsInOrder, named_files}
+use Rattle.gs_program.specs.Requests.{Asked, Asks, AsksForCanon, NotInOrder, WordsInOrder, asked_of}
 use Rattle.gs_program.proofs.PairLemmas.{same_pairs}
 
 -- ---- the form and the command that words spell
@@ -152,8 +152,7 @@ canon_of_form form first words asked e a = record { form = form; behind = words;
 same_asks : (command : Command) (words : List (List ℕ)) (one other : Asked) → Asks command words one → Asks command words other → one ≡ other
 same_asks command words one other a b =
     let pairs = same_pairs words a.pairs b.pairs a.of_rows.are b.of_rows.are in
-    let asked : List (List ℕ × List ℕ) → Asked = λ ps. record { command = command; files = named_files ps } in
-    a.is ∙ ap asked pairs ∙ sym b.is
+    a.is ∙ ap (asked_of command) pairs ∙ sym b.is
 
 -- a command and what stands behind it and its operands
 record SameCommand (one other : Command) (behind behind' : List (List ℕ)) : Type 0 where

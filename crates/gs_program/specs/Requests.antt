@@ -1,15 +1,19 @@
 -- What the words of the command line ask for.
-use Rattle.std.specs.Prelude.{◌≡◌, ℕ, true, List, [], ◌∷◌, ◌++◌, codes, Option, Some, None, option_to_list}
+use Rattle.std.specs.Prelude.{◌≡◌, ℕ, Bool, true, List, [], ◌∷◌, ◌++◌, codes, Option, Some, None, option_and_then, option_to_list, unwrap_or, bytes_eq}
 use Rattle.std.specs.Borrow.{Bor}
 use Rattle.std.specs.List.{Contains}
+use Rattle.gs_ident.specs.Links.{canonical_stem}
 use Rattle.gs_translate.specs.declared.form.Form.{Form}
 use Rattle.gs_program.specs.declared.command.Command.{Command}
 use Rattle.gs_program.specs.declared.command.Command.TheVariants.{Canon}
-use Rattle.gs_program.specs.declared.name.Name.TheVariants.{Tables, Prefixes, Links, Describe}
+use Rattle.gs_program.specs.declared.name.Name.{Name}
+use Rattle.gs_program.specs.declared.name.Name.TheVariants.{Tables, Prefixes, Links, Describe, Voc, Filter, Gcp, Encoding, KeysOnly, Stem}
 use Rattle.gs_program.specs.declared.request.NamedFiles.{NamedFiles}
+use Rattle.gs_program.specs.declared.request.NamedValues.{NamedValues}
 use Rattle.gs_program.specs.declared.request.Request.{Request}
 use Rattle.gs_program.specs.Commands.{answers_lines, command_words, form_word, names_of}
 use Rattle.gs_program.specs.Names.{AreOfRows, has_required, look_up, name_word}
+use Rattle.gs_program.specs.Ranges.{filter_of, gcp_of}
 
 -- the names of the files that are asked for
 pub record FileNames : Type 0 where
@@ -18,10 +22,20 @@ pub record FileNames : Type 0 where
   pub links : Option (List ℕ)
   pub describe : Option (List ℕ)
 
--- what is asked: a command with its operands, over these files
+-- the values of the names that name no files
+pub record Values : Type 0 where
+  pub voc : List ℕ
+  pub filter : Option ℕ
+  pub gcp : Option ℕ
+  pub encoding : List ℕ
+  pub keys_only : Bool
+  pub stem : List ℕ
+
+-- what is asked: a command with its operands, over these files and by these values
 pub record Asked : Type 0 where
   pub command : Command
   pub files : FileNames
+  pub values : Values
 
 -- the files that pairs name
 abbrev pub named_files : List (List ℕ × List ℕ) → FileNames
@@ -32,13 +46,41 @@ named_files pairs = record {
   describe = look_up (name_word Describe) pairs;
 }
 
+-- what stands for `gs1:` in relations where that is not named
+abbrev pub default_voc : List ℕ
+default_voc = codes "https://ref.gs1.org/voc/"
+
+-- the value of a name, or what stands in its place
+abbrev pub value_or : List ℕ → Name → List (List ℕ × List ℕ) → List ℕ
+value_or default name pairs = unwrap_or (look_up (name_word name) pairs) default
+
+-- the number that is the value of a name
+abbrev pub number_named : (List ℕ → Option ℕ) → Name → List (List ℕ × List ℕ) → Option ℕ
+number_named number_of name pairs = option_and_then number_of (look_up (name_word name) pairs)
+
+-- The values of names in pairs, with their defaults: no filter value, no length of a company prefix, no encoding, all elements
+-- kept, and the stem of canonical links.
+abbrev pub named_values : List (List ℕ × List ℕ) → Values
+named_values pairs = record {
+  voc = value_or default_voc Voc pairs;
+  filter = number_named filter_of Filter pairs;
+  gcp = number_named gcp_of Gcp pairs;
+  encoding = value_or [] Encoding pairs;
+  keys_only = bytes_eq (value_or (codes "no") KeysOnly pairs) (codes "yes");
+  stem = value_or canonical_stem Stem pairs;
+}
+
+-- what pairs ask of a command: the look-up of the names, with their defaults
+abbrev pub asked_of : Command → List (List ℕ × List ℕ) → Asked
+asked_of command pairs = record { command = command; files = named_files pairs; values = named_values pairs }
+
 -- Words behind a command and its operands ask for this: they are pairs that the command takes, each name at most once and
 -- those there that it must have, and what is asked is the look-up of the names.
 pub record Asks (command : Command) (words : List (List ℕ)) (asked : Asked) : Type 0 where
   pub pairs : List (List ℕ × List ℕ)
   pub of_rows : AreOfRows (names_of command) words pairs
   pub required : has_required (names_of command) pairs ≡ true
-  pub is : asked ≡ record { command = command; files = named_files pairs }
+  pub is : asked ≡ asked_of command pairs
 
 -- The words are in order, and ask for this: a command, its operands, and pairs.
 pub record WordsInOrder (words : List (List ℕ)) (asked : Asked) : Type 0 where
@@ -87,6 +129,10 @@ told_name (Some name) = Some name.now
 abbrev pub told_files : NamedFiles → FileNames
 told_files files = record { tables = told_name files.tables; prefixes = told_name files.prefixes; links = told_name files.links; describe = told_name files.describe }
 
+-- the values of a request
+abbrev pub told_values : NamedValues → Values
+told_values values = record { voc = values.voc.now; filter = values.filter; gcp = values.gcp; encoding = values.encoding.now; keys_only = values.keys_only; stem = values.stem.now }
+
 -- what a request asks for
 abbrev pub told_request : Request → Asked
-told_request request = record { command = request.command; files = told_files request.files }
+told_request request = record { command = request.command; files = told_files request.files; values = told_values request.values }

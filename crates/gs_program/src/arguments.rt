@@ -1,13 +1,12 @@
-ghost use Rattle.std.specs.Prelude.{◌≡◌, ◌∷◌, ℕ, List, IfSome, IfNone, map, string_bytes};
+ghost use Rattle.std.specs.Prelude.{◌≡◌, IfSome, IfNone, map, string_bytes};
 ghost use Rattle.gs_translate.specs.declared.form.Form.{Form};
 ghost use Rattle.gs_program.specs.Commands.{form_word};
-ghost use Rattle.gs_program.specs.Names.{ArePairs};
-ghost use Rattle.gs_program.specs.Requests.{Asked, Asks, AsksForCanon, NotInOrder, WordsInOrder, named_files, told_files, told_request};
+ghost use Rattle.gs_program.specs.Requests.{Asked, Asks, AsksForCanon, NotInOrder, WordsInOrder, told_request};
 
 use crate::command::Command;
-use crate::name::Name;
-use crate::pairs::{are_of_rows, has_required, look_up};
-use crate::request::{NamedFiles, Request};
+use crate::naming::{named_files, named_values};
+use crate::pairs::{are_of_rows, has_required};
+use crate::request::Request;
 use gs_translate::Form;
 
 /// The form of a word.
@@ -36,18 +35,6 @@ fn read_form(word: &str) -> Option<Form>
     None
 }
 
-/// The files that pairs name.
-fn named_files(words: &[String]) -> NamedFiles<'_>
-    ensures { (pairs : List (List ℕ × List ℕ)) → ArePairs (map string_bytes words.now) pairs → told_files result ≡ named_files pairs }
-{
-    NamedFiles {
-        tables: look_up(words, Name::Tables.word()),
-        prefixes: look_up(words, Name::Prefixes.word()),
-        links: look_up(words, Name::Links.word()),
-        describe: look_up(words, Name::Describe.word()),
-    }
-}
-
 /// The request of a command with the words behind its operands. `None` comes exactly where these are no pairs that the
 /// command takes, or lack a name that it must have.
 fn request_of(command: Command, words: &[String]) -> Option<Request<'_>>
@@ -63,6 +50,7 @@ fn request_of(command: Command, words: &[String]) -> Option<Request<'_>>
     Some(Request {
         command,
         files: named_files(words),
+        values: named_values(words),
     })
 }
 

@@ -1,6 +1,9 @@
 ghost use Rattle.std.specs.Prelude.{◌≡◌};
 ghost use Rattle.gs_program.specs.Names.{in_range, name_word};
 
+use crate::ranges::{filter_of, gcp_of, is_vocabulary};
+use gs_dlink::stem_ok;
+
 /// A name that stands in front of its value among the words.
 #[derive(Clone, Copy, Debug, PartialEq, Eq)]
 pub enum Name {
@@ -12,6 +15,18 @@ pub enum Name {
     Links,
     /// The file that describes a resolver.
     Describe,
+    /// What stands for `gs1:` in relations.
+    Voc,
+    /// A filter value.
+    Filter,
+    /// The number of digits of a company prefix.
+    Gcp,
+    /// The name of an encoding of tags.
+    Encoding,
+    /// Whether of an identity its key alone is kept.
+    KeysOnly,
+    /// The stem of links.
+    Stem,
 }
 
 impl Name {
@@ -24,15 +39,27 @@ impl Name {
             Name::Prefixes => "--prefixes",
             Name::Links => "--links",
             Name::Describe => "--describe",
+            Name::Voc => "--voc",
+            Name::Filter => "--filter",
+            Name::Gcp => "--gcp",
+            Name::Encoding => "--encoding",
+            Name::KeysOnly => "--keys-only",
+            Name::Stem => "--stem",
         }
     }
 
-    /// Whether the name may have this value: a file may have any name.
+    /// Whether the name may have this value. A file may have any name.
     pub fn has_in_range(self, value: &str) -> bool
         ensures { result ≡ in_range self value.now }
     {
         match self {
             Name::Tables | Name::Prefixes | Name::Links | Name::Describe => true,
+            Name::Voc => is_vocabulary(value),
+            Name::Filter => filter_of(value).is_some(),
+            Name::Gcp => gcp_of(value).is_some(),
+            Name::Encoding => !value.is_empty(),
+            Name::KeysOnly => value == "yes" || value == "no",
+            Name::Stem => stem_ok(value.as_bytes()),
         }
     }
 }

@@ -13,6 +13,23 @@ pub struct NamedFiles<'a> {
     pub describe: Option<&'a str>,
 }
 
+/// The values of the names that name no files, with their defaults.
+#[derive(Clone, Copy, Debug)]
+pub struct NamedValues<'a> {
+    /// What stands for `gs1:` in relations.
+    pub voc: &'a str,
+    /// A filter value, 0 to 7.
+    pub filter: Option<u8>,
+    /// The number of digits of a company prefix, 1 to 12.
+    pub gcp: Option<u8>,
+    /// The name of an encoding of tags, or nothing.
+    pub encoding: &'a str,
+    /// Whether of an identity its key alone is kept.
+    pub keys_only: bool,
+    /// The stem of links.
+    pub stem: &'a str,
+}
+
 /// What the program is asked to do.
 #[derive(Clone, Copy, Debug)]
 pub struct Request<'a> {
@@ -20,4 +37,6 @@ pub struct Request<'a> {
     pub command: Command,
     /// The files that are named.
     pub files: NamedFiles<'a>,
+    /// The values that are named.
+    pub values: NamedValues<'a>,
 }

@@ -1,0 +1,65 @@
+ghost use Rattle.std.specs.Prelude.{◌≡◌, ℕ, List, Option, map, option_and_then, string_bytes};
+ghost use Rattle.gs_program.specs.Names.{ArePairs};
+ghost use Rattle.gs_program.specs.Requests.{named_files, named_values, number_named, told_files, told_values, value_or};
+ghost use Rattle.gs_program.specs.Ranges.{filter_of, gcp_of};
+
+use crate::name::Name;
+use crate::pairs::look_up;
+use crate::ranges::{filter_of, gcp_of};
+use crate::request::{NamedFiles, NamedValues};
+
+/// What stands for `gs1:` in relations where that is not named.
+const DEFAULT_VOC: &str = "https://ref.gs1.org/voc/";
+
+/// The stem of links where it is not named.
+const DEFAULT_STEM: &str = "https://id.gs1.org";
+
+/// The files that pairs name.
+pub fn named_files(words: &[String]) -> NamedFiles<'_>
+    ensures { (pairs : List (List ℕ × List ℕ)) → ArePairs (map string_bytes words.now) pairs → told_files result ≡ named_files pairs }
+{
+    NamedFiles {
+        tables: look_up(words, Name::Tables.word()),
+        prefixes: look_up(words, Name::Prefixes.word()),
+        links: look_up(words, Name::Links.word()),
+        describe: look_up(words, Name::Describe.word()),
+    }
+}
+
+/// The value of a name, or what stands in its place.
+fn value_or<'a>(words: &'a [String], name: Name, default: &'a str) -> &'a str
+    ensures { (pairs : List (List ℕ × List ℕ)) → ArePairs (map string_bytes words.now) pairs → result.now ≡ value_or default.now name pairs }
+{
+    match look_up(words, name.word()) {
+        Some(value) => value,
+        None => default,
+    }
+}
+
+/// The filter value that is named.
+fn named_filter(words: &[String]) -> Option<u8>
+    ensures { (pairs : List (List ℕ × List ℕ)) → ArePairs (map string_bytes words.now) pairs → result ≡ number_named filter_of Name.Filter pairs }
+{
+    filter_of(look_up(words, Name::Filter.word())?)
+}
+
+/// The number of digits of a company prefix that is named.
+fn named_gcp(words: &[String]) -> Option<u8>
+    ensures { (pairs : List (List ℕ × List ℕ)) → ArePairs (map string_bytes words.now) pairs → result ≡ number_named gcp_of Name.Gcp pairs }
+{
+    gcp_of(look_up(words, Name::Gcp.word())?)
+}
+
+/// The values that pairs name, with their defaults.
+pub fn named_values(words: &[String]) -> NamedValues<'_>
+    ensures { (pairs : List (List ℕ × List ℕ)) → ArePairs (map string_bytes words.now) pairs → told_values result ≡ named_values pairs }
+{
+    NamedValues {
+        voc: value_or(words, Name::Voc, DEFAULT_VOC),
+        filter: named_filter(words),
+        gcp: named_gcp(words),
+        encoding: value_or(words, Name::Encoding, ""),
+        keys_only: value_or(words, Name::KeysOnly, "no") == "yes",
+        stem: value_or(words, Name::Stem, DEFAULT_STEM),
+    }
+}
