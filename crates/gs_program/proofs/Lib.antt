@@ -1,11 +1,14 @@
 pub mod WordLemmas
+pub mod RangeLemmas
 pub mod PairLemmas
 pub mod RequestLemmas
+pub mod ValueLemmas
 pub mod PrefixLoads
 pub mod LoadLemmas
 pub mod ReadLemmas
 pub mod RanLemmas
 pub mod LineLemmas
+pub mod CanonLaws
 pub mod AskedLemmas
 pub mod RunLemmas
 pub mod DecidedWords

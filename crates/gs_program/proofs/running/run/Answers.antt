@@ -4,6 +4,7 @@ use Rattle.gs_lines.proofs.StatusLemmas.{when_map}
 use Rattle.gs_program.specs.Requests.{told_request}
 use Rattle.gs_program.specs.Runs.{named}
 use Rattle.gs_program.proofs.RunLemmas.{begun_of, defined_of, read_fault_of, refused_of, unopened_of, usage_begun}
+use Rattle.gs_program.proofs.ValueLemmas.{options_fit}
 use Rattle.gs_program.proofs.running.run.Goals as goal
 
 pub returns-in-Some-clause-defined : goal.returns-in-Some-clause-defined
@@ -54,3 +55,6 @@ pub returns-in-None-clause-begun : goal.returns-in-None-clause-begun
 returns-in-None-clause-begun g c =
     usage_begun (map string_bytes c.args.words.now) (record { files = g.F.Files.files c.args.files.now; input = g.S.Source.left c.args.input.now })
     (g.K.Sink.held c.args.output.now) (g.K.Sink.held c.print_line.new.output) c.print_line.result c.in-None.ensures.none c.print_line.ensures.written
+
+pub run_request-requires : goal.run_request-requires
+run_request-requires g c = options_fit (map string_bytes c.args.words.now) (told_request c.in-Some.request) c.in-Some.ensures.request
