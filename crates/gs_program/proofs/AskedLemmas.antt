@@ -6,40 +6,37 @@ use Rattle.gs_lines.specs.declared.status.Status.TheVariants as status
 use Rattle.gs_lines.specs.Outputs.{Appends}
 use Rattle.gs_lines.specs.Printing.{IsInitialPart, PrintedAs}
 use Rattle.gs_lines.specs.Statuses.{OnAnswered, OnCutShort, OnReadFault, OnRefused, OnWriteFault, OnWritten, is_cut_short, is_read_fault, is_written}
-use Rattle.gs_lines.proofs.OneOutcome.{some_outcome}
 use Rattle.gs_lines.proofs.StatusLemmas.{when_map}
 use Rattle.gs_port.specs.Counts.{Rises}
 use Rattle.gs_tables.specs.Judged.{IsLoaded}
 use Rattle.gs_translate.specs.Steps.{HasSome}
 use Rattle.gs_program.specs.declared.command.Command.{Command}
-use Rattle.gs_program.specs.declared.command.Command.TheVariants.{Canon, Check}
+use Rattle.gs_program.specs.declared.command.Command.TheVariants.{Canon, Translate, Check}
 use Rattle.gs_program.specs.declared.loading.Loaded.{Loaded}
 use Rattle.gs_program.specs.declared.loading.Unloaded.TheVariants as unloaded
 use Rattle.gs_program.specs.declared.refusal.Refusal.{Refusal}
 use Rattle.gs_program.specs.Asking.{AskedRan, Counts}
-use Rattle.gs_program.specs.LineAnswers.{IsCanonLine}
 use Rattle.gs_program.specs.Loads.{FilesGive, LoadedBy, Stop, missing, refused}
-use Rattle.gs_program.specs.Ran.{BeginsOne, Moment, Ran}
+use Rattle.gs_program.specs.Ran.{BeginsOne, CommandRan, Moment}
 use Rattle.gs_program.specs.Refusals.{refused_line}
-use Rattle.gs_program.specs.Requests.{Asked}
+use Rattle.gs_program.specs.Requests.{Asked, Values}
 use Rattle.gs_program.specs.Runs.{AskedEnded, AskedRun, World, ran, stopped, stops}
-use Rattle.gs_program.specs.Works.{CommandRun, Outcome, counts_line, input_limit}
-use Rattle.gs_program.proofs.LineLemmas.{some_line}
+use Rattle.gs_program.specs.Works.{CommandRun, Outcome, canonizing, counts_line, input_limit, translating}
+use Rattle.gs_program.proofs.LineLemmas.{translated_some}
 use Rattle.gs_program.proofs.LoadLemmas.{files_some}
 use Rattle.gs_program.proofs.RanLemmas.{PrintedCase, fault, no_memory, printed_case, takes_nothing, whole}
 use Rattle.gs_program.proofs.ReadLemmas.{loaded_of}
 
 -- ---- what is asked has an outcome
 
-command_some : (command : Command) (loaded : Loaded) (input : Option (List ℕ)) → IsLoaded loaded.tables → HasSome (CommandRun command loaded input)
-command_some (Canon form) loaded input keeps =
-    let o = some_outcome (IsCanonLine loaded.tables form) input_limit input (some_line loaded.tables form keeps) in
-    (record { output = o.output; status = o.status }, o.answers)
-command_some Check loaded input keeps = (record { output = counts_line loaded; status = status.Done }, refl)
+command_some : (command : Command) (values : Values) (loaded : Loaded) (input : Option (List ℕ)) → IsLoaded loaded.tables → HasSome (CommandRun command values loaded input)
+command_some (Canon form) values loaded input keeps = translated_some (canonizing loaded form) input keeps
+command_some (Translate from to) values loaded input keeps = translated_some (translating loaded values from to) input keeps
+command_some Check values loaded input keeps = (record { output = counts_line loaded; status = status.Done }, refl)
 
 asked_from : (asked : Asked) (world : World) (answer : Result Loaded Stop) → FilesGive world.files asked answer → HasSome (AskedRun asked world)
 asked_from asked world (Ok loaded) gives =
-    let c = command_some asked.command loaded world.input (loaded_of world.files asked loaded gives) in
+    let c = command_some asked.command asked.values loaded world.input (loaded_of world.files asked loaded gives) in
     (c.0, ran loaded gives c.1)
 asked_from asked world (Err stop) gives = (stopped stop, stops stop gives refl)
 
@@ -61,10 +58,10 @@ never_refused status.WriteFault fact un = tt
 never_refused status.InputLong fact un = tt
 never_refused status.Memory fact un = tt
 
-begins_asked : (asked : Asked) (world : World) (loaded : Loaded) (output : List ℕ) → FilesGive world.files asked (Ok loaded) → BeginsOne (CommandRun asked.command loaded world.input) output → BeginsOne (AskedRun asked world) output
+begins_asked : (asked : Asked) (world : World) (loaded : Loaded) (output : List ℕ) → FilesGive world.files asked (Ok loaded) → BeginsOne (CommandRun asked.command asked.values loaded world.input) output → BeginsOne (AskedRun asked world) output
 begins_asked asked world loaded output gives b = record { outcome = b.outcome; is = ran loaded gives b.is; begins = b.begins }
 
-pub asked_of_command : (asked : Asked) (world : World) (before now : Counts) (left : Option (List ℕ)) (loaded : Loaded) (outcome : Outcome) → FilesGive world.files asked (Ok loaded) → before.file_faults ≤ now.file_faults → Ran asked.command loaded (record { input = world.input; input_faults = before.input_faults; output_faults = before.output_faults }) (record { input = left; input_faults = now.input_faults; output_faults = now.output_faults }) outcome → AskedRan asked world before now left outcome
+pub asked_of_command : (asked : Asked) (world : World) (before now : Counts) (left : Option (List ℕ)) (loaded : Loaded) (outcome : Outcome) → FilesGive world.files asked (Ok loaded) → before.file_faults ≤ now.file_faults → CommandRan asked.command asked.values loaded (record { input = world.input; input_faults = before.input_faults; output_faults = before.output_faults }) (record { input = left; input_faults = now.input_faults; output_faults = now.output_faults }) outcome → AskedRan asked world before now left outcome
 asked_of_command asked world before now left loaded outcome gives counts r = record {
   written = when_map (is_written outcome.status) (λ run. ran loaded gives run) r.written;
   begun = when_map (is_cut_short outcome.status) (begins_asked asked world loaded outcome.output gives) r.begun;
@@ -80,8 +77,8 @@ asked_of_command asked world before now left loaded outcome gives counts r = rec
   no_usage = r.no_usage;
 }
 
-pub refusal_of_command : (s : Status) (fact : Type 0) (command : Command) (loaded : Loaded) (before now : Moment) (output : List ℕ) → Ran command loaded before now (record { output = output; status = s }) → OnRefused s fact
-refusal_of_command s fact command loaded before now output r = never_refused s fact r.no_refusal
+pub refusal_of_command : (s : Status) (fact : Type 0) (command : Command) (values : Values) (loaded : Loaded) (before now : Moment) (output : List ℕ) → CommandRan command values loaded before now (record { output = output; status = s }) → OnRefused s fact
+refusal_of_command s fact command values loaded before now output r = never_refused s fact r.no_refusal
 
 when_both : (A B : Type 0) (s : Status) → OnReadFault s A → OnReadFault s B → OnReadFault s (A × B)
 when_both A B status.Done a b = tt
@@ -94,7 +91,7 @@ when_both A B status.InputLong a b = tt
 when_both A B status.Memory a b = tt
 
 -- after a fault of the input the lines that had ended were answered
-pub ended_of_command : (nothing : Type 0) (asked : Asked) (world : World) (before now : Moment) (held holds : Option (List ℕ)) (loaded : Loaded) (s : Status) → FilesGive world.files asked (Ok loaded) → before.input ≡ world.input → Appends held holds (λ out. Ran asked.command loaded before now (record { output = out; status = s })) → OnReadFault s (nothing ⊎ (Rises before.input_faults now.input_faults × Appends held holds (AskedEnded asked world.files world.input now.input)))
+pub ended_of_command : (nothing : Type 0) (asked : Asked) (world : World) (before now : Moment) (held holds : Option (List ℕ)) (loaded : Loaded) (s : Status) → FilesGive world.files asked (Ok loaded) → before.input ≡ world.input → Appends held holds (λ out. CommandRan asked.command asked.values loaded before now (record { output = out; status = s })) → OnReadFault s (nothing ⊎ (Rises before.input_faults now.input_faults × Appends held holds (AskedEnded asked world.files world.input now.input)))
 ended_of_command nothing asked world before now held holds loaded s gives same a =
     when_map (is_read_fault s) (λ both. inr (both.0, (a.0, a.1, rw (← same) (record { loaded = loaded; loads = gives; ended = both.1 }))))
     (when_both _ _ s a.2.read_fault a.2.ended)

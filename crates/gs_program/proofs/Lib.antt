@@ -1,7 +1,8 @@
 pub mod WordLemmas
+pub mod RangeLemmas
 pub mod PairLemmas
 pub mod RequestLemmas
-pub mod RangeLemmas
+pub mod ValueLemmas
 pub mod FileLoads
 pub mod OpenedNames
 pub mod PrefixLoads
@@ -10,6 +11,7 @@ pub mod LoadLemmas
 pub mod ReadLemmas
 pub mod RanLemmas
 pub mod LineLemmas
+pub mod CanonLaws
 pub mod AskedLemmas
 pub mod RunLemmas
 pub mod DecidedWords

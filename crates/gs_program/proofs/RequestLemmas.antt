@@ -1,151 +1,113 @@
 -- What words ask for.
-use Rattle.std.proofs.Common.{◌≡◌, ℕ, List, [], ◌∷◌, ◌++◌, Option, None, Some, get_or, refl, sym, ◌∙◌, ap}
-use Rattle.std.specs.Prelude.{◌==◌, bytes_eq, codes, if◌then◌else◌}
+use Rattle.std.proofs.Common.{◌≡◌, ℕ, Bool, true, List, [], ◌∷◌, ◌++◌, Option, None, Some, refl, sym, ◌∙◌, ap, inl, inr}
+use Rattle.std.specs.Prelude.{bytes_eq, codes, option_and_then, option_map}
+use Rattle.gs_chars.proofs.TruthsAndLists.{equal_bytes, mapped_some, true_or_false}
+use Rattle.gs_ident.proofs.PairLemmas.{found_passes}
 use Rattle.gs_translate.specs.declared.form.Form.{Form}
-use Rattle.gs_translate.specs.declared.form.Form.TheVariants.{Hex, Tag, Pure, Raw, Bracketed, Link}
+use Rattle.gs_translate.specs.declared.form.Form.TheVariants as form
+use Rattle.gs_translate.specs.declared.target.Target.{Target}
+use Rattle.gs_translate.specs.declared.target.Target.TheVariants as target
 use Rattle.gs_translate.specs.Steps.{HasOne}
 use Rattle.gs_program.specs.declared.command.Command.{Command}
-use Rattle.gs_program.specs.declared.command.Command.TheVariants.{Canon, Check}
-use Rattle.gs_program.specs.Commands.{command_words, form_word}
-use Rattle.gs_program.specs.Requests.{Asked, Asks, AsksForCanon, NotInOrder, WordsInOrder, asked_of}
+use Rattle.gs_program.specs.declared.command.Command.TheVariants.{Canon, Translate, Check}
+use Rattle.gs_program.specs.CommandReads.{canon_of, command_of, form_named, forms, target_named, targets, translation_of}
+use Rattle.gs_program.specs.Commands.{command_words, form_word, target_word}
+use Rattle.gs_program.specs.Requests.{Asked, Asks, NotInOrder, WordsInOrder, asked_of}
 use Rattle.gs_program.proofs.PairLemmas.{same_pairs}
 
--- ---- the form and the command that words spell
+-- ---- forms by their words
 
--- the form of a word that is a form's, by its first letter
-abbrev pub form_by : ℕ → Form
-form_by c =
-    if c == 104 then Hex
-    else if c == 116 then Tag
-    else if c == 112 then Pure
-    else if c == 114 then Raw
-    else if c == 98 then Bracketed
-    else Link
+form_read : (form : Form) → form_named (form_word form) ≡ Some form
+form_read form.Hex = refl
+form_read form.Tag = refl
+form_read form.Pure = refl
+form_read form.Raw = refl
+form_read form.Bracketed = refl
+form_read form.Link = refl
 
-abbrev pub form_of : List ℕ → Form
-form_of word = form_by (get_or word 0 0)
+form_spelled : (word : List ℕ) (form : Form) → form_named word ≡ Some form → word ≡ form_word form
+form_spelled word form e = equal_bytes word (form_word form) (found_passes (λ (f : Form). bytes_eq word (form_word f)) forms form e)
 
-pub word_of_form : (form : Form) → form_of (form_word form) ≡ form
-word_of_form Hex = refl
-word_of_form Tag = refl
-word_of_form Pure = refl
-word_of_form Raw = refl
-word_of_form Bracketed = refl
-word_of_form Link = refl
+target_read : (target : Target) → target_named (target_word target) ≡ Some target
+target_read target.Hex = refl
+target_read target.Tag = refl
+target_read target.Pure = refl
+target_read target.Raw = refl
+target_read target.Bracketed = refl
+target_read target.Link = refl
+target_read target.Canon = refl
 
-same_form : (one other : Form) → form_word one ≡ form_word other → one ≡ other
-same_form one other e = sym (word_of_form one) ∙ ap form_of e ∙ word_of_form other
+target_spelled : (word : List ℕ) (target : Target) → target_named word ≡ Some target → word ≡ target_word target
+target_spelled word target e = equal_bytes word (target_word target) (found_passes (λ (t : Target). bytes_eq word (target_word t)) targets target e)
+
+-- ---- commands by their words
 
 -- a command with its operands, and the words behind it
-abbrev Split : Type 0
-Split = Command × List (List ℕ)
+abbrev Parts : Type 0
+Parts = Command × List (List ℕ)
 
-same_split : (one other : Split) → Some one ≡ Some other → one ≡ other
-same_split one other e = cc
+same_parts : (one other : Parts) → Some one ≡ Some other → one ≡ other
+same_parts one other e = cc
 
-canon_of : List (List ℕ) → Option Split
-canon_of [] = None
-canon_of (word ∷ words) = Some (Canon (form_of word), words)
-
-command_of : List (List ℕ) → Option Split
-command_of [] = None
-command_of (word ∷ words) = if bytes_eq word (codes "canon") then canon_of words else if bytes_eq word (codes "check") then Some (Check, words) else None
-
+-- the words of each command are read as it
 command_read : (command : Command) (behind : List (List ℕ)) → command_of (command_words command ++ behind) ≡ Some (command, behind)
-unfolding command_of canon_of
-command_read (Canon form) behind = ap (λ (f : Form). let s : Split = (Canon f, behind) in Some s) (word_of_form form)
+command_read (Canon form) behind = rw (form_read form) refl
+command_read (Translate from to) behind = rw (form_read from, target_read to) refl
 command_read Check behind = refl
 
--- the first of two lists that are equal
-same_first : (a b : List ℕ) (behind others : List (List ℕ)) → a ∷ behind ≡ b ∷ others → a ≡ b
-same_first a b behind others e = cc
+-- the words are those of a command, and what stands behind them
+abbrev AreOf : List (List ℕ) → Parts → Type 0
+AreOf words parts = words ≡ command_words parts.0 ++ parts.1
 
-same_rest : (a b : List ℕ) (behind others : List (List ℕ)) → a ∷ behind ≡ b ∷ others → behind ≡ others
-same_rest a b behind others e = cc
+canon_spelled : (words : List (List ℕ)) (parts : Parts) → canon_of words ≡ Some parts → AreOf (codes "canon" ∷ words) parts
+canon_spelled [] parts e = absurd (let f : None ≡ Some parts = e in cc)
+canon_spelled (word ∷ words) parts e =
+    let m = mapped_some (λ (f : Form). let p : Parts = (Canon f, words) in p) (form_named word) parts e in
+    ap (λ (w : List ℕ). codes "canon" ∷ w ∷ words) (form_spelled word m.0 m.1) ∙ ap (λ (p : Parts). command_words p.0 ++ p.1) m.2
 
--- ---- the command
+translation_spelled : (words : List (List ℕ)) (parts : Parts) → translation_of words ≡ Some parts → AreOf (codes "translate" ∷ words) parts
+translation_spelled [] parts e = absurd (let f : None ≡ Some parts = e in cc)
+translation_spelled (word ∷ []) parts e = absurd (let f : None ≡ Some parts = e in cc)
+translation_spelled (from ∷ to ∷ words) parts e = by (form_named from) refl (target_named to) refl e
+  where
+    by : (o : Option Form) → form_named from ≡ o → (p : Option Target) → target_named to ≡ p → option_and_then (λ (f : Form). option_map (λ (t : Target). let p : Parts = (Translate f t, words) in p) p) o ≡ Some parts → AreOf (codes "translate" ∷ from ∷ to ∷ words) parts
+    by None n p m f = absurd (let g : None ≡ Some parts = f in cc)
+    by (Some form) n None m f = absurd (let g : None ≡ Some parts = f in cc)
+    by (Some form) n (Some target) m f =
+        let same = same_parts (Translate form target, words) parts f in
+        rw (← same, form_spelled from form n, target_spelled to target m) refl
 
-pub order_of_canon : (words : List (List ℕ)) (asked : Asked) → AsksForCanon words asked → WordsInOrder (codes "canon" ∷ words) asked
-order_of_canon words asked a = record {
-  command = Canon a.form;
-  behind = a.behind;
-  spelled = ap (λ (ws : List (List ℕ)). codes "canon" ∷ ws) a.spelled;
-  asks = a.asks;
-}
+-- words that are read as a command are its words
+command_spelled : (words : List (List ℕ)) (parts : Parts) → command_of words ≡ Some parts → AreOf words parts
+command_spelled [] parts e = absurd (let f : None ≡ Some parts = e in cc)
+command_spelled (word ∷ words) parts e = elim (true_or_false (bytes_eq word (codes "canon"))) as (λ _. AreOf (word ∷ words) parts) [
+  | inl is ↦ rw (equal_bytes word (codes "canon") is) (canon_spelled words parts (rw is at e))
+  | inr canon ↦ elim (true_or_false (bytes_eq word (codes "translate"))) as (λ _. AreOf (word ∷ words) parts) [
+    | inl is ↦ rw (equal_bytes word (codes "translate") is) (translation_spelled words parts (rw (canon, is) at e))
+    | inr translate ↦ elim (true_or_false (bytes_eq word (codes "check"))) as (λ _. AreOf (word ∷ words) parts) [
+      | inl is ↦
+        let f : Some (Check, words) ≡ Some parts = rw (canon, translate, is) at e in
+        let same = same_parts (Check, words) parts f in
+        rw (← same, equal_bytes word (codes "check") is) refl
+      | inr check ↦ absurd (let f : None ≡ Some parts = rw (canon, translate, check) at e in cc)
+    ]
+  ]
+]
 
-pub order_of_check : (words : List (List ℕ)) (asked : Asked) → Asks Check words asked → WordsInOrder (codes "check" ∷ words) asked
-order_of_check words asked a = record { command = Check; behind = words; spelled = refl; asks = a }
+-- ---- what is asked
 
--- what words in order are split into, and what is asked
-record Spells (words : List (List ℕ)) (asked : Asked) : Type 0 where
-  command : Command
-  behind : List (List ℕ)
-  spelled : words ≡ command_words command ++ behind
-  read : command_of words ≡ Some (command, behind)
-  asks : Asks command behind asked
+pub order_of : (words : List (List ℕ)) (parts : Parts) (asked : Asked) → command_of words ≡ Some parts → Asks parts.0 parts.1 asked → WordsInOrder words asked
+order_of words parts asked e a = record { command = parts.0; behind = parts.1; spelled = command_spelled words parts e; asks = a }
 
-spells_of : (words : List (List ℕ)) (asked : Asked) → WordsInOrder words asked → Spells words asked
-spells_of words asked o = record { command = o.command; behind = o.behind; spelled = o.spelled; read = ap command_of o.spelled ∙ command_read o.command o.behind; asks = o.asks }
+pub asks_of : (words : List (List ℕ)) (parts : Parts) (asked : Asked) → command_of words ≡ Some parts → WordsInOrder words asked → Asks parts.0 parts.1 asked
+asks_of words parts asked e o =
+    let same = same_parts parts (o.command, o.behind) (sym e ∙ ap command_of o.spelled ∙ command_read o.command o.behind) in
+    rw same o.asks
 
-asks_of : (command : Command) (words : List (List ℕ)) (given : List (List ℕ)) (asked : Asked) → command_of given ≡ Some (command, words) → WordsInOrder given asked → Asks command words asked
-asks_of command words given asked e o =
-    let s = spells_of given asked o in
-    let both = same_split (command, words) (s.command, s.behind) (sym e ∙ s.read) in
-    let same : command ≡ s.command = ap (λ (x : Split). x.0) both in
-    let behind : words ≡ s.behind = ap (λ (x : Split). x.1) both in
-    rw (same, behind) s.asks
-
-canon_words : (words : List (List ℕ)) (command : Command) (behind : List (List ℕ)) → canon_of words ≡ Some (command, behind) → (form : Form) × (command ≡ Canon form)
-unfolding canon_of
-canon_words [] command behind e = absurd (let f : None ≡ Some (command, behind) = e in cc)
-canon_words (word ∷ words) command behind e = let c = same_split (Canon (form_of word), words) (command, behind) e in (form_of word, ap (λ (s : Split). s.0) (sym c))
-
-pub asks_for_canon : (words : List (List ℕ)) (asked : Asked) → WordsInOrder (codes "canon" ∷ words) asked → AsksForCanon words asked
-unfolding command_of
-asks_for_canon words asked o =
-    let s = spells_of (codes "canon" ∷ words) asked o in
-    let c = canon_words words s.command s.behind s.read in
-    let spelled : codes "canon" ∷ words ≡ command_words (Canon c.0) ++ s.behind = s.spelled ∙ ap (λ (k : Command). command_words k ++ s.behind) c.1 in
-    let asks : Asks (Canon c.0) s.behind asked = rw c.1 at s.asks in
-    record { form = c.0; behind = s.behind; spelled = same_rest (codes "canon") (codes "canon") words (form_word c.0 ∷ s.behind) spelled; asks = asks }
-
-pub asks_for_check : (words : List (List ℕ)) (asked : Asked) → WordsInOrder (codes "check" ∷ words) asked → Asks Check words asked
-unfolding command_of
-asks_for_check words asked o = asks_of Check words (codes "check" ∷ words) asked refl o
-
-no_command : (first : List ℕ) (command : Command) (words behind : List (List ℕ)) → (first ≡ codes "canon" → ⊥) → (first ≡ codes "check" → ⊥) → first ∷ words ≡ command_words command ++ behind → ⊥
-no_command first (Canon form) words behind canon check e = canon (same_first first (codes "canon") words (form_word form ∷ behind) e)
-no_command first Check words behind canon check e = check (same_first first (codes "check") words behind e)
-
--- no other word is a command
-pub other_word : (first : List ℕ) (words : List (List ℕ)) → (first ≡ codes "canon" → ⊥) → (first ≡ codes "check" → ⊥) → NotInOrder (first ∷ words)
-other_word first words canon check asked o = no_command first o.command words o.behind canon check o.spelled
-
-no_spelling : (command : Command) (behind : List (List ℕ)) → [] ≡ command_words command ++ behind → ⊥
-no_spelling (Canon form) behind e = cc
-no_spelling Check behind e = cc
-
-pub no_word : NotInOrder []
-no_word asked o = no_spelling o.command o.behind o.spelled
-
--- ---- the form
-
-pub no_form : (words : List (List ℕ)) (asked : Asked) → words ≡ [] → AsksForCanon words asked → ⊥
-no_form words asked none a = let e : [] ≡ form_word a.form ∷ a.behind = sym none ∙ a.spelled in cc
-
-pub other_form : (first : List ℕ) (words : List (List ℕ)) (asked : Asked) → ((form : Form) → first ≡ form_word form → ⊥) → AsksForCanon (first ∷ words) asked → ⊥
-other_form first words asked none a = none a.form (same_first first (form_word a.form) words a.behind a.spelled)
-
-pub asks_of_form : (form : Form) (first : List ℕ) (words : List (List ℕ)) (asked : Asked) → first ≡ form_word form → AsksForCanon (first ∷ words) asked → Asks (Canon form) words asked
-asks_of_form form first words asked e a =
-    let s = a.spelled in
-    let words_same : form_word form ≡ form_word a.form = sym e ∙ same_first first (form_word a.form) words a.behind s in
-    let same : form ≡ a.form = same_form form a.form words_same in
-    let behind : words ≡ a.behind = same_rest first (form_word a.form) words a.behind s in
-    rw (same, behind) a.asks
-
-pub canon_of_form : (form : Form) (first : List ℕ) (words : List (List ℕ)) (asked : Asked) → first ≡ form_word form → Asks (Canon form) words asked → AsksForCanon (first ∷ words) asked
-canon_of_form form first words asked e a = record { form = form; behind = words; spelled = ap (λ (w : List ℕ). w ∷ words) e; asks = a }
+pub not_in_order : (words : List (List ℕ)) → command_of words ≡ None → NotInOrder words
+not_in_order words e asked o =
+    let parts : Parts = (o.command, o.behind) in
+    let f : None ≡ Some parts = sym e ∙ ap command_of o.spelled ∙ command_read o.command o.behind in cc
 
 -- ---- one request
 
@@ -161,8 +123,8 @@ record SameCommand (one other : Command) (behind behind' : List (List ℕ)) : Ty
 
 same_command : (one other : Command) (behind behind' : List (List ℕ)) → command_words one ++ behind ≡ command_words other ++ behind' → SameCommand one other behind behind'
 same_command one other behind behind' e =
-    let both = same_split (one, behind) (other, behind') (sym (command_read one behind) ∙ ap command_of e ∙ command_read other behind') in
-    record { commands = ap (λ (x : Split). x.0) both; behinds = ap (λ (x : Split). x.1) both }
+    let both = same_parts (one, behind) (other, behind') (sym (command_read one behind) ∙ ap command_of e ∙ command_read other behind') in
+    record { commands = ap (λ (x : Parts). x.0) both; behinds = ap (λ (x : Parts). x.1) both }
 
 pub one_request : (words : List (List ℕ)) → HasOne (WordsInOrder words)
 one_request words one other a b =

@@ -7,13 +7,13 @@ use Rattle.gs_lines.proofs.OneOutcome.{one_outcome}
 use Rattle.gs_tables.specs.Judged.{IsLoaded}
 use Rattle.gs_translate.specs.Steps.{HasOne, HasSome}
 use Rattle.gs_program.specs.declared.command.Command.{Command}
-use Rattle.gs_program.specs.declared.command.Command.TheVariants.{Canon, Check}
+use Rattle.gs_program.specs.declared.command.Command.TheVariants.{Canon, Translate, Check}
 use Rattle.gs_program.specs.declared.loading.Loaded.{Loaded}
-use Rattle.gs_program.specs.LineAnswers.{IsCanonLine}
+use Rattle.gs_program.specs.LineAnswers.{IsTranslatedLine, Translating}
 use Rattle.gs_program.specs.Loads.{Stop}
-use Rattle.gs_program.specs.Requests.{Asked, WordsInOrder, usage_line}
+use Rattle.gs_program.specs.Requests.{Asked, Values, WordsInOrder, usage_line}
 use Rattle.gs_program.specs.Runs.{AreAlike, AskedRun, DefinedRun, World, ambiguous, but_text, by_request, by_usage, ran, same, stopped, stops}
-use Rattle.gs_program.specs.Works.{CommandRun, Outcome, input_limit}
+use Rattle.gs_program.specs.Works.{CommandRun, Outcome, Translated, canonizing, input_limit, translating}
 use Rattle.gs_program.proofs.AskedLemmas.{asked_some}
 use Rattle.gs_program.proofs.DecidedWords.{Decided, order_or_not}
 use Rattle.gs_program.proofs.LineLemmas.{one_line}
@@ -31,11 +31,15 @@ same_outcome one other e f =
     let by_status : Status → Outcome = λ s. record { output = other.output; status = s } in
     ap by_output e ∙ ap by_status f
 
-command_one : (command : Command) (loaded : Loaded) (input : List ℕ) → IsLoaded loaded.tables → HasOne (CommandRun command loaded (Some input))
-command_one (Canon form) loaded input keeps one other a b =
-    let same = one_outcome (IsCanonLine loaded.tables form) input_limit input one.output other.output one.status other.status (one_line loaded.tables form keeps) a b in
+translated_one : (t : Translating) (input : List ℕ) → IsLoaded t.set → HasOne (Translated t (Some input))
+translated_one t input keeps one other a b =
+    let same = one_outcome (IsTranslatedLine t) input_limit input one.output other.output one.status other.status (one_line t keeps) a b in
     same_outcome one other same.0 same.1
-command_one Check loaded input keeps one other a b = a ∙ sym b
+
+command_one : (command : Command) (values : Values) (loaded : Loaded) (input : List ℕ) → IsLoaded loaded.tables → HasOne (CommandRun command values loaded (Some input))
+command_one (Canon form) values loaded input keeps = translated_one (canonizing loaded form) input keeps
+command_one (Translate from to) values loaded input keeps = translated_one (translating loaded values from to) input keeps
+command_one Check values loaded input keeps one other a b = a ∙ sym b
 
 -- stops that are alike leave outcomes that are alike
 stops_alike : (stop stop' : Stop) (one other : Outcome) → one ≡ stopped stop → other ≡ stopped stop' → AlikeStops {A = Loaded} (Err stop) (Err stop') → AreAlike one other
@@ -57,8 +61,8 @@ same_loaded loaded loaded' (two_texts name i j text text' e f) = absurd (let g :
 pub asked_one : (asked : Asked) (files : List (List ℕ × List ℕ)) (input : List ℕ) (one other : Outcome) → AskedRun asked (told files input) one → AskedRun asked (told files input) other → AreAlike one other
 asked_one asked files input one other (ran loaded gives a) (ran loaded' gives' b) =
     let is = same_loaded loaded loaded' (files_one files asked (Ok loaded) (Ok loaded') gives gives') in
-    let moved : CommandRun asked.command loaded (Some input) other = rw is b in
-    same (command_one asked.command loaded input (loaded_of (Some files) asked loaded gives) one other a moved)
+    let moved : CommandRun asked.command asked.values loaded (Some input) other = rw is b in
+    same (command_one asked.command asked.values loaded input (loaded_of (Some files) asked loaded gives) one other a moved)
 asked_one asked files input one other (ran loaded gives a) (stops stop gives' b) = absurd (not_alike loaded stop (files_one files asked (Ok loaded) (Err stop) gives gives'))
 asked_one asked files input one other (stops stop gives a) (ran loaded gives' b) = absurd (not_alike loaded stop (files_one files asked (Ok loaded) (Err stop) gives' gives))
 asked_one asked files input one other (stops stop gives a) (stops stop' gives' b) = stops_alike stop stop' one other a b (files_one files asked (Err stop) (Err stop') gives gives')

@@ -1,6 +1,7 @@
 pub mod Ranges
 pub mod Names
 pub mod Commands
+pub mod CommandReads
 pub mod Requests
 pub mod Refusals
 pub mod Loads

@@ -3,15 +3,14 @@ use Rattle.std.specs.Prelude.{◌≡◌, ℕ, Bool, true, List, [], ◌∷◌, �
 use Rattle.std.specs.Borrow.{Bor}
 use Rattle.std.specs.List.{Contains}
 use Rattle.gs_ident.specs.Links.{canonical_stem}
-use Rattle.gs_translate.specs.declared.form.Form.{Form}
+use Rattle.gs_translate.specs.declared.options.Options.{Options}
 use Rattle.gs_program.specs.declared.command.Command.{Command}
-use Rattle.gs_program.specs.declared.command.Command.TheVariants.{Canon}
 use Rattle.gs_program.specs.declared.name.Name.{Name}
 use Rattle.gs_program.specs.declared.name.Name.TheVariants.{Tables, Prefixes, Links, Describe, Voc, Filter, Gcp, Encoding, KeysOnly, Stem}
 use Rattle.gs_program.specs.declared.request.NamedFiles.{NamedFiles}
 use Rattle.gs_program.specs.declared.request.NamedValues.{NamedValues}
 use Rattle.gs_program.specs.declared.request.Request.{Request}
-use Rattle.gs_program.specs.Commands.{answers_lines, command_words, form_word, names_of}
+use Rattle.gs_program.specs.Commands.{answers_lines, command_words, names_of}
 use Rattle.gs_program.specs.Names.{AreOfRows, has_required, look_up, name_word}
 use Rattle.gs_program.specs.Ranges.{filter_of, gcp_of}
 
@@ -89,13 +88,6 @@ pub record WordsInOrder (words : List (List ℕ)) (asked : Asked) : Type 0 where
   pub spelled : words ≡ command_words command ++ behind
   pub asks : Asks command behind asked
 
--- words behind `canon` ask for this
-pub record AsksForCanon (words : List (List ℕ)) (asked : Asked) : Type 0 where
-  pub form : Form
-  pub behind : List (List ℕ)
-  pub spelled : words ≡ form_word form ∷ behind
-  pub asks : Asks (Canon form) behind asked
-
 -- no request has these words
 abbrev pub NotInOrder : List (List ℕ) → Type 0
 NotInOrder words = (asked : Asked) → WordsInOrder words asked → ⊥
@@ -105,6 +97,10 @@ pub record AsksForLines (words : List (List ℕ)) : Type 0 where
   pub asked : Asked
   pub order : WordsInOrder words asked
   pub lines : answers_lines asked.command ≡ true
+
+-- what is said of translations by values
+abbrev pub options_of : Values → Options
+options_of values = record { filter = values.filter; gcp = values.gcp; encoding = values.encoding; keys_only = values.keys_only; stem = values.stem }
 
 -- the names of the files that are read behind the tables, in their order
 abbrev pub names_behind : FileNames → List (List ℕ)

@@ -26,7 +26,7 @@ stopped (refused refusal) = record { output = refused_line refusal; status = sta
 
 -- What is left where this is asked: the files are loaded and the command runs, or it goes no further than the files.
 pub data AskedRun (asked : Asked) (world : World) (outcome : Outcome) : Type 0 where
-  ran : (loaded : Loaded) → FilesGive world.files asked (Ok loaded) → CommandRun asked.command loaded world.input outcome → AskedRun asked world outcome
+  ran : (loaded : Loaded) → FilesGive world.files asked (Ok loaded) → CommandRun asked.command asked.values loaded world.input outcome → AskedRun asked world outcome
   stops : (stop : Stop) → FilesGive world.files asked (Err stop) → outcome ≡ stopped stop → AskedRun asked world outcome
 
 -- What a run with these words leaves in this world: what they ask for, or the usage line where they are not in order.
@@ -52,7 +52,7 @@ BeginsRun words world output = BeginsOne (DefinedRun words world) output
 pub record AskedEnded (asked : Asked) (files : Option (List (List ℕ × List ℕ))) (before now : Option (List ℕ)) (output : List ℕ) : Type 0 where
   pub loaded : Loaded
   pub loads : FilesGive files asked (Ok loaded)
-  pub ended : CommandEnded asked.command loaded before now output
+  pub ended : CommandEnded asked.command asked.values loaded before now output
 
 -- what a run with these words has written after a fault of the input, by what was taken of it
 pub record EndedRun (words : List (List ℕ)) (files : Option (List (List ℕ × List ℕ))) (before now : Option (List ℕ)) (output : List ℕ) : Type 0 where

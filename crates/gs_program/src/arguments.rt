@@ -1,18 +1,25 @@
-ghost use Rattle.std.specs.Prelude.{◌≡◌, IfSome, IfNone, map, string_bytes};
-ghost use Rattle.gs_translate.specs.declared.form.Form.{Form};
-ghost use Rattle.gs_program.specs.Commands.{form_word};
-ghost use Rattle.gs_program.specs.Requests.{Asked, Asks, AsksForCanon, NotInOrder, WordsInOrder, told_request};
+ghost use Rattle.std.specs.Prelude.{◌≡◌, ◌∷◌, IfSome, IfNone, map, string_bytes};
+ghost use Rattle.gs_program.specs.CommandReads.{canon_of, command_by, command_of, form_named, target_named, told_split, translation_of};
+ghost use Rattle.gs_program.specs.Requests.{Asked, Asks, NotInOrder, WordsInOrder, told_request};
 
 use crate::command::Command;
 use crate::naming::{named_files, named_values};
 use crate::pairs::{are_of_rows, has_required};
 use crate::request::Request;
-use gs_translate::Form;
+use gs_translate::{Form, Target};
+
+/// A command with its operands, and the words behind them.
+#[derive(Clone, Copy, Debug)]
+pub struct Split<'a> {
+    /// The command with its operands.
+    pub command: Command,
+    /// The words behind them.
+    pub behind: &'a [String],
+}
 
 /// The form of a word.
-fn read_form(word: &str) -> Option<Form>
-    ensures form { IfSome result (λ form. word.now ≡ form_word form) }
-    ensures none { IfNone result ((form : Form) → word.now ≡ form_word form → ⊥) }
+fn form_named(word: &str) -> Option<Form>
+    ensures { result ≡ form_named word.now }
 {
     if word == "hex" {
         return Some(Form::Hex);
@@ -35,6 +42,106 @@ fn read_form(word: &str) -> Option<Form>
     None
 }
 
+/// The form of a word that texts are translated to.
+fn target_named(word: &str) -> Option<Target>
+    ensures { result ≡ target_named word.now }
+{
+    if word == "hex" {
+        return Some(Target::Hex);
+    }
+    if word == "tag" {
+        return Some(Target::Tag);
+    }
+    if word == "pure" {
+        return Some(Target::Pure);
+    }
+    if word == "raw" {
+        return Some(Target::Raw);
+    }
+    if word == "bracketed" {
+        return Some(Target::Bracketed);
+    }
+    if word == "link" {
+        return Some(Target::Link);
+    }
+    if word == "canon" {
+        return Some(Target::Canon);
+    }
+    None
+}
+
+/// The command `canon` of the word of a form, and the words behind it.
+fn canon_by<'a>(word: &str, behind: &'a [String]) -> Option<Split<'a>>
+    ensures { told_split result ≡ canon_of (word.now ∷ map string_bytes behind.now) }
+{
+    let form = form_named(word)?;
+    Some(Split {
+        command: Command::Canon(form),
+        behind,
+    })
+}
+
+/// The command `translate` of the words of two forms, and the words behind it.
+fn translation_by<'a>(from: &str, to: &str, behind: &'a [String]) -> Option<Split<'a>>
+    ensures { told_split result ≡ translation_of (from.now ∷ to.now ∷ map string_bytes behind.now) }
+{
+    let form = form_named(from)?;
+    let target = target_named(to)?;
+    Some(Split {
+        command: Command::Translate(form, target),
+        behind,
+    })
+}
+
+/// The command `canon` of the words behind that word.
+fn canon_of(words: &[String]) -> Option<Split<'_>>
+    ensures { told_split result ≡ canon_of (map string_bytes words.now) }
+{
+    if words.is_empty() {
+        return None;
+    }
+    canon_by(words[0].as_str(), &words[1..])
+}
+
+/// The command `translate` of the words behind that word.
+fn translation_of(words: &[String]) -> Option<Split<'_>>
+    ensures { told_split result ≡ translation_of (map string_bytes words.now) }
+{
+    if words.len() < 2 {
+        return None;
+    }
+    translation_by(words[0].as_str(), words[1].as_str(), &words[2..])
+}
+
+/// The command of a word and of the words behind it.
+fn command_by<'a>(word: &str, behind: &'a [String]) -> Option<Split<'a>>
+    ensures { told_split result ≡ command_by word.now (map string_bytes behind.now) }
+{
+    if word == "canon" {
+        return canon_of(behind);
+    }
+    if word == "translate" {
+        return translation_of(behind);
+    }
+    if word == "check" {
+        return Some(Split {
+            command: Command::Check,
+            behind,
+        });
+    }
+    None
+}
+
+/// The command that the words begin with, and the words behind it and its operands.
+fn command_of(words: &[String]) -> Option<Split<'_>>
+    ensures { told_split result ≡ command_of (map string_bytes words.now) }
+{
+    if words.is_empty() {
+        return None;
+    }
+    command_by(words[0].as_str(), &words[1..])
+}
+
 /// The request of a command with the words behind its operands. `None` comes exactly where these are no pairs that the
 /// command takes, or lack a name that it must have.
 fn request_of(command: Command, words: &[String]) -> Option<Request<'_>>
@@ -54,32 +161,11 @@ fn request_of(command: Command, words: &[String]) -> Option<Request<'_>>
     })
 }
 
-/// The request of the words behind `canon`.
-fn read_canon(words: &[String]) -> Option<Request<'_>>
-    ensures request { IfSome result (λ request. AsksForCanon (map string_bytes words.now) (told_request request)) }
-    ensures none { IfNone result ((asked : Asked) → AsksForCanon (map string_bytes words.now) asked → ⊥) }
-{
-    if words.is_empty() {
-        return None;
-    }
-    let form = read_form(words[0].as_str())?;
-    request_of(Command::Canon(form), &words[1..])
-}
-
 /// The request that the words spell. `None` comes exactly where they are not in order.
 pub fn read_words(words: &[String]) -> Option<Request<'_>>
     ensures request { IfSome result (λ request. WordsInOrder (map string_bytes words.now) (told_request request)) }
     ensures none { IfNone result (NotInOrder (map string_bytes words.now)) }
 {
-    if words.is_empty() {
-        return None;
-    }
-    let command = words[0].as_str();
-    if command == "canon" {
-        return read_canon(&words[1..]);
-    }
-    if command == "check" {
-        return request_of(Command::Check, &words[1..]);
-    }
-    None
+    let split = command_of(words)?;
+    request_of(split.command, split.behind)
 }

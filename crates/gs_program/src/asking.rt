@@ -4,12 +4,13 @@ ghost use Rattle.gs_lines.specs.Printing.{PrintedAs};
 ghost use Rattle.gs_lines.specs.Statuses.{OnAnswered, OnReadFault, OnRefused, OnWriteFault};
 ghost use Rattle.gs_port.specs.Counts.{Rises};
 ghost use Rattle.gs_port.specs.Files.{AddsNames};
+ghost use Rattle.gs_translate.specs.Translations.{AreInOrder};
 ghost use Rattle.gs_program.specs.Asking.{AskedRan};
 ghost use Rattle.gs_program.specs.Commands.{answers_lines};
 ghost use Rattle.gs_program.specs.Loads.{OpensFirst};
 ghost use Rattle.gs_program.specs.Ranges.{is_vocabulary};
 ghost use Rattle.gs_program.specs.Refusals.{refused_line};
-ghost use Rattle.gs_program.specs.Requests.{names_in_order, told_request};
+ghost use Rattle.gs_program.specs.Requests.{names_in_order, options_of, told_request};
 ghost use Rattle.gs_program.specs.Runs.{AskedEnded};
 
 use crate::commands::run_command;
@@ -43,7 +44,8 @@ pub fn run_request<F: Files, S: Source, K: Sink>(
     input: &mut S,
     output: &mut K,
 ) -> Status
-    requires { is_vocabulary request.values.voc.now ≡ true }
+    requires vocabulary { is_vocabulary request.values.voc.now ≡ true }
+    requires options { AreInOrder (options_of (told_request request).values) }
     ensures ran { Appends (K.held output.old) (K.held output.new) (λ out. AskedRan (told_request request.entry)
         (record { files = F.files files.old; input = S.left input.old })
         (record { file_faults = F.faults files.old; input_faults = S.faults input.old; output_faults = K.faults output.old })
@@ -60,7 +62,14 @@ pub fn run_request<F: Files, S: Source, K: Sink>(
     ensures told { F.files files.new ≡ F.files files.old }
 {
     match load_files(alloc, request, files) {
-        Ok(loaded) => run_command(alloc, request.command, &loaded, input, output),
+        Ok(loaded) => run_command(
+            alloc,
+            request.command,
+            request.values,
+            &loaded,
+            input,
+            output,
+        ),
         Err(Unloaded::Refused(refusal)) => print_refusal(alloc, &refusal, output),
         Err(Unloaded::ReadFault) => Status::ReadFault,
         Err(Unloaded::Memory) => Status::Memory,

@@ -2,13 +2,15 @@ ghost use Rattle.std.specs.Prelude.{◌≡◌};
 ghost use Rattle.gs_program.specs.Commands.{names_of};
 
 use crate::name::{Name, NameRow};
-use gs_translate::Form;
+use gs_translate::{Form, Target};
 
 /// A command with its operands.
 #[derive(Clone, Copy, Debug)]
 pub enum Command {
     /// Answers each line of the input, a text of the form, by the canonical link of what it names.
     Canon(Form),
+    /// Answers each line of the input, a text of the first form, by its translation to the second.
+    Translate(Form, Target),
     /// Loads the files, and counts what they have.
     Check,
 }
@@ -37,6 +39,36 @@ const VOC: NameRow = NameRow {
     required: false,
 };
 
+/// The name of a filter value, which may be absent.
+const FILTER: NameRow = NameRow {
+    name: Name::Filter,
+    required: false,
+};
+
+/// The name of the number of digits of a company prefix, which may be absent.
+const GCP: NameRow = NameRow {
+    name: Name::Gcp,
+    required: false,
+};
+
+/// The name of an encoding of tags, which may be absent.
+const ENCODING: NameRow = NameRow {
+    name: Name::Encoding,
+    required: false,
+};
+
+/// The name of whether keys alone are kept, which may be absent.
+const KEYS_ONLY: NameRow = NameRow {
+    name: Name::KeysOnly,
+    required: false,
+};
+
+/// The name of the stem of links, which may be absent.
+const STEM: NameRow = NameRow {
+    name: Name::Stem,
+    required: false,
+};
+
 impl Command {
     /// The names that the command takes.
     pub fn names(self) -> &'static [NameRow]
@@ -44,6 +76,7 @@ impl Command {
     {
         match self {
             Command::Canon(_) => &[TABLES],
+            Command::Translate(_, _) => &[TABLES, PREFIXES, FILTER, GCP, ENCODING, KEYS_ONLY, STEM],
             Command::Check => &[TABLES, PREFIXES, LINKS, VOC],
         }
     }

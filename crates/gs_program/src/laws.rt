@@ -1,8 +1,14 @@
-ghost use Rattle.std.specs.Prelude.{ℕ, List, Some};
+ghost use Rattle.std.specs.Prelude.{◌≡◌, ◌↔◌, ℕ, List, Some};
+ghost use Rattle.gs_lines.specs.Outputs.{LineAnswer, accepted};
+ghost use Rattle.gs_tables.specs.Judged.{IsLoaded};
+ghost use Rattle.gs_translate.specs.declared.form.Form.{Form};
 ghost use Rattle.gs_translate.specs.Steps.{HasOne, HasSome};
+ghost use Rattle.gs_translate.specs.Translations.{NameOne};
+ghost use Rattle.gs_program.specs.declared.loading.Loaded.{Loaded};
+ghost use Rattle.gs_program.specs.LineAnswers.{IsCanonLine, IsTranslatedLine};
 ghost use Rattle.gs_program.specs.Requests.{WordsInOrder};
 ghost use Rattle.gs_program.specs.Runs.{AreAlike, DefinedRun, World};
-ghost use Rattle.gs_program.specs.Works.{Outcome};
+ghost use Rattle.gs_program.specs.Works.{Outcome, canonizing};
 
 /// Words ask for one thing at most.
 pub fn words_ask_for_one_thing()
@@ -16,4 +22,16 @@ pub fn words_have_one_outcome()
         → DefinedRun words (record { files = Some files; input = Some input }) one
         → DefinedRun words (record { files = Some files; input = Some input }) other → AreAlike one other }
     ensures some { (words : List (List ℕ)) (world : World) → HasSome (DefinedRun words world) }
+{}
+
+/// The answer of `canon` to a line of tables that are loaded is the canonical link of what the line names, or the first reason
+/// why it names nothing; and two lines, of any forms, that are answered by links have equal answers exactly where they name the
+/// same elements.
+pub fn canon_answers_by_canonical_links()
+    ensures canonical { (loaded : Loaded) (form : Form) (text : List ℕ) (line : LineAnswer)
+        → IsTranslatedLine (canonizing loaded form) text line ↔ IsCanonLine loaded.tables form text line }
+    ensures headline { (loaded : Loaded) (form other : Form) (text given link wanted : List ℕ) → IsLoaded loaded.tables
+        → IsTranslatedLine (canonizing loaded form) text (accepted link)
+        → IsTranslatedLine (canonizing loaded other) given (accepted wanted)
+        → (link ≡ wanted) ↔ NameOne loaded.tables form text other given }
 {}

@@ -3,14 +3,12 @@
 
 mod arguments;
 mod asking;
-mod canon;
 mod checking;
 mod command;
 mod commands;
 mod file_kind;
 mod file_reading;
 mod laws;
-mod line_answers;
 mod link_refusals;
 mod links;
 mod loading;
@@ -25,6 +23,8 @@ mod refusals;
 mod request;
 mod running;
 mod tables;
+mod translated_lines;
+mod translating;
 
 pub use gs_lines::Status;
 pub use running::run;

@@ -1,4 +1,4 @@
-ghost use Rattle.std.specs.Prelude.{◌≡◌, ℕ, List, Option, map, option_and_then, string_bytes};
+ghost use Rattle.std.specs.Prelude.{◌≡◌, [], ℕ, List, Option, map, option_and_then, string_bytes};
 ghost use Rattle.gs_program.specs.Names.{ArePairs};
 ghost use Rattle.gs_program.specs.Requests.{named_files, named_values, number_named, told_files, told_values, value_or};
 ghost use Rattle.gs_program.specs.Ranges.{filter_of, gcp_of};
@@ -62,4 +62,11 @@ pub fn named_values(words: &[String]) -> NamedValues<'_>
         keys_only: value_or(words, Name::KeysOnly, "no") == "yes",
         stem: value_or(words, Name::Stem, DEFAULT_STEM),
     }
+}
+
+/// The values where nothing is named.
+pub fn no_values<'a>() -> NamedValues<'a>
+    ensures { told_values result ≡ named_values [] }
+{
+    named_values(&[])
 }

@@ -1,15 +1,42 @@
-ghost use Rattle.std.specs.Prelude.{◌≡◌, ◌≤◌, ◌<◌, ◌^◌, IfSome};
+ghost use Rattle.std.specs.Prelude.{◌≡◌, ◌≤◌, ◌<◌, ◌^◌, true, IfSome, SomeIff};
+ghost use Rattle.std.specs.Char.{is_ascii_graphic};
+ghost use Rattle.std.specs.List.{list_all};
+ghost use Rattle.gs_chars.specs.Characters.{are_digits};
+ghost use Rattle.gs_grammar.specs.Words.{decimal_value};
+ghost use Rattle.gs_grammar.specs.Writing.{has_leading_zero};
 ghost use Rattle.gs_program.specs.Ranges.{filter_of, gcp_of, is_numeral, is_vocabulary, number_within};
+
+/// Whether each byte is a digit.
+fn are_digits(bytes: &[u8]) -> bool
+    ensures { result ≡ are_digits bytes.now }
+{
+    bytes.iter().all(|c| c.is_ascii_digit())
+}
+
+/// Whether digits begin with a zero that is not the whole of them.
+fn has_leading_zero(digits: &[u8]) -> bool
+    ensures { result ≡ has_leading_zero digits.now }
+{
+    digits.len() > 1 && digits[0] == b'0'
+}
 
 /// Whether the word is decimal digits without a sign and without leading zeros.
 fn is_numeral(word: &str) -> bool
     ensures { result ≡ is_numeral word.now }
 {
     let digits = word.as_bytes();
-    if digits.is_empty() || (digits.len() > 1 && digits[0] == b'0') {
-        return false;
+    are_digits(digits) && !digits.is_empty() && !has_leading_zero(digits)
+}
+
+/// The number that digits write.
+fn number_of(digits: &str) -> Option<u32>
+    requires { is_numeral digits.now ≡ true }
+    ensures { SomeIff result (decimal_value digits.now < 2 ^ 32) (decimal_value digits.now) }
+{
+    match digits.parse::<u32>() {
+        Ok(number) => Some(number),
+        Err(_) => None,
     }
-    digits.iter().all(|c| c.is_ascii_digit())
 }
 
 /// The number from the least to the greatest that the word writes.
@@ -20,7 +47,7 @@ pub fn number_within(word: &str, least: u32, greatest: u32) -> Option<u32>
     if !is_numeral(word) {
         return None;
     }
-    let number: u32 = word.parse().ok()?;
+    let number = number_of(word)?;
     if least <= number && number <= greatest {
         return Some(number);
     }
@@ -41,10 +68,17 @@ pub fn gcp_of(word: &str) -> Option<u8>
     Some(number_within(word, 1, 12)? as u8)
 }
 
+/// Whether each byte is a visible character of ISO 646.
+fn are_visible(bytes: &[u8]) -> bool
+    ensures { result ≡ list_all is_ascii_graphic bytes.now }
+{
+    bytes.iter().all(|c| c.is_ascii_graphic())
+}
+
 /// Whether the value may stand for `gs1:` in relations: 1 to 256 bytes from 33 to 126.
 pub fn is_vocabulary(value: &str) -> bool
     ensures { result ≡ is_vocabulary value.now }
 {
     let bytes = value.as_bytes();
-    !bytes.is_empty() && bytes.len() <= 256 && bytes.iter().all(|c| c.is_ascii_graphic())
+    1 <= bytes.len() && bytes.len() <= 256 && are_visible(bytes)
 }

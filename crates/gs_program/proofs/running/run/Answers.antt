@@ -3,12 +3,12 @@ use Rattle.gs_lines.specs.Statuses.{is_answered}
 use Rattle.gs_lines.proofs.StatusLemmas.{when_map}
 use Rattle.gs_program.specs.Requests.{told_request}
 use Rattle.gs_program.specs.Runs.{named}
-use Rattle.gs_program.proofs.RangeLemmas.{vocabulary_in_order}
 use Rattle.gs_program.proofs.RunLemmas.{begun_of, defined_of, read_fault_of, refused_of, unopened_of, usage_begun}
+use Rattle.gs_program.proofs.ValueLemmas.{options_fit, vocabulary_fits}
 use Rattle.gs_program.proofs.running.run.Goals as goal
 
-pub run_request-requires : goal.run_request-requires
-run_request-requires g c = vocabulary_in_order (map string_bytes c.args.words.now) (told_request c.in-Some.request) c.in-Some.ensures.request
+pub run_request-requires-clause-vocabulary : goal.run_request-requires-clause-vocabulary
+run_request-requires-clause-vocabulary g c = vocabulary_fits (map string_bytes c.args.words.now) (told_request c.in-Some.request) c.in-Some.ensures.request
 
 pub returns-in-Some-clause-defined : goal.returns-in-Some-clause-defined
 returns-in-Some-clause-defined g c =
@@ -58,3 +58,6 @@ pub returns-in-None-clause-begun : goal.returns-in-None-clause-begun
 returns-in-None-clause-begun g c =
     usage_begun (map string_bytes c.args.words.now) (record { files = g.F.Files.files c.args.files.now; input = g.S.Source.left c.args.input.now })
     (g.K.Sink.held c.args.output.now) (g.K.Sink.held c.print_line.new.output) c.print_line.result c.in-None.ensures.none c.print_line.ensures.written
+
+pub run_request-requires-clause-options : goal.run_request-requires-clause-options
+run_request-requires-clause-options g c = options_fit (map string_bytes c.args.words.now) (told_request c.in-Some.request) c.in-Some.ensures.request

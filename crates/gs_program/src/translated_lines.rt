@@ -1,29 +1,53 @@
-ghost use Rattle.std.specs.Prelude.{◌≡◌, ◌∷◌, ◌++◌, [], IfOk, OnOk, codes};
+ghost use Rattle.std.specs.Prelude.{◌≡◌, ◌≢◌, ◌∷◌, ◌++◌, [], Err, IfOk, OnOk, codes};
 ghost use Rattle.gs_translate.specs.declared.reason.Reason.TheVariants.{Memory as WantOfMemory};
 ghost use Rattle.gs_translate.specs.Reasons.{reason_text};
-ghost use Rattle.gs_program.specs.LineAnswers.{AddsLine, IsCanonLine};
-ghost use Rattle.std.specs.Prelude.{◌≢◌, Err};
+ghost use Rattle.gs_program.specs.LineAnswers.{AddsLine};
 
 use gs_chars::{Memory, Text};
 use gs_lines::Answerer;
+use gs_prefix::PrefixList;
 use gs_tables::TableSet;
-use gs_translate::{Form, Reason, answer, append_reason};
+use gs_translate::{Form, Options, Reason, Target, append_reason, translate};
 use std::alloc::Global;
+use std::marker::Model;
 
-/// Answers texts of a form by the canonical links of what they name.
-#[derive(Clone, Copy)]
-pub struct CanonLines<'a> {
+/// Answers texts of a form by their translations. The options are in order.
+#[derive(Drop)]
+pub struct TranslatedLines<'a> {
     /// The tables.
     pub set: &'a TableSet,
+    /// The company prefix lengths.
+    pub prefixes: &'a PrefixList,
+    /// What is said beside the texts and the forms.
+    pub options: &'a Options,
     /// The form of the texts.
-    pub form: Form,
+    pub from: Form,
+    /// The form that they are translated to.
+    pub to: Target,
 }
 
-impl Answerer for CanonLines<'_> {
-    ghost is_answer = { λ s. IsCanonLine s.set.now s.form };
+impl<'a> Model for TranslatedLines<'a> {
+    ghost use Rattle.gs_translate.specs.Translations.{AreInOrder};
+    ghost use Rattle.gs_program.specs.LineAnswers.{Translating};
+
+    ghost Value = { Translating };
+
+    ghost view = { λ a. record { set = a.set.now; prefixes = a.prefixes.now; options = a.options.now; from = a.from; to = a.to } };
+
+    ghost invariant = { λ a. AreInOrder a.options.now };
+}
+
+impl Answerer for TranslatedLines<'_> {
+    ghost use Rattle.gs_program.specs.LineAnswers.{Translating, IsTranslatedLine};
+
+    ghost is_answer = { λ s. IsTranslatedLine s };
 
     fn append_answer(&self, alloc: Global, text: &[u8], out: &mut Vec<u8>) -> Result<bool, Memory> {
-        append_line(alloc, out, answer(alloc, self.set, self.form, text))
+        append_line(
+            alloc,
+            out,
+            translate(alloc, self.set, self.prefixes, self.options, self.from, self.to, text),
+        )
     }
 }
 

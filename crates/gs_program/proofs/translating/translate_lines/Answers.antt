@@ -1,0 +1,27 @@
+use Rattle.std.proofs.Common.{[], sym}
+use Rattle.gs_port.specs.Contents.{append_nothing}
+use Rattle.gs_program.specs.LineAnswers.{IsTranslatedLine, Translating}
+use Rattle.gs_program.specs.Ran.{Moment}
+use Rattle.gs_program.specs.Works.{Translated, TranslatedEnded, told_translation}
+use Rattle.gs_program.proofs.LineLemmas.{some_line, translated_some}
+use Rattle.gs_program.proofs.RanLemmas.{ran_of_lines, ran_of_memory}
+use Rattle.gs_program.proofs.translating.translate_lines.Goals as goal
+
+pub returns-in-Ok : goal.returns-in-Ok
+returns-in-Ok g c =
+    let e = c.answer_lines.ensures in
+    let t : Translating = told_translation c.args.translation in
+    let before : Moment = record { input = g.S.Source.left c.args.input.now; input_faults = g.S.Source.faults c.args.input.now; output_faults = g.K.Sink.faults c.args.output.now } in
+    let now : Moment = record { input = g.S.Source.left c.answer_lines.new.input; input_faults = g.S.Source.faults c.answer_lines.new.input; output_faults = g.K.Sink.faults c.answer_lines.new.output } in
+    let w = e.written in (
+      w.0,
+      w.1,
+      ran_of_lines (IsTranslatedLine t) before now (record { output = w.0; status = c.answer_lines.result }) (some_line t c.requires.loaded) w.2 e.read_to_end e.input_long e.few e.read_fault e.write_fault
+          e.input_counts e.output_counts e.no_usage e.no_refusal,
+    )
+
+pub returns-in-Err : goal.returns-in-Err
+returns-in-Err g c =
+    let t : Translating = told_translation c.args.translation in
+    let before : Moment = record { input = g.S.Source.left c.args.input.now; input_faults = g.S.Source.faults c.args.input.now; output_faults = g.K.Sink.faults c.args.output.now } in
+    ([], sym (append_nothing (g.K.Sink.held c.args.output.now)), ran_of_memory (Translated t before.input) (TranslatedEnded t before.input before.input) _ before (translated_some t before.input c.requires.loaded))
