@@ -11,7 +11,7 @@ use gs_translate::Form;
 use std::alloc::Global;
 
 /// The most bytes of an input.
-const INPUT_LIMIT: u64 = 16_777_216;
+const INPUT_LIMIT: u64 = 4_294_967_296;
 
 /// Answers the lines of the input, texts of the form, by the tables that are loaded.
 pub fn canonize<S: Source, K: Sink>(

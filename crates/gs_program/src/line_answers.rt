@@ -1,7 +1,7 @@
 ghost use Rattle.std.specs.Prelude.{◌≡◌, ◌∷◌, ◌++◌, [], IfOk, OnOk, codes};
 ghost use Rattle.gs_translate.specs.declared.reason.Reason.TheVariants.{Memory as WantOfMemory};
 ghost use Rattle.gs_translate.specs.Reasons.{reason_text};
-ghost use Rattle.gs_program.specs.LineAnswers.{AddsLine, IsCanonLine};
+ghost use Rattle.gs_program.specs.LineAnswers.{AddsLine, IsCanonLine, long_canon};
 ghost use Rattle.std.specs.Prelude.{◌≢◌, Err};
 
 use gs_chars::{Memory, Text};
@@ -25,6 +25,8 @@ impl Answerer for CanonLines<'_> {
     fn append_answer(&self, alloc: Global, text: &[u8], out: &mut Vec<u8>) -> Result<bool, Memory> {
         append_line(alloc, out, answer(alloc, self.set, self.form, text))
     }
+
+    ghost long_alike = { λ s. long_canon s.set.now s.form };
 }
 
 /// Appends the line of an answer, and answers whether it is a refusal.
