@@ -16,7 +16,8 @@ use vector_cases::{Answer, Refusal, arg, number, section, shown, sink_of, source
 struct Echo;
 
 impl Answerer for Echo {
-    ghost use Rattle.std.specs.Prelude.{◌≡◌, ◌<◌, ◌≤◌, ◌⊎◌, inl, inr, codes, length};
+    ghost use Rattle.std.specs.Prelude.{◌≡◌, ◌<◌, ◌≤◌, ◌⊎◌, codes, length};
+    ghost use Rattle.std.proofs.Common.{inl, inr};
     ghost use Rattle.std.proofs.Math.Nat.{not-le_of_lt};
     ghost use Rattle.gs_lines.specs.Outputs.LineAnswer.{accepted, refused};
 
