@@ -11,7 +11,8 @@ use gs_port::{MemFiles, MemSink, MemSource, ReadAnswer, Source};
 use gs_program::{Status, run};
 use std::alloc::Global;
 use vector_cases::{
-    Answer, Refusal, add, arg, cut_of, files_of, number, section, shown, sink_of, source_of, text_of,
+    Answer, Refusal, add, arg, cut_of, files_of, number, section, shown, sink_of, source_of,
+    text_of,
 };
 
 /// The answer to a call of gs_program.
