@@ -133,7 +133,7 @@ pub record Begins (front whole : List ℕ) : Type 0 where
 begins_more : (x : ℕ) (front whole : List ℕ) → Begins front whole → Begins (x ∷ front) (x ∷ whole)
 begins_more x front whole b = record { rest = b.rest; joined = ap (λ (w : List ℕ). x ∷ w) b.joined }
 
-has_feed-append : (a b : List ℕ) → has_feed a ≡ true → has_feed (a ++ b) ≡ true
+pub has_feed-append : (a b : List ℕ) → has_feed a ≡ true → has_feed (a ++ b) ≡ true
 has_feed-append [] b some = absurd (let e : false ≡ true = some in cc)
 has_feed-append (x ∷ a) b some = elim (true_or_false (eqb x 10)) as (λ _. has_feed (x ∷ (a ++ b)) ≡ true) [
   | inl feed ↦ rw feed refl

@@ -2,6 +2,6 @@ pub mod Lines
 pub mod Statuses
 pub mod Inputs
 pub mod Outputs
-pub mod Gathered
+pub mod Progress
 pub mod Answering
 pub mod Printing

@@ -1,5 +1,5 @@
 -- The lines of a list of bytes.
-use Rattle.std.specs.Prelude.{ℕ, ◌-◌, ◌==◌, if◌then◌else◌, List, [], ◌∷◌, length, take, slice_index}
+use Rattle.std.specs.Prelude.{ℕ, ◌+◌, ◌-◌, ◌==◌, if◌then◌else◌, List, [], ◌∷◌, length, take, slice_index}
 use Rattle.std.specs.List.{list_any}
 
 -- the byte stands before the first line, as its first byte; where there is no line, as one
@@ -17,6 +17,20 @@ abbrev pub ended_lines : List ℕ → List ℕ
 ended_lines [] = []
 ended_lines (b ∷ bytes) = if list_any (λ x. x == 10) (b ∷ bytes) then b ∷ ended_lines bytes else []
 
+-- the bytes behind the last line feed: those of the line that has not ended
+abbrev pub begun_line : List ℕ → List ℕ
+begun_line [] = []
+begun_line (b ∷ bytes) = if list_any (λ x. x == 10) (b ∷ bytes) then begun_line bytes else b ∷ bytes
+
 -- a line without one carriage return at its end
 abbrev pub text_of : List ℕ → List ℕ
 text_of line = if slice_index line (length line - 1) == 13 then take (length line - 1) line else line
+
+-- the most bytes of a text that is not long
+abbrev pub longest_text : ℕ
+longest_text = 2048
+
+-- The most bytes that are held of a line that has not ended. The text of a line that begins with so many is long, even where
+-- the last of them is a carriage return.
+abbrev pub most_held : ℕ
+most_held = longest_text + 2

@@ -1,11 +1,11 @@
 -- What is written for the lines of an input.
-use Rattle.std.specs.Prelude.{◌≡◌, ℕ, ◌++◌, nat_lt, Bool, true, false, if◌then◌else◌, List, [], ◌∷◌, Option, length, take, codes, flat_map}
+use Rattle.std.specs.Prelude.{◌≡◌, ℕ, ◌<◌, ◌++◌, nat_lt, Bool, true, false, if◌then◌else◌, List, [], ◌∷◌, Option, length, take, codes, flat_map}
 use Rattle.std.specs.List.{list_any}
 use Rattle.gs_port.specs.Contents.{append_known, prepend_known}
 use Rattle.gs_lines.specs.declared.status.Status.{Status}
 use Rattle.gs_lines.specs.declared.status.Status.TheVariants.{Done, SomeRefused, InputLong}
 use Rattle.gs_lines.specs.Inputs.{IsTold}
-use Rattle.gs_lines.specs.Lines.{lines_of, ended_lines, text_of}
+use Rattle.gs_lines.specs.Lines.{lines_of, ended_lines, longest_text, text_of}
 use Rattle.gs_lines.specs.Statuses.{OnCutShort, OnReadFault, OnWritten}
 
 -- the answer to a text: a text, or why it is refused
@@ -37,6 +37,10 @@ HasAnswers Is = (text : List ℕ) → (answer : LineAnswer) × Is text answer
 -- a text has at most one answer
 abbrev pub HasOneAnswer : (List ℕ → LineAnswer → Type 0) → Type 0
 HasOneAnswer Is = (text : List ℕ) (one other : LineAnswer) → Is text one → Is text other → one ≡ other
+
+-- all long texts have the same answers
+abbrev pub AnswersLongAlike : (List ℕ → LineAnswer → Type 0) → Type 0
+AnswersLongAlike Is = (text other : List ℕ) (answer : LineAnswer) → longest_text < length text → longest_text < length other → Is text answer → Is other answer
 
 -- each line has its answer, by what is an answer to a text
 pub data AnswersEach (Is : List ℕ → LineAnswer → Type 0) : List (List ℕ) → List LineAnswer → Type 0 where

@@ -1,5 +1,5 @@
 ghost use Rattle.std.specs.Prelude.{ℕ, List, IfOk};
-ghost use Rattle.gs_lines.specs.Outputs.{AddsAnswer, LineAnswer};
+ghost use Rattle.gs_lines.specs.Outputs.{AddsAnswer, AnswersLongAlike, LineAnswer};
 
 use gs_chars::Memory;
 use std::alloc::Global;
@@ -13,4 +13,7 @@ pub trait Answerer {
     /// refusal. After want of memory `out` may have a part of a line more.
     fn append_answer(&self, alloc: Global, text: &[u8], out: &mut Vec<u8>) -> Result<bool, Memory>
         ensures { IfOk result (λ refused. AddsAnswer (is_answer self.now) text.now out.old.items out.new.items refused) };
+
+    /// A text of more than 2,048 bytes is answered as any other of more, so its first bytes are enough for the answer.
+    ghost long_alike: { (s : Self) → AnswersLongAlike (is_answer s) };
 }

@@ -1,16 +1,17 @@
-ghost use Rattle.std.specs.Prelude.{◌≡◌, ◌≢◌, ◌+◌, ◌<◌, ◌≤◌, ◌^◌, ◌||◌, IfOk, length};
+ghost use Rattle.std.specs.Prelude.{◌≡◌, ◌≢◌, ◌+◌, ◌<◌, ◌≤◌, ◌^◌, ◌||◌, IfOk, length, take};
 ghost use Rattle.gs_port.specs.Counts.{Rises};
-ghost use Rattle.gs_lines.specs.Answering.{OnSinkFault, OfLines, OfStatus, status_of_end};
+ghost use Rattle.gs_lines.specs.Answering.{OnSinkFault, OfLines, status_at_end};
 ghost use Rattle.gs_lines.specs.Inputs.{IsAtEnd, TakesAtMost, TakesMoreThan};
+ghost use Rattle.gs_lines.specs.Lines.{begun_line, ended_lines, most_held};
 ghost use Rattle.gs_lines.specs.Outputs.{AnswersFront, Appends, WritesAnswers};
 ghost use Rattle.gs_lines.specs.Statuses.{OnAnswered, OnInputLong, OnReadFault, OnWriteFault};
 
 use crate::answerer::Answerer;
-use crate::gathering::{End, gather, part};
-use crate::lines::{first_line, without_return};
+use crate::line_buffer::LineBuffer;
+use crate::lines::{ended, first_line, without_return};
 use crate::status::Status;
 use gs_chars::Memory;
-use gs_port::{Sink, Source, Whole, write_whole};
+use gs_port::{ReadAnswer, Sink, Source, Whole, write_whole};
 use std::alloc::Global;
 
 /// How many bytes of answers are handed to the output at a time, and those of one answer more.
@@ -65,22 +66,23 @@ enum Answering {
     Memory,
 }
 
-/// Writes the answers to the lines of the bytes.
+/// Writes the answers to the lines of the bytes, in blocks that are gathered in `out`.
 fn write_answers<A: Answerer, K: Sink>(
     alloc: Global,
     answerer: &A,
     bytes: &[u8],
+    out: &mut Vec<u8>,
     output: &mut K,
 ) -> Answering
-    ensures written { Appends (K.held output.old) (K.held output.new) (λ out. OfLines (A.is_answer answerer.now) bytes.now out result) }
+    ensures written { Appends (K.held output.old) (K.held output.new) (λ o. OfLines (A.is_answer answerer.now) bytes.now o result) }
     ensures fault { OnSinkFault result (Rises (K.faults output.old) (K.faults output.new)) }
     ensures counts { K.faults output.old ≤ K.faults output.new }
 {
-    let mut out = Vec::new(alloc);
     let mut rest = bytes;
     let mut refused = false;
     while !rest.is_empty() {
-        let Ok(block) = answer_block(alloc, answerer, rest, &mut out) else {
+        out.clear();
+        let Ok(block) = answer_block(alloc, answerer, rest, out) else {
             return Answering::Memory;
         };
         match write_whole(output, out.as_slice()) {
@@ -88,48 +90,49 @@ fn write_answers<A: Answerer, K: Sink>(
             Whole::SinkFault => return Answering::SinkFault,
             Whole::Memory => return Answering::Memory,
         }
-        out.clear();
         refused = either(refused, block.refused);
         rest = block.rest;
     }
     Answering::Whole { refused }
 }
 
-/// The status after the lines of what was gathered were answered.
-fn status_after(end: End, answering: Answering) -> Status
-    ensures { result ≡ status_of_end end answering }
+/// Writes the answers to the lines that have ended, and holds what is held of the line that has not.
+fn answer_ended<A: Answerer, K: Sink>(
+    alloc: Global,
+    answerer: &A,
+    buffer: &mut LineBuffer,
+    out: &mut Vec<u8>,
+    output: &mut K,
+) -> Answering
+    ensures written { Appends (K.held output.old) (K.held output.new) (λ o. OfLines (A.is_answer answerer.now) (ended_lines buffer.old) o result) }
+    ensures held { buffer.new ≡ take most_held (begun_line buffer.old) }
+    ensures fault { OnSinkFault result (Rises (K.faults output.old) (K.faults output.new)) }
+    ensures counts { K.faults output.old ≤ K.faults output.new }
 {
-    match (end, answering) {
+    let lines = ended(buffer.bytes());
+    let answering = write_answers(alloc, answerer, lines, out, output);
+    let len = lines.len();
+    buffer.hold_from(len);
+    answering
+}
+
+/// The status of an input that was read to its end, by an earlier refusal and the answering of its last line.
+fn status_after(earlier: bool, last: Answering) -> Status
+    ensures { result ≡ status_at_end earlier last }
+{
+    match (earlier, last) {
+        (true, Answering::Whole { refused: _ }) => Status::SomeRefused,
+        (false, Answering::Whole { refused: true }) => Status::SomeRefused,
+        (false, Answering::Whole { refused: false }) => Status::Done,
         (_, Answering::SinkFault) => Status::WriteFault,
         (_, Answering::Memory) => Status::Memory,
-        (End::Fault, Answering::Whole { refused: _ }) => Status::ReadFault,
-        (End::Long, Answering::Whole { refused: _ }) => Status::InputLong,
-        (End::Whole, Answering::Whole { refused: true }) => Status::SomeRefused,
-        (End::Whole, Answering::Whole { refused: false }) => Status::Done,
     }
 }
 
-/// Answers the lines of what was gathered, and writes the answers.
-fn answer_gathered<A: Answerer, K: Sink>(
-    alloc: Global,
-    answerer: &A,
-    end: End,
-    limit: u64,
-    bytes: &[u8],
-    output: &mut K,
-) -> Status
-    requires long { end ≡ End.Long → limit < length bytes.now }
-    ensures written { Appends (K.held output.old) (K.held output.new) (λ out. OfStatus (A.is_answer answerer.now) limit end bytes.now out result) }
-    ensures fault { OnWriteFault result (Rises (K.faults output.old) (K.faults output.new)) }
-    ensures counts { K.faults output.old ≤ K.faults output.new }
-{
-    let answering = write_answers(alloc, answerer, part(end, limit, bytes), output);
-    status_after(end, answering)
-}
-
-/// Answers each line of the input, in one block of lines after the other. A line goes up to a line feed or to the end of
-/// the input, and loses one carriage return at its end. At most `limit` bytes are answered, those of the lines that end
-/// within them where the input has more, and at most one byte more is taken.
+/// Answers each line of the input when it has ended, and writes the answers before the next read. A line goes up to a line
+/// feed or to the end of the input, and loses one carriage return at its end; from one read to the next at most 2,050 bytes
+/// of it are held. At most `limit` bytes are answered, those of the lines that end within them where the input has more, and
+/// at most one byte more is taken.
 ///
 /// `ReadFault` comes only where the input's count of faults rose in this call; the lines that had ended are answered then.
 /// `WriteFault` comes only where the output's count rose. `InputLong` comes exactly where more than `limit` bytes were
@@ -160,9 +163,28 @@ pub fn answer_lines<A: Answerer, S: Source, K: Sink>(
     ensures input_counts { S.faults input.old ≤ S.faults input.new }
     ensures output_counts { K.faults output.old ≤ K.faults output.new }
 {
-    let mut bytes = Vec::new(alloc);
-    match gather(alloc, input, limit, &mut bytes) {
-        Ok(end) => answer_gathered(alloc, answerer, end, limit, bytes.as_slice(), output),
-        Err(Memory) => Status::Memory,
+    let Ok(mut buffer) = LineBuffer::new(alloc) else {
+        return Status::Memory;
+    };
+    let mut out = Vec::new(alloc);
+    let mut taken = 0;
+    let mut refused = false;
+    loop {
+        match buffer.read(input, (limit - taken).max(1)) {
+            ReadAnswer::Failed => return Status::ReadFault,
+            ReadAnswer::Got(0) => {
+                let last = write_answers(alloc, answerer, buffer.bytes(), &mut out, output);
+                return status_after(refused, last);
+            }
+            ReadAnswer::Got(_) if taken == limit => return Status::InputLong,
+            ReadAnswer::Got(moved) => {
+                match answer_ended(alloc, answerer, &mut buffer, &mut out, output) {
+                    Answering::Whole { refused: is } => refused = either(refused, is),
+                    Answering::SinkFault => return Status::WriteFault,
+                    Answering::Memory => return Status::Memory,
+                }
+                taken += moved as u64;
+            }
+        }
     }
 }

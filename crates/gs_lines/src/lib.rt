@@ -3,7 +3,7 @@
 
 mod answerer;
 mod answering;
-mod gathering;
+mod line_buffer;
 mod lines;
 mod printing;
 mod status;

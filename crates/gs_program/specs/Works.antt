@@ -21,7 +21,7 @@ pub record Outcome : Type 0 where
 
 -- the most bytes of an input
 abbrev pub input_limit : ℕ
-input_limit = 16777216
+input_limit = 4294967296
 
 -- the numbers of application identifiers, of kinds, of the options of each level, of prefixes and of links
 abbrev pub counts_line : Loaded → List ℕ

@@ -22,7 +22,7 @@ const USAGE: &[u8] =
 /// `Usage` comes exactly where the words are not in order; the usage line is written then, and nothing is read or opened.
 /// `Refused` comes where a file, or the built-in rows, are refused, after the one line that says why; the input is not read.
 /// `ReadFault` comes only where the input or the files counted a fault, or where the files are told and a named one is not
-/// there. `InputLong` comes exactly where more than 16,777,216 bytes were taken from the input. `WriteFault` comes only where
+/// there. `InputLong` comes exactly where more than 4,294,967,296 bytes were taken from the input. `WriteFault` comes only where
 /// the output counted a fault. After `ReadFault`, `WriteFault` and `Memory` an initial part of the defined output was written.
 pub fn run<F: Files, S: Source, K: Sink>(
     alloc: Global,

@@ -1,7 +1,7 @@
 ghost use Rattle.std.specs.Prelude.{◌≡◌, ◌≢◌, ◌∷◌, ◌++◌, [], Err, IfOk, OnOk, codes};
 ghost use Rattle.gs_translate.specs.declared.reason.Reason.TheVariants.{Memory as WantOfMemory};
 ghost use Rattle.gs_translate.specs.Reasons.{reason_text};
-ghost use Rattle.gs_program.specs.LineAnswers.{AddsLine};
+ghost use Rattle.gs_program.specs.LineAnswers.{AddsLine, long_translated};
 
 use gs_chars::{Memory, Text};
 use gs_lines::Answerer;
@@ -49,6 +49,8 @@ impl Answerer for TranslatedLines<'_> {
             translate(alloc, self.set, self.prefixes, self.options, self.from, self.to, text),
         )
     }
+
+    ghost long_alike = { λ s. long_translated s };
 }
 
 /// Appends the line of an answer, and answers whether it is a refusal.

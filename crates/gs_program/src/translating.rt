@@ -19,7 +19,7 @@ use gs_translate::{Form, Options, Target};
 use std::alloc::Global;
 
 /// The most bytes of an input.
-const INPUT_LIMIT: u64 = 16_777_216;
+const INPUT_LIMIT: u64 = 4_294_967_296;
 
 /// What texts are translated by, and from which form to which.
 #[derive(Clone, Copy)]

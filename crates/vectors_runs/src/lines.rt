@@ -1,4 +1,4 @@
-//! Calls of gs_lines over objects in memory, with each text as its own answer.
+//! Calls of gs_lines over objects in memory, with each text that is not long as its own answer.
 //!
 //! - `answer_lines LIMIT / CUT FAILS BYTES / CUT FAILS`: the status, what the output holds, and what is left of the input.
 //! - `print_line LINE / CUT FAILS`: the status, and what the output holds.
@@ -12,14 +12,16 @@ use gs_port::{MemSink, MemSource};
 use std::alloc::Global;
 use vector_cases::{Answer, Refusal, arg, number, section, shown, sink_of, source_of};
 
-/// Accepts each text, and answers it by itself.
+/// Accepts each text of at most 2,048 bytes, and answers it by itself; of any other it says that it is long.
 struct Echo;
 
 impl Answerer for Echo {
-    ghost use Rattle.std.specs.Prelude.{◌≡◌};
-    ghost use Rattle.gs_lines.specs.Outputs.LineAnswer.{accepted};
+    ghost use Rattle.std.specs.Prelude.{◌≡◌, ◌<◌, ◌≤◌, ◌⊎◌, codes, length};
+    ghost use Rattle.std.proofs.Common.{inl, inr};
+    ghost use Rattle.std.proofs.Math.Nat.{not-le_of_lt};
+    ghost use Rattle.gs_lines.specs.Outputs.LineAnswer.{accepted, refused};
 
-    ghost is_answer = { λ _ text answer. answer ≡ accepted text };
+    ghost is_answer = { λ _ text answer. ((2048 < length text) × (answer ≡ refused (codes "long"))) ⊎ ((length text ≤ 2048) × (answer ≡ accepted text)) };
 
     fn append_answer(
         &self,
@@ -27,11 +29,17 @@ impl Answerer for Echo {
         text: &[u8],
         out: &mut Vec<u8>,
     ) -> Result<bool, Memory> {
+        if text.len() > 2048 {
+            out.extend_from_slice(b"no long\n")?;
+            return Ok(true);
+        }
         out.extend_from_slice(b"ok ")?;
         out.extend_from_slice(text)?;
         out.push(b'\n')?;
         Ok(false)
     }
+
+    ghost long_alike = { λ _ text other answer long more is. elim is [ inl x ↦ inl (more, x.1) | inr x ↦ absurd (not-le_of_lt long x.0) ] };
 }
 
 /// The answer to a call of gs_lines.
@@ -52,7 +60,7 @@ fn status_of(alloc: Global, input: &mut MemSource, output: &mut MemSink, limit: 
 
 fn answered(alloc: Global, args: &[Text]) -> Answer {
     let limit = number(args, 0)?;
-    if limit > 1_000_000 {
+    if limit > 4_294_967_296 {
         return Err(Refusal::NoCase);
     }
     let mut input = source_of(alloc, section(args, 1)?)?;

@@ -3,17 +3,23 @@
 //! - `run WORD.. / FAILS NAME BYTES .. / CUT FAILS BYTES / CUT FAILS`: a whole run with these words, over these files, this
 //!   input and an empty output, of which a read and a write move at most CUT bytes, and whose calls of the numbers FAILS fail:
 //!   the status, what the output holds, and what is left of the input.
+//! - `repeated WORD.. / FAILS NAME BYTES .. / CUT LINE COUNT / CUT FAILS`: the same over COUNT copies of a line, each with a
+//!   line feed: the status, how many bytes the output holds, how many of its lines are equal to the first, and that line.
 
 use gs_chars::Text;
 use gs_port::{MemFiles, MemSink, MemSource, ReadAnswer, Source};
 use gs_program::{Status, run};
 use std::alloc::Global;
-use vector_cases::{Answer, Refusal, add, files_of, section, shown, sink_of, source_of, text_of};
+use vector_cases::{
+    Answer, Refusal, add, arg, cut_of, files_of, number, section, shown, sink_of, source_of,
+    text_of,
+};
 
 /// The answer to a call of gs_program.
 pub fn answer(alloc: Global, call: &str, args: &[Text]) -> Answer {
     match call {
         "run" => ran(alloc, args),
+        "repeated" => repeated(alloc, args),
         _ => Err(Refusal::NoCase),
     }
 }
@@ -71,4 +77,45 @@ fn ran(alloc: Global, args: &[Text]) -> Answer {
     let mut output = sink_of(alloc, section(args, 3)?)?;
     let status = status_of(alloc, &words, &mut files, &mut input, &mut output);
     outcome(alloc, status, &mut input, &output)
+}
+
+/// So many copies of a line, each with a line feed.
+fn copies(alloc: Global, line: &[u8], count: u64) -> Result<Vec<u8>, Refusal> {
+    let mut bytes = Vec::new(alloc);
+    for _ in 0..count {
+        bytes.extend_from_slice(line)?;
+        bytes.push(b'\n')?;
+    }
+    Ok(bytes)
+}
+
+/// The number of lines that are equal to this one.
+fn lines_equal(bytes: &[u8], line: &[u8]) -> u64 {
+    let mut count: u64 = 0;
+    for other in bytes.split(|c| *c == b'\n') {
+        if other == line {
+            count = count.wrapping_add(1);
+        }
+    }
+    count
+}
+
+/// The status, the length of an output, how many of its lines are equal to the first, and that line.
+fn counted(alloc: Global, status: Status, output: &[u8]) -> Answer {
+    let first = output.split(|c| *c == b'\n').next().unwrap_or_default();
+    let count = lines_equal(output, first);
+    let mut answer = format!(in alloc; "{status:?} {} {count}", output.len())?;
+    add(&mut answer, shown(alloc, first)?.as_str())?;
+    Ok(answer)
+}
+
+fn repeated(alloc: Global, args: &[Text]) -> Answer {
+    let words = strings_of(alloc, section(args, 0)?)?;
+    let mut files = files_of(alloc, section(args, 1)?)?;
+    let lines = section(args, 2)?;
+    let bytes = copies(alloc, arg(lines, 1)?, number(lines, 2)?)?;
+    let mut input = MemSource::new(alloc, bytes, cut_of(lines, 0)?, Vec::new(alloc));
+    let mut output = sink_of(alloc, section(args, 3)?)?;
+    let status = status_of(alloc, &words, &mut files, &mut input, &mut output);
+    counted(alloc, status, output.bytes())
 }

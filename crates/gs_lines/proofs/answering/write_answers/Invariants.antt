@@ -1,4 +1,4 @@
-use Rattle.std.proofs.Common.{◌≡◌, ◌≤◌, [], length}
+use Rattle.std.proofs.Common.{◌≤◌, [], length}
 use Rattle.gs_lines.specs.Outputs.{AnswersFront, Appends}
 use Rattle.gs_lines.proofs.answering.write_answers.Given as goal
 
@@ -6,7 +6,6 @@ use Rattle.gs_lines.proofs.answering.write_answers.Given as goal
 abbrev pub invariant-loop-rest : goal.invariant-loop-rest
 invariant-loop-rest g l = record {
   written : Appends (g.K.Sink.held l.initial.output) (g.K.Sink.held l.output) (λ out. AnswersFront (g.A.Answerer.is_answer l.answerer) l.bytes l.rest [] out l.refused);
-  none : l.out.items ≡ [];
   counts : g.K.Sink.faults l.initial.output ≤ g.K.Sink.faults l.output;
 }
 
