@@ -37,6 +37,7 @@ abbrev pub is_gtin : List Part → Bool
 is_gtin (NumCheck k ∷ []) = k == 14
 is_gtin _ = false
 
+-- a list of nothing
 abbrev pub is_empty : {X : Type 0} → List X → Bool
 is_empty [] = true
 is_empty (_ ∷ _) = false
@@ -48,6 +49,7 @@ keeps_role_of Qualifier row = is_empty row.qualifiers
 keeps_role_of Attribute row = is_empty row.qualifiers
 keeps_role_of Other _ = false
 
+-- the row keeps what its own role asks for
 abbrev pub keeps_role : AiRow → Bool
 keeps_role row = keeps_role_of row.role row
 
@@ -73,11 +75,12 @@ begins front text = starts_with nat_eq text front
 unfoldable pub clash : List ℕ → List ℕ → Bool
 clash a b = begins a b || begins b a
 
--- the role is key; the role is qualifier
+-- the role is key
 abbrev pub is_key : Role → Bool
 is_key Key = true
 is_key _ = false
 
+-- the role is qualifier
 abbrev pub is_qualifier : Role → Bool
 is_qualifier Qualifier = true
 is_qualifier _ = false

@@ -12,10 +12,11 @@ use Rattle.gs_ai.specs.declared.faults.ValueFault.TheVariants.{Unknown, Length, 
 use Rattle.gs_ai.specs.declared.row.AiRow.{AiRow}
 use Rattle.gs_ai.specs.Parts.{least_length, greatest_length, is_of_part}
 
--- the fewest and the most characters of all parts together
+-- the fewest characters of all parts together
 abbrev pub least_of : List Part → ℕ
 least_of parts = sum_by least_length parts
 
+-- the most characters of all parts together
 abbrev pub greatest_of : List Part → ℕ
 greatest_of parts = sum_by greatest_length parts
 

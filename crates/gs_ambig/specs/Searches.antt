@@ -16,8 +16,8 @@ pub record Leads (m n : AutoForm) (p q : ℕ) (symbols : List ℕ) : Type 0 wher
 abbrev pub IsDead : AutoForm → AutoForm → ℕ → ℕ → Type 0
 IsDead m n p q = (symbols : List ℕ) → Leads m n p q symbols → ⊥
 
--- the same of lists that go by this edge in the first machine, and in the second to a state that is not below the least
-
+-- the list goes by this edge in the first machine, and in the second to a state that is not below the least, and from
+-- there leads both to their accepting states
 pub record LeadsBehind (m n : AutoForm) (edge : Edge) (q least : ℕ) (symbols : List ℕ) : Type 0 where
   pub symbol : ℕ
   pub rest : List ℕ
@@ -29,6 +29,7 @@ pub record LeadsBehind (m n : AutoForm) (edge : Edge) (q least : ℕ) (symbols :
   pub high : least ≤ next
   pub leads : Leads m n edge.to next rest
 
+-- no list leads on from this edge and one of these edges of the second machine to a state that is not below the least
 abbrev pub IsDeadBehind : AutoForm → AutoForm → Edge → List Edge → ℕ → Type 0
 IsDeadBehind m n edge edges least = (symbol next : ℕ) → edge.lo ≤ symbol → symbol ≤ edge.hi → Fits edges symbol next → least ≤ next → IsDead m n edge.to next
 

@@ -23,12 +23,15 @@ use Rattle.gs_document.specs.Items.{FieldItem}
 
 -- ---- application identifiers
 
+-- a row of an attribute with one part
 abbrev pub attribute : List ℕ → Part → AiRow
 attribute code p = record { code = code; parts = p ∷ []; role = role.Attribute; qualifiers = []; short = false; none = [] }
 
+-- a row of a qualifier with one part, and the text that stands for none
 abbrev pub qualifier : List ℕ → Part → List ℕ → AiRow
 qualifier code p none = record { code = code; parts = p ∷ []; role = role.Qualifier; qualifiers = []; short = false; none = none }
 
+-- a row of a key with its parts and qualifiers, and whether a link may have it short
 abbrev pub key : List ℕ → List Part → List (List ℕ) → Bool → AiRow
 key code parts qualifiers short = record { code = code; parts = parts; role = role.Key; qualifiers = qualifiers; short = short; none = [] }
 
@@ -40,6 +43,7 @@ item_ais =
     ∷ attribute (codes "02") (part.NumCheck 14)
     ∷ qualifier (codes "10") (part.Set 20) [] ∷ []
 
+-- dates
 unfoldable pub date_ais : List AiRow
 date_ais =
     attribute (codes "11") part.Date ∷ attribute (codes "12") part.Date ∷ attribute (codes "13") part.Date
@@ -104,11 +108,13 @@ agreed_ais =
     ∷ attribute (codes "91") (part.Set 90) ∷ attribute (codes "92") (part.Set 90) ∷ attribute (codes "93") (part.Set 90)
     ∷ attribute (codes "94") (part.Set 90) ∷ []
 
+-- what companies use for themselves
 unfoldable pub company_ais : List AiRow
 company_ais =
     attribute (codes "95") (part.Set 90) ∷ attribute (codes "96") (part.Set 90) ∷ attribute (codes "97") (part.Set 90)
     ∷ attribute (codes "98") (part.Set 90) ∷ attribute (codes "99") (part.Set 90) ∷ []
 
+-- all rows, in ascending order of their codes
 unfoldable pub builtin_ais : List AiRow
 builtin_ais =
     item_ais ++ date_ais ++ variant_ais ++ additional_ais ++ weight_ais ++ shipment_ais ++ party_ais ++ location_ais
@@ -116,9 +122,11 @@ builtin_ais =
 
 -- ---- kinds
 
+-- a kind with its key, its lead digits and its serial
 abbrev pub kind : List ℕ → List ℕ → ℕ → List ℕ → KindRow
 kind name key lead serial = record { name = name; key = key; lead = lead; serial = serial }
 
+-- the kinds (TDS 2.0, section 6.3)
 unfoldable pub builtin_kinds : List KindRow
 builtin_kinds =
     kind (codes "sgtin") (codes "01") 1 (codes "21")
@@ -131,9 +139,11 @@ builtin_kinds =
 
 -- ---- the partition table: the digits of the prefix, the partition, and the bits of the prefix (TDS 2.0, section 14.2)
 
+-- a row of the partition table
 abbrev pub partition : ℕ → ℕ → ℕ → Partition
 partition digits number bits = record { digits = digits; number = number; bits = bits }
 
+-- the partition table, from 12 digits to 6
 abbrev pub partitions : List Partition
 partitions = partition 12 0 40 ∷ partition 11 1 37 ∷ partition 10 2 34 ∷ partition 9 3 30 ∷ partition 8 4 27 ∷ partition 7 5 24 ∷ partition 6 6 20 ∷ []
 
@@ -171,6 +181,7 @@ document_encodings =
     ∷ encoding (codes "gdti-174") (codes "gdti") 62 41 (Digits 12) (Some (Ascii7 1 17 119)) (Some (Fill 2 2))
     ∷ encoding (codes "gsrn-96") (codes "gsrn") 45 58 (Digits 17) None (Some (zeros 24)) ∷ []
 
+-- all encodings, in the order of the options
 unfoldable pub encodings : List Encoding
 encodings = item_encodings ++ asset_encodings ++ document_encodings
 
@@ -213,6 +224,7 @@ abbrev pub behind_prefix : FieldItem → Option Item → List FieldItem
 behind_prefix (None, _) serial = (None, Lit (codes "..")) ∷ of_field (Some Serial) serial
 behind_prefix (Some field, rest) serial = dotted Rest rest ++ flat_map (dotted Serial) (option_to_list serial)
 
+-- the item of a text level for an item of bits, for the same field
 abbrev pub in_text_too : FieldItem → FieldItem
 in_text_too i = (i.0, in_text i.1)
 
@@ -226,6 +238,7 @@ tag_items e p =
 abbrev pub identity : List ℕ → RestForm → Option Item → Identity
 identity name rest serial = record { name = name; rest = rest; serial = serial }
 
+-- the pure identities of all kinds
 unfoldable pub identities : List Identity
 identities =
     identity (codes "sgtin") (Digits 13) (Some (Esc 1 20))
@@ -242,35 +255,43 @@ pure_items k p =
     (None, Lit (codes "urn:epc:id:" ++ k.name ++ codes ":")) ∷ (Some Gcp, Pad p.digits)
     ∷ behind_prefix (in_text_too (rest_in_bits k.rest p.digits 0)) k.serial
 
+-- an option of a kind and an encoding for a length of the prefix
 abbrev pub option_row : List ℕ → List ℕ → Partition → List FieldItem → OptionRow
 option_row kind encoding p items = record { kind = kind; encoding = encoding; gcp = p.digits; items = map there items }
 
--- an option for each length of the prefix from 12 to 6
+-- the option of tag bits of an encoding for a length of the prefix
 abbrev pub binary_row : Encoding → Partition → OptionRow
 binary_row e p = option_row e.kind e.name p (binary_items e p)
 
+-- the options of tag bits of an encoding
 abbrev pub binary_rows : Encoding → List OptionRow
 binary_rows e = map (binary_row e) partitions
 
+-- the option of tag URIs of an encoding for a length of the prefix
 abbrev pub tag_row : Encoding → Partition → OptionRow
 tag_row e p = option_row e.kind e.name p (tag_items e p)
 
+-- the options of tag URIs of an encoding
 abbrev pub tag_rows : Encoding → List OptionRow
 tag_rows e = map (tag_row e) partitions
 
+-- the option of pure identity URIs of a kind for a length of the prefix
 abbrev pub pure_row : Identity → Partition → OptionRow
 pure_row k p = option_row k.name [] p (pure_items k p)
 
+-- the options of pure identity URIs of a kind
 abbrev pub pure_rows : Identity → List OptionRow
 pure_rows k = map (pure_row k) partitions
 
--- for each encoding, or for each kind
+-- the options of tag bits, for each encoding
 unfoldable pub builtin_binary : List OptionRow
 builtin_binary = flat_map binary_rows encodings
 
+-- the options of tag URIs, for each encoding
 unfoldable pub builtin_tag : List OptionRow
 builtin_tag = flat_map tag_rows encodings
 
+-- the options of pure identity URIs, for each kind
 unfoldable pub builtin_pure : List OptionRow
 builtin_pure = flat_map pure_rows identities
 

@@ -29,6 +29,7 @@ last_or_next lo (suc more) ranges next end =
     if nat_le lo 1 then with_ranges ranges end ++ with_ranges ranges next
     else with_ranges ranges next
 
+-- the states of at most so many characters, four to a character: its first symbol, the percent sign's first digit, and the second digits behind 2 and behind 3
 abbrev pub esc_table : ℕ → ℕ → ℕ → ℕ → List (List Edge)
 esc_table lo zero base end = []
 esc_table lo (suc more) base end =

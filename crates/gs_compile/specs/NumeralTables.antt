@@ -26,6 +26,7 @@ tight_edges low zero digit next end = edge 48 (48 + digit) end ∷ []
 tight_edges low (suc n) digit next end =
     edge low (47 + digit) (end - suc n) ∷ edge (48 + digit) (48 + digit) next ∷ edge (above_digit n digit) 57 (end - n) ∷ edge 48 57 end ∷ []
 
+-- the states with the digits of the greatest so far, one for each digit that is left
 abbrev pub tight_table : ℕ → ℕ → ℕ → ℕ → List (List Edge)
 tight_table zero rest base end = []
 tight_table (suc n) rest base end = tight_edges 48 n (rest / 10 ^ n) (base + 1) end ∷ tight_table n (rest % 10 ^ n) (base + 1) end

@@ -41,6 +41,7 @@ bound_edges n greatest next =
     if nat_le (2 ^ n) greatest then edge 1 1 next ∷ edge 0 0 (lower_state n next) ∷ []
     else edge 0 0 next ∷ []
 
+-- the states of a number of so many bits that is at most the greatest, two to a bit: with its bits so far, and below it
 abbrev pub bound_table : ℕ → ℕ → ℕ → List (List Edge)
 bound_table zero greatest base = []
 bound_table (suc n) greatest base =

@@ -44,9 +44,11 @@ abbrev pub by_authority : List AiRow → List ℕ → Option ℕ → Result (Lis
 by_authority table text None = Err NotHttp
 by_authority table text (Some at) = target_answer table at (drop at text)
 
+-- the pairs of a link, or its first fault
 unfoldable pub link_answer : List AiRow → List ℕ → Result (List Pair) LinkFault
 link_answer table text = by_authority table text (authority_end text)
 
+-- the fault of an answer, where it is one
 abbrev pub fault_in : Result (List Pair) LinkFault → Option LinkFault
 fault_in (Ok _) = None
 fault_in (Err fault) = Some fault
@@ -63,5 +65,6 @@ link_fault table text = fault_in (link_answer table text)
 abbrev pub IsTarget : List AiRow → List ℕ → List Pair → Type 0
 IsTarget table text pairs = target_answer table 0 text ≡ Ok pairs
 
+-- the first fault of the target of a request, where there is one
 abbrev pub target_fault : List AiRow → List ℕ → Option LinkFault
 target_fault table text = fault_in (target_answer table 0 text)

@@ -44,6 +44,7 @@ pub record IsKeyPath (table : List AiRow) (segments : List Piece) (pairs : List 
   pub rest : paired (drop before segments) ≡ Some pairs
   pub is_path : is_key_path table pairs ≡ true
 
+-- these pairs where they are a key path, else the others
 abbrev pub path_or : List AiRow → Option (List Written) → Option (List Written) → Option (List Written)
 path_or table None other = other
 path_or table (Some pairs) other = if is_key_path table pairs then Some pairs else other

@@ -7,6 +7,7 @@ use Rattle.std.specs.List.{list_all, starts_with}
 abbrev pub is_stem_byte : ℕ → Bool
 is_stem_byte c = is_ascii_graphic c && not (c == 63) && not (c == 35)
 
+-- all bytes are such
 abbrev pub are_stem_bytes : List ℕ → Bool
 are_stem_bytes stem = list_all is_stem_byte stem
 

@@ -7,9 +7,11 @@ use Rattle.gs_ai.specs.Tables.{is_empty}
 
 -- ---- the bytes that separate
 
+-- the byte is this one
 abbrev pub is_byte : ℕ → ℕ → Bool
 is_byte byte c = c == byte
 
+-- the byte is `/`
 abbrev pub is_slash : ℕ → Bool
 is_slash c = is_byte 47 c
 
@@ -46,9 +48,11 @@ authority_end text = option_and_then (authority_from text) (scheme_end text)
 
 -- ---- path, query and fragment (sections 3.3 to 3.5), of a text that begins with the path
 
+-- what stands before the first `#`
 abbrev pub without_fragment : List ℕ → List ℕ
 without_fragment text = before_first (is_byte 35) text
 
+-- the path: what stands before the first `?` and the first `#`
 abbrev pub path_of : List ℕ → List ℕ
 path_of text = before_first (is_byte 63) (without_fragment text)
 
@@ -108,6 +112,7 @@ query_pairs at query = flat_map part_pairs (query_parts at query)
 
 -- ---- the last slash of a text
 
+-- no byte of a text is a slash
 abbrev pub NoSlash : List ℕ → Type 0
 NoSlash text = list_any is_slash text ≡ false
 

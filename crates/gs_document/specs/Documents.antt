@@ -25,9 +25,11 @@ use Rattle.gs_document.specs.Items.{FieldItem, item_of}
 
 -- ---- the form of a document
 
+-- a member that must be there
 abbrev pub must : List ℕ → Sort → Entry
 must name sort = record { name = name; required = true; sort = sort }
 
+-- a member that may be there
 abbrev pub may : List ℕ → Sort → Entry
 may name sort = record { name = name; required = false; sort = sort }
 
@@ -35,12 +37,15 @@ may name sort = record { name = name; required = false; sort = sort }
 abbrev pub document_plan : List Entry
 document_plan = must (codes "version") Number ∷ must (codes "ais") Array ∷ must (codes "kinds") Array ∷ must (codes "binary") Array ∷ must (codes "tag") Array ∷ must (codes "pure") Array ∷ []
 
+-- the members of an application identifier
 abbrev pub ai_plan : List Entry
 ai_plan = must (codes "code") Text ∷ must (codes "parts") Texts ∷ must (codes "role") Text ∷ may (codes "qualifiers") Texts ∷ may (codes "short") Truth ∷ may (codes "none") Text ∷ []
 
+-- the members of a kind
 abbrev pub kind_plan : List Entry
 kind_plan = must (codes "name") Text ∷ must (codes "key") Text ∷ must (codes "lead") Number ∷ must (codes "serial") Text ∷ []
 
+-- the members of an option
 abbrev pub option_plan : List Entry
 option_plan = must (codes "kind") Text ∷ must (codes "encoding") Text ∷ must (codes "gcp") Number ∷ must (codes "items") Arrays ∷ []
 
@@ -49,6 +54,7 @@ abbrev pub list_of : Items → List Data
 list_of no_items = []
 list_of (item d items) = d ∷ list_of items
 
+-- the items of an array, and none of what is no array
 abbrev pub items_in : Data → List Data
 items_in d = option_map_or list_of (as_array d) []
 
@@ -90,9 +96,11 @@ is_bits Pure = false
 abbrev pub text_in : List ℕ → Data → List ℕ
 text_in name d = unwrap_or (option_and_then as_str (get name d)) []
 
+-- the number of a member, 0 where there is none
 abbrev pub number_in : List ℕ → Data → ℕ
 number_in name d = unwrap_or (option_and_then as_u64 (option_and_then as_number (get name d))) 0
 
+-- the truth value of a member, false where there is none
 abbrev pub truth_in : List ℕ → Data → Bool
 truth_in name d = unwrap_or (option_and_then as_bool (get name d)) false
 
@@ -106,6 +114,7 @@ Each Is _ _ = ⊥
 abbrev pub text_of : Data → List ℕ
 text_of d = unwrap_or (as_str d) []
 
+-- the text is the one that stands here
 abbrev pub IsText : Data → List ℕ → Type 0
 IsText d text = text ≡ text_of d
 
@@ -119,6 +128,7 @@ pub record IsRole (text : List ℕ) (r : Role) : Type 0 where
   pub written : r ≢ role.Other → role_text r ≡ text
   pub other : r ≡ role.Other → (q : Role) → q ≢ role.Other → role_text q ≡ text → ⊥
 
+-- the part is the one that the text here writes
 abbrev pub IsPartOf : Data → Part → Type 0
 IsPartOf d p = IsPart (text_of d) p
 

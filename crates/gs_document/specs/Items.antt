@@ -35,19 +35,23 @@ exactly n count = if count == n then Some tt else None
 abbrev pub bits_of : List ℕ → Option (List ℕ)
 bits_of text = if list_all (λ c. (c == 48) || (c == 49)) text then Some (map (λ c. c - 48) text) else None
 
--- the text, the field and the number at a place of an array
+-- the text at a place of an array
 abbrev pub text_arg : ℕ → Data → Option (List ℕ)
 text_arg i d = option_and_then as_str (at i d)
 
+-- the number at a place of an array
 abbrev pub number_arg : ℕ → Data → Option ℕ
 number_arg i d = option_and_then as_u64 (option_and_then as_number (at i d))
 
+-- the field at a place of an array
 abbrev pub field_arg : ℕ → Data → Option Field
 field_arg i d = option_and_then field_of (text_arg i d)
 
+-- the number at a place of an array, below 2^8
 abbrev pub byte_arg : ℕ → Data → Option ℕ
 byte_arg i d = option_and_then (held 8) (number_arg i d)
 
+-- the number at a place of an array, below 2^16
 abbrev pub short_arg : ℕ → Data → Option ℕ
 short_arg i d = option_and_then (held 16) (number_arg i d)
 
@@ -57,13 +61,15 @@ short_arg i d = option_and_then (held 16) (number_arg i d)
 abbrev pub FieldItem : Type 0
 FieldItem = Option Field × Item
 
--- the items that are there; the items without their fields, and their fields
+-- the items that are there
 abbrev pub present : List (Option FieldItem) → List FieldItem
 present entries = flat_map option_to_list entries
 
+-- the items without their fields
 abbrev pub alone : List FieldItem → List Item
 alone items = map (λ (i : FieldItem). i.1) items
 
+-- the fields of the items
 abbrev pub fields_of : List FieldItem → List (Option Field)
 fields_of items = map (λ (i : FieldItem). i.0) items
 
@@ -83,10 +89,11 @@ no_field item = option_map (λ i. (None, i)) item
 abbrev pub both : Option ℕ → Option ℕ → (ℕ → ℕ → Item) → Option Item
 both a b make = option_and_then (λ x. option_map (λ y. make x y) b) a
 
--- `["lit", TEXT]`, and `["lit", BITS]` on a bit level
+-- `["lit", TEXT]`
 abbrev pub literal : Data → Option FieldItem
 literal d = sized 2 d (no_field (option_map Lit (text_arg 1 d)))
 
+-- `["lit", BITS]` on a bit level
 abbrev pub bit_literal : Data → Option FieldItem
 bit_literal d = sized 2 d (no_field (option_map Lit (option_and_then bits_of (text_arg 1 d))))
 

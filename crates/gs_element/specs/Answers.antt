@@ -11,6 +11,7 @@ abbrev pub IsRawRefusal : List AiRow → List ℕ → ElementsFault → Type 0
 IsRawRefusal table text (Element fault) = IsRawFault table text fault
 IsRawRefusal table text Memory = Unit {0}
 
+-- the same for a bracketed text
 abbrev pub IsBracketedRefusal : List AiRow → List ℕ → ElementsFault → Type 0
 IsBracketedRefusal table text (Element fault) = IsBracketedFault table text fault
 IsBracketedRefusal table text Memory = Unit {0}

@@ -19,6 +19,7 @@ use Rattle.gs_element.specs.Joins.{Joined, IsFirstFault}
 abbrev pub written_character : ℕ → List ℕ
 written_character c = if c == 40 then 92 ∷ 40 ∷ [] else c ∷ []
 
+-- a value with a backslash before each opening bracket
 abbrev pub written_value : List ℕ → List ℕ
 written_value value = flat_map written_character value
 
@@ -26,6 +27,7 @@ written_value value = flat_map written_character value
 abbrev pub bracketed_element : Pair → List ℕ
 bracketed_element pair = 40 ∷ (pair.code ++ 41 ∷ written_value pair.value)
 
+-- the elements one behind another
 abbrev pub bracketed_text : List Pair → List ℕ
 bracketed_text pairs = flat_map bracketed_element pairs
 

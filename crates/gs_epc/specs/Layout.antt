@@ -67,6 +67,7 @@ serial_pairs Nowhere serial = []
 abbrev pub unless_none : List AiRow → Pair → List Pair
 unless_none ais pair = if stands_for_none ais pair then [] else pair ∷ []
 
+-- the element in which a serial stands; none where it stands in the tail of the key, or nowhere
 abbrev pub serial_elements : List AiRow → SerialAt → List ℕ → List Pair
 serial_elements ais (Ai code) serial = unless_none ais (record { code = code; value = serial })
 serial_elements ais Tail serial = []

@@ -75,6 +75,7 @@ abbrev pub by_other_key : List AiRow → List Pair → Pair → Option Pair → 
 by_other_key table pairs key (Some other) = Err (TwoKeys other.code)
 by_other_key table pairs key None = Ok (elements_of table pairs key)
 
+-- the answer by the first key: no key is a refusal, and so is a second one
 abbrev pub by_key : List AiRow → List Pair → Option Pair → Result Elements IdentFault
 by_key table pairs None = Err NoKey
 by_key table pairs (Some key) = by_other_key table pairs key (other_key table pairs key)

@@ -6,14 +6,17 @@ use Rattle.gs_json.specs.declared.fault.JsonFault.TheVariants.{Kind}
 use Rattle.gs_json.specs.declared.fit.Fit.{Fit}
 use Rattle.gs_json.specs.declared.fit.Fit.TheVariants as fit
 
+-- the answer by how a member fits: it fits whole, not at all, or all but an item
 abbrev pub fit_answer : List ℕ → Fit → Result Unit JsonFault
 fit_answer place fit.Whole = Ok tt
 fit_answer place fit.Not = Err (Kind place)
 fit_answer place (fit.AllBut i) = Err (Kind (item_place place i))
 
+-- fits whole where the test holds, else not at all
 abbrev pub fit_if : Bool → Fit
 fit_if fits = if fits then fit.Whole else fit.Not
 
+-- fits but for the item of this number, or whole where there is none
 abbrev pub fit_but : Option ℕ → Fit
 fit_but (Some i) = fit.AllBut i
 fit_but None = fit.Whole

@@ -32,10 +32,11 @@ abbrev pub items_faults : List ℕ → (Data → Bool) → Option Items → List
 items_faults place test (Some items) = map (λ i. Kind (item_place place i)) (failing_from 0 test (items_list items))
 items_faults place test None = Kind place ∷ []
 
--- what is a text, and what is an array
+-- what is a text
 abbrev pub is_text : Data → Bool
 is_text d = is_some (as_str d)
 
+-- what is an array
 abbrev pub is_array : Data → Bool
 is_array d = is_some (as_array d)
 
@@ -53,6 +54,7 @@ abbrev pub member_faults : List ℕ → Entry → Option Data → List JsonFault
 member_faults place entry None = if entry.required then Lacks place ∷ [] else []
 member_faults place entry (Some d) = sort_faults place entry.sort d
 
+-- the faults of an entry of the plan, at its place
 abbrev pub entry_faults : List ℕ → Members → Entry → List JsonFault
 entry_faults place members entry = member_faults (member_place place entry.name) entry (get_member entry.name members)
 
@@ -73,6 +75,7 @@ abbrev pub members_faults : List ℕ → List Entry → Option Members → List 
 members_faults place plan None = Kind place ∷ []
 members_faults place plan (Some members) = flat_map (entry_faults place members) plan ++ unknown_faults place plan members
 
+-- the faults of a part of a document by a plan
 abbrev pub shape_faults : Part → List Entry → List JsonFault
 shape_faults part plan = members_faults part.place plan (as_object (view part.tree))
 

@@ -41,22 +41,27 @@ is_cut_short WriteFault = true
 is_cut_short Memory = true
 is_cut_short _ = false
 
+-- the input or a file could not be read
 abbrev pub is_read_fault : Status → Bool
 is_read_fault ReadFault = true
 is_read_fault _ = false
 
+-- the output could not be written
 abbrev pub is_write_fault : Status → Bool
 is_write_fault WriteFault = true
 is_write_fault _ = false
 
+-- the input is too long
 abbrev pub is_input_long : Status → Bool
 is_input_long InputLong = true
 is_input_long _ = false
 
+-- the words are not in order
 abbrev pub is_usage : Status → Bool
 is_usage Usage = true
 is_usage _ = false
 
+-- a file is refused
 abbrev pub is_refusal : Status → Bool
 is_refusal Refused = true
 is_refusal _ = false

@@ -34,6 +34,7 @@ is_wanted (Relation wanted) relation = bytes_eq wanted.now relation
 unfoldable pub is_candidate : Elements → Want → Link → Bool
 is_candidate identity want link = is_prefix link.anchor identity && is_wanted want link.relation
 
+-- the links of prefixes of the identity, with a wanted relation
 abbrev pub candidates : List Link → Elements → Want → List Link
 candidates links identity want = filter (is_candidate identity want) links
 
@@ -46,6 +47,7 @@ abbrev pub deepest : List Link → ℕ
 deepest [] = 0
 deepest (link ∷ links) = max (depth_of link) (deepest links)
 
+-- the most qualifiers that one of these has
 abbrev pub chosen_depth : List Link → Elements → Want → ℕ
 chosen_depth links identity want = deepest (candidates links identity want)
 

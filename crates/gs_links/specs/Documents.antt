@@ -32,9 +32,11 @@ names_of links = fold with_name [] links
 abbrev pub targets_of : List Link → List ℕ → List Target
 targets_of links name = map (λ link. link.target) (filter (λ link. bytes_eq link.relation name) links)
 
+-- a relation with its targets
 abbrev pub relation_of : List Link → List ℕ → Relation
 relation_of links name = record { name = name; targets = targets_of links name }
 
+-- the relations of the links, in ascending order of name
 abbrev pub relations_of : List Link → List Relation
 relations_of links = map (relation_of links) (names_of links)
 

@@ -34,10 +34,12 @@ pairs_answer table text = if is_path text then target_answer table 0 text else l
 abbrev pub without_attributes : Elements → Result Elements AnchorWhy
 without_attributes identity = if is_empty identity.attributes then Ok identity else Err Attributes
 
+-- an identity without attributes, or why it is no anchor
 abbrev pub by_identity : Result Elements IdentFault → Result Elements AnchorWhy
 by_identity (Ok identity) = without_attributes identity
 by_identity (Err fault) = Err (Ident fault)
 
+-- the identity of the pairs of a link, or why they are no anchor
 abbrev pub by_pairs : List AiRow → Result (List Pair) LinkFault → Result Elements AnchorWhy
 by_pairs table (Ok pairs) = by_identity (identity_of_pairs table pairs)
 by_pairs table (Err fault) = Err (NoLink fault)
@@ -52,6 +54,7 @@ anchor_answer table text = by_pairs table (pairs_answer table text)
 abbrev pub is_visible : ℕ → Bool
 is_visible c = nat_le 33 c && nat_le c 126
 
+-- a reference is 1 to 2,048 bytes from 33 to 126
 unfoldable pub is_reference : List ℕ → Bool
 is_reference text = nat_le 1 (length text) && (nat_le (length text) 2048 && list_all is_visible text)
 
@@ -59,16 +62,20 @@ is_reference text = nat_le 1 (length text) && (nat_le (length text) 2048 && list
 abbrev pub bad_target : Relation → Option ℕ
 bad_target relation = position (λ target. not (is_reference target.href)) relation.targets
 
+-- the fault of a relation: its first target whose `href` is no reference
 abbrev pub relation_faults : ℕ → ℕ → Relation → List StoreFault
 relation_faults i r relation = option_map_or (λ t. BadHref i r t ∷ []) (bad_target relation) []
 
+-- the faults of relations, in their order
 abbrev pub relations_faults : ℕ → List Relation → List StoreFault
 relations_faults i relations = flat_map (λ row. relation_faults i row.0 row.1) (enumerate_from 0 relations)
 
+-- the fault of an anchor, where it is none
 abbrev pub anchor_faults : ℕ → Result Elements AnchorWhy → List StoreFault
 anchor_faults i (Ok _) = []
 anchor_faults i (Err why) = BadAnchor i why ∷ []
 
+-- the faults of a context: its anchor's, then its relations'
 unfoldable pub context_faults : List AiRow → ℕ → Context → List StoreFault
 context_faults table i context = anchor_faults i (anchor_answer table context.anchor) ++ relations_faults i context.relations
 
@@ -76,9 +83,11 @@ context_faults table i context = anchor_faults i (anchor_answer table context.an
 abbrev pub relations_count : List Relation → ℕ
 relations_count relations = length (flat_map (λ relation. relation.targets) relations)
 
+-- how many targets all contexts have
 abbrev pub targets_count : List Context → ℕ
 targets_count contexts = length (flat_map (λ context. flat_map (λ relation. relation.targets) context.relations) contexts)
 
+-- too many targets are a fault
 abbrev pub count_faults : List Context → List StoreFault
 count_faults contexts = if nat_lt 65536 (targets_count contexts) then TooMany ∷ [] else []
 
@@ -93,16 +102,20 @@ store_faults table contexts =
 unfoldable pub expanded : List ℕ → List ℕ → List ℕ
 expanded voc name = if starts_with (λ a b. a == b) name (codes "gs1:") then voc ++ drop 4 name else name
 
+-- a link of an identity by a relation to a target
 abbrev pub link_with : Elements → List ℕ → Target → Link
 link_with anchor relation target = record { anchor = anchor; relation = relation; target = target }
 
+-- the links of a relation, its name expanded, to its targets
 abbrev pub relation_links : List ℕ → Elements → Relation → List Link
 relation_links voc anchor relation = map (link_with anchor (expanded voc relation.name)) relation.targets
 
+-- the links of relations at an anchor, none where it is no anchor
 abbrev pub links_by : List ℕ → List Relation → Result Elements AnchorWhy → List Link
 links_by voc relations (Ok anchor) = flat_map (relation_links voc anchor) relations
 links_by voc relations (Err why) = []
 
+-- the links of a context
 unfoldable pub context_links : List AiRow → List ℕ → Context → List Link
 context_links table voc context = links_by voc context.relations (anchor_answer table context.anchor)
 
@@ -121,5 +134,6 @@ first_or (fault ∷ faults) made = Err fault
 abbrev pub OrMemory : {X : Type 0} → Result X StoreFault → Result X StoreFault → Type 0
 OrMemory result answer = (result ≡ Err Memory) ⊎ (result ≡ answer)
 
+-- the answer of a load: the first fault, or the links
 unfoldable pub load_answer : List AiRow → List ℕ → List Context → Result (List Link) StoreFault
 load_answer table voc contexts = first_or (store_faults table contexts) (links_of table voc contexts)

@@ -28,25 +28,32 @@ OrMemory result answer = (result ≡ Err Memory) ⊎ (result ≡ answer)
 abbrev pub text_answer : List ℕ → List ℕ → Data → Result (List ℕ) JsonFault
 text_answer name place d = first_or (member_faults Text name place d) (text_in name d)
 
+-- the number of items of a member that is an array
 abbrev pub count_answer : List ℕ → List ℕ → Data → Result ℕ JsonFault
 count_answer name place d = first_or (member_faults Array name place d) (count_in name d)
 
+-- a target
 abbrev pub target_answer : List ℕ → Data → Result Target JsonFault
 target_answer place d = first_or (target_faults place d) (target_of d)
 
+-- the targets of an array
 abbrev pub targets_answer : List ℕ → Data → Result (List Target) JsonFault
 targets_answer place d = first_or (item_faults target_faults place (items_of d)) (map target_of (items_of d))
 
+-- the relation of a member, or none where the member is no relation
 abbrev pub relation_answer : List ℕ → Data → List ℕ → Result (Option Relation) JsonFault
 relation_answer place d name = first_or (relation_faults place d name) (relation_of d name)
 
+-- the relations of a context
 abbrev pub relations_answer : List ℕ → Data → Result (List Relation) JsonFault
 relations_answer place d =
     first_or (flat_map (relation_faults place d) (names_in d)) (filter_map (relation_of d) (names_in d))
 
+-- a context
 abbrev pub context_answer : List ℕ → Data → Result Context JsonFault
 context_answer place d = first_or (context_faults place d) (context_of d)
 
+-- the contexts of an array
 abbrev pub contexts_answer : List ℕ → Data → Result (List Context) JsonFault
 contexts_answer place d = first_or (item_faults context_faults place (items_of d)) (map context_of (items_of d))
 

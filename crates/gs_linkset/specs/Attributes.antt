@@ -43,6 +43,7 @@ language_of d = option_map_or as_str (get (codes "language") d) (Some [])
 abbrev pub text_with : Data → List ℕ → Option (List ℕ × List ℕ)
 text_with d text = option_map (λ language. (text, language)) (language_of d)
 
+-- an object of a tagged value: its text and its language, or none where it has no such members
 abbrev pub tagged_text : Data → Option (List ℕ × List ℕ)
 tagged_text d = option_and_then (text_with d) (option_and_then as_str (get (codes "value") d))
 

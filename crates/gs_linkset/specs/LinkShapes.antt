@@ -39,15 +39,19 @@ is_value name (One text) = not (is_tagged name) && (is_single name && is_utf8 te
 is_value name (Many texts) = not (is_tagged name) && (not (is_single name) && list_all is_utf8 texts)
 is_value name (Tagged pairs) = is_tagged name && list_all is_tagged_text pairs
 
+-- an attribute: its name is not `href`, its texts are UTF-8, and its value is of the kind that the name has
 unfoldable pub is_attr : Attr → Bool
 is_attr attr = not (bytes_eq attr.name (codes "href")) && (is_utf8 attr.name && is_value attr.name attr.value)
 
+-- a target: its texts are UTF-8, and the names of its attributes ascend
 unfoldable pub is_target : Target → Bool
 is_target target = is_utf8 target.href && (ascend (map (λ attr. attr.name) target.attrs) && list_all is_attr target.attrs)
 
+-- a relation: its name is not `anchor`, and its targets have their shape
 unfoldable pub is_relation : Relation → Bool
 is_relation relation = not (bytes_eq relation.name (codes "anchor")) && (is_utf8 relation.name && list_all is_target relation.targets)
 
+-- a context: the names of its relations ascend, and they have their shape
 unfoldable pub is_context : Context → Bool
 is_context context =
     is_utf8 context.anchor

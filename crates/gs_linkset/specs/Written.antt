@@ -25,6 +25,7 @@ abbrev pub with_language : List ℕ → Members → Members
 with_language [] members = members
 with_language (c ∷ language) members = put (codes "language") (string (c ∷ language)) members
 
+-- an object of a tagged value
 abbrev pub tagged_tree : List ℕ × List ℕ → Data
 tagged_tree pair = object (with_language pair.1 (member (codes "value") (string pair.0) no_members))
 
@@ -34,6 +35,7 @@ value_tree (One text) = string text
 value_tree (Many texts) = array_by string texts
 value_tree (Tagged pairs) = array_by tagged_tree pairs
 
+-- the members of a target's attributes
 abbrev pub attr_members : List Attr → Members
 attr_members attrs = members_by (λ attr. attr.name) (λ attr. value_tree attr.value) attrs
 
@@ -41,6 +43,7 @@ attr_members attrs = members_by (λ attr. attr.name) (λ attr. value_tree attr.v
 abbrev pub target_tree : Target → Data
 target_tree target = object (put (codes "href") (string target.href) (attr_members target.attrs))
 
+-- the members of a context's relations
 abbrev pub relation_members : List Relation → Members
 relation_members relations =
     members_by (λ relation. relation.name) (λ relation. array_by target_tree relation.targets) relations
@@ -53,5 +56,6 @@ context_tree context = object (put (codes "anchor") (string context.anchor) (rel
 abbrev pub tree_of : List Context → Data
 tree_of contexts = object (member (codes "linkset") (array_by context_tree contexts) no_members)
 
+-- the document as compact text
 unfoldable pub written : List Context → List ℕ
 written contexts = compact_text (tree_of contexts)

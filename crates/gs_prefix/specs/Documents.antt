@@ -17,10 +17,11 @@ use Rattle.gs_prefix.specs.declared.entry.PrefixEntry.{PrefixEntry}
 abbrev pub must : List ℕ → Sort → Entry
 must name sort = record { name = name; required = true; sort = sort }
 
--- the members of the document, and of an entry
+-- the members of the document
 abbrev pub list_plan : List Entry
 list_plan = must (codes "version") Number ∷ must (codes "prefixes") Array ∷ []
 
+-- the members of an entry
 abbrev pub entry_plan : List Entry
 entry_plan = must (codes "prefix") Text ∷ must (codes "length") Number ∷ []
 
@@ -29,6 +30,7 @@ abbrev pub list_of : Items → List Data
 list_of no_items = []
 list_of (item d items) = d ∷ list_of items
 
+-- the items of an array, and none of what is no array
 abbrev pub items_in : Data → List Data
 items_in d = option_map_or list_of (as_array d) []
 
@@ -36,6 +38,7 @@ items_in d = option_map_or list_of (as_array d) []
 abbrev pub text_in : List ℕ → Data → List ℕ
 text_in name d = unwrap_or (option_and_then as_str (get name d)) []
 
+-- the number of a member, 0 where there is none
 abbrev pub number_in : List ℕ → Data → ℕ
 number_in name d = unwrap_or (option_and_then as_u64 (option_and_then as_number (get name d))) 0
 
@@ -64,5 +67,6 @@ form_faults d = members_faults [] list_plan (as_object d) ++ (version_faults d +
 abbrev pub entry_of : Data → PrefixEntry
 entry_of d = record { prefix = text_in (codes "prefix") d; length = number_in (codes "length") d }
 
+-- the entries of an array
 abbrev pub entries_of : Data → List PrefixEntry
 entries_of d = map entry_of (items_of d)

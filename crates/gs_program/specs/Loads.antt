@@ -76,6 +76,7 @@ abbrev pub prefixes_verdict : Result (List PrefixEntry) PrefixFault → Result (
 prefixes_verdict (Ok list) = Ok list
 prefixes_verdict (Err fault) = Err (Prefixes fault)
 
+-- the verdict is that on a list of company prefix lengths
 abbrev pub JudgesPrefixes : List ℕ → Result (List PrefixEntry) FileFault → Type 0
 JudgesPrefixes bytes verdict = verdict ≡ prefixes_verdict (load_answer bytes)
 

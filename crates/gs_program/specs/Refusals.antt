@@ -41,6 +41,7 @@ file_limit kind.Links = 16777216
 abbrev pub shown_byte : ℕ → ℕ
 shown_byte c = if nat_le 33 c && nat_le c 126 then c else 63
 
+-- a place as it is printed
 abbrev pub shown : List ℕ → List ℕ
 shown place = map shown_byte place
 
@@ -52,6 +53,7 @@ json_text (json.Kind place) = codes "kind " ++ shown place
 json_text (json.Unknown place) = codes "unknown " ++ shown place
 json_text json.Memory = codes "memory"
 
+-- the name of a limit
 abbrev pub limit_text : LimitName → List ℕ
 limit_text Ais = codes "ais"
 limit_text Kinds = codes "kinds"
@@ -59,15 +61,17 @@ limit_text Options = codes "options"
 limit_text Items = codes "items"
 limit_text Size = codes "size"
 
+-- the name of a level
 abbrev pub level_text : LevelName → List ℕ
 level_text Binary = codes "binary"
 level_text Tag = codes "tag"
 level_text Pure = codes "pure"
 
--- a word and a number, and two numbers
+-- a word and a number
 abbrev pub numbered : List ℕ → ℕ → List ℕ
 numbered word i = word ++ 32 ∷ decimal i
 
+-- a word and two numbers
 abbrev pub numbered_twice : List ℕ → ℕ → ℕ → List ℕ
 numbered_twice word i j = numbered (numbered word i) j
 
@@ -75,6 +79,7 @@ numbered_twice word i j = numbered (numbered word i) j
 abbrev pub of_level : List ℕ → LevelName → List ℕ
 of_level word level = word ++ 32 ∷ level_text level
 
+-- why an application identifier breaks a rule
 abbrev pub ai_text : AiFault → List ℕ
 ai_text (ai.BadAi i) = numbered (codes "ai") i
 ai_text (ai.CodePrefix j i) = numbered_twice (codes "code-prefix") j i

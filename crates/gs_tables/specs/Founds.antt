@@ -11,6 +11,7 @@ pub record IsMany (items : List Item) : Type 0 where
   pub others : List Item
   pub list : items ≡ first ∷ second ∷ others
 
+-- how many items there are, with the one where it is alone
 abbrev pub IsFound : List Item → Found → Type 0
 IsFound items None = items ≡ []
 IsFound items (One item) = items ≡ item.now ∷ []

@@ -9,10 +9,11 @@ use Rattle.gs_grammar.specs.Ambiguity.{IsUnambiguous, ShowsFirstShare}
 use Rattle.gs_grammar.specs.Levels.{LevelForm, item_lists}
 use Rattle.gs_tables.specs.Tables.{IsShaped, TableRows, level_rows}
 
--- the levels of a set, and three levels, by their names
+-- the levels of a set, by their names
 abbrev pub levels_of : TableRows → LevelName → LevelForm
 levels_of set name = (level_rows name set).level
 
+-- the level of a name among three
 abbrev pub by_name : LevelForm → LevelForm → LevelForm → LevelName → LevelForm
 by_name binary tag pure Binary = binary
 by_name binary tag pure Tag = tag
@@ -58,6 +59,7 @@ IsLevelJudged name level (Err (Ambiguous other i j text)) = (other ≡ name) × 
 IsLevelJudged name level (Err Memory) = Unit {0}
 IsLevelJudged name level (Err _) = ⊥
 
+-- the judgement of all levels: none is ambiguous, or the first that is; want of memory may come in place of each
 abbrev pub AreJudged : (LevelName → LevelForm) → Result (Unit {0}) LoadFault → Type 0
 AreJudged levels (Ok _) = AreClear levels
 AreJudged levels (Err (Ambiguous name i j text)) = IsFirstAmbiguous levels name i j text

@@ -12,6 +12,7 @@ abbrev pub numbers_from : ℕ → ℕ → ℕ → List OptInfo → List ℕ
 numbers_from n kind gcp infos =
     map (λ (place : ℕ × OptInfo). place.0) (filter (λ (place : ℕ × OptInfo). is_of kind gcp place.1) (enumerate_from n infos))
 
+-- the numbers of the options of a kind and prefix length, counted from 0
 abbrev pub numbers_of : ℕ → ℕ → List OptInfo → List ℕ
 numbers_of kind gcp infos = numbers_from 0 kind gcp infos
 

@@ -28,9 +28,11 @@ are_visible text = list_all (is_between 33 126) text
 
 -- ---- kinds
 
+-- the kind has this name
 abbrev pub has_name : List ℕ → KindRow → Bool
 has_name name kind = bytes_eq name kind.name
 
+-- the kind has this key
 abbrev pub has_key : List ℕ → KindRow → Bool
 has_key key kind = bytes_eq key kind.key
 
@@ -74,6 +76,7 @@ is_field Rest (Some Rest) = true
 is_field Serial (Some Serial) = true
 is_field _ _ = false
 
+-- the items whose value stands for a field
 abbrev pub items_of_field : Field → List FieldItem → List Item
 items_of_field field items = map (λ i. i.1) (filter (λ (i : FieldItem). is_field field i.0) items)
 

@@ -57,6 +57,7 @@ options_of Pure document = document.pure
 abbrev pub items_there : OptionRow → List FieldItem
 items_there row = present row.items
 
+-- the items that are there, without their fields
 abbrev pub items_alone : OptionRow → List Item
 items_alone row = alone (items_there row)
 
@@ -66,6 +67,7 @@ items_alone row = alone (items_there row)
 abbrev pub refuse_if : Bool → LoadFault → List LoadFault
 refuse_if test fault = if test then fault ∷ [] else []
 
+-- there are more rows than the limit
 abbrev pub more_than : {X : Type 0} → ℕ → List X → Bool
 more_than limit rows = nat_lt limit (length rows)
 
@@ -112,6 +114,7 @@ option_refusals ais kinds level rows row =
 unfoldable pub kinds_refusals : List AiRow → List KindRow → List LoadFault
 kinds_refusals ais kinds = flat_map (kind_refusals ais kinds) (enumerate_from 0 kinds)
 
+-- the refusals of the options of a level, row by row
 unfoldable pub level_refusals : List AiRow → List KindRow → LevelName → List OptionRow → List LoadFault
 level_refusals ais kinds level rows = flat_map (option_refusals ais kinds level rows) (enumerate_from 0 rows)
 
@@ -144,6 +147,7 @@ info_of kinds row = record {
   fields = fields_of (items_there row);
 }
 
+-- a level's options, and what is said of them
 abbrev pub level_of : List KindRow → LevelName → List OptionRow → LevelTable
 level_of kinds level rows = record {
   level = record { bit_level = is_bits level; options = map (option_form (is_bits level)) rows };

@@ -93,6 +93,7 @@ ReadsLink set text answer = MatchResult answer (IsLink set.ais text) (OfLink (li
 abbrev pub identity_meaning : Elements → Meaning
 identity_meaning identity = record { identity = identity; gcp = None; filter = None; encoding = [] }
 
+-- the meaning of the identity of pairs, or why they have none
 abbrev pub identified : Result Elements IdentFault → Result Meaning Reason
 identified (Ok identity) = Ok (identity_meaning identity)
 identified (Err fault) = Err (Ident fault)

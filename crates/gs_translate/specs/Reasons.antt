@@ -24,11 +24,13 @@ use Rattle.gs_translate.specs.declared.reason.Reason.TheVariants as reason
 abbrev pub placed : List ℕ → ℕ → List ℕ
 placed word place = word ++ (32 ∷ decimal place)
 
+-- why a text is no hexadecimal text
 abbrev pub hex_text : HexFault → List ℕ
 hex_text OddDigits = codes "odd"
 hex_text Full = codes "full"
 hex_text (BadDigit place) = placed (codes "digit") place
 
+-- why tag bits or an EPC URI have no meaning
 abbrev pub epc_text : EpcFault → List ℕ
 epc_text (Hex fault) = hex_text fault
 epc_text NoReading = codes "reading"
@@ -42,25 +44,30 @@ value_text at (Char place) = placed (codes "char") at ++ (32 ∷ decimal place)
 value_text at Check = placed (codes "check") at
 value_text at Date = placed (codes "date") at
 
+-- why an element is not in order, with the place of its code
 abbrev pub why_text : ℕ → ElementWhy → List ℕ
 why_text at (Value fault) = value_text at fault
 why_text at Escape = placed (codes "escape") at
 why_text at Bracket = placed (codes "bracket") at
 
+-- an element that is not in order
 abbrev pub element_text : ElementFault → List ℕ
 element_text fault = why_text fault.at fault.why
 
+-- why elements have no identity
 abbrev pub ident_text : IdentFault → List ℕ
 ident_text (ident.Repeat code) = codes "repeat " ++ code
 ident_text ident.NoKey = codes "key"
 ident_text (ident.TwoKeys code) = codes "keys " ++ code
 ident_text ident.Memory = codes "memory"
 
+-- what is lacking
 abbrev pub missing_text : FieldName → List ℕ
 missing_text missing.Gcp = codes "gcp"
 missing_text missing.Serial = codes "serial"
 missing_text missing.Filter = codes "filter"
 
+-- the name of a field
 abbrev pub field_text : Field → List ℕ
 field_text field.Filter = codes "filter"
 field_text field.Gcp = codes "gcp"
@@ -74,9 +81,11 @@ held_text why.Length = codes "length"
 held_text why.Zero = codes "zero"
 held_text why.Large = codes "large"
 
+-- which field an option does not hold, and why
 abbrev pub hold_text : Field → Why → List ℕ
 hold_text field why = codes "hold " ++ (field_text field ++ (32 ∷ held_text why))
 
+-- the text of each reason
 abbrev pub reason_text : Reason → List ℕ
 reason_text reason.Long = codes "long"
 reason_text (reason.Epc fault) = epc_text fault
