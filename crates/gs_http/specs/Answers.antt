@@ -39,9 +39,11 @@ said BadRequest = bad_request
 said NotFound = not_found
 said NotAllowed = not_allowed
 
+-- the method is GET (RFC 9110, section 9.3.1)
 abbrev pub is_get : List ℕ → Bool
 is_get method = bytes_eq method (codes "GET")
 
+-- the method is HEAD (RFC 9110, section 9.3.2)
 abbrev pub is_head : List ℕ → Bool
 is_head method = bytes_eq method (codes "HEAD")
 
@@ -49,6 +51,7 @@ is_head method = bytes_eq method (codes "HEAD")
 abbrev pub is_description : List ℕ → Bool
 is_description target = bytes_eq (path_of target) (codes "/.well-known/gs1resolver")
 
+-- the answer for the resolver description file: its bytes, where there is one
 abbrev pub describe : Option (List ℕ) → Answer
 describe None = not_found
 describe (Some text) = described text
@@ -68,6 +71,7 @@ by_links (Relation name) (link ∷ other ∷ links) = choices (text_of (link ∷
 abbrev pub chosen_links : List Link → Elements → Wish → List Link
 chosen_links links identity wish = linked links (chosen links identity (want_of wish))
 
+-- by the identity of the pairs that the target names, where they have one
 abbrev pub by_identity : List Link → Wish → Result Elements IdentFault → Answer
 by_identity links wish (Ok identity) = by_links wish (chosen_links links identity wish)
 by_identity links wish (Err fault) = bad_request

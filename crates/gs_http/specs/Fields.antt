@@ -12,9 +12,11 @@ use Rattle.gs_http.specs.declared.sign.Word.TheVariants.{Close, Linkset}
 abbrev pub is_word : List ℕ → List ℕ → Bool
 is_word word text = bytes_eq (map to_ascii_lowercase text) word
 
+-- the byte is a comma, which ends a member of a list (RFC 9110, section 5.6.1)
 abbrev pub is_comma : ℕ → Bool
 is_comma c = c == 44
 
+-- the byte is a semicolon, which begins a parameter (RFC 9110, section 5.6.6)
 abbrev pub is_semicolon : ℕ → Bool
 is_semicolon c = c == 59
 

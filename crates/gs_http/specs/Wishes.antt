@@ -31,6 +31,7 @@ wished voc value =
 abbrev pub unwished : List ℕ → Bool → Wish
 unwished voc accepted = if accepted then Linkset else Relation (expanded voc (codes "gs1:defaultLink"))
 
+-- what is wished by the first `linkType` of the query, or by what is accepted where there is none
 abbrev pub wish_by : List ℕ → Bool → Option (List ℕ) → Wish
 wish_by voc accepted None = unwished voc accepted
 wish_by voc accepted (Some value) = wished voc (percent_decode value)
