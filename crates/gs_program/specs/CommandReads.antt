@@ -9,17 +9,19 @@ use Rattle.gs_program.specs.declared.command.Command.TheVariants.{Canon, Transla
 use Rattle.gs_program.specs.declared.arguments.Split.{Split}
 use Rattle.gs_program.specs.Commands.{form_word, target_word}
 
--- the forms that texts are read in, and those that they are translated to
+-- the forms that texts are read in
 abbrev pub forms : List Form
 forms = form.Hex ∷ form.Tag ∷ form.Pure ∷ form.Raw ∷ form.Bracketed ∷ form.Link ∷ []
 
+-- the forms that texts are translated to
 abbrev pub targets : List Target
 targets = target.Hex ∷ target.Tag ∷ target.Pure ∷ target.Raw ∷ target.Bracketed ∷ target.Link ∷ target.Canon ∷ []
 
--- the form, and the target, that has the word
+-- the form that has the word
 abbrev pub form_named : List ℕ → Option Form
 form_named word = find (λ form. bytes_eq word (form_word form)) forms
 
+-- the form that texts are translated to that has the word
 abbrev pub target_named : List ℕ → Option Target
 target_named word = find (λ target. bytes_eq word (target_word target)) targets
 
