@@ -39,7 +39,7 @@ translated_one t input keeps one other a b =
 command_one : (command : Command) (values : Values) (loaded : Loaded) (input : List ℕ) → IsLoaded loaded.tables → HasOne (CommandRun command values loaded (Some input))
 command_one (Canon form) values loaded input keeps = translated_one (canonizing loaded form) input keeps
 command_one (Translate from to) values loaded input keeps = translated_one (translating loaded values from to) input keeps
-command_one Check values loaded input keeps one other a b = a ∙ sym b
+command_one Check values loaded input keeps = λ one other a b. a ∙ sym b
 
 -- stops that are alike leave outcomes that are alike
 stops_alike : (stop stop' : Stop) (one other : Outcome) → one ≡ stopped stop → other ≡ stopped stop' → AlikeStops {A = Loaded} (Err stop) (Err stop') → AreAlike one other
