@@ -48,7 +48,7 @@ begins_nothing asked world = let o = asked_some asked world in record { outcome 
 
 -- ---- a command ran
 
-never_refused : (s : Status) (fact : Type 0) → s ≢ status.Refused → OnRefused s fact
+pub never_refused : (s : Status) (fact : Type 0) → s ≢ status.Refused → OnRefused s fact
 never_refused status.Done fact un = tt
 never_refused status.SomeRefused fact un = tt
 never_refused status.Usage fact un = tt

@@ -15,6 +15,7 @@ use Rattle.gs_program.specs.declared.name.NameRow.{NameRow}
 use Rattle.gs_program.specs.Names.{AreTaken, in_range, look_up, name_word, none_taken, one_taken, takes}
 use Rattle.gs_program.specs.Ranges.{filter_of, is_numeral, is_vocabulary, number_within}
 use Rattle.gs_program.specs.Requests.{Asked, WordsInOrder, default_voc, options_of}
+use Rattle.gs_program.specs.Works.{no_options}
 
 -- ---- names by their words
 
@@ -61,7 +62,7 @@ named_in_range rows pairs name value (one_taken n v others takes_it once rest) e
     let found : Some v ≡ Some value = rw is at e in
     let same : v ≡ value = cc in
     rw same at (taken_in_range rows name n v takes_it is)
-  | inr no ↦ named_in_range rows others name value rest (rw no at e)
+  | inr differs ↦ named_in_range rows others name value rest (rw differs at e)
 ]
 
 -- ---- the options of translations
@@ -90,6 +91,10 @@ options_fit words asked o =
       filter = filter_fits (look_up (name_word Filter) a.pairs);
       stem = stem_fits stem (λ s e. named_in_range _ a.pairs Stem s a.of_rows.taken e);
     })
+
+-- the options where nothing is named are in order
+pub no_options_fit : AreInOrder no_options
+no_options_fit = record { filter = filter_fits None; stem = stem_fits None (λ stem e. absurd (let f : None ≡ Some stem = e in cc)) }
 
 -- ---- the vocabulary
 

@@ -6,7 +6,7 @@ use Rattle.gs_program.specs.Requests.{told_request}
 use Rattle.gs_program.specs.Runs.{World}
 use Rattle.gs_lines.specs.Statuses.{is_answered}
 use Rattle.gs_lines.proofs.StatusLemmas.{when_always}
-use Rattle.gs_program.proofs.AskedLemmas.{asked_of_command, asked_of_fault, asked_of_memory, asked_of_refusal, ended_of_command, refusal_answered}
+use Rattle.gs_program.proofs.AskedLemmas.{asked_of_command, asked_of_fault, asked_of_memory, asked_of_refusal, ended_of_command, never_refused, refusal_answered}
 use Rattle.gs_program.proofs.asking.run_request.Goals as goal
 
 pub returns-in-Ok-clause-ran : goal.returns-in-Ok-clause-ran
@@ -51,3 +51,6 @@ returns-in-Ok-clause-all_opened g c = when_always (is_answered c.run_command.res
 
 pub returns-in-Err-Refused-clause-all_opened : goal.returns-in-Err-Refused-clause-all_opened
 returns-in-Err-Refused-clause-all_opened g c = refusal_answered _ _ c.print_refusal.ensures.written.0 c.print_refusal.result c.print_refusal.ensures.written.2
+
+pub returns-in-Ok-clause-unread_refused : goal.returns-in-Ok-clause-unread_refused
+returns-in-Ok-clause-unread_refused g c = never_refused c.run_command.result _ c.run_command.ensures.ran.2.no_refusal
