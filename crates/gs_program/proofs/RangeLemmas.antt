@@ -32,8 +32,8 @@ read_err word r fault h numeral e small =
 pub outside : (least greatest : ℕ) (word : List ℕ) → (least ≤ decimal_value word → decimal_value word ≤ greatest → ⊥) → None ≡ number_within least greatest word
 outside least greatest word out = elim (true_or_false (is_numeral word && (nat_le least (decimal_value word) && nat_le (decimal_value word) greatest))) as (λ _. None ≡ number_within least greatest word) [
   | inl all ↦
-    let bounds = and_parts _ _ (and_parts _ _ all).1 in
-    absurd (out (leb-true least (decimal_value word) bounds.0) (leb-true (decimal_value word) greatest bounds.1))
+      let bounds = and_parts _ _ (and_parts _ _ all).1 in
+      absurd (out (leb-true least (decimal_value word) bounds.0) (leb-true (decimal_value word) greatest bounds.1))
   | inr none ↦ rw none refl
 ]
 

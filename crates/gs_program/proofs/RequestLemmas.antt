@@ -86,9 +86,9 @@ command_spelled (word ∷ words) parts e = elim (true_or_false (bytes_eq word (c
     | inl is ↦ rw (equal_bytes word (codes "translate") is) (translation_spelled words parts (rw (canon, is) at e))
     | inr translate ↦ elim (true_or_false (bytes_eq word (codes "check"))) as (λ _. AreOf (word ∷ words) parts) [
       | inl is ↦
-        let f : Some (Check, words) ≡ Some parts = rw (canon, translate, is) at e in
-        let same = same_parts (Check, words) parts f in
-        rw (← same, equal_bytes word (codes "check") is) refl
+          let f : Some (Check, words) ≡ Some parts = rw (canon, translate, is) at e in
+          let same = same_parts (Check, words) parts f in
+          rw (← same, equal_bytes word (codes "check") is) refl
       | inr check ↦ absurd (let f : None ≡ Some parts = rw (canon, translate, check) at e in cc)
     ]
   ]

@@ -48,9 +48,9 @@ taken_in_range : (rows : List NameRow) (name : Name) (n value : List ℕ) → ta
 taken_in_range [] name n value t e = absurd (let f : false ≡ true = t in cc)
 taken_in_range (row ∷ rows) name n value t e = elim (true_or_false (bytes_eq (name_word row.name) n && in_range row.name value)) as (λ _. in_range name value ≡ true) [
   | inl here ↦
-    let both = and_parts (bytes_eq (name_word row.name) n) (in_range row.name value) here in
-    let same = same_name row.name name (equal_bytes (name_word row.name) n both.0 ∙ equal_bytes n (name_word name) e) in
-    rw same at both.1
+      let both = and_parts (bytes_eq (name_word row.name) n) (in_range row.name value) here in
+      let same = same_name row.name name (equal_bytes (name_word row.name) n both.0 ∙ equal_bytes n (name_word name) e) in
+      rw same at both.1
   | inr other ↦ taken_in_range rows name n value (rw other at t) e
 ]
 
@@ -59,9 +59,9 @@ pub named_in_range : (rows : List NameRow) (pairs : List (List ℕ × List ℕ))
 named_in_range rows pairs name value none_taken e = absurd (let f : None ≡ Some value = e in cc)
 named_in_range rows pairs name value (one_taken n v others takes_it once rest) e = elim (true_or_false (bytes_eq n (name_word name))) as (λ _. in_range name value ≡ true) [
   | inl is ↦
-    let found : Some v ≡ Some value = rw is at e in
-    let same : v ≡ value = cc in
-    rw same at (taken_in_range rows name n v takes_it is)
+      let found : Some v ≡ Some value = rw is at e in
+      let same : v ≡ value = cc in
+      rw same at (taken_in_range rows name n v takes_it is)
   | inr differs ↦ named_in_range rows others name value rest (rw differs at e)
 ]
 

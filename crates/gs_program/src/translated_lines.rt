@@ -46,7 +46,15 @@ impl Answerer for TranslatedLines<'_> {
         append_line(
             alloc,
             out,
-            translate(alloc, self.set, self.prefixes, self.options, self.from, self.to, text),
+            translate(
+                alloc,
+                self.set,
+                self.prefixes,
+                self.options,
+                self.from,
+                self.to,
+                text,
+            ),
         )
     }
 

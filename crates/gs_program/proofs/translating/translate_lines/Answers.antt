@@ -18,8 +18,8 @@ returns-in-Ok g c =
     let w = e.written in
     let outcome : Outcome = record { output = w.0; status = c.answer_lines.result } in
     let ran : TranslationRan t before now outcome =
-      ran_of_lines (IsTranslatedLine t) before now outcome (some_line t c.requires.loaded) w.2 e.read_to_end e.input_long e.few e.read_fault e.write_fault
-          e.input_counts e.output_counts e.no_usage e.no_refusal in (
+    ran_of_lines (IsTranslatedLine t) before now outcome (some_line t c.requires.loaded) w.2 e.read_to_end e.input_long e.few e.read_fault e.write_fault
+    e.input_counts e.output_counts e.no_usage e.no_refusal in (
       w.0,
       w.1,
       subst (λ (options : Options). TranslationRan (by options) before now outcome) c.in-Ok.ensures ran,
