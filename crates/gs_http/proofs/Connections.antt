@@ -333,8 +333,8 @@ last_turn i low = elim (cases_order i 999) [
   ]
 ]
 
-pub before_last : (i : ℕ) → i < 1000 → (i + 1 == 1000) ≡ false → i + 1 < 1000
+pub before_last : (i : ℕ) → i < 1000 → ((1000 - i) == 1) ≡ false → i + 1 < 1000
 before_last i low other = elim (cases_order (i + 1) 1000) [
-  | inl same ↦ absurd (false≢true (sym other ∙ eq-eqb (i + 1) 1000 same))
+  | inl same ↦ absurd (false≢true (sym other ∙ eq-eqb (1000 - i) 1 (omega arith)))
   | inr apart ↦ elim apart [ inl below ↦ below | inr above ↦ absurd (omega arith) ]
 ]

@@ -39,9 +39,11 @@ said BadRequest = bad_request
 said NotFound = not_found
 said NotAllowed = not_allowed
 
+-- the method asks for a reply with its body
 abbrev pub is_get : List ℕ → Bool
 is_get method = bytes_eq method (codes "GET")
 
+-- the method asks for the head of a reply alone
 abbrev pub is_head : List ℕ → Bool
 is_head method = bytes_eq method (codes "HEAD")
 
@@ -49,6 +51,7 @@ is_head method = bytes_eq method (codes "HEAD")
 abbrev pub is_description : List ℕ → Bool
 is_description target = bytes_eq (path_of target) (codes "/.well-known/gs1resolver")
 
+-- the answer with the description, where there is one
 abbrev pub describe : Option (List ℕ) → Answer
 describe None = not_found
 describe (Some text) = described text
@@ -68,6 +71,7 @@ by_links (Relation name) (link ∷ other ∷ links) = choices (text_of (link ∷
 abbrev pub chosen_links : List Link → Elements → Wish → List Link
 chosen_links links identity wish = linked links (chosen links identity (want_of wish))
 
+-- by the identity of the pairs
 abbrev pub by_identity : List Link → Wish → Result Elements IdentFault → Answer
 by_identity links wish (Ok identity) = by_links wish (chosen_links links identity wish)
 by_identity links wish (Err fault) = bad_request

@@ -12,9 +12,11 @@ use Rattle.gs_http.specs.declared.sign.Word.TheVariants.{Close, Linkset}
 abbrev pub is_word : List ℕ → List ℕ → Bool
 is_word word text = bytes_eq (map to_ascii_lowercase text) word
 
+-- what separates the parts of a list
 abbrev pub is_comma : ℕ → Bool
 is_comma c = c == 44
 
+-- what begins the parameters of a media type
 abbrev pub is_semicolon : ℕ → Bool
 is_semicolon c = c == 59
 

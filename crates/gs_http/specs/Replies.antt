@@ -15,6 +15,7 @@ use Rattle.gs_http.specs.Heads.{Asked, IsAsked}
 abbrev pub line : List ℕ → List ℕ
 line text = text ++ 13 ∷ 10 ∷ []
 
+-- the status code and its phrase
 abbrev pub status_of : Answer → List ℕ
 status_of (described _) = codes "200 OK"
 status_of (linkset _) = codes "200 OK"
@@ -34,6 +35,7 @@ own_field bad_request = []
 own_field not_found = []
 own_field not_allowed = line (codes "Allow: GET, HEAD")
 
+-- the body, which is empty where there is none
 abbrev pub body_of : Answer → List ℕ
 body_of (described text) = text
 body_of (linkset text) = text
@@ -43,6 +45,7 @@ body_of bad_request = []
 body_of not_found = []
 body_of not_allowed = []
 
+-- the field by which the connection ends, where it does
 abbrev pub close_field : Bool → List ℕ
 close_field close = if close then line (codes "Connection: close") else []
 

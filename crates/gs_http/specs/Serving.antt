@@ -17,23 +17,26 @@ use Rattle.gs_http.specs.Streams.{AreReplies, BeginsWith, IsReplyTo, all_bytes, 
 
 -- ---- counts
 
--- the count of the reads that failed, and of the writes
+-- the count of the reads that failed, by how serving ended
 abbrev pub reads_when : Served → ℕ → ℕ
 reads_when Done count = count
 reads_when ReadFault count = counted count
 reads_when WriteFault count = count
 reads_when Memory count = count
 
+-- the count of the writes that failed
 abbrev pub writes_when : Served → ℕ → ℕ
 writes_when Done count = count
 writes_when ReadFault count = count
 writes_when WriteFault count = counted count
 writes_when Memory count = count
 
+-- the same by how a turn ended
 abbrev pub reads_at : Turn → ℕ → ℕ
 reads_at Stays count = count
 reads_at (Over served) count = reads_when served count
 
+-- the same of the writes
 abbrev pub writes_at : Turn → ℕ → ℕ
 writes_at Stays count = count
 writes_at (Over served) count = writes_when served count

@@ -25,6 +25,7 @@ pub data Front : Type 0 where
   headed : List ℕ → List ℕ → Front
   headless : Front
 
+-- by the place where a head ends
 abbrev pub cut_at : List ℕ → Option ℕ → Front
 cut_at stream None = headless
 cut_at stream (Some place) = headed (take place stream) (drop place stream)
@@ -34,6 +35,7 @@ unfoldable pub front_of : List ℕ → Front
 front_of [] = ended
 front_of (c ∷ stream) = cut_at (c ∷ stream) (head_end (take 8192 (c ∷ stream)))
 
+-- the heads by what a stream goes on with
 abbrev pub with_front : Front → (List ℕ → List (Option (List ℕ))) → List (Option (List ℕ))
 with_front ended later = []
 with_front headless later = None ∷ []
@@ -74,8 +76,15 @@ abbrev pub replies_of : List Reply → List ℕ
 replies_of [] = []
 replies_of (reply ∷ replies) = reply.bytes ++ (if reply.close then [] else replies_of replies)
 
+-- the bytes of all replies
 abbrev pub all_bytes : List Reply → List ℕ
 all_bytes replies = flat_map (λ (reply : Reply). reply.bytes) replies
+
+-- The bytes are the replies of a stream: of its heads, at most so many, up to and including the first that ends the connection.
+pub record IsReplies (table : List AiRow) (links : List Link) (settings : Settings) (most : ℕ) (stream output : List ℕ) : Type 0 where
+  pub replies : List Reply
+  pub are_replies : AreReplies table links settings most (heads_of most stream) replies
+  pub is_output : output ≡ replies_of replies
 
 -- the bytes are the front of others
 abbrev pub BeginsWith : List ℕ → List ℕ → Type 0

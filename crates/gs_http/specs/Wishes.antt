@@ -31,6 +31,7 @@ wished voc value =
 abbrev pub unwished : List ℕ → Bool → Wish
 unwished voc accepted = if accepted then Linkset else Relation (expanded voc (codes "gs1:defaultLink"))
 
+-- by whether a linkset is accepted, and by the value of `linkType`, where there is one
 abbrev pub wish_by : List ℕ → Bool → Option (List ℕ) → Wish
 wish_by voc accepted None = unwished voc accepted
 wish_by voc accepted (Some value) = wished voc (percent_decode value)

@@ -2,7 +2,7 @@ ghost use Rattle.std.specs.Prelude.{◌≡◌, ℕ, Bool, List};
 ghost use Rattle.gs_ai.specs.declared.row.AiRow.{AiRow};
 ghost use Rattle.gs_links.specs.declared.link.Link.{Link};
 ghost use Rattle.gs_http.specs.Replies.{IsReply};
-ghost use Rattle.gs_http.specs.Streams.{AreReplies, heads_of};
+ghost use Rattle.gs_http.specs.Streams.{IsReplies};
 ghost use Rattle.gs_http.specs.declared.settings.Reply.{Reply as Answered};
 ghost use Rattle.gs_http.specs.declared.settings.Settings.{Settings as How};
 
@@ -15,11 +15,11 @@ pub fn one_reply()
         → a ≡ b }
 {}
 
-/// A stream has exactly one list of replies, however many may come.
-pub fn one_list_of_replies()
+/// A stream has exactly one answer, the bytes of its replies, however many may come.
+pub fn one_answer_to_a_stream()
     ensures some { (table : List AiRow) (links : List Link) (settings : How) (most : ℕ) (stream : List ℕ)
-        → (replies : List Answered) × AreReplies table links settings most (heads_of most stream) replies }
+        → (output : List ℕ) × IsReplies table links settings most stream output }
     ensures one { (table : List AiRow) (links : List Link) (settings : How) (most : ℕ) (stream : List ℕ)
-        (a b : List Answered) → AreReplies table links settings most (heads_of most stream) a
-        → AreReplies table links settings most (heads_of most stream) b → a ≡ b }
+        (a b : List ℕ) → IsReplies table links settings most stream a → IsReplies table links settings most stream b
+        → a ≡ b }
 {}

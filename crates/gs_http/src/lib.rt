@@ -22,7 +22,7 @@ mod wish;
 mod wishing;
 mod writing;
 
-pub use laws::{one_list_of_replies, one_reply};
+pub use laws::{one_answer_to_a_stream, one_reply};
 pub use replying::reply;
 pub use served::Served;
 pub use serving::serve_one;

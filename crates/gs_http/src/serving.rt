@@ -1,4 +1,4 @@
-ghost use Rattle.std.specs.Prelude.{◌≡◌, IfOk, true, vec_len};
+ghost use Rattle.std.specs.Prelude.{◌≡◌, ◌-◌, ◌<◌, ◌==◌, IfOk, true, vec_len};
 ghost use Rattle.gs_http.specs.Serving.{IsServed, reads_when, writes_when};
 
 use crate::served::{Served, Turn};
@@ -12,6 +12,14 @@ use std::alloc::Global;
 
 /// The most replies that are made of a connection.
 const MOST: usize = 1000;
+
+/// Whether the reply of a turn is the last that may come.
+fn is_last(turn: usize) -> bool
+    requires { turn < 1000 }
+    ensures { result ≡ (1000 - turn == 1) }
+{
+    turn + 1 == MOST
+}
 
 /// So many numbers.
 fn room(alloc: Global, count: usize) -> Result<Vec<u32>, Memory>
@@ -47,7 +55,6 @@ pub fn serve_one<C: Conn>(
     };
     let mut bytes = Vec::new(alloc);
     for turn in 0..MOST {
-        let last = turn + 1 == MOST;
         match answer_next(
             alloc,
             conn,
@@ -56,7 +63,7 @@ pub fn serve_one<C: Conn>(
             settings,
             numbers.as_mut_slice(),
             &mut bytes,
-            last,
+            is_last(turn),
         ) {
             Turn::Stays => {}
             Turn::Over(served) => return served,

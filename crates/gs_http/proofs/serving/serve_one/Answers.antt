@@ -1,5 +1,5 @@
-use Rattle.std.proofs.Common.{◌≡◌, ◌+◌, ◌==◌, false, refl, ◌∙◌, arith}
-use Rattle.gs_http.proofs.Connections.{at_start, before_last, goes_on, is_over, last_turn, not_last, nothing_done}
+use Rattle.std.proofs.Common.{◌-◌, ◌==◌, refl, ◌∙◌, arith}
+use Rattle.gs_http.proofs.Connections.{at_start, before_last, goes_on, is_over, not_last, nothing_done}
 use Rattle.gs_http.proofs.serving.serve_one.Goals as goal
 
 pub returns-in_default-clause-served : goal.returns-in_default-clause-served
@@ -20,15 +20,15 @@ loop-turn-init g c = record {
 pub returns-in-Over-clause-served : goal.returns-in-Over-clause-served
 returns-in-Over-clause-served g c =
     is_over c.args.table.now c.args.store.now c.args.settings.now 1000 c.loop-turn.turn _ _ _ _ _ _ _ _ _ _ _ c.in-Over.served c.loop-turn.invariant.more c.loop-turn.invariant.so_far
-    (rw (last_turn c.loop-turn.turn c.loop-turn.invariant.more) at c.in-Over.ensures.turned)
+    (rw c.is_last.ensures at c.in-Over.ensures.turned)
 
 pub loop-turn-preserved : goal.loop-turn-preserved
 loop-turn-preserved g c =
-    let turned = c.in-Stays.ensures.turned in
-    let stays : c.loop-turn.turn + 1 == 1000 ≡ false = not_last c.args.table.now c.args.store.now c.args.settings.now _ _ _ _ _ _ _ _ _ turned in
+    let turned = rw c.is_last.ensures at c.in-Stays.ensures.turned in
+    let stays = not_last c.args.table.now c.args.store.now c.args.settings.now (1000 - c.loop-turn.turn == 1) _ _ _ _ _ _ _ _ turned in
     record {
       so_far = goes_on c.args.table.now c.args.store.now c.args.settings.now 1000 c.loop-turn.turn _ _ _ _ _ _ _ _ _ _ _ c.loop-turn.invariant.more c.loop-turn.invariant.so_far
-          (rw (last_turn c.loop-turn.turn c.loop-turn.invariant.more) at turned);
+          turned;
       more = before_last c.loop-turn.turn c.loop-turn.invariant.more stays;
       room = c.loop-turn.invariant.room;
       reads = c.in-Stays.ensures.read_count ∙ c.loop-turn.invariant.reads;
