@@ -20,6 +20,6 @@ pub fn one_answer_to_a_stream()
     ensures some { (table : List AiRow) (links : List Link) (settings : How) (most : ℕ) (stream : List ℕ)
         → (output : List ℕ) × IsReplies table links settings most stream output }
     ensures one { (table : List AiRow) (links : List Link) (settings : How) (most : ℕ) (stream : List ℕ)
-        (a b : List ℕ) → IsReplies table links settings most stream a → IsReplies table links settings most stream b
-        → a ≡ b }
+        (a b : List ℕ) → IsReplies table links settings most stream a
+        → IsReplies table links settings most stream b → a ≡ b }
 {}

@@ -111,7 +111,8 @@ pub(crate) fn answer_next<C: Conn>(
     requires room { length store.now ≤ length numbers.old }
     requires few { length bytes.old.items ≤ 12287 }
     ensures turned { Turned table.now store.now settings.now result last bytes.old.items bytes.new.items
-        (C.left conn.old) (C.left conn.new) (C.taken conn.old) (C.taken conn.new) (C.held conn.old) (C.held conn.new) }
+        (C.left conn.old) (C.left conn.new) (C.taken conn.old) (C.taken conn.new)
+        (C.held conn.old) (C.held conn.new) }
     ensures write_count { C.writes conn.new ≡ writes_at result (C.writes conn.old) }
     ensures read_count { C.reads conn.new ≡ reads_at result (C.reads conn.old) }
     ensures stays_open { C.is_open conn.new ≡ true }
