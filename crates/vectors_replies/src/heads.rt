@@ -15,10 +15,12 @@ use vector_cases::{Answer, Refusal, add, arg, shown};
 const VOC: &[u8] = b"https://ref.gs1.org/voc/";
 
 /// A trade item with a default link and product information, and a lot of it with a link of its own.
-const LOTS: &[u8] = br#"{"linkset":[{"anchor":"https://id.gs1.org/01/09506000134352","gs1:defaultLink":[{"href":"https://example.com/p"}],"gs1:pip":[{"href":"https://example.com/pip"}]},{"anchor":"/01/09506000134352/10/ABC","gs1:defaultLink":[{"href":"https://example.com/lot"}]}]}"#;
+const LOTS: &[u8] =
+    br#"{"linkset":[{"anchor":"https://id.gs1.org/01/09506000134352","gs1:defaultLink":[{"href":"https://example.com/p"}],"gs1:pip":[{"href":"https://example.com/pip"}]},{"anchor":"/01/09506000134352/10/ABC","gs1:defaultLink":[{"href":"https://example.com/lot"}]}]}"#;
 
 /// A place with two links of one relation.
-const PLACE: &[u8] = br#"{"linkset":[{"anchor":"/414/0614141000012","gs1:defaultLink":[{"href":"https://a.example/1"},{"href":"https://a.example/2"}]}]}"#;
+const PLACE: &[u8] =
+    br#"{"linkset":[{"anchor":"/414/0614141000012","gs1:defaultLink":[{"href":"https://a.example/1"},{"href":"https://a.example/2"}]}]}"#;
 
 /// The linkset of a name, or the text itself.
 pub fn linkset_of(name: &[u8]) -> &[u8] {
