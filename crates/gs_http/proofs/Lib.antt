@@ -3,3 +3,7 @@ pub mod Chosen
 pub mod Decisions
 pub mod HeadLaws
 pub mod Refusals
+pub mod Fronts
+pub mod Readings
+pub mod StreamLaws
+pub mod Connections

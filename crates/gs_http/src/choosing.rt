@@ -92,7 +92,8 @@ fn by_count<'a>(
 ) -> Result<Answer<'a>, Memory>
     requires chosen { (want : Wanted) × (chosen.now ≡ chosen_numbers store.now identity.now want) }
     requires some { 0 < length chosen.now }
-    ensures { (name : List ℕ) → IfOk result (λ answer. said answer ≡ by_links (Relation name) (linked store.now chosen.now)) }
+    ensures { (name : List ℕ) → IfOk result (λ answer.
+        said answer ≡ by_links (Relation name) (linked store.now chosen.now)) }
 {
     if chosen.len() == 1 {
         return Ok(Answer::Redirect(store.link(chosen[0] as usize).target.href.as_bytes()));

@@ -32,11 +32,7 @@ pub(crate) fn after(text: &[u8], place: usize) -> &[u8]
     requires { place ≤ length text.now }
     ensures { result.now ≡ drop (place + 1) text.now }
 {
-    if place < text.len() {
-        &text[place + 1..]
-    } else {
-        &text[place..]
-    }
+    text.get(place + 1..).unwrap_or(&[])
 }
 
 /// What stands behind the first such byte, or nothing.

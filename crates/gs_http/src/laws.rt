@@ -2,6 +2,7 @@ ghost use Rattle.std.specs.Prelude.{◌≡◌, ℕ, Bool, List};
 ghost use Rattle.gs_ai.specs.declared.row.AiRow.{AiRow};
 ghost use Rattle.gs_links.specs.declared.link.Link.{Link};
 ghost use Rattle.gs_http.specs.Replies.{IsReply};
+ghost use Rattle.gs_http.specs.Streams.{IsReplies};
 ghost use Rattle.gs_http.specs.declared.settings.Reply.{Reply as Answered};
 ghost use Rattle.gs_http.specs.declared.settings.Settings.{Settings as How};
 
@@ -12,4 +13,13 @@ pub fn one_reply()
     ensures one { (table : List AiRow) (links : List Link) (settings : How) (head : List ℕ) (last : Bool)
         (a b : Answered) → IsReply table links settings head last a → IsReply table links settings head last b
         → a ≡ b }
+{}
+
+/// A stream has exactly one answer, the bytes of its replies, however many may come.
+pub fn one_answer_to_a_stream()
+    ensures some { (table : List AiRow) (links : List Link) (settings : How) (most : ℕ) (stream : List ℕ)
+        → (output : List ℕ) × IsReplies table links settings most stream output }
+    ensures one { (table : List AiRow) (links : List Link) (settings : How) (most : ℕ) (stream : List ℕ)
+        (a b : List ℕ) → IsReplies table links settings most stream a
+        → IsReplies table links settings most stream b → a ≡ b }
 {}

@@ -14,7 +14,8 @@ fn is_link_type(part: &[u8]) -> bool
 
 /// The first part of a query that is named `linkType`.
 fn link_type_part(query: &[u8]) -> Option<&[u8]>
-    ensures { option_map (λ part. part.now) result ≡ find is_link_type (slice_split separates_parts query.now) }
+    ensures { option_map (λ part. part.now) result
+        ≡ find is_link_type (slice_split separates_parts query.now) }
 {
     let mut rest = query;
     loop {

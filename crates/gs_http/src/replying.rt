@@ -21,7 +21,7 @@ use std::alloc::Global;
 
 /// The reply to a head that is not that of a request which is answered.
 #[tactic(auto, unfolding(crate::specs::Replies::reply_of))]
-fn refusal(alloc: Global) -> Result<Reply, Memory>
+pub(crate) fn refusal(alloc: Global) -> Result<Reply, Memory>
     ensures { (table : List AiRow) (links : List Link) (settings : How) (last : Bool)
         → IfOk result (λ reply. reply ≡ reply_of table links settings None last) }
 {

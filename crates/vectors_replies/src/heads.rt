@@ -1,4 +1,4 @@
-//! Calls of gs_http, by the built-in table of application identifiers. `gs1:` stands for https://ref.gs1.org/voc/. STORE is the
+//! Calls of gs_http over heads, by the built-in table of application identifiers. `gs1:` stands for https://ref.gs1.org/voc/. STORE is the
 //! name of a linkset that stands in this file, or the text of one.
 //!
 //! - `reply STORE DESCRIBE LAST HEAD`, with DESCRIBE the resolver description file or `-`, and LAST `last` or `-`: the bytes of
@@ -8,8 +8,7 @@ use gs_ai::AiTable;
 use gs_chars::Text;
 use gs_http::{Settings, reply};
 use gs_links::Store;
-use gs_tables::TableSet;
-use std::alloc::{AllocError, Global};
+use std::alloc::Global;
 use vector_cases::{Answer, Refusal, add, arg, shown};
 
 /// What `gs1:` stands for.
@@ -24,7 +23,7 @@ const PLACE: &[u8] =
     br#"{"linkset":[{"anchor":"/414/0614141000012","gs1:defaultLink":[{"href":"https://a.example/1"},{"href":"https://a.example/2"}]}]}"#;
 
 /// The linkset of a name, or the text itself.
-fn linkset_of(name: &[u8]) -> &[u8] {
+pub fn linkset_of(name: &[u8]) -> &[u8] {
     if name == b"lots".as_slice() {
         LOTS
     } else if name == b"place".as_slice() {
@@ -35,7 +34,7 @@ fn linkset_of(name: &[u8]) -> &[u8] {
 }
 
 /// The store of a linkset.
-fn store_of(alloc: Global, table: &AiTable, text: &[u8]) -> Result<Store, Refusal> {
+pub fn store_of(alloc: Global, table: &AiTable, text: &[u8]) -> Result<Store, Refusal> {
     let Ok(doc) = gs_linkset::read(alloc, text) else {
         return Err(Refusal::NoCase);
     };
@@ -46,7 +45,7 @@ fn store_of(alloc: Global, table: &AiTable, text: &[u8]) -> Result<Store, Refusa
 }
 
 /// The settings with this description, or with none where it is a hyphen.
-fn settings_of(alloc: Global, describe: &[u8]) -> Result<Settings, Refusal> {
+pub fn settings_of(alloc: Global, describe: &[u8]) -> Result<Settings, Refusal> {
     let voc = Text::from_bytes(alloc, VOC)?;
     let describe = if describe == b"-".as_slice() {
         None
@@ -56,15 +55,8 @@ fn settings_of(alloc: Global, describe: &[u8]) -> Result<Settings, Refusal> {
     Ok(Settings { voc, describe })
 }
 
-/// The answer to a call of gs_http.
-pub fn answer(alloc: Global, set: &TableSet, call: &str, args: &[Text]) -> Answer {
-    match call {
-        "reply" => replied(alloc, set.ais(), args),
-        _ => Err(Refusal::NoCase),
-    }
-}
-
-fn replied(alloc: Global, table: &AiTable, args: &[Text]) -> Answer {
+/// The answer to a call of `reply`.
+pub fn replied(alloc: Global, table: &AiTable, args: &[Text]) -> Answer {
     let store = store_of(alloc, table, linkset_of(arg(args, 0)?))?;
     let settings = settings_of(alloc, arg(args, 1)?)?;
     let last = arg(args, 2)? == b"last".as_slice();

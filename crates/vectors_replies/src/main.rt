@@ -1,7 +1,8 @@
-//! `vectors_replies` runs the public calls of gs_http over data: the replies to the heads of requests, over stores of links. The
-//! head of vector_cases says how a case and an answer are written.
+//! `vectors_replies` runs the public calls of gs_http over data: the replies to heads of requests and to whole connections, over
+//! stores of links. The head of vector_cases says how a case and an answer are written.
 #![tactic(auto)]
 
+mod connections;
 mod heads;
 
 use gs_chars::Text;
@@ -18,8 +19,9 @@ struct Replies {
 
 impl Calls for Replies {
     fn answer(&self, alloc: Global, library: &str, call: &str, args: &[Text]) -> Answer {
-        match library {
-            "gs_http" => heads::answer(alloc, &self.set, call, args),
+        match (library, call) {
+            ("gs_http", "reply") => heads::replied(alloc, self.set.ais(), args),
+            ("gs_http", call) => connections::answer(alloc, self.set.ais(), call, args),
             _ => Err(Refusal::NoCase),
         }
     }

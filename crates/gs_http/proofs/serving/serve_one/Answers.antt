@@ -1,0 +1,39 @@
+use Rattle.std.proofs.Common.{◌-◌, ◌==◌, refl, ◌∙◌, arith}
+use Rattle.gs_http.proofs.Connections.{at_start, before_last, goes_on, is_over, not_last, nothing_done}
+use Rattle.gs_http.proofs.serving.serve_one.Goals as goal
+
+pub returns-in_default-clause-served : goal.returns-in_default-clause-served
+returns-in_default-clause-served g c = nothing_done c.args.table.now c.args.store.now c.args.settings.now 1000 _ _ _
+
+pub loop-turn-init : goal.loop-turn-init
+loop-turn-init g c = record {
+  so_far = rw c.new-bytes.ensures.items (at_start c.args.table.now c.args.store.now c.args.settings.now 1000 _ _ _);
+  more = omega arith;
+  room = c.in-Ok.ensures ∙ c.len.ensures;
+  reads = refl;
+  writes = refl;
+  open_now = c.requires;
+  same_aside = refl;
+  same_ends = refl;
+}
+
+pub returns-in-Over-clause-served : goal.returns-in-Over-clause-served
+returns-in-Over-clause-served g c =
+    is_over c.args.table.now c.args.store.now c.args.settings.now 1000 c.loop-turn.turn _ _ _ _ _ _ _ _ _ _ _ c.in-Over.served c.loop-turn.invariant.more c.loop-turn.invariant.so_far
+    (rw c.is_last.ensures at c.in-Over.ensures.turned)
+
+pub loop-turn-preserved : goal.loop-turn-preserved
+loop-turn-preserved g c =
+    let turned = rw c.is_last.ensures at c.in-Stays.ensures.turned in
+    let stays = not_last c.args.table.now c.args.store.now c.args.settings.now (1000 - c.loop-turn.turn == 1) _ _ _ _ _ _ _ _ turned in
+    record {
+      so_far = goes_on c.args.table.now c.args.store.now c.args.settings.now 1000 c.loop-turn.turn _ _ _ _ _ _ _ _ _ _ _ c.loop-turn.invariant.more c.loop-turn.invariant.so_far
+          turned;
+      more = before_last c.loop-turn.turn c.loop-turn.invariant.more stays;
+      room = c.loop-turn.invariant.room;
+      reads = c.in-Stays.ensures.read_count ∙ c.loop-turn.invariant.reads;
+      writes = c.in-Stays.ensures.write_count ∙ c.loop-turn.invariant.writes;
+      open_now = c.in-Stays.ensures.stays_open;
+      same_aside = c.in-Stays.ensures.same_aside ∙ c.loop-turn.invariant.same_aside;
+      same_ends = c.in-Stays.ensures.same_ends ∙ c.loop-turn.invariant.same_ends;
+    }

@@ -1,0 +1,51 @@
+ghost use Rattle.std.specs.Prelude.{◌≡◌, ◌≤◌, ◌<◌, ◌+◌, ◌^◌, true, length};
+ghost use Rattle.gs_http.specs.Connected.{Comes, Reads, reads_with};
+
+use gs_port::{Conn, ReadAnswer};
+
+/// Room for the most bytes that one read moves.
+static BLOCK: [u8; 4096] = [0; 4096];
+
+/// What came of a read.
+#[derive(Clone, Copy, Debug, PartialEq, Eq)]
+pub(crate) enum More {
+    /// Bytes.
+    Got,
+    /// Nothing is left.
+    End,
+    /// The read failed.
+    NotRead,
+    /// Want of memory; nothing was read.
+    NoRoom,
+}
+
+/// Moves the next bytes of the connection behind those that were read, at most 4,096 of them.
+pub(crate) fn read_more<C: Conn>(conn: &mut C, bytes: &mut Vec<u8>) -> More
+    requires current { C.is_open conn.old ≡ true }
+    requires few { length bytes.old.items < 8192 }
+    ensures reads { Reads bytes.old.items bytes.new.items (C.left conn.old) (C.left conn.new)
+        (C.taken conn.old) (C.taken conn.new) }
+    ensures comes { Comes result bytes.old.items bytes.new.items (C.left conn.new) }
+    ensures few { length bytes.new.items ≤ length bytes.old.items + 4096 }
+    ensures count { C.reads conn.new ≡ reads_with result (C.reads conn.old) }
+    ensures same_held { C.held conn.new ≡ C.held conn.old }
+    ensures same_writes { C.writes conn.new ≡ C.writes conn.old }
+    ensures stays_open { C.is_open conn.new ≡ true }
+    ensures same_aside { C.aside conn.new ≡ C.aside conn.old }
+    ensures same_ends { C.ends conn.new ≡ C.ends conn.old }
+{
+    let len = bytes.len();
+    let Ok(()) = bytes.extend_from_slice(&BLOCK) else {
+        return More::NoRoom;
+    };
+    match conn.read(&mut bytes.as_mut_slice()[len..]) {
+        ReadAnswer::Failed => {
+            bytes.truncate(len);
+            More::NotRead
+        }
+        ReadAnswer::Got(moved) => {
+            bytes.truncate(len + moved);
+            if moved == 0 { More::End } else { More::Got }
+        }
+    }
+}
