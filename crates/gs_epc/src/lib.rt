@@ -1,4 +1,24 @@
 //! EPCs: what tag bits and EPC URIs say by the tables, the identities that they name, and what is written of an identity.
+//!
+//! - `read_hex`, `read_tag` and `read_pure` give the fields of an EPC; `write_hex`, `write_tag` and `write_pure` its text.
+//! - `identity_of` lays the fields out as a key and its serial number; `fields_of` takes an identity apart.
+//!
+//! # Example
+//!
+//! The trade item of a tag URI: its kind, encoding, filter value, the number of digits of its company prefix, and the prefix,
+//! item reference and serial number. The gate runs this case, for which crates/vectors_texts/src/epcs.rt makes the call.
+//!
+//! ```text
+//! gs_epc::read_tag urn:epc:tag:sgtin-96:3.0614141.812345.6789
+//! sgtin sgtin-96 Some(3) 7 0614141 812345 6789
+//! ```
+//!
+//! # Where it differs from the standard
+//!
+//! - Of GS1 EPC Tag Data Standard 2.0 it has the schemes that the loaded tables have; of the built-in ones no `+` scheme, no raw
+//!   URI and no pattern.
+//! - Hexadecimal digits and the letters of escapes are read in either case, and written in upper case.
+//! - Where several encodings hold an EPC and none is asked for, the first in the order of the tables is written.
 #![tactic(auto)]
 
 mod candidates;

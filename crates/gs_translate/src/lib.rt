@@ -1,4 +1,28 @@
 //! What texts mean in the forms of GS1 identities, the answers to them, and their translations.
+//!
+//! The six forms are tag bits in hexadecimal digits, EPC tag URIs, pure identity URIs, element strings as scanners send them and
+//! with brackets, and GS1 Digital Links.
+//!
+//! - `read` tells what a text means, or the first reason why it means nothing.
+//! - `answer` gives the canonical link of that, and `translate` its one spelling in a form that is asked for.
+//!
+//! # Example
+//!
+//! The bits of a tag as a tag URI. The gate runs this case, for which crates/vectors_texts/src/translations.rt makes the call;
+//! its head names the arguments.
+//!
+//! ```text
+//! gs_translate::translate Hex Tag - - \e no https://id.gs1.org \e 3074257BF7194E4000001A85
+//! urn:epc:tag:sgtin-96:3.0614141.812345.6789
+//! ```
+//!
+//! # Where it differs from the standards
+//!
+//! - A translation goes by the identity, the elements that are named, and not from pattern to pattern as in GS1 EPC Tag Data
+//!   Translation: element strings and links take part, and an EPC that becomes another keeps its filter value.
+//! - The order of the reasons, and what a text of more than 2,048 bytes gets, are this project's own.
+//! - Which elements the GS1 General Specifications ask for or forbid beside others is not checked, but for two keys: such a text
+//!   names two things, and is rejected.
 #![tactic(auto)]
 
 mod answering;
