@@ -47,7 +47,7 @@ from_next all border next borders h l state m =
     let here : eqb border state ≡ false = grind (arith, nat_tests) in
     h state (omega arith) ∙ rw here refl
 
-border_at : (all : List ℕ) (border next : ℕ) (borders : List ℕ) (state : ℕ) → From all border (next ∷ borders) → border < next → state ≡ next → is_border all state ≡ true
+pub border_at : (all : List ℕ) (border next : ℕ) (borders : List ℕ) (state : ℕ) → From all border (next ∷ borders) → border < next → state ≡ next → is_border all state ≡ true
 border_at all border next borders state h l e =
     let same : eqb next state ≡ true = grind (arith, nat_tests) in
     from_next all border next borders h l state (omega arith) ∙ rw same refl

@@ -1,11 +1,12 @@
 -- What the loops of the trail keep.
-use Rattle.std.proofs.Common.{◌≡◌, ℕ, ◌<◌, ◌≤◌, ◌+◌, List, [], ◌∷◌, ◌++◌, length, get_or, drop, zero, suc, refl, sym, ◌∙◌, ap, arith, length-append, add-one}
+use Rattle.std.proofs.Common.{◌≡◌, ℕ, ◌<◌, ◌≤◌, ◌+◌, List, [], ◌∷◌, ◌++◌, length, get_or, drop, suc, refl, sym, ◌∙◌, ap, arith, length-append, add-one}
 use Rattle.std.proofs.lemmas.List.{get_or_append_left, append-nil, append_assoc, get_or_default}
 use Rattle.std.proofs.Math.Seq.{drop-cons}
 use Rattle.gs_machine.specs.declared.edge.Edge.{Edge}
 use Rattle.gs_machine.specs.Walks.{edges_at}
 use Rattle.gs_level.specs.declared.trail.Entry.{Entry}
 use Rattle.gs_level.specs.Trails.{successors, layer, entry_at}
+use Rattle.gs_level.proofs.Dropped.{none_left}
 
 -- the entries so far, where those before a number of the first ones were gone over
 pub record SoMany (table : List (List Edge)) (symbol from : ℕ) (first trail : List Entry) (number : ℕ) : Type 0 where
@@ -31,15 +32,9 @@ so_many_step table symbol from first trail new number entry edges h l e f is =
       whole = append_assoc h.more (successors (edges_at table entry.state) symbol number) (layer table symbol (number + 1) (drop (number + 1) first)) ∙ rw add-one (rw add-one at more);
     }
 
-none_from : (xs : List Entry) (n : ℕ) → length xs ≤ n → drop n xs ≡ []
-none_from [] zero l = refl
-none_from [] (suc n) l = refl
-none_from (x ∷ xs) zero l = absurd (omega arith)
-none_from (x ∷ xs) (suc n) l = none_from xs n (omega arith)
-
 pub so_many_end : (table : List (List Edge)) (symbol from : ℕ) (first trail : List Entry) (number : ℕ) → SoMany table symbol from first trail number → length first ≤ number → trail ≡ first ++ layer table symbol from (drop from first)
 so_many_end table symbol from first trail number h l =
-    let none : drop number first ≡ [] = none_from first number l in
+    let none : drop number first ≡ [] = none_left first number l in
     let all : h.more ++ [] ≡ layer table symbol from (drop from first) = ap (λ (xs : List Entry). h.more ++ layer table symbol number xs) (sym none) ∙ h.whole in
     h.are ∙ ap (λ (xs : List Entry). first ++ xs) (sym (append-nil h.more) ∙ all)
 

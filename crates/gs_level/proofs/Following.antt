@@ -3,12 +3,12 @@ use Rattle.std.proofs.Common.{◌≡◌, ℕ, ◌<◌, ◌≤◌, ◌+◌, ◌-�
 use Rattle.std.specs.Prelude.{IfSome, IfNone}
 use Rattle.std.proofs.lemmas.Bool.{cases_lt}
 use Rattle.std.proofs.lemmas.List.{get_or_append_left, get_or-append_right}
-use Rattle.std.proofs.Math.Seq.{drop-cons}
 use Rattle.gs_machine.specs.Walks.{Fits, edges_at, Walk}
 use Rattle.gs_machine.specs.Machines.{AutoForm, IsMachine, states_of, start_of, accept_of, Accepts}
 use Rattle.gs_machine.proofs.Onward.{goes_on}
 use Rattle.gs_level.specs.declared.trail.Entry.{Entry}
 use Rattle.gs_level.specs.Trails.{layer, entry_at, Came, IsTrail, HasNoRun}
+use Rattle.gs_level.proofs.WalksOn.{next_state, ends_at}
 use Rattle.gs_level.proofs.Layers.{Each, each_at, stands_at, Steps, layer_comes, layer_all}
 
 abbrev none_entry : Entry
@@ -96,37 +96,15 @@ new_came form trail more symbols symbol n from e h s k b l =
     subst (λ (x : Entry). Fits (edges_at form.table (entry_at (trail ++ more) x.back).state) (get_or symbols n 0) x.state) (sym here) two in
     (l, there, fits)
 
--- the next symbol of a run
-
-record NextStep (form : AutoForm) (trail : List Entry) (symbols : List ℕ) (symbol n from : ℕ) : Type 0 where
-  number : ℕ
-  low : from ≤ number
-  within : number < length trail
-  state : ℕ
-  rest : List ℕ
-  fits : Fits (edges_at form.table (entry_at trail number).state) symbol state
-  walk : Walk form.table state rest (drop (suc n) symbols) (accept_of form)
-
-step_of : (form : AutoForm) (trail : List Entry) (symbols : List ℕ) (symbol n from number : ℕ) (rest left : List ℕ) → from ≤ number → number < length trail → left ≡ symbol ∷ drop (suc n) symbols → Walk form.table (entry_at trail number).state rest left (accept_of form) → NextStep form trail symbols symbol n from
-step_of form trail symbols symbol n from number [] left a b e w = let f : Walk form.table (entry_at trail number).state [] (symbol ∷ drop (suc n) symbols) (accept_of form) = rw e at w in absurd f
-step_of form trail symbols symbol n from number (state ∷ rest) left a b e w =
-    let f : Walk form.table (entry_at trail number).state (state ∷ rest) (symbol ∷ drop (suc n) symbols) (accept_of form) = rw e at w in
-    record { number = number; low = a; within = b; state = state; rest = rest; fits = f.0; walk = f.1 }
-
-next_step : (form : AutoForm) (trail : List Entry) (symbols : List ℕ) (symbol n from : ℕ) → n < length symbols → symbol ≡ get_or symbols n 0 → GoesOn form trail symbols n from → NextStep form trail symbols symbol n from
-next_step form trail symbols symbol n from l e g =
-    let left : drop n symbols ≡ get_or symbols n 0 ∷ drop (suc n) symbols = drop-cons symbols n 0 l in
-    step_of form trail symbols symbol n from g.number g.rest (drop n symbols) g.low g.within (left ∙ ap (λ (i : ℕ). i ∷ drop (suc n) symbols) (sym e)) g.walk
-
 new_goes : (form : AutoForm) (trail : List Entry) (symbols : List ℕ) (symbol n from : ℕ) → n < length symbols → symbol ≡ get_or symbols n 0 → GoesOn form trail symbols n from → GoesOn form (trail ++ layer form.table symbol from (drop from trail)) symbols (suc n) (length trail)
 new_goes form trail symbols symbol n from l e g =
-    let s = next_step form trail symbols symbol n from l e g in
+    let s = next_state form symbols symbol n (entry_at trail g.number).state g.rest l e g.walk in
     let more = layer form.table symbol from (drop from trail) in
-    let at = stands_at s.state more (layer_all form.table trail symbol from (drop from trail) s.number s.state refl s.low s.within s.fits) in
+    let at = stands_at s.next more (layer_all form.table trail symbol from (drop from trail) g.number s.next refl g.low g.within s.fits) in
     let count = length-append trail more in
     let place : length trail + at.number - length trail ≡ at.number = omega arith in
     let entry : entry_at (trail ++ more) (length trail + at.number) ≡ entry_at more at.number = right_entry trail more (length trail + at.number) (omega arith) ∙ ap (entry_at more) place in
-    let state : (entry_at (trail ++ more) (length trail + at.number)).state ≡ s.state = ap (λ (x : Entry). x.state) entry ∙ at.is in
+    let state : (entry_at (trail ++ more) (length trail + at.number)).state ≡ s.next = ap (λ (x : Entry). x.state) entry ∙ at.is in
     record {
       number = length trail + at.number;
       low = omega arith;
@@ -155,16 +133,6 @@ none_goes form trail new symbols symbol n from h l e is count run a =
 
 -- at the end
 
-end_of : (form : AutoForm) (p : ℕ) (rest left : List ℕ) → left ≡ [] → Walk form.table p rest left (accept_of form) → p ≡ accept_of form
-end_of form p [] left e w = let f : Walk form.table p [] [] (accept_of form) = rw e at w in f
-end_of form p (state ∷ rest) left e w = let f : Walk form.table p (state ∷ rest) [] (accept_of form) = rw e at w in absurd f
-
-none_left : (symbols : List ℕ) (n : ℕ) → length symbols ≤ n → drop n symbols ≡ []
-none_left [] zero l = refl
-none_left [] (suc n) l = refl
-none_left (s ∷ symbols) zero l = absurd (omega arith)
-none_left (s ∷ symbols) (suc n) l = none_left symbols n (omega arith)
-
 pub found_at_end : (form : AutoForm) (trail : List Entry) (symbols : List ℕ) (n from accept : ℕ) (found : Option ℕ) → SoFar form trail symbols n from → n ≡ length symbols → accept ≡ accept_of form → IfSome found (λ number. (from ≤ number) × (number < length trail) × ((entry_at trail number).state ≡ accept)) → IfSome found (λ number. IsTrail form trail symbols number)
 found_at_end form trail symbols n from accept None h e a is = is
 found_at_end form trail symbols n from accept (Some number) h e a is = record { came = rw e at (h.came number is.0 is.1); accepting = is.2 ∙ a }
@@ -172,6 +140,6 @@ found_at_end form trail symbols n from accept (Some number) h e a is = record { 
 pub none_at_end : (form : AutoForm) (trail : List Entry) (symbols : List ℕ) (n from accept : ℕ) (found : Option ℕ) → SoFar form trail symbols n from → n ≡ length symbols → accept ≡ accept_of form → IfNone found ((number : ℕ) → from ≤ number → number < length trail → (entry_at trail number).state ≡ accept → ⊥) → IfNone found (HasNoRun form symbols)
 none_at_end form trail symbols n from accept None h e a none = λ run r.
     let g = h.goes run r in
-    let at : (entry_at trail g.number).state ≡ accept_of form = end_of form (entry_at trail g.number).state g.rest (drop n symbols) (none_left symbols n (omega arith)) g.walk in
+    let at : (entry_at trail g.number).state ≡ accept_of form = ends_at form symbols n (entry_at trail g.number).state g.rest (omega arith) g.walk in
     none g.number g.low g.within (at ∙ sym a)
 none_at_end form trail symbols n from accept (Some number) h e a none = none

@@ -52,10 +52,10 @@ stands_at state (x ∷ xs) (inr s) =
 
 -- the edges of one state
 
-leads_fits : (edge : Edge) (symbol : ℕ) → leads_with edge symbol ≡ true → (edge.lo ≤ symbol) × (symbol ≤ edge.hi)
+pub leads_fits : (edge : Edge) (symbol : ℕ) → leads_with edge symbol ≡ true → (edge.lo ≤ symbol) × (symbol ≤ edge.hi)
 leads_fits edge symbol t = (grind (arith, nat_tests), grind (arith, nat_tests))
 
-fits_leads : (edge : Edge) (symbol : ℕ) → edge.lo ≤ symbol → symbol ≤ edge.hi → leads_with edge symbol ≡ true
+pub fits_leads : (edge : Edge) (symbol : ℕ) → edge.lo ≤ symbol → symbol ≤ edge.hi → leads_with edge symbol ≡ true
 fits_leads edge symbol a b = grind (arith, nat_tests)
 
 abbrev entry_of : Edge → ℕ → Entry

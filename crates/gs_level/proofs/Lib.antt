@@ -1,4 +1,5 @@
 mod Dropped
+mod WalksOn
 mod Layers
 mod Entries
 mod Following
@@ -7,3 +8,5 @@ mod BetweenCuts
 mod Fitting
 mod Literals
 mod Readers
+mod OneNext
+mod AloneRuns

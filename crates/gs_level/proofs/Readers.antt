@@ -1,5 +1,5 @@
 -- What the reading of one option, of a group and of a level says.
-use Rattle.std.proofs.Common.{◌≡◌, ℕ, ◌<◌, ◌≤◌, ◌+◌, Bool, true, false, IsTrue, List, [], ◌∷◌, length, get_or, drop, zero, suc, Some, refl, sym, ◌∙◌, ap, subst, inl, inr, arith, add-one}
+use Rattle.std.proofs.Common.{◌≡◌, ℕ, ◌<◌, ◌≤◌, ◌+◌, Bool, true, false, IsTrue, List, [], ◌∷◌, length, get_or, drop, suc, Some, sym, ◌∙◌, ap, subst, inl, inr, arith, add-one}
 use Rattle.std.specs.List.{slice_get}
 use Rattle.std.specs.Option.{option_map}
 use Rattle.std.proofs.lemmas.Bool.{cases_lt}
@@ -18,6 +18,7 @@ use Rattle.gs_level.specs.declared.guides.Group.{Group}
 use Rattle.gs_level.specs.Trails.{AreCuts, HasCuts, HasNoRun}
 use Rattle.gs_level.specs.Guides.{StandsAt, HasLiteral, BeginAll, AreGroupsFrom}
 use Rattle.gs_level.specs.Finding.{ReadBy, NoneReads}
+use Rattle.gs_level.proofs.Dropped.{none_left}
 
 -- runs and derivations
 
@@ -104,15 +105,9 @@ group_within from left rest group options w e h = let g : AreGroupsFrom from (gr
 pub group_begins : (from : ℕ) (left rest : List Group) (group : Group) (options : List OptionForm) (w : List ℕ) → left ≡ group ∷ rest → GroupsLeft from left options w → BeginAll options from group.end group.literal
 group_begins from left rest group options w e h = let g : AreGroupsFrom from (group ∷ rest) options = rw e at h.left in g.1
 
-none_from : (groups : List Group) (n : ℕ) → length groups ≤ n → drop n groups ≡ []
-none_from [] zero l = refl
-none_from [] (suc n) l = refl
-none_from (group ∷ groups) zero l = absurd (omega arith)
-none_from (group ∷ groups) (suc n) l = none_from groups n (omega arith)
-
 pub no_group : (from : ℕ) (groups : List Group) (n : ℕ) (options : List OptionForm) (w : List ℕ) → length groups ≤ n → GroupsLeft from (drop n groups) options w → NoneReads options 0 (length options) w
 no_group from groups n options w l h =
-    let g : AreGroupsFrom from [] options = rw (none_from groups n l) at h.left in
+    let g : AreGroupsFrom from [] options = rw (none_left groups n l) at h.left in
     none_within options w 0 from (length options) h.none g
 
 -- a level that is not ambiguous

@@ -1,5 +1,6 @@
 pub mod Readings
 pub mod Trails
+pub mod Alone
 pub mod OptionMachines
 pub mod Guides
 pub mod Whole

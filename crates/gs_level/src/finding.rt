@@ -4,8 +4,7 @@ ghost use Rattle.gs_level.specs.Finding.{ReadBy, NoneReads};
 
 use crate::guides::{Group, Probe};
 use crate::level::Level;
-use crate::one::read_items;
-use crate::trail::Entry;
+use crate::one::{Scratch, read_items};
 use gs_chars::{List, Memory, Text};
 use std::alloc::Global;
 
@@ -32,7 +31,7 @@ fn read_option(
     level: &Level,
     option: usize,
     symbols: &[u8],
-    trail: &mut Vec<Entry>,
+    scratch: &mut Scratch,
 ) -> Result<Option<Found>, Memory>
     requires { option < length level.now.options }
     ensures found { IfOk result (λ found. IfSome found (λ read. ReadBy level.now.options symbols.now read.option read.values)) }
@@ -44,7 +43,7 @@ fn read_option(
     }
     let machine = &level.machines()[option];
     let items = level.options()[option].items();
-    match read_items(alloc, machine, items, symbols, trail)? {
+    match read_items(alloc, machine, items, symbols, scratch)? {
         Some(values) => Ok(Some(Found { option, values })),
         None => Ok(None),
     }
@@ -57,7 +56,7 @@ fn read_group(
     from: usize,
     group: &Group,
     symbols: &[u8],
-    trail: &mut Vec<Entry>,
+    scratch: &mut Scratch,
 ) -> Result<Option<Found>, Memory>
     requires within { group.now.end ≤ length level.now.options }
     requires begin { BeginAll level.now.options from group.now.end group.now.literal }
@@ -68,7 +67,7 @@ fn read_group(
         return Ok(None);
     }
     for option in from..group.end {
-        if let Some(found) = read_option(alloc, level, option, symbols, trail)? {
+        if let Some(found) = read_option(alloc, level, option, symbols, scratch)? {
             return Ok(Some(found));
         }
     }
@@ -80,10 +79,10 @@ pub fn find(alloc: Global, level: &Level, symbols: &[u8]) -> Result<Option<Found
     ensures found { IfOk result (λ found. IfSome found (λ read. ReadBy level.now.options symbols.now read.option read.values)) }
     ensures none { IfOk result (λ found. IfNone found (NoneReads level.now.options 0 (length level.now.options) symbols.now)) }
 {
-    let mut trail = Vec::with_capacity(alloc, symbols.len())?;
+    let mut scratch = Scratch::new(alloc);
     let mut from = 0;
     for group in level.groups() {
-        if let Some(found) = read_group(alloc, level, from, group, symbols, &mut trail)? {
+        if let Some(found) = read_group(alloc, level, from, group, symbols, &mut scratch)? {
             return Ok(Some(found));
         }
         from = group.end;

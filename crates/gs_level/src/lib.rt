@@ -22,6 +22,7 @@
 //!   whether it holds.
 #![tactic(auto)]
 
+mod alone;
 mod cuts;
 mod finding;
 mod guides;

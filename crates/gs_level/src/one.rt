@@ -4,6 +4,7 @@ ghost use Rattle.gs_grammar.specs.Derivations.{HasValues, IsDerived};
 ghost use Rattle.gs_machine.specs.Machines.{IsMachine};
 ghost use Rattle.gs_compile.specs.Readers.{ReadsItems};
 
+use crate::alone::{Alone, follow_alone};
 use crate::cuts::cuts_of;
 use crate::trail::{Entry, follow};
 use crate::values::values_of;
@@ -12,8 +13,25 @@ use gs_grammar::Item;
 use gs_machine::Auto;
 use std::alloc::Global;
 
-/// The values of a derivation of the symbols by the items, whose machine this is. `None` comes exactly where there is none.
-pub fn read_items(
+/// What readings of options write to, one after the other.
+#[derive(Drop)]
+pub struct Scratch {
+    trail: Vec<Entry>,
+    cuts: Vec<usize>,
+}
+
+impl Scratch {
+    /// Room for the readings of symbols. It takes no memory.
+    pub fn new(alloc: Global) -> Scratch {
+        Scratch {
+            trail: Vec::new(alloc),
+            cuts: Vec::new(alloc),
+        }
+    }
+}
+
+/// The values of a derivation of the symbols by the items, whose machine this is, by all states that it can stand at.
+fn read_by_trail(
     alloc: Global,
     machine: &Auto,
     items: &[Item],
@@ -32,4 +50,28 @@ pub fn read_items(
     let cuts = cuts_of(alloc, machine, trail.as_slice(), number, symbols)?;
     let values = values_of(alloc, items, symbols, cuts.as_slice())?;
     Ok(Some(values))
+}
+
+/// The values of a derivation of the symbols by the items, whose machine this is. `None` comes exactly where there is none.
+pub fn read_items(
+    alloc: Global,
+    machine: &Auto,
+    items: &[Item],
+    symbols: &[u8],
+    scratch: &mut Scratch,
+) -> Result<Option<List<Text>>, Memory>
+    requires rules { IsMachine machine.now }
+    requires reads { ReadsItems machine.now items.now }
+    requires each { All IsItem items.now }
+    ensures found { IfOk result (λ found. IfSome found (λ values. HasValues items.now symbols.now values)) }
+    ensures none { IfOk result (λ found. IfNone found (IsDerived items.now symbols.now → ⊥)) }
+{
+    match follow_alone(machine, symbols, &mut scratch.cuts)? {
+        Alone::Accepted => {
+            let values = values_of(alloc, items, symbols, scratch.cuts.as_slice())?;
+            Ok(Some(values))
+        }
+        Alone::Refused => Ok(None),
+        Alone::Unsure => read_by_trail(alloc, machine, items, symbols, &mut scratch.trail),
+    }
 }

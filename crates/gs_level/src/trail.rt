@@ -13,7 +13,7 @@ pub struct Entry {
 }
 
 /// Whether the edge leads with this symbol.
-fn leads_with(edge: &Edge, symbol: u8) -> bool
+pub fn leads_with(edge: &Edge, symbol: u8) -> bool
     ensures { result ≡ leads_with edge.now symbol }
 {
     edge.lo <= symbol && symbol <= edge.hi

@@ -1,0 +1,52 @@
+-- Runs that are the only ones to go on with, as far as one symbol more tells.
+use Rattle.std.specs.Prelude.{◌≡◌, ◌==◌, ◌≤◌, ℕ, Bool, false, if◌then◌else◌, List, [], ◌∷◌, ◌++◌, drop, Option, Some, None}
+use Rattle.gs_machine.specs.declared.edge.Edge.{Edge}
+use Rattle.gs_machine.specs.Walks.{Fits, edges_at}
+use Rattle.gs_machine.specs.Machines.{AutoForm, accept_of}
+use Rattle.gs_level.specs.declared.alone.Next.{Next}
+use Rattle.gs_level.specs.declared.alone.Next.TheVariants.{One, Nowhere, Many}
+use Rattle.gs_level.specs.declared.alone.Alone.{Alone}
+use Rattle.gs_level.specs.declared.alone.Alone.TheVariants.{Accepted, Refused, Unsure}
+use Rattle.gs_level.specs.Trails.{AreCuts, HasNoRun}
+
+-- a run can go on from the state with this symbol, or ends there where there is none
+abbrev pub HasWay : AutoForm → ℕ → Option ℕ → Type 0
+HasWay form state None = state ≡ accept_of form
+HasWay form state (Some symbol) = (next : ℕ) × Fits (edges_at form.table state) symbol next
+
+-- the symbol leads by the edge to a state from which a run can go on
+pub record LeadsOn (form : AutoForm) (edge : Edge) (symbol : ℕ) (following : Option ℕ) : Type 0 where
+  pub low : edge.lo ≤ symbol
+  pub high : symbol ≤ edge.hi
+  pub way : HasWay form edge.to following
+
+-- the symbol leads to this state, and to no other from which a run can go on
+pub record LeadsOnly (form : AutoForm) (edges : List Edge) (symbol : ℕ) (following : Option ℕ) (state : ℕ) : Type 0 where
+  pub fits : Fits edges symbol state
+  pub only : (other : ℕ) → Fits edges symbol other → HasWay form other following → other ≡ state
+
+-- the symbol leads to no state from which a run can go on
+pub record LeadsNowhere (form : AutoForm) (edges : List Edge) (symbol : ℕ) (following : Option ℕ) : Type 0 where
+  pub none : (other : ℕ) → Fits edges symbol other → HasWay form other following → ⊥
+
+-- where a symbol leads by some edges; nothing is said where that may be more than one state
+abbrev pub IsNext : AutoForm → List Edge → ℕ → Option ℕ → Next → Type 0
+IsNext form edges symbol following (One state) = LeadsOnly form edges symbol following state
+IsNext form edges symbol following Nowhere = LeadsNowhere form edges symbol following
+IsNext form edges symbol following Many = Unit {0}
+
+-- the state is the first of the borders
+abbrev pub is_first : List ℕ → ℕ → Bool
+is_first [] state = false
+is_first (border ∷ borders) state = border == state
+
+-- the place is put behind the cuts where the state is the first of the borders, and then the others are left
+pub record Passes (above : List ℕ) (state place : ℕ) (before after rest : List ℕ) : Type 0 where
+  pub cuts : after ≡ before ++ (if is_first above state then place ∷ [] else [])
+  pub borders : rest ≡ (if is_first above state then drop 1 above else above)
+
+-- what one run alone says of the symbols
+abbrev pub IsAlone : AutoForm → List ℕ → List ℕ → Alone → Type 0
+IsAlone form symbols cuts Accepted = AreCuts form symbols cuts
+IsAlone form symbols cuts Refused = HasNoRun form symbols
+IsAlone form symbols cuts Unsure = Unit {0}
