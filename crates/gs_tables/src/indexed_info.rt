@@ -8,11 +8,20 @@ use std::marker::Model;
 
 /// What is said of each option of a level beside its items, in the order of the options, and which of them have a kind and a
 /// prefix length. Contracts see it as the list of what is said.
-#[derive(Drop)]
 pub struct IndexedInfo {
     info: List<OptInfo>,
     /// The numbers of the options of each kind and, within it, of each prefix length from 0 to 12, ascending.
     numbers: List<List<List<usize>>>,
+}
+
+// by hand, so that a function that drops one calls this one: a derived drop is written out at each of its exits
+impl Drop for IndexedInfo {
+    fn drop(self) {
+        let IndexedInfo {
+            info: _,
+            numbers: _,
+        } = self;
+    }
 }
 
 impl Model for IndexedInfo {

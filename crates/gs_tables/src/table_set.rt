@@ -17,13 +17,25 @@ use std::marker::Model;
 
 /// A table set: the application identifiers, the kinds, and the options of three levels, each in the order of its rows. It
 /// keeps the rules that `TableSet::load` asks for, and none of its levels is ambiguous.
-#[derive(Drop)]
 pub struct TableSet {
     ais: AiTable,
     kinds: List<Kind>,
     binary: LevelTable,
     tag: LevelTable,
     pure: LevelTable,
+}
+
+// by hand, so that a function that drops a set calls this one: a derived drop is written out at each of its exits
+impl Drop for TableSet {
+    fn drop(self) {
+        let TableSet {
+            ais: _,
+            kinds: _,
+            binary: _,
+            tag: _,
+            pure: _,
+        } = self;
+    }
 }
 
 impl Model for TableSet {
