@@ -6,6 +6,7 @@
 
 use crate::bits::buffer;
 use crate::grammars::options_of;
+use gs_bits::BitBuf;
 use gs_chars::Text;
 use gs_level::{Level, Reading, read_bits, read_text};
 use gs_share::{Shared, first_share};
@@ -46,19 +47,29 @@ fn pair_words(alloc: Global, pair: &Shared) -> Answer {
     Ok(format!(in alloc; "Ambiguous {first} {second}")?)
 }
 
-fn text_read(alloc: Global, text: &[u8], words: &[Text]) -> Answer {
-    let level = level_of(alloc, false, words)?;
-    if let Some(pair) = first_share(alloc, &level)? {
+/// What a level says of a text.
+fn text_by(alloc: Global, level: &Level, text: &[u8]) -> Answer {
+    if let Some(pair) = first_share(alloc, level)? {
         return pair_words(alloc, &pair);
     }
-    reading_words(alloc, read_text(alloc, &level, text))
+    reading_words(alloc, read_text(alloc, level, text))
+}
+
+fn text_read(alloc: Global, text: &[u8], words: &[Text]) -> Answer {
+    let level = level_of(alloc, false, words)?;
+    text_by(alloc, &level, text)
+}
+
+/// What a level says of bits.
+fn bits_by(alloc: Global, level: &Level, bits: &BitBuf<64>) -> Answer {
+    if let Some(pair) = first_share(alloc, level)? {
+        return pair_words(alloc, &pair);
+    }
+    reading_words(alloc, read_bits(alloc, level, bits))
 }
 
 fn bits_read(alloc: Global, digits: &[u8], words: &[Text]) -> Answer {
-    let level = level_of(alloc, true, words)?;
     let bits = buffer::<64>(digits)?;
-    if let Some(pair) = first_share(alloc, &level)? {
-        return pair_words(alloc, &pair);
-    }
-    reading_words(alloc, read_bits(alloc, &level, &bits))
+    let level = level_of(alloc, true, words)?;
+    bits_by(alloc, &level, &bits)
 }

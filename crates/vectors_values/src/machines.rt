@@ -134,12 +134,16 @@ fn shared(alloc: Global, level: &[u8], words: &[Text]) -> Answer {
     }
 }
 
-/// The first two options of a level that share a list of symbols.
 fn first_shared(alloc: Global, level: &[u8], words: &[Text]) -> Answer {
     let bit_level = level == b"bits".as_slice();
     let options = options_of(alloc, bit_level, words)?;
     let level = Level::new(alloc, bit_level, options)?;
-    match first_share(alloc, &level)? {
+    first_pair(alloc, &level)
+}
+
+/// The first two options of a level that share a list of symbols.
+fn first_pair(alloc: Global, level: &Level) -> Answer {
+    match first_share(alloc, level)? {
         None => Ok(String::from_str(alloc, "None")?),
         Some(pair) => {
             let first = pair.first;
