@@ -131,12 +131,12 @@ fn options_of(alloc: Global, args: &[Text]) -> Result<Options, Refusal>
 /// The translation of the last argument by those before it.
 fn translation(alloc: Global, set: &TableSet, from: Form, args: &[Text]) -> Answer {
     let to = target_of(arg(args, 1)?)?;
+    let document = arg(args, 7)?;
+    let text = arg(args, 8)?;
     let options = options_of(alloc, behind(args, 2))?;
-    let prefixes = list_of(alloc, arg(args, 7)?)?;
-    text_word(
-        alloc,
-        translate(alloc, set, &prefixes, &options, from, to, arg(args, 8)?),
-    )
+    let prefixes = list_of(alloc, document)?;
+    let translated = translate(alloc, set, &prefixes, &options, from, to, text);
+    text_word(alloc, translated)
 }
 
 /// The text as a word, or the reason.
