@@ -1,16 +1,15 @@
 -- Prefixes, depths, and the numbers of the chosen links.
-use Rattle.std.proofs.Common.{◌≡◌, ◌≤◌, ◌<◌, ℕ, zero, suc, ◌+◌, ◌&&◌, ◌==◌, Bool, true, false, max, if◌then◌else◌, List, [], ◌∷◌, ◌++◌, length, take, map, filter, Some, None, slice_get, refl, sym, ap, ◌∙◌, arith}
+use Rattle.std.proofs.Common.{◌≡◌, ◌≤◌, ◌<◌, ℕ, zero, suc, ◌+◌, ◌&&◌, ◌==◌, Bool, true, false, if◌then◌else◌, List, [], ◌∷◌, ◌++◌, length, take, map, filter, get_or, Some, None, slice_get, refl, sym, ap, ◌∙◌, arith}
 use Rattle.std.specs.Prelude.{bytes_eq}
 use Rattle.std.specs.List.{enumerate_from}
 use Rattle.std.proofs.Math.Nat.{le-max_left, le-max_right, max-le}
 use Rattle.std.proofs.lemmas.Bool.{eq-eqb, eqb-true}
-use Rattle.std.proofs.lemmas.List.{append-nil, length-append}
-use Rattle.std.proofs.lemmas.List.Elements.{filter-append}
+use Rattle.std.proofs.lemmas.List.{length-append}
 use Rattle.gs_ai.specs.Tables.{is_empty}
 use Rattle.gs_ai.specs.declared.pair.Pair.{Pair}
 use Rattle.gs_chars.proofs.TruthsAndLists.{and_first, and_second, and_true, equal_bytes, same_bytes}
 use Rattle.gs_ident.specs.Elements.{Elements, first_qualifiers}
-use Rattle.gs_links.specs.Choices.{are_first, chosen, chosen_depth, deepest, depth_of, is_candidate, is_chosen, is_prefix, is_same_pair, numbers_from, IsAmong}
+use Rattle.gs_links.specs.Choices.{are_first, chosen, chosen_depth, deepest, depth_of, is_candidate, is_chosen, is_prefix, is_same_pair, is_wanted, numbers_from, IsAmong}
 use Rattle.gs_links.specs.declared.link.Link.{Link}
 use Rattle.gs_links.specs.declared.link.Want.{Want}
 
@@ -69,6 +68,11 @@ take_whole (x ∷ xs) (suc i) h = ap (λ ys. x ∷ ys) (take_whole xs i (omega a
 pub first_all : (first pairs : List Pair) (i : ℕ) → length first ≤ i → are_first (take i first) pairs ≡ true → true ≡ are_first first pairs
 first_all first pairs i all h = sym (rw (take_whole first i all) at h)
 
+pub get_at : {X : Type 0} (xs : List X) (k : ℕ) (d : X) → k < length xs → slice_get xs k ≡ Some (get_or xs k d)
+get_at [] k d h = absurd (omega arith)
+get_at (x ∷ xs) zero d h = refl
+get_at (x ∷ xs) (suc k) d h = get_at xs k d (omega arith)
+
 -- ---- the prefixes of an identity
 
 same_from : (a b : Pair) → is_same_pair a b ≡ true → a ≡ b
@@ -123,7 +127,7 @@ pub same_candidate : (a b : Elements) (want : Want) (link : Link) → a.key ≡ 
 unfolding is_candidate is_prefix
 same_candidate a b want link key qualifiers = rw (key, qualifiers) refl
 
-same_filter : {X : Type 0} (f g : X → Bool) → ((x : X) → f x ≡ g x) → (xs : List X) → filter f xs ≡ filter g xs
+pub same_filter : {X : Type 0} (f g : X → Bool) → ((x : X) → f x ≡ g x) → (xs : List X) → filter f xs ≡ filter g xs
 same_filter f g each [] = refl
 same_filter f g each (x ∷ xs) = rw (each x, same_filter f g each xs) refl
 
@@ -159,23 +163,9 @@ module _ (t : Link → Bool) where
       by true e h = max-le (each 0 x refl e) h
       by false e h = h
 
-  pub depth_more : (links : List Link) (i : ℕ) (link : Link) → slice_get links i ≡ Some link → deepest (filter t (take (i + 1) links)) ≡ (if t link then max (deepest (filter t (take i links))) (depth_of link) else deepest (filter t (take i links)))
-  depth_more links i link at = rw (take_next links i link at, filter-append t (take i links) (link ∷ [])) (by (t link))
-    where
-      end : (xs : List Link) → deepest (xs ++ link ∷ []) ≡ max (deepest xs) (depth_of link)
-      end [] = omega arith
-      end (x ∷ xs) = let rest = end xs in omega (arith, rest)
-
-      by : (b : Bool) → deepest (filter t (take i links) ++ (if b then link ∷ [] else [])) ≡ (if b then max (deepest (filter t (take i links))) (depth_of link) else deepest (filter t (take i links)))
-      by true = end (filter t (take i links))
-      by false = ap deepest (append-nil (filter t (take i links)))
-
-  pub depth_all : (links : List Link) (i d : ℕ) → length links ≤ i → d ≡ deepest (filter t (take i links)) → d ≡ deepest (filter t links)
-  depth_all links i d all h = rw (take_whole links i all) at h
-
   -- ---- numbers
 
-  numbers_end : (n : ℕ) (links : List Link) (i : ℕ) (link : Link) → slice_get links i ≡ Some link → numbers_from n t (take (suc i) links) ≡ numbers_from n t (take i links) ++ (if t link then (n + i) ∷ [] else [])
+  pub numbers_end : (n : ℕ) (links : List Link) (i : ℕ) (link : Link) → slice_get links i ≡ Some link → numbers_from n t (take (suc i) links) ≡ numbers_from n t (take i links) ++ (if t link then (n + i) ∷ [] else [])
   numbers_end n [] i link at = absurd (let g : None ≡ Some link = at in cc)
   numbers_end n (x ∷ links) zero link at =
       let same : x ≡ link = cc in
@@ -196,17 +186,6 @@ module _ (t : Link → Bool) where
           → map (λ row. row.0) (if b then (n, x) ∷ rows (take (suc i) links) else rows (take (suc i) links)) ≡ map (λ row. row.0) (if b then (n, x) ∷ rows (take i links) else rows (take i links)) ++ (if t link then (n + 1 + i) ∷ [] else [])
       by true h = ap (λ ks. n ∷ ks) h
       by false h = h
-
-  pub numbers_kept : (links : List Link) (i : ℕ) (link : Link) → slice_get links i ≡ Some link → t link ≡ true → numbers_from 0 t (take (i + 1) links) ≡ numbers_from 0 t (take i links) ++ i ∷ []
-  numbers_kept links i link at own =
-      let next : i + 1 ≡ suc i = omega arith in
-      let here : 0 + i ≡ i = omega arith in
-      rw (next, numbers_end 0 links i link at, own, here) refl
-
-  pub numbers_passed : (links : List Link) (i : ℕ) (link : Link) → slice_get links i ≡ Some link → t link ≡ false → numbers_from 0 t (take (i + 1) links) ≡ numbers_from 0 t (take i links)
-  numbers_passed links i link at own =
-      let next : i + 1 ≡ suc i = omega arith in
-      rw (next, numbers_end 0 links i link at, own) (append-nil (numbers_from 0 t (take i links)))
 
   -- a number is among those of the links that pass
   pub among : (n : ℕ) (links : List Link) (i : ℕ) (link : Link) → slice_get links i ≡ Some link → t link ≡ true → IsAmong (numbers_from n t links) (n + i)
@@ -271,3 +250,35 @@ module _ (links : List Link) (identity : Elements) (want : Want) (i : ℕ) (link
 
 pub one_more : (xs ys : List ℕ) (n i : ℕ) → n ≡ length xs → ys ≡ xs ++ i ∷ [] → n + 1 ≡ length ys
 one_more xs ys n i size e = rw (e, length-append xs (i ∷ []), ← size) refl
+
+candidate_is_prefix : (identity : Elements) (want : Want) (link : Link) → is_candidate identity want link ≡ true → is_prefix link.anchor identity ≡ true
+unfolding is_candidate
+candidate_is_prefix identity want link h = and_first (is_prefix link.anchor identity) (is_wanted want link.relation) h
+
+length_taken : {X : Type 0} (k : ℕ) (xs : List X) → k ≤ length xs → length (take k xs) ≡ k
+length_taken zero [] h = refl
+length_taken zero (x ∷ xs) h = refl
+length_taken (suc k) [] h = absurd (omega arith)
+length_taken (suc k) (x ∷ xs) h = ap suc (length_taken k xs (omega arith))
+
+by_prefix : (anchor identity : Elements) (depth : ℕ) → length anchor.qualifiers ≡ depth → (k : ℕ) × (k ≤ length identity.qualifiers) × (anchor ≡ first_qualifiers k identity) → anchor ≡ first_qualifiers depth identity
+by_prefix anchor identity depth deep (k, few, is) =
+    let taken : length anchor.qualifiers ≡ k = rw is (length_taken k identity.qualifiers few) in
+    let level : k ≡ depth = sym taken ∙ deep in
+    is ∙ ap (λ n. first_qualifiers n identity) level
+
+-- the anchor of a candidate with so many qualifiers: the identity's key with its first
+pub chosen_anchor : (identity : Elements) (want : Want) (depth : ℕ) (link : Link) → is_chosen identity want depth link ≡ true → link.anchor ≡ first_qualifiers depth identity
+chosen_anchor identity want depth link passed =
+    let candidate = and_first (is_candidate identity want link) (depth_of link == depth) passed in
+    let deep = eqb-true (depth_of link) depth (and_second (is_candidate identity want link) (depth_of link == depth) passed) in
+    by_prefix link.anchor identity depth deep (prefix_is link.anchor identity (candidate_is_prefix identity want link candidate))
+
+-- a candidate has no more qualifiers than the identity
+pub depth_whole : (links : List Link) (identity : Elements) (want : Want) → chosen_depth links identity want ≤ length identity.qualifiers
+depth_whole links identity want = depth_below (is_candidate identity want) links (length identity.qualifiers) (λ j link at own. few link (prefix_is link.anchor identity (candidate_is_prefix identity want link own)))
+  where
+    few : (link : Link) → (k : ℕ) × (k ≤ length identity.qualifiers) × (link.anchor ≡ first_qualifiers k identity) → depth_of link ≤ length identity.qualifiers
+    few link (k, low, is) =
+        let taken : depth_of link ≡ k = rw is (length_taken k identity.qualifiers low) in
+        omega (arith, taken, low)

@@ -1,5 +1,5 @@
 -- The document of chosen links, and its shape.
-use Rattle.std.proofs.Common.{◌≡◌, ◌<◌, ◌≤◌, ℕ, zero, suc, ◌+◌, ◌==◌, ◌&&◌, not, Bool, true, false, All, if◌then◌else◌, List, [], ◌∷◌, ◌++◌, length, take, map, filter, get_or, codes, Option, Some, None, slice_get, Ordering, Less, Equal, Greater, refl, sym, ap, ◌∙◌, arith}
+use Rattle.std.proofs.Common.{◌≡◌, ◌<◌, ℕ, zero, suc, ◌+◌, ◌&&◌, not, Bool, true, false, All, if◌then◌else◌, List, [], ◌∷◌, ◌++◌, length, take, map, filter, get_or, codes, Option, Some, None, slice_get, Ordering, Less, Equal, Greater, refl, sym, ap, ◌∙◌, arith}
 use Rattle.std.specs.Prelude.{Result, Ok, Err, fold}
 use Rattle.std.specs.BTreeMap.{insert_entry}
 use Rattle.std.specs.Cmp.Lexicographic.{slice_cmp}
@@ -7,7 +7,6 @@ use Rattle.std.specs.List.{cons_option, list_all}
 use Rattle.std.specs.Map.{keys_of}
 use Rattle.std.specs.Ordering.{is_lt, match_ordering, nat_cmp, ordering_reverse}
 use Rattle.std.specs.Str.{bytes_eq, is_utf8}
-use Rattle.std.proofs.lemmas.Bool.{eqb-true}
 use Rattle.std.proofs.lemmas.Cmp.{nat_list_cmp_total}
 use Rattle.std.proofs.lemmas.List.{append-nil, map-append}
 use Rattle.std.proofs.lemmas.List.Elements.{filter-append, filter_map-append}
@@ -19,12 +18,12 @@ use Rattle.gs_linkset.specs.declared.doc.DocFault.{DocFault}
 use Rattle.gs_linkset.specs.declared.link_types.Context.{Context}
 use Rattle.gs_linkset.specs.declared.link_types.Relation.{Relation}
 use Rattle.gs_linkset.specs.declared.link_types.Target.{Target}
-use Rattle.gs_links.specs.Choices.{IsAmong, chosen, chosen_depth, depth_of, is_candidate, is_chosen, is_prefix, is_wanted}
+use Rattle.gs_links.specs.Choices.{IsAmong, chosen, chosen_depth, is_chosen}
 use Rattle.gs_links.specs.Documents.{document_of, linked, names_of, put_name, relation_of, relations_of, targets_of, with_name}
 use Rattle.gs_links.specs.Shapes.{is_link}
 use Rattle.gs_links.specs.declared.link.Link.{Link}
 use Rattle.gs_links.specs.declared.link.Want.{Want}
-use Rattle.gs_links.proofs.ChoiceLemmas.{found, prefix_is, take_next}
+use Rattle.gs_links.proofs.ChoiceLemmas.{chosen_anchor, found, get_at, take_next}
 
 -- ---- names
 
@@ -55,11 +54,6 @@ targets_passed links more link name targets e other so_far =
     rw (so_far, e, filter-append (λ (l : Link). bytes_eq l.relation name) links (link ∷ []), other, append-nil (filter (λ (l : Link). bytes_eq l.relation name) links)) refl
 
 -- ---- the links of numbers
-
-get_at : {X : Type 0} (xs : List X) (k : ℕ) (d : X) → k < length xs → slice_get xs k ≡ Some (get_or xs k d)
-get_at [] k d h = absurd (omega arith)
-get_at (x ∷ xs) zero d h = refl
-get_at (x ∷ xs) (suc k) d h = get_at xs k d (omega arith)
 
 read_or : {X : Type 0} (xs : List X) (k : ℕ) (x : X) → k < length xs → x ≡ get_or xs k x → slice_get xs k ≡ Some x
 read_or xs k x h e = get_at xs k x h ∙ ap Some (sym e)
@@ -217,22 +211,6 @@ given contexts document doc r same good made is =
     let w : Ok document ≡ Ok doc = g in
     cc
 
-candidate_is_prefix : (identity : Elements) (want : Want) (link : Link) → is_candidate identity want link ≡ true → is_prefix link.anchor identity ≡ true
-unfolding is_candidate
-candidate_is_prefix identity want link h = and_first (is_prefix link.anchor identity) (is_wanted want link.relation) h
-
-length_taken : {X : Type 0} (k : ℕ) (xs : List X) → k ≤ length xs → length (take k xs) ≡ k
-length_taken zero [] h = refl
-length_taken zero (x ∷ xs) h = refl
-length_taken (suc k) [] h = absurd (omega arith)
-length_taken (suc k) (x ∷ xs) h = ap suc (length_taken k xs (omega arith))
-
-by_prefix : (anchor identity : Elements) (depth : ℕ) → length anchor.qualifiers ≡ depth → (k : ℕ) × (k ≤ length identity.qualifiers) × (anchor ≡ first_qualifiers k identity) → anchor ≡ first_qualifiers depth identity
-by_prefix anchor identity depth deep (k, few, is) =
-    let taken : length anchor.qualifiers ≡ k = rw is (length_taken k identity.qualifiers few) in
-    let level : k ≡ depth = sym taken ∙ deep in
-    is ∙ ap (λ n. first_qualifiers n identity) level
-
 -- the chosen links have one anchor: the identity's key with its first qualifiers
 pub one_anchor : (links : List Link) (identity : Elements) (want : Want) (i : ℕ) (link : Link) → IsAmong (chosen links identity want) i → slice_get links i ≡ Some link → link.anchor ≡ first_qualifiers (chosen_depth links identity want) identity
 one_anchor links identity want i link h at =
@@ -241,6 +219,4 @@ one_anchor links identity want i link h at =
     let place : row.0 ≡ i = (let e = row.2 in omega (arith, e)) in
     let own : row.1 ≡ link = (let there = rw place at row.3 in let g : Some row.1 ≡ Some link = sym there ∙ at in cc) in
     let passed = rw own at row.4 in
-    let candidate = and_first (is_candidate identity want link) (depth_of link == depth) passed in
-    let deep = eqb-true (depth_of link) depth (and_second (is_candidate identity want link) (depth_of link == depth) passed) in
-    by_prefix link.anchor identity depth deep (prefix_is link.anchor identity (candidate_is_prefix identity want link candidate))
+    chosen_anchor identity want depth link passed

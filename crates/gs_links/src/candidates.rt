@@ -1,6 +1,6 @@
-ghost use Rattle.std.specs.Prelude.{◌≡◌, ◌≤◌, ◌^◌, ◌==◌, if◌then◌else◌, length, max, take};
-ghost use Rattle.gs_links.specs.Choices.{are_first, chosen_depth, depth_of, is_candidate, is_chosen};
-ghost use Rattle.gs_links.specs.Choices.{is_prefix, is_same_pair, is_wanted, numbers_from};
+ghost use Rattle.std.specs.Prelude.{◌≡◌, ◌≤◌, ◌<◌, All, length, take};
+ghost use Rattle.gs_links.specs.Choices.{are_first, is_candidate, is_chosen, is_prefix, is_same_pair, is_wanted};
+ghost use Rattle.gs_links.specs.Index.{passing};
 
 use crate::link::{Link, Want};
 use gs_ai::Pair;
@@ -57,28 +57,6 @@ fn is_candidate(identity: &Identity, want: Want<'_>, link: &Link) -> bool
     is_prefix(&link.anchor, identity) && is_wanted(want, link.relation.as_bytes())
 }
 
-/// A depth, or that of a link which is a deeper candidate.
-fn deeper(identity: &Identity, want: Want<'_>, depth: usize, link: &Link) -> usize
-    ensures { result ≡ (if is_candidate identity.now want.entry link.now then max depth (depth_of link.now) else depth) }
-{
-    if is_candidate(identity, want, link) {
-        depth.max(link.anchor.qualifiers().len())
-    } else {
-        depth
-    }
-}
-
-/// The most qualifiers that the anchor of a candidate has.
-pub(crate) fn chosen_depth(links: &[Link], identity: &Identity, want: Want<'_>) -> usize
-    ensures { result ≡ chosen_depth links.now identity.now want.entry }
-{
-    let mut depth = 0;
-    for i in 0..links.len() {
-        depth = deeper(identity, want, depth, &links[i]);
-    }
-    depth
-}
-
 /// Whether a link is a candidate with so many qualifiers.
 fn is_chosen(identity: &Identity, want: Want<'_>, depth: usize, link: &Link) -> bool
     ensures { result ≡ is_chosen identity.now want.entry depth link.now }
@@ -86,25 +64,26 @@ fn is_chosen(identity: &Identity, want: Want<'_>, depth: usize, link: &Link) -> 
     is_candidate(identity, want, link) && link.anchor.qualifiers().len() == depth
 }
 
-/// Puts the numbers of the candidates with so many qualifiers in front, and gives how many they are.
+/// Puts in front, of the numbers, those of candidates with so many qualifiers, and gives how many they are.
 pub(crate) fn put_chosen(
     links: &[Link],
+    numbers: &[u32],
     identity: &Identity,
     want: Want<'_>,
     depth: usize,
     out: &mut [u32],
 ) -> usize
-    requires small { length links.now ≤ 2 ^ 32 }
-    requires room { length links.now ≤ length out.now }
-    ensures count { result ≡ length (numbers_from 0 (is_chosen identity.now want.entry depth) links.now) }
-    ensures numbers { take result out.new ≡ numbers_from 0 (is_chosen identity.now want.entry depth) links.now }
+    requires known { All (λ i. i < length links.now) numbers.now }
+    requires room { length numbers.now ≤ length out.now }
+    ensures count { result ≡ length (passing links.now (is_chosen identity.now want.entry depth) numbers.now) }
+    ensures numbers { take result out.new ≡ passing links.now (is_chosen identity.now want.entry depth) numbers.now }
 {
     let mut count = 0;
-    for i in 0..links.len() {
-        if !is_chosen(identity, want, depth, &links[i]) {
+    for k in 0..numbers.len() {
+        if !is_chosen(identity, want, depth, &links[numbers[k] as usize]) {
             continue;
         }
-        out[count] = i as u32;
+        out[count] = numbers[k];
         count += 1;
     }
     count

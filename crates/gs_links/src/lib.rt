@@ -26,9 +26,11 @@
 
 mod anchors;
 mod candidates;
+mod choosing;
 mod counts;
 mod documents;
 mod fault;
+mod index;
 mod laws;
 mod link;
 mod loading;

@@ -3,11 +3,13 @@
 //! - `load DOC`: the number of links, and of each its anchor as canonical link, its relation and its reference; or the refusal.
 //! - `choose DOC WANT CODE VALUE ..`, with WANT `*` for all relations or the name of one: the depth, and the numbers of the
 //!   chosen links.
+//! - `choose_each COUNT TIMES`: see many_links.
 //! - `document DOC WANT CODE VALUE ..`: what is written of the document of the chosen links, `None` where none is chosen.
 
 ghost use Rattle.std.specs.Prelude.{◌≡◌, IfOk, vec_len};
 
 use crate::identities::{first_fault, pairs_of, refusal};
+use crate::many_links;
 use gs_ai::AiTable;
 use gs_chars::Text;
 use gs_ident::{Identity, canonical, make};
@@ -18,10 +20,13 @@ use std::alloc::{AllocError, Global};
 use vector_cases::{Answer, Refusal, add, add_shown, arg, behind, fault_word, shown};
 
 /// What `gs1:` stands for.
-const VOC: &[u8] = b"https://ref.gs1.org/voc/";
+pub const VOC: &[u8] = b"https://ref.gs1.org/voc/";
 
 /// The answer to a call of gs_links.
 pub fn answer(alloc: Global, set: &TableSet, call: &str, args: &[Text]) -> Answer {
+    if call == "choose_each" {
+        return many_links::answer(alloc, set, args);
+    }
     let doc = match gs_linkset::read(alloc, arg(args, 0)?) {
         Ok(doc) => doc,
         Err(fault) => return fault_word(alloc, fault),
@@ -36,7 +41,8 @@ pub fn answer(alloc: Global, set: &TableSet, call: &str, args: &[Text]) -> Answe
     }
 }
 
-fn refused(alloc: Global, fault: StoreFault) -> Answer {
+/// The word of a refusal.
+pub fn refused(alloc: Global, fault: StoreFault) -> Answer {
     match fault {
         StoreFault::Memory => Err(Refusal::Memory),
         fault => Ok(shown(alloc, format!(in alloc; "{fault:?}")?.as_bytes())?),
@@ -69,7 +75,7 @@ fn of_identity(alloc: Global, table: &AiTable, store: &Store, call: &str, args: 
 }
 
 /// So many numbers.
-fn room(alloc: Global, count: usize) -> Result<Vec<u32>, AllocError>
+pub fn room(alloc: Global, count: usize) -> Result<Vec<u32>, AllocError>
     ensures { IfOk result (λ numbers. vec_len numbers ≡ count) }
 {
     vec![in alloc; 0u32; count]

@@ -9,6 +9,7 @@ mod epcs;
 mod identifiers;
 mod identities;
 mod links;
+mod many_links;
 mod tables;
 mod translations;
 

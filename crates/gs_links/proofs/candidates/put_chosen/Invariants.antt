@@ -1,10 +1,11 @@
 use Rattle.std.proofs.Common.{◌≡◌, ◌≤◌, length, take}
-use Rattle.gs_links.specs.Choices.{is_chosen, numbers_from}
+use Rattle.gs_links.specs.Choices.{is_chosen}
+use Rattle.gs_links.specs.Index.{passing}
 use Rattle.gs_links.proofs.candidates.put_chosen.Given as goal
 
-abbrev pub invariant-loop-i : goal.invariant-loop-i
-invariant-loop-i l =
-    (l.count ≤ l.i)
-    × (l.count ≡ length (numbers_from 0 (is_chosen l.identity l.want l.depth) (take l.i l.links)))
-    × (take l.count l.out ≡ numbers_from 0 (is_chosen l.identity l.want l.depth) (take l.i l.links))
+abbrev pub invariant-loop-k : goal.invariant-loop-k
+invariant-loop-k l =
+    (l.count ≤ l.k)
+    × (l.count ≡ length (passing l.links (is_chosen l.identity l.want l.depth) (take l.k l.numbers)))
+    × (take l.count l.out ≡ passing l.links (is_chosen l.identity l.want l.depth) (take l.k l.numbers))
     × (length l.out ≡ length l.initial.out)

@@ -1,0 +1,108 @@
+ghost use Rattle.std.specs.Prelude.{◌≡◌, ◌≤◌, ◌^◌, [], IfOk, ℕ, length};
+ghost use Rattle.gs_links.specs.Index.{IsIndexOf, anchor_number, hash_with, listed, number_with, with_last};
+
+use crate::link::Link;
+use gs_ai::Pair;
+use gs_chars::Memory;
+use gs_ident::Identity;
+use indexmap::IndexMap;
+use std::alloc::Global;
+
+/// The number of no pair.
+const OFFSET: u64 = 14_695_981_039_346_656_037;
+
+/// The number by which a hash is multiplied at each byte.
+const PRIME: u64 = 1_099_511_628_211;
+
+/// The hash of bytes behind others with a hash.
+fn hash_with(before: u64, bytes: &[u8]) -> u64
+    ensures { result ≡ hash_with before bytes.now }
+{
+    let mut hash = before;
+    for byte in bytes {
+        hash = (hash ^ (*byte as u64)).wrapping_mul(PRIME);
+    }
+    hash
+}
+
+/// The number of pairs and one more, behind those with a number.
+#[tactic(auto, unfolding(crate::specs::Index::number_with))]
+pub(crate) fn number_with(before: u64, pair: &Pair) -> u64
+    ensures { result ≡ number_with before pair.now }
+{
+    hash_with(
+        hash_with(before, pair.code.as_bytes()),
+        pair.value.as_bytes(),
+    )
+}
+
+/// The number of a key without qualifiers.
+pub(crate) fn key_number(key: &Pair) -> u64
+    ensures { result ≡ number_with 14695981039346656037 key.now }
+{
+    number_with(OFFSET, key)
+}
+
+/// The number of an anchor.
+fn number_of(anchor: &Identity) -> u64
+    ensures { result ≡ anchor_number anchor.now }
+{
+    let mut number = key_number(anchor.key());
+    for pair in anchor.qualifiers() {
+        number = number_with(number, pair);
+    }
+    number
+}
+
+/// The numbers of links by the numbers of their anchors.
+#[derive(Drop)]
+pub struct Index {
+    lists: IndexMap<u64, Vec<u32>>,
+}
+
+impl Index {
+    /// No number.
+    fn new(alloc: Global) -> Index
+        ensures { (n : ℕ) → listed result n ≡ [] }
+    {
+        Index {
+            lists: IndexMap::new(alloc),
+        }
+    }
+
+    /// Puts the number of a link last at the number of its anchor.
+    fn push(&mut self, alloc: Global, number: u64, i: u32) -> Result<(), Memory>
+        ensures { IfOk result (λ _. (n : ℕ) → listed self.new n ≡ with_last (listed self.old n) number i n) }
+    {
+        if let Some(list) = self.lists.get_mut(&number) {
+            list.push(i)?;
+            return Ok(());
+        }
+        let mut list = Vec::new(alloc);
+        list.push(i)?;
+        self.lists.insert(number, list)?;
+        Ok(())
+    }
+
+    /// The numbers of the links whose anchors have the number.
+    pub(crate) fn list(&self, number: u64) -> &[u32]
+        ensures { result.now ≡ listed self.now number }
+    {
+        match self.lists.get(&number) {
+            Some(list) => list.as_slice(),
+            None => &[],
+        }
+    }
+}
+
+/// The index of links.
+pub(crate) fn index_of(alloc: Global, links: &[Link]) -> Result<Index, Memory>
+    requires { length links.now ≤ 2 ^ 32 }
+    ensures { IfOk result (λ index. IsIndexOf index links.now) }
+{
+    let mut index = Index::new(alloc);
+    for i in 0..links.len() {
+        index.push(alloc, number_of(&links[i].anchor), i as u32)?;
+    }
+    Ok(index)
+}
