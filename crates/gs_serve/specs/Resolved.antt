@@ -1,5 +1,5 @@
 -- What became of a stream that was answered.
-use Rattle.std.specs.Prelude.{◌≡◌, ℕ, Bool, true, false, List, Option, None}
+use Rattle.std.specs.Prelude.{◌≡◌, ℕ, Bool, true, false, List, Option}
 use Rattle.gs_http.specs.declared.served.Served.{Served}
 use Rattle.gs_http.specs.declared.served.Served.TheVariants as served
 use Rattle.gs_http.specs.Serving.{IsServed}
@@ -24,17 +24,17 @@ pub record Resolved (site : SiteData) (input : Option (List ℕ)) (output : List
   pub done : OnWritten status (status ≡ Done)
 
 -- the status of a stream that was served so
-abbrev pub IsStatusOf : Served → Status → Type 0
-IsStatusOf served.Done status = status ≡ Done
-IsStatusOf served.ReadFault status = status ≡ ReadFault
-IsStatusOf served.WriteFault status = status ≡ WriteFault
-IsStatusOf served.Memory status = status ≡ Memory
+abbrev pub status_of : Served → Status
+status_of served.Done = Done
+status_of served.ReadFault = ReadFault
+status_of served.WriteFault = WriteFault
+status_of served.Memory = Memory
 
 -- a stream was served as a connection is, and this is the status
-pub record StreamServed (site : SiteData) (status : Status) (left left' held held' : Option (List ℕ)) : Type 0 where
+pub record StreamServed (site : SiteData) (status : Status) (left left' taken taken' held held' : Option (List ℕ)) : Type 0 where
   pub served : Served
-  pub has_status : IsStatusOf served status
-  pub is_served : IsServed 1000 site.table site.links site.settings served left left' None None held held'
+  pub has_status : status ≡ status_of served
+  pub is_served : IsServed 1000 site.table site.links site.settings served left left' taken taken' held held'
 
 -- the count after a call: one more where there was a fault
 abbrev pub count_if : Bool → ℕ → ℕ

@@ -1,18 +1,18 @@
-ghost use Rattle.std.specs.Prelude.{◌≡◌};
+ghost use Rattle.std.specs.Prelude.{◌≡◌, None, true};
 ghost use Rattle.gs_lines.specs.Outputs.{Appends};
 ghost use Rattle.gs_lines.specs.Statuses.{OnReadFault, OnWriteFault, is_read_fault, is_write_fault};
 ghost use Rattle.gs_port.specs.Counts.{Rises};
-ghost use Rattle.gs_serve.specs.Resolved.{IsStatusOf, Resolved, StreamServed, count_if};
+ghost use Rattle.gs_serve.specs.Resolved.{Resolved, StreamServed, count_if, status_of};
 
 use crate::site::Site;
 use gs_http::{Served, serve_one};
 use gs_lines::Status;
-use gs_port::{Pair, Sink, Source};
+use gs_port::{Conn, Pair, Sink, Source};
 use std::alloc::Global;
 
 /// The status of a stream that was served so.
 fn status_of(served: Served) -> Status
-    ensures { IsStatusOf served result }
+    ensures { result ≡ status_of served }
 {
     match served {
         Served::Done => Status::Done,
@@ -20,6 +20,20 @@ fn status_of(served: Served) -> Status
         Served::WriteFault => Status::WriteFault,
         Served::Memory => Status::Memory,
     }
+}
+
+/// Serves the open connection, and answers the status of that.
+fn answer_stream<C: Conn>(alloc: Global, site: &Site<'_>, conn: &mut C) -> Status
+    requires { C.is_open conn.old ≡ true }
+    ensures written { Appends (C.held conn.old) (C.held conn.new) (λ out. Resolved site.now (C.left conn.old) out result) }
+    ensures served { StreamServed site.now result (C.left conn.old) (C.left conn.new) (C.taken conn.old) (C.taken conn.new)
+        (C.held conn.old) (C.held conn.new) }
+    ensures read_count { C.reads conn.new ≡ count_if (is_read_fault result) (C.reads conn.old) }
+    ensures write_count { C.writes conn.new ≡ count_if (is_write_fault result) (C.writes conn.old) }
+    ensures same_ends { C.ends conn.new ≡ C.ends conn.old }
+{
+    let served = serve_one(alloc, conn, site.table, site.store, site.settings);
+    status_of(served)
 }
 
 /// Answers the heads of the input in their order, up to its end or to the first reply that ends the connection, as
@@ -33,13 +47,13 @@ pub fn resolve<S: Source, K: Sink>(
     output: &mut K,
 ) -> Status
     ensures written { Appends (K.held output.old) (K.held output.new) (λ out. Resolved site.now (S.left input.old) out result) }
-    ensures served { StreamServed site.now result (S.left input.old) (S.left input.new) (K.held output.old) (K.held output.new) }
+    ensures served { StreamServed site.now result (S.left input.old) (S.left input.new) None None
+        (K.held output.old) (K.held output.new) }
     ensures read_fault { OnReadFault result (Rises (S.faults input.old) (S.faults input.new)) }
     ensures write_fault { OnWriteFault result (Rises (K.faults output.old) (K.faults output.new)) }
     ensures input_count { S.faults input.new ≡ count_if (is_read_fault result) (S.faults input.old) }
     ensures output_count { K.faults output.new ≡ count_if (is_write_fault result) (K.faults output.old) }
 {
     let mut conn = Pair::new(input, output);
-    let served = serve_one(alloc, &mut conn, site.table, site.store, site.settings);
-    status_of(served)
+    answer_stream(alloc, site, &mut conn)
 }
