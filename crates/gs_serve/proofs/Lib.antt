@@ -3,3 +3,4 @@ pub mod VisitLemmas
 pub mod TurnLemmas
 pub mod SessionLemmas
 pub mod RunLemmas
+pub mod RiseLemmas

@@ -48,8 +48,10 @@ none_came site a b c finished faults count x y low = record {
   where
     number : length (x.visits ++ []) ≡ finished
     number = ap length (append-nil x.visits) ∙ x.number
+
     same_wants : wants_memory (x.visits ++ []) ≡ false
     same_wants = ap wants_memory (append-nil x.visits) ∙ x.served
+
     same_faults : faults_of (x.visits ++ []) ≡ faults
     same_faults = ap faults_of (append-nil x.visits) ∙ x.failed
 

@@ -61,10 +61,13 @@ pub resolved : (site : SiteData) (status : Status) (left left' taken taken' held
 resolved site status left left' taken taken' held held' s =
     let is = s.is_served in
     let all : Replied site (is.read ++ is.rest) (is_written (status_of s.served)) is.written =
-    subst (λ whole. Replied site (is.read ++ is.rest) whole is.written) (same_when s.served) (replied site s.served left left' taken taken' held held' is) in
-    (is.written, is.wrote, subst (λ ended. Resolved site left is.written ended) (sym s.has_status) (record {
-      stream = is.read ++ is.rest;
-      is_stream = told_whole left left' is.read is.rest is.moved is.is_rest;
-      replied = all;
-      done = done_when s.served;
-    }))
+    subst (λ whole. Replied site (is.read ++ is.rest) whole is.written) (same_when s.served) (replied site s.served left left' taken taken' held held' is) in (
+      is.written,
+      is.wrote,
+      subst (λ ended. Resolved site left is.written ended) (sym s.has_status) (record {
+        stream = is.read ++ is.rest;
+        is_stream = told_whole left left' is.read is.rest is.moved is.is_rest;
+        replied = all;
+        done = done_when s.served;
+      }),
+    )

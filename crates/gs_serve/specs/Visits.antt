@@ -1,5 +1,5 @@
 -- The connections that a site served, one after the other.
-use Rattle.std.specs.Prelude.{◌≡◌, ℕ, ◌-◌, Bool, true, false, List, [], ◌∷◌, ◌++◌, Option, Some, None, is_some, option_map, if◌then◌else◌, length, map}
+use Rattle.std.specs.Prelude.{◌≡◌, ℕ, ◌+◌, ◌-◌, ◌==◌, not, Bool, true, false, List, [], ◌∷◌, ◌++◌, Option, Some, None, is_some, option_map, if◌then◌else◌, length, map}
 use Rattle.std.specs.List.{filter, list_any}
 use Rattle.gs_http.specs.declared.served.Served.{Served}
 use Rattle.gs_http.specs.declared.served.Served.TheVariants.{Done, ReadFault, WriteFault, Memory}
@@ -86,3 +86,11 @@ pub record Visited (site : SiteData) (before now : DoorState) (visits : List Vis
   pub waited : before.aside.waiting ≡ option_map (λ rest. inputs_of visits ++ rest) now.aside.waiting
   pub finished : now.aside.finished ≡ option_map (λ earlier. earlier ++ entries_of visits) before.aside.finished
   pub are_visits : AreVisits site (is_some before.aside.waiting) before.reads before.writes visits now.reads now.writes
+
+-- a count of an entry rose
+abbrev pub has_rise : Finished → Bool
+has_rise entry = not (entry.reads + entry.writes == 0)
+
+-- the entries with a rise are those of the connections that ended by a fault
+abbrev pub RisesTellFaults : List Visit → Type 0
+RisesTellFaults visits = map (λ (visit : Visit). has_rise visit.entry) visits ≡ map (λ (visit : Visit). is_fault visit.served) visits

@@ -25,9 +25,10 @@ fn status_of(served: Served) -> Status
 /// Serves the open connection, and answers the status of that.
 fn answer_stream<C: Conn>(alloc: Global, site: &Site<'_>, conn: &mut C) -> Status
     requires { C.is_open conn.old ≡ true }
-    ensures written { Appends (C.held conn.old) (C.held conn.new) (λ out. Resolved site.now (C.left conn.old) out result) }
-    ensures served { StreamServed site.now result (C.left conn.old) (C.left conn.new) (C.taken conn.old) (C.taken conn.new)
-        (C.held conn.old) (C.held conn.new) }
+    ensures written { Appends (C.held conn.old) (C.held conn.new)
+        (λ out. Resolved site.now (C.left conn.old) out result) }
+    ensures served { StreamServed site.now result (C.left conn.old) (C.left conn.new)
+        (C.taken conn.old) (C.taken conn.new) (C.held conn.old) (C.held conn.new) }
     ensures read_count { C.reads conn.new ≡ count_if (is_read_fault result) (C.reads conn.old) }
     ensures write_count { C.writes conn.new ≡ count_if (is_write_fault result) (C.writes conn.old) }
     ensures same_ends { C.ends conn.new ≡ C.ends conn.old }
@@ -46,7 +47,8 @@ pub fn resolve<S: Source, K: Sink>(
     input: &mut S,
     output: &mut K,
 ) -> Status
-    ensures written { Appends (K.held output.old) (K.held output.new) (λ out. Resolved site.now (S.left input.old) out result) }
+    ensures written { Appends (K.held output.old) (K.held output.new)
+        (λ out. Resolved site.now (S.left input.old) out result) }
     ensures served { StreamServed site.now result (S.left input.old) (S.left input.new) None None
         (K.held output.old) (K.held output.new) }
     ensures read_fault { OnReadFault result (Rises (S.faults input.old) (S.faults input.new)) }

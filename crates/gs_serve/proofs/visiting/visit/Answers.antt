@@ -10,9 +10,11 @@ returns-in-Accepted-clause-did g c =
     c.in-Accepted.ensures.aside c.in-Accepted.ensures.same_reads c.in-Accepted.ensures.same_writes c.serve_open.ensures.served
 
 pub returns-in-Closed-clause-did : goal.returns-in-Closed-clause-did
-returns-in-Closed-clause-did g c =
-    (visited_none c.args.site.now _ _ (ap (λ (a : Aside). a.waiting) c.in-Closed.ensures.aside) (ap (λ (a : Aside). a.finished) c.in-Closed.ensures.aside)
-    c.in-Closed.ensures.same_reads c.in-Closed.ensures.same_writes, rw c.in-Closed.ensures.aside c.in-Closed.ensures.closed)
+returns-in-Closed-clause-did g c = (
+  visited_none c.args.site.now _ _ (ap (λ (a : Aside). a.waiting) c.in-Closed.ensures.aside) (ap (λ (a : Aside). a.finished) c.in-Closed.ensures.aside)
+      c.in-Closed.ensures.same_reads c.in-Closed.ensures.same_writes,
+  rw c.in-Closed.ensures.aside c.in-Closed.ensures.closed,
+)
 
 pub returns-in-Failed-clause-did : goal.returns-in-Failed-clause-did
 returns-in-Failed-clause-did g c =
