@@ -1,5 +1,5 @@
 -- A whole run at a door.
-use Rattle.std.proofs.Common.{◌≡◌, ◌≤◌, ℕ, ◌-◌, ◌||◌, false, List, [], ◌++◌, length, take, drop, refl, sym, ap, ◌∙◌, inl, inr, arith, take-append-drop}
+use Rattle.std.proofs.Common.{◌≡◌, ℕ, ◌-◌, false, List, [], length, take, drop, refl, sym, ap, ◌∙◌, inl, inr, arith, take-append-drop}
 use Rattle.std.proofs.lemmas.List.Folds.{list_any-append}
 use Rattle.gs_chars.proofs.TruthsAndLists.{or_first}
 use Rattle.gs_lines.specs.declared.status.Status.{Status}
@@ -10,7 +10,7 @@ use Rattle.gs_serve.specs.declared.tally.Tally.{Tally}
 use Rattle.gs_serve.specs.Doors.{IsOver, ServePrints, ServeRan, line_of, served_line}
 use Rattle.gs_serve.specs.Sites.{SiteData}
 use Rattle.gs_serve.specs.Turns.{SessionDid}
-use Rattle.gs_serve.specs.Visits.{DoorState, Visit, Visited, faults_of, is_want, wants_memory}
+use Rattle.gs_serve.specs.Visits.{DoorState, Visit, Visited, is_want, wants_memory}
 use Rattle.gs_serve.proofs.VisitLemmas.{visited_twice}
 
 -- nothing was served

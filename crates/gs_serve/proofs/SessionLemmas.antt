@@ -1,8 +1,6 @@
 -- The turns at a door.
-use Rattle.std.proofs.Common.{append-nil, ◌≡◌, ◌<◌, ℕ, ◌+◌, ◌-◌, ◌≤◌, Bool, true, false, List, [], ◌∷◌, ◌++◌, length, take, refl, sym, ap, ◌∙◌, inl, inr, arith}
-use Rattle.gs_serve.specs.declared.serving.Session.{Session}
+use Rattle.std.proofs.Common.{append-nil, ◌≡◌, ◌<◌, ℕ, ◌+◌, ◌≤◌, Bool, true, false, List, [], ◌∷◌, ◌++◌, length, refl, sym, ap, ◌∙◌, inl, inr, arith}
 use Rattle.gs_serve.specs.declared.serving.Session.TheVariants as session
-use Rattle.gs_serve.specs.declared.tally.Tally.{Tally}
 use Rattle.gs_serve.specs.Doors.{NoneWaits}
 use Rattle.gs_serve.specs.Sites.{SiteData}
 use Rattle.gs_serve.specs.Turns.{OneVisit, SessionDid, fault_number}

@@ -1,16 +1,16 @@
 -- One turn at a door.
-use Rattle.std.proofs.Common.{◌≡◌, ◌≢◌, ℕ, ◌-◌, Bool, true, false, List, [], ◌∷◌, ◌++◌, Option, Some, None, refl, sym, ap, ◌∙◌, subst}
+use Rattle.std.proofs.Common.{◌≡◌, ◌≢◌, ℕ, ◌-◌, List, [], ◌∷◌, ◌++◌, Option, Some, None, refl, sym, ap, ◌∙◌, subst}
 use Rattle.std.specs.Prelude.{is_some, option_map}
 use Rattle.gs_http.specs.declared.served.Served.{Served}
 use Rattle.gs_http.specs.declared.served.Served.TheVariants as served
 use Rattle.gs_http.specs.Serving.{reads_when, writes_when}
 use Rattle.gs_lines.specs.Inputs.{IsTold}
-use Rattle.gs_port.specs.Connections.{Aside, Finished, after_accept, after_finish, behind_first, finished_now, first_begun, first_input}
+use Rattle.gs_port.specs.Connections.{Aside, after_accept, behind_first, finished_now, first_begun, first_input}
 use Rattle.gs_port.specs.Contents.{append_known}
 use Rattle.gs_port.specs.declared.door.AcceptAnswer.TheVariants as accepting
 use Rattle.gs_serve.specs.declared.visiting.Turn.{Turn}
 use Rattle.gs_serve.specs.Sites.{SiteData}
-use Rattle.gs_serve.specs.Turns.{OneVisit, OpenServed, TurnDid, turn_of}
+use Rattle.gs_serve.specs.Turns.{OpenServed, TurnDid, turn_of}
 use Rattle.gs_serve.specs.Visits.{AreVisits, DoorState, IsVisit, Visit, Visited, is_fault, is_want, no_visit, one_visit, told_if}
 use Rattle.gs_serve.proofs.StreamLemmas.{front_is_part, replied, told_whole}
 

@@ -1,14 +1,14 @@
 -- Connections one after the other.
-use Rattle.std.proofs.Common.{◌≡◌, ℕ, ◌+◌, ◌-◌, Bool, true, false, ◌||◌, List, [], ◌∷◌, ◌++◌, Option, Some, None, length, map, take, refl, sym, ap, ◌∙◌, subst, append_assoc, append-nil, length-append, arith}
+use Rattle.std.proofs.Common.{◌≡◌, ℕ, ◌+◌, ◌-◌, Bool, true, false, List, [], ◌∷◌, ◌++◌, Option, Some, None, length, take, refl, sym, ap, ◌∙◌, subst, append_assoc, append-nil, length-append, arith}
 use Rattle.std.specs.Prelude.{is_some, option_map}
-use Rattle.std.specs.List.{filter, list_any}
+use Rattle.std.specs.List.{filter}
 use Rattle.std.proofs.Math.Seq.{take-append_seam}
 use Rattle.std.proofs.lemmas.List.{map-append}
 use Rattle.std.proofs.lemmas.List.Elements.{filter-append}
 use Rattle.std.proofs.lemmas.List.Folds.{list_any-append}
 use Rattle.gs_port.specs.Connections.{Finished}
 use Rattle.gs_serve.specs.Sites.{SiteData}
-use Rattle.gs_serve.specs.Turns.{OneVisit, fault_number}
+use Rattle.gs_serve.specs.Turns.{fault_number}
 use Rattle.gs_serve.specs.Visits.{AreVisits, DoorState, Visit, Visited, entries_of, faults_of, inputs_of, is_fault, is_want, no_visit, one_visit, wants_memory}
 
 -- ---- lists of connections

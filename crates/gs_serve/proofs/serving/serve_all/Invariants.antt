@@ -1,5 +1,4 @@
 use Rattle.std.proofs.Common.{◌≡◌, ◌≤◌, true, false}
-use Rattle.gs_port.specs.Connections.{Aside}
 use Rattle.gs_serve.proofs.SessionLemmas.{SoFar}
 use Rattle.gs_serve.proofs.serving.serve_all.Given as goal
 

@@ -1,4 +1,4 @@
-use Rattle.std.proofs.Common.{refl, ap}
+use Rattle.std.proofs.Common.{ap}
 use Rattle.gs_port.specs.Connections.{Aside}
 use Rattle.gs_serve.proofs.TurnLemmas.{accepted}
 use Rattle.gs_serve.proofs.VisitLemmas.{visited_none}
