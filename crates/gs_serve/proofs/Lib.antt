@@ -1,0 +1,6 @@
+pub mod StreamLemmas
+pub mod VisitLemmas
+pub mod TurnLemmas
+pub mod SessionLemmas
+pub mod RunLemmas
+pub mod RiseLemmas

@@ -1,0 +1,73 @@
+-- What is written for a stream.
+use Rattle.std.proofs.Common.{◌≡◌, ℕ, List, ◌++◌, Option, Some, None, take, length, refl, sym, ap, ◌∙◌, subst}
+use Rattle.std.specs.Prelude.{IfSome}
+use Rattle.std.proofs.Math.Seq.{take-append_seam}
+use Rattle.gs_http.specs.declared.served.Served.{Served}
+use Rattle.gs_http.specs.declared.served.Served.TheVariants as served
+use Rattle.gs_http.specs.Serving.{IsServed, OnDone}
+use Rattle.gs_http.specs.Streams.{replies_of}
+use Rattle.gs_lines.specs.declared.status.Status.{Status}
+use Rattle.gs_lines.specs.declared.status.Status.TheVariants.{Done}
+use Rattle.gs_lines.specs.Inputs.{IsTold}
+use Rattle.gs_lines.specs.Outputs.{Appends}
+use Rattle.gs_lines.specs.Printing.{IsInitialPart}
+use Rattle.gs_lines.specs.Statuses.{OnWritten, When, is_written}
+use Rattle.gs_port.specs.Contents.{prepend_known}
+use Rattle.gs_serve.specs.Resolved.{Resolved, StreamServed, status_of}
+use Rattle.gs_serve.specs.Sites.{Replied, SiteData}
+use Rattle.gs_serve.specs.Visits.{is_done}
+
+-- a front is an initial part
+pub front_is_part : (front rest : List ℕ) → IsInitialPart front (front ++ rest)
+front_is_part front rest = (length front, sym (take-append_seam front rest))
+
+-- what was read and what is left are what was left before
+pub told_whole : (left left' : Option (List ℕ)) (read rest : List ℕ) → left ≡ prepend_known read left' → IfSome left' (λ bytes. bytes ≡ rest) → IsTold left (read ++ rest)
+told_whole left None read rest moved is = subst (λ known. IsTold known (read ++ rest)) (sym moved) tt
+told_whole left (Some bytes) read rest moved is = subst (λ known. IsTold known (read ++ rest)) (sym moved) (ap (λ more. read ++ more) (sym is))
+
+when_done : (served : Served) (A B : Type 0) → OnDone served (A × B) → When (is_done served) A
+when_done served.Done A B both = both.0
+when_done served.ReadFault A B both = tt
+when_done served.WriteFault A B both = tt
+when_done served.Memory A B both = tt
+
+-- a front of the replies to the whole stream was written, and all of these where serving was done
+pub replied : (site : SiteData) (served : Served) (left left' taken taken' held held' : Option (List ℕ))
+    → (is : IsServed 1000 site.table site.links site.settings served left left' taken taken' held held')
+    → Replied site (is.read ++ is.rest) (is_done served) is.written
+replied site served left left' taken taken' held held' is = record {
+  replies = replies_of is.replies;
+  are_replies = record { replies = is.replies; are_replies = is.are_replies; is_output = refl };
+  begun = (length is.written, sym (take-append_seam is.written is.begun.0) ∙ ap (take (length is.written)) (sym is.begun.1));
+  all = when_done served _ _ is.whole;
+}
+
+same_when : (served : Served) → is_done served ≡ is_written (status_of served)
+same_when served.Done = refl
+same_when served.ReadFault = refl
+same_when served.WriteFault = refl
+same_when served.Memory = refl
+
+done_when : (served : Served) → OnWritten (status_of served) (status_of served ≡ Done)
+done_when served.Done = refl
+done_when served.ReadFault = tt
+done_when served.WriteFault = tt
+done_when served.Memory = tt
+
+-- what was written for a stream that was served
+pub resolved : (site : SiteData) (status : Status) (left left' taken taken' held held' : Option (List ℕ)) → StreamServed site status left left' taken taken' held held'
+    → Appends held held' (λ output. Resolved site left output status)
+resolved site status left left' taken taken' held held' s =
+    let is = s.is_served in
+    let all : Replied site (is.read ++ is.rest) (is_written (status_of s.served)) is.written =
+    subst (λ whole. Replied site (is.read ++ is.rest) whole is.written) (same_when s.served) (replied site s.served left left' taken taken' held held' is) in (
+      is.written,
+      is.wrote,
+      subst (λ ended. Resolved site left is.written ended) (sym s.has_status) (record {
+        stream = is.read ++ is.rest;
+        is_stream = told_whole left left' is.read is.rest is.moved is.is_rest;
+        replied = all;
+        done = done_when s.served;
+      }),
+    )

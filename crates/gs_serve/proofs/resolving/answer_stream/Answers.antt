@@ -1,0 +1,8 @@
+use Rattle.gs_serve.specs.Sites.{SiteData}
+use Rattle.gs_serve.proofs.StreamLemmas.{resolved}
+use Rattle.gs_serve.proofs.resolving.answer_stream.Goals as goal
+
+pub returns-clause-written : goal.returns-clause-written
+returns-clause-written g c =
+    let site : SiteData = record { table = c.site.inside.table.now; links = c.site.inside.store.now; settings = c.site.inside.settings.now } in
+    rw (← c.site.view_is) (resolved site c.status_of.result _ _ _ _ _ _ (record { served = c.serve_one-served.result; has_status = c.status_of.ensures; is_served = c.serve_one-served.ensures.served }))

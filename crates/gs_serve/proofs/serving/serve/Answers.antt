@@ -1,0 +1,54 @@
+use Rattle.std.proofs.Common.{[], refl, sym, ap, inr}
+use Rattle.gs_port.specs.Connections.{Aside}
+use Rattle.gs_port.specs.Contents.{append_nothing}
+use Rattle.gs_lines.specs.declared.status.Status.TheVariants.{ReadFault, Memory}
+use Rattle.gs_serve.proofs.RunLemmas.{nothing_served, run_failed, run_over, run_short}
+use Rattle.gs_serve.proofs.VisitLemmas.{visited_none}
+use Rattle.gs_serve.specs.Visits.{DoorState}
+use Rattle.gs_serve.proofs.serving.serve.Goals as goal
+
+pub returns-in-Failed-clause-ran : goal.returns-in-Failed-clause-ran
+returns-in-Failed-clause-ran g c =
+    let aside = c.in-Failed.ensures.aside in (
+      [],
+      sym (append_nothing (g.K.Sink.held c.args.output.now)),
+      nothing_served c.args.site.now c.args.count _ _ ReadFault
+          (visited_none c.args.site.now _ _ (ap (λ (a : Aside). a.waiting) aside) (ap (λ (a : Aside). a.finished) aside) c.in-Failed.ensures.same_reads c.in-Failed.ensures.same_writes) (refl, refl),
+    )
+
+pub returns-in-Memory-clause-ran : goal.returns-in-Memory-clause-ran
+returns-in-Memory-clause-ran g c =
+    let aside = c.in-Memory.ensures.aside in (
+      [],
+      sym (append_nothing (g.K.Sink.held c.args.output.now)),
+      nothing_served c.args.site.now c.args.count _ _ Memory
+          (visited_none c.args.site.now _ _ (ap (λ (a : Aside). a.waiting) aside) (ap (λ (a : Aside). a.finished) aside) c.in-Memory.ensures.same_reads c.in-Memory.ensures.same_writes) (inr refl),
+    )
+
+pub returns-in-Over-clause-ran : goal.returns-in-Over-clause-ran
+returns-in-Over-clause-ran g c =
+    let before : DoorState = record { aside = g.D.Conn.aside c.args.door.now; reads = g.D.Conn.reads c.args.door.now; writes = g.D.Conn.writes c.args.door.now } in
+    let opened : DoorState = record { aside = g.D.Conn.aside c.open.new.self; reads = g.D.Conn.reads c.open.new.self; writes = g.D.Conn.writes c.open.new.self } in
+    let now : DoorState = record { aside = g.D.Conn.aside c.serve_all.new.door; reads = g.D.Conn.reads c.serve_all.new.door; writes = g.D.Conn.writes c.serve_all.new.door } in
+    let aside = c.in-Opened.ensures.aside in
+    let printed = c.print_tally.ensures.written in
+    let first = visited_none c.args.site.now before opened (ap (λ (a : Aside). a.waiting) aside) (ap (λ (a : Aside). a.finished) aside) c.in-Opened.ensures.same_reads c.in-Opened.ensures.same_writes in
+    (printed.0, printed.1, run_over c.args.site.now c.args.count before opened now c.in-Over.tally printed.0 c.print_tally.result first c.in-Over.ensures.did printed.2)
+
+pub returns-in-Failed-serve_all-clause-ran : goal.returns-in-Failed-serve_all-clause-ran
+returns-in-Failed-serve_all-clause-ran g c =
+    let before : DoorState = record { aside = g.D.Conn.aside c.args.door.now; reads = g.D.Conn.reads c.args.door.now; writes = g.D.Conn.writes c.args.door.now } in
+    let opened : DoorState = record { aside = g.D.Conn.aside c.open.new.self; reads = g.D.Conn.reads c.open.new.self; writes = g.D.Conn.writes c.open.new.self } in
+    let now : DoorState = record { aside = g.D.Conn.aside c.serve_all.new.door; reads = g.D.Conn.reads c.serve_all.new.door; writes = g.D.Conn.writes c.serve_all.new.door } in
+    let aside = c.in-Opened.ensures.aside in
+    let first = visited_none c.args.site.now before opened (ap (λ (a : Aside). a.waiting) aside) (ap (λ (a : Aside). a.finished) aside) c.in-Opened.ensures.same_reads c.in-Opened.ensures.same_writes in
+    ([], sym (append_nothing (g.K.Sink.held c.args.output.now)), run_failed c.args.site.now c.args.count before opened now first c.in-Failed-serve_all.ensures.did)
+
+pub returns-in-Memory-serve_all-clause-ran : goal.returns-in-Memory-serve_all-clause-ran
+returns-in-Memory-serve_all-clause-ran g c =
+    let before : DoorState = record { aside = g.D.Conn.aside c.args.door.now; reads = g.D.Conn.reads c.args.door.now; writes = g.D.Conn.writes c.args.door.now } in
+    let opened : DoorState = record { aside = g.D.Conn.aside c.open.new.self; reads = g.D.Conn.reads c.open.new.self; writes = g.D.Conn.writes c.open.new.self } in
+    let now : DoorState = record { aside = g.D.Conn.aside c.serve_all.new.door; reads = g.D.Conn.reads c.serve_all.new.door; writes = g.D.Conn.writes c.serve_all.new.door } in
+    let aside = c.in-Opened.ensures.aside in
+    let first = visited_none c.args.site.now before opened (ap (λ (a : Aside). a.waiting) aside) (ap (λ (a : Aside). a.finished) aside) c.in-Opened.ensures.same_reads c.in-Opened.ensures.same_writes in
+    ([], sym (append_nothing (g.K.Sink.held c.args.output.now)), run_short c.args.site.now c.args.count before opened now first c.in-Memory-serve_all.ensures.did)

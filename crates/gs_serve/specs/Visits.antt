@@ -1,0 +1,96 @@
+-- The connections that a site served, one after the other.
+use Rattle.std.specs.Prelude.{◌≡◌, ℕ, ◌+◌, ◌-◌, ◌==◌, not, Bool, true, false, List, [], ◌∷◌, ◌++◌, Option, Some, None, is_some, option_map, if◌then◌else◌, length, map}
+use Rattle.std.specs.List.{filter, list_any}
+use Rattle.gs_http.specs.declared.served.Served.{Served}
+use Rattle.gs_http.specs.declared.served.Served.TheVariants.{Done, ReadFault, WriteFault, Memory}
+use Rattle.gs_http.specs.Serving.{reads_when, writes_when}
+use Rattle.gs_lines.specs.Printing.{IsInitialPart}
+use Rattle.gs_port.specs.Connections.{Aside, Finished}
+use Rattle.gs_serve.specs.Sites.{Replied, SiteData}
+
+-- all was answered
+abbrev pub is_done : Served → Bool
+is_done Done = true
+is_done ReadFault = false
+is_done WriteFault = false
+is_done Memory = false
+
+-- a read or a write failed
+abbrev pub is_fault : Served → Bool
+is_fault Done = false
+is_fault ReadFault = true
+is_fault WriteFault = true
+is_fault Memory = false
+
+-- memory ran out
+abbrev pub is_want : Served → Bool
+is_want Done = false
+is_want ReadFault = false
+is_want WriteFault = false
+is_want Memory = true
+
+-- a connection that was served and finished: its whole input, how serving it ended, and what the door tells of it
+pub record Visit : Type 0 where
+  pub input : List ℕ
+  pub served : Served
+  pub entry : Finished
+
+-- the inputs of connections
+abbrev pub inputs_of : List Visit → List (List ℕ)
+inputs_of visits = map (λ (visit : Visit). visit.input) visits
+
+-- what the door tells of connections
+abbrev pub entries_of : List Visit → List Finished
+entries_of visits = map (λ (visit : Visit). visit.entry) visits
+
+-- the number of the connections that ended by a fault
+abbrev pub faults_of : List Visit → ℕ
+faults_of visits = length (filter (λ (visit : Visit). is_fault visit.served) visits)
+
+-- memory ran out at one of the connections
+abbrev pub wants_memory : List Visit → Bool
+wants_memory visits = list_any (λ (visit : Visit). is_want visit.served) visits
+
+-- bytes, where a door tells its connections
+abbrev pub told_if : Bool → List ℕ → Option (List ℕ)
+told_if told bytes = if told then Some bytes else None
+
+-- Serving a connection, from these counts of reads and of writes: a front of its input was read, and a front of the replies to
+-- its whole input was written, all of them where serving was done; a count rose where serving ended by a fault.
+pub record IsVisit (site : SiteData) (told : Bool) (reads writes : ℕ) (visit : Visit) : Type 0 where
+  pub read : List ℕ
+  pub written : List ℕ
+  pub is_read : visit.entry.read ≡ told_if told read
+  pub is_written : visit.entry.written ≡ told_if told written
+  pub of_input : IsInitialPart read visit.input
+  pub replied : Replied site visit.input (is_done visit.served) written
+  pub read_count : visit.entry.reads ≡ reads_when visit.served reads - reads
+  pub write_count : visit.entry.writes ≡ writes_when visit.served writes - writes
+
+-- Connections were served one after the other, between these counts of reads and of writes: each from the counts at which the
+-- one before it ended.
+pub data AreVisits (site : SiteData) (told : Bool) : ℕ → ℕ → List Visit → ℕ → ℕ → Type 0 where
+  no_visit : (reads writes : ℕ) → AreVisits site told reads writes [] reads writes
+  one_visit : (reads writes : ℕ) (visit : Visit) (visits : List Visit) (reads' writes' : ℕ) → IsVisit site told reads writes visit
+      → AreVisits site told (reads_when visit.served reads) (writes_when visit.served writes) visits reads' writes' → AreVisits site told reads writes (visit ∷ visits) reads' writes'
+
+-- what is told of a door: what reads and writes leave as it was, and the counts of the reads and of the writes that failed
+pub record DoorState : Type 0 where
+  pub aside : Aside
+  pub reads : ℕ
+  pub writes : ℕ
+
+-- Between two moments the first of the waiting connections were served, in their order, and stand behind those that were
+-- finished before.
+pub record Visited (site : SiteData) (before now : DoorState) (visits : List Visit) : Type 0 where
+  pub waited : before.aside.waiting ≡ option_map (λ rest. inputs_of visits ++ rest) now.aside.waiting
+  pub finished : now.aside.finished ≡ option_map (λ earlier. earlier ++ entries_of visits) before.aside.finished
+  pub are_visits : AreVisits site (is_some before.aside.waiting) before.reads before.writes visits now.reads now.writes
+
+-- a count of an entry rose
+abbrev pub has_rise : Finished → Bool
+has_rise entry = not (entry.reads + entry.writes == 0)
+
+-- the entries with a rise are those of the connections that ended by a fault
+abbrev pub RisesTellFaults : List Visit → Type 0
+RisesTellFaults visits = map (λ (visit : Visit). has_rise visit.entry) visits ≡ map (λ (visit : Visit). is_fault visit.served) visits
