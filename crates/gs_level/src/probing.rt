@@ -17,7 +17,8 @@ fn first_literal(items: &[Item]) -> &[u8]
     }
 }
 
-/// The literal behind the first item at a place that is the same in every text of the items.
+/// The first literal that stands at one place in every text of the items, behind an item of more than one symbol: what follows
+/// a single symbol, such as a filter value, tells no options of one encoding apart.
 fn probe_of(alloc: Global, items: &[Item]) -> Result<Probe, Memory>
     requires each { All IsItem items.now }
     requires small { size_of_all items.now ≤ 512 }
@@ -25,9 +26,10 @@ fn probe_of(alloc: Global, items: &[Item]) -> Result<Probe, Memory>
 {
     let mut left = items;
     let mut place = 0;
+    let mut before = 0;
     while let Some((item, others)) = left.split_first() {
         let size = item.size();
-        if place > 0 {
+        if before > 1 {
             if let Item::Lit(literal) = item {
                 let literal = literal.copy(alloc)?;
                 return Ok(Probe { place, literal });
@@ -37,6 +39,7 @@ fn probe_of(alloc: Global, items: &[Item]) -> Result<Probe, Memory>
             break;
         }
         place += size;
+        before = size;
         left = others;
     }
     Ok(Probe {
