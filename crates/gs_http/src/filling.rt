@@ -2,7 +2,8 @@ ghost use Rattle.std.specs.Prelude.{◌≡◌, ◌≤◌, ℕ, true, List, None,
 ghost use Rattle.gs_http.specs.Connected.{Begins, NothingLeft, Reads, reads_after};
 ghost use Rattle.gs_http.specs.Streams.{head_end};
 
-use crate::reading::{More, read_more};
+use crate::buffer::Buffer;
+use crate::reading::More;
 use gs_port::Conn;
 use memchr::memmem;
 
@@ -58,13 +59,13 @@ fn at_end(bytes: &[u8]) -> Filled
 }
 
 /// Reads until the bytes begin with a head, or none can come any more. Nothing is read where they begin with one already.
-pub(crate) fn fill<C: Conn>(conn: &mut C, bytes: &mut Vec<u8>) -> Filled
+pub(crate) fn fill<C: Conn>(conn: &mut C, bytes: &mut Buffer) -> Filled
     requires current { C.is_open conn.old ≡ true }
-    requires few { length bytes.old.items ≤ 12287 }
-    ensures reads { Reads bytes.old.items bytes.new.items (C.left conn.old) (C.left conn.new)
+    requires few { length bytes.old ≤ 12287 }
+    ensures reads { Reads bytes.old bytes.new (C.left conn.old) (C.left conn.new)
         (C.taken conn.old) (C.taken conn.new) }
-    ensures begins { Begins result bytes.new.items (C.left conn.new) }
-    ensures few { length bytes.new.items ≤ 12287 }
+    ensures begins { Begins result bytes.new (C.left conn.new) }
+    ensures few { length bytes.new ≤ 12287 }
     ensures count { C.reads conn.new ≡ reads_after result (C.reads conn.old) }
     ensures same_held { C.held conn.new ≡ C.held conn.old }
     ensures same_writes { C.writes conn.new ≡ C.writes conn.old }
@@ -79,7 +80,7 @@ pub(crate) fn fill<C: Conn>(conn: &mut C, bytes: &mut Vec<u8>) -> Filled
         if LONGEST <= bytes.len() {
             return Filled::Headless;
         }
-        match read_more(conn, bytes) {
+        match bytes.read_more(conn) {
             More::Got => {}
             More::End => return at_end(bytes.as_slice()),
             More::NotRead => return Filled::Failed,

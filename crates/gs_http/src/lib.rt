@@ -24,6 +24,7 @@
 #![tactic(auto)]
 
 mod answer;
+mod buffer;
 mod choosing;
 mod cuts;
 mod fields;

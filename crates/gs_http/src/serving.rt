@@ -1,6 +1,7 @@
 ghost use Rattle.std.specs.Prelude.{◌≡◌, ◌-◌, ◌<◌, ◌==◌, IfOk, true, vec_len};
 ghost use Rattle.gs_http.specs.Serving.{IsServed, reads_when, writes_when};
 
+use crate::buffer::Buffer;
 use crate::served::{Served, Turn};
 use crate::settings::Settings;
 use crate::turns::answer_next;
@@ -53,7 +54,7 @@ pub fn serve_one<C: Conn>(
     let Ok(mut numbers) = room(alloc, store.len()) else {
         return Served::Memory;
     };
-    let mut bytes = Vec::new(alloc);
+    let mut bytes = Buffer::new(alloc);
     for turn in 0..MOST {
         match answer_next(
             alloc,

@@ -4,9 +4,10 @@ ghost use Rattle.gs_links.specs.declared.link.Link.{Link};
 ghost use Rattle.gs_http.specs.declared.settings.Settings.{Settings as How};
 ghost use Rattle.gs_http.specs.Serving.{Answered, Delivers, LetsGo, Turned, reads_at, writes_at};
 
+use crate::buffer::Buffer;
 use crate::filling::{Filled, fill};
 use crate::replying::{refusal, reply_with};
-use crate::sending::{Sent, drop_front, send};
+use crate::sending::{Sent, send};
 use crate::served::{Served, Turn};
 use crate::settings::{Reply, Settings};
 use gs_ai::AiTable;
@@ -65,16 +66,16 @@ fn answer_head<C: Conn>(
     store: &Store,
     settings: &Settings,
     numbers: &mut [u32],
-    bytes: &mut Vec<u8>,
+    bytes: &mut Buffer,
     len: usize,
     last: bool,
 ) -> Turn
     requires current { C.is_open conn.old ≡ true }
     requires room { length store.now ≤ length numbers.old }
-    requires within { len ≤ length bytes.old.items }
-    ensures answered { Answered table.now store.now settings.now result (Some (take len bytes.old.items)) last
+    requires within { len ≤ length bytes.old }
+    ensures answered { Answered table.now store.now settings.now result (Some (take len bytes.old)) last
         (C.held conn.old) (C.held conn.new) }
-    ensures lets_go { LetsGo result len bytes.old.items bytes.new.items }
+    ensures lets_go { LetsGo result len bytes.old bytes.new }
     ensures write_count { C.writes conn.new ≡ writes_at result (C.writes conn.old) }
     ensures read_count { C.reads conn.new ≡ reads_at result (C.reads conn.old) }
     ensures same_left { C.left conn.new ≡ C.left conn.old }
@@ -90,7 +91,7 @@ fn answer_head<C: Conn>(
     match deliver(conn, &reply) {
         Turn::Over(served) => Turn::Over(served),
         Turn::Stays => {
-            drop_front(bytes, len);
+            bytes.let_go(len);
             Turn::Stays
         }
     }
@@ -104,13 +105,13 @@ pub(crate) fn answer_next<C: Conn>(
     store: &Store,
     settings: &Settings,
     numbers: &mut [u32],
-    bytes: &mut Vec<u8>,
+    bytes: &mut Buffer,
     last: bool,
 ) -> Turn
     requires current { C.is_open conn.old ≡ true }
     requires room { length store.now ≤ length numbers.old }
-    requires few { length bytes.old.items ≤ 12287 }
-    ensures turned { Turned table.now store.now settings.now result last bytes.old.items bytes.new.items
+    requires few { length bytes.old ≤ 12287 }
+    ensures turned { Turned table.now store.now settings.now result last bytes.old bytes.new
         (C.left conn.old) (C.left conn.new) (C.taken conn.old) (C.taken conn.new)
         (C.held conn.old) (C.held conn.new) }
     ensures write_count { C.writes conn.new ≡ writes_at result (C.writes conn.old) }

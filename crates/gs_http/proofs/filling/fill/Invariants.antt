@@ -5,8 +5,8 @@ use Rattle.gs_http.proofs.filling.fill.Given as goal
 -- what was read so far stands behind what was held
 abbrev pub invariant-filling : goal.invariant-filling
 invariant-filling g l = record {
-  reads : Reads l.fn.bytes.items l.bytes.items (g.C.Conn.left l.fn.conn) (g.C.Conn.left l.conn) (g.C.Conn.taken l.fn.conn) (g.C.Conn.taken l.conn);
-  few : length l.bytes.items ≤ 12287;
+  reads : Reads l.fn.bytes l.bytes (g.C.Conn.left l.fn.conn) (g.C.Conn.left l.conn) (g.C.Conn.taken l.fn.conn) (g.C.Conn.taken l.conn);
+  few : length l.bytes ≤ 12287;
   count : g.C.Conn.reads l.conn ≡ g.C.Conn.reads l.fn.conn;
   same_held : g.C.Conn.held l.conn ≡ g.C.Conn.held l.fn.conn;
   same_writes : g.C.Conn.writes l.conn ≡ g.C.Conn.writes l.fn.conn;
@@ -17,4 +17,4 @@ invariant-filling g l = record {
 
 -- the room that is left for a head
 abbrev pub decreases-filling : goal.decreases-filling
-decreases-filling g l = 12288 - length l.bytes.items
+decreases-filling g l = 12288 - length l.bytes

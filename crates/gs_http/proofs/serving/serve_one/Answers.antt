@@ -7,7 +7,7 @@ returns-in_default-clause-served g c = nothing_done c.args.table.now c.args.stor
 
 pub loop-turn-init : goal.loop-turn-init
 loop-turn-init g c = record {
-  so_far = rw c.new-bytes.ensures.items (at_start c.args.table.now c.args.store.now c.args.settings.now 1000 _ _ _);
+  so_far = rw c.new-bytes.ensures (at_start c.args.table.now c.args.store.now c.args.settings.now 1000 _ _ _);
   more = omega arith;
   room = c.in-Ok.ensures ∙ c.len.ensures;
   reads = refl;

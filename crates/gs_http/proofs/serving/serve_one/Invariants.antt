@@ -5,7 +5,7 @@ use Rattle.gs_http.proofs.serving.serve_one.Given as goal
 -- so many heads were answered, and more may come
 abbrev pub invariant-loop-turn : goal.invariant-loop-turn
 invariant-loop-turn g l = record {
-  so_far : SoFar l.table l.store l.settings 1000 l.turn l.bytes.items (g.C.Conn.left l.fn.conn) (g.C.Conn.left l.conn) (g.C.Conn.taken l.fn.conn) (g.C.Conn.taken l.conn) (g.C.Conn.held l.fn.conn) (g.C.Conn.held l.conn);
+  so_far : SoFar l.table l.store l.settings 1000 l.turn l.bytes (g.C.Conn.left l.fn.conn) (g.C.Conn.left l.conn) (g.C.Conn.taken l.fn.conn) (g.C.Conn.taken l.conn) (g.C.Conn.held l.fn.conn) (g.C.Conn.held l.conn);
   more : l.turn < 1000;
   room : vec_len l.numbers ≡ length l.store;
   reads : g.C.Conn.reads l.conn ≡ g.C.Conn.reads l.fn.conn;

@@ -1,0 +1,81 @@
+ghost use Rattle.std.specs.Prelude.{◌≡◌, ◌≤◌, ◌<◌, ◌+◌, [], true, drop, length};
+ghost use Rattle.gs_http.specs.Connected.{Comes, Reads, reads_with};
+
+use crate::reading::{More, read_more};
+use crate::sending::drop_front;
+use gs_port::Conn;
+use std::alloc::Global;
+use std::marker::Model;
+
+/// What was read of a connection, which contracts see as the bytes that were not let go of. These are moved only before
+/// more is read, and not for each head.
+#[derive(Drop)]
+pub(crate) struct Buffer {
+    bytes: Vec<u8>,
+    /// How many bytes in front were let go of.
+    gone: usize,
+}
+
+impl Model for Buffer {
+    ghost use Rattle.std.specs.Prelude.{◌≤◌, ℕ, List, drop, length};
+
+    ghost Value = { List ℕ };
+
+    ghost view = { λ a. drop a.gone a.bytes.items };
+
+    ghost invariant = { λ a. a.gone ≤ length a.bytes.items };
+}
+
+impl Buffer {
+    /// No bytes.
+    pub(crate) fn new(alloc: Global) -> Buffer
+        ensures { result ≡ [] }
+    {
+        Buffer {
+            bytes: Vec::new(alloc),
+            gone: 0,
+        }
+    }
+
+    /// The bytes.
+    pub(crate) fn as_slice(&self) -> &[u8]
+        ensures { result.now ≡ self.now }
+    {
+        &self.bytes.as_slice()[self.gone..]
+    }
+
+    /// The number of bytes.
+    pub(crate) fn len(&self) -> usize
+        ensures { result ≡ length self.now }
+    {
+        self.as_slice().len()
+    }
+
+    /// Lets go of the first bytes.
+    pub(crate) fn let_go(&mut self, len: usize)
+        requires { len ≤ length self.old }
+        ensures { self.new ≡ drop len self.old }
+    {
+        self.gone += len;
+    }
+
+    /// Moves the next bytes of a connection behind these, at most 4,096 of them.
+    pub(crate) fn read_more<C: Conn>(&mut self, conn: &mut C) -> More
+        requires current { C.is_open conn.old ≡ true }
+        requires few { length self.old < 8192 }
+        ensures reads { Reads self.old self.new (C.left conn.old) (C.left conn.new)
+            (C.taken conn.old) (C.taken conn.new) }
+        ensures comes { Comes result self.old self.new (C.left conn.new) }
+        ensures few { length self.new ≤ length self.old + 4096 }
+        ensures count { C.reads conn.new ≡ reads_with result (C.reads conn.old) }
+        ensures same_held { C.held conn.new ≡ C.held conn.old }
+        ensures same_writes { C.writes conn.new ≡ C.writes conn.old }
+        ensures stays_open { C.is_open conn.new ≡ true }
+        ensures same_aside { C.aside conn.new ≡ C.aside conn.old }
+        ensures same_ends { C.ends conn.new ≡ C.ends conn.old }
+    {
+        drop_front(&mut self.bytes, self.gone);
+        self.gone = 0;
+        read_more(conn, &mut self.bytes)
+    }
+}
