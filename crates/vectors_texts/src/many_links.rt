@@ -3,7 +3,7 @@
 //! - `choose_each COUNT TIMES`: COUNT, where `choose` gives the link K alone and the depth 1 for the anchor of each K below
 //!   COUNT and `r`, so many times over; else the first K for which it does not, or the refusal of so many links.
 
-ghost use Rattle.std.specs.Prelude.{◌≡◌, ◌≤◌, length};
+ghost use Rattle.std.specs.Prelude.{◌≤◌, length};
 
 use crate::links::{VOC, refused, room};
 use gs_ai::AiTable;
@@ -53,20 +53,21 @@ fn identity(alloc: Global, table: &AiTable, k: usize) -> Result<Identity, Refusa
     }
 }
 
+/// Whether the first of the numbers is this.
+fn is_first(numbers: &[u32], k: usize) -> bool {
+    match numbers.first() {
+        Some(number) => *number as usize == k,
+        None => false,
+    }
+}
+
 /// Whether the link K alone is chosen for an identity, each of so many times.
-fn is_alone(
-    store: &Store,
-    identity: &Identity,
-    k: usize,
-    times: u64,
-    numbers: &mut [u32],
-) -> bool
+fn is_alone(store: &Store, identity: &Identity, k: usize, times: u64, numbers: &mut [u32]) -> bool
     requires { length store.now ≤ length numbers.old }
 {
     for _ in 0..times {
         let chosen = store.choose(identity, Want::Relation(b"r"), numbers);
-        let first = numbers.first().copied().map(|number| number as usize);
-        if (chosen.depth, chosen.count, first) != (1, 1, Some(k)) {
+        if chosen.depth != 1 || chosen.count != 1 || !is_first(numbers, k) {
             return false;
         }
     }
