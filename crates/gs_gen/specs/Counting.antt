@@ -1,11 +1,11 @@
 -- What counting has done at a moment, and what is written of the line of counts.
-use Rattle.std.specs.Prelude.{◌≡◌, ◌×◌, ℕ, ◌+◌, List, Result, length}
+use Rattle.std.specs.Prelude.{◌≡◌, ℕ, ◌+◌, List, [], ◌∷◌, Result, length}
 use Rattle.gs_lines.specs.declared.status.Status.{Status}
 use Rattle.gs_lines.specs.declared.status.Status.TheVariants.{Done}
 use Rattle.gs_lines.specs.Printing.{PrintedAs}
 use Rattle.gs_tables.specs.Tables.{TableRows}
 use Rattle.gs_translate.specs.declared.reason.Reason.{Reason}
-use Rattle.gs_gen.specs.declared.counting.Counts.{Counts}
+use Rattle.gs_gen.specs.declared.counts.Counts.{Counts}
 use Rattle.gs_gen.specs.Counts.{AnswersFirst, Generated, answer_bytes, answered_bytes, ok_answers}
 
 -- so many of the answers to the first lines are texts, and the lines of all of them have so many bytes

@@ -1,5 +1,5 @@
 -- What is counted of the answers to the first lines of the generator, and how the counts are printed.
-use Rattle.std.specs.Prelude.{◌≡◌, ℕ, suc, true, false, List, [], ◌∷◌, ◌++◌, Result, Ok, Err, Option, Some, None, codes, decimal, count_by, flat_map, is_ok, length}
+use Rattle.std.specs.Prelude.{◌≡◌, ℕ, suc, false, List, [], ◌∷◌, ◌++◌, Result, Ok, Err, Some, None, codes, decimal, count_by, flat_map, is_ok, length}
 use Rattle.gs_lines.specs.Outputs.{LineAnswer, accepted, printed, refused}
 use Rattle.gs_tables.specs.Tables.{TableRows}
 use Rattle.gs_translate.specs.declared.form.Form.TheVariants as form

@@ -1,5 +1,5 @@
 -- The lines of the generator: EPC URIs of SGTINs (TDS 2.0, section 6.3.1) by the states of a linear congruential generator.
-use Rattle.std.specs.Prelude.{ℕ, suc, ◌+◌, ◌-◌, ◌*◌, ◌/◌, ◌%◌, ◌^◌, List, ◌∷◌, ◌++◌, codes, decimal, length, replicate}
+use Rattle.std.specs.Prelude.{ℕ, zero, suc, ◌+◌, ◌-◌, ◌*◌, ◌/◌, ◌%◌, ◌^◌, List, ◌∷◌, ◌++◌, codes, decimal, length, replicate}
 
 -- the state behind a state
 abbrev pub next_state : ℕ → ℕ
@@ -7,7 +7,7 @@ next_state x = (x * 6364136223846793005 + 1442695040888963407) % 2 ^ 64
 
 -- the state after so many steps from 0
 abbrev pub state_after : ℕ → ℕ
-state_after 0 = 0
+state_after zero = 0
 state_after (suc n) = next_state (state_after n)
 
 -- a number in decimal, with zeros in front of it where it has fewer digits than these

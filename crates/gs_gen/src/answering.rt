@@ -36,7 +36,7 @@ pub fn filter_one(alloc: Global) -> Result<Options, Memory>
 pub fn answer_line(alloc: Global, by: Answering<'_>, line: &[u8]) -> Result<Text, Reason>
     requires prefixes { by.prefixes.now ≡ [] }
     requires options { by.options.now ≡ filter_one }
-    ensures { UnlessMemory result (IsLineAnswer by.set.now line.now result) }
+    ensures { UnlessMemory result (IsLineAnswer by.entry.set.now line.now result) }
 {
     let hex = translate(
         alloc,

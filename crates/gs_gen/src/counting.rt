@@ -5,6 +5,7 @@ ghost use Rattle.gs_gen.specs.Counts.{filter_one};
 ghost use Rattle.gs_gen.specs.Counting.{CountsFirst, CountsOneMore};
 
 use crate::answering::{Answering, answer_line};
+use crate::counts::Counts;
 use crate::generator::Generator;
 use gs_chars::{Memory, Text};
 use gs_translate::{Reason, append_reason};
@@ -12,15 +13,6 @@ use std::alloc::Global;
 
 /// The bytes of the line of an answer beside its text: `ok ` or `no ` and the line feed.
 const FRAME: u128 = 4;
-
-/// What is counted of answers.
-#[derive(Clone, Copy)]
-pub struct Counts {
-    /// How many are texts.
-    pub ok: u64,
-    /// How many bytes the lines of all answers have: no bound is set to one line, so 64 bits may be too few.
-    pub bytes: u128,
-}
 
 /// The number of bytes of a reason, as it is printed.
 fn reason_length(alloc: Global, reason: &Reason) -> Result<usize, Memory>
@@ -38,9 +30,10 @@ fn count_answer(
     answer: Result<Text, Reason>,
 ) -> Result<Counts, Memory>
     requires ok { counts.ok < 2 ^ 32 }
-    requires bytes { counts.bytes < 2 ^ 96 }
+    requires bytes { counts.bytes ≤ 2 ^ 97 }
     ensures one_more { IfOk result (λ now. CountsOneMore counts answer now) }
     ensures told { IfOk result (λ _. answer ≢ Err WantOfMemory) }
+    ensures bounded { IfOk result (λ now. now.bytes ≤ counts.bytes + 2 ^ 65) }
 {
     match answer {
         Ok(text) => Ok(Counts {
@@ -62,7 +55,7 @@ fn count_answer(
 pub fn count_lines(alloc: Global, by: Answering<'_>, lines: u32) -> Result<Counts, Memory>
     requires prefixes { by.prefixes.now ≡ [] }
     requires options { by.options.now ≡ filter_one }
-    ensures { IfOk result (λ counts. CountsFirst by.set.now lines counts.ok counts.bytes) }
+    ensures { IfOk result (λ counts. CountsFirst by.entry.set.now lines counts.ok counts.bytes) }
 {
     let mut generator = Generator::new();
     let mut counts = Counts { ok: 0, bytes: 0 };

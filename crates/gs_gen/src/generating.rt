@@ -1,12 +1,14 @@
-ghost use Rattle.std.specs.Prelude.{◌≡◌, ◌≤◌, IfOk, List, ℕ, string_bytes};
+ghost use Rattle.std.specs.Prelude.{◌≤◌, IfOk, string_bytes};
 ghost use Rattle.gs_lines.specs.Outputs.{Appends};
 ghost use Rattle.gs_lines.specs.Statuses.{OnWriteFault};
 ghost use Rattle.gs_port.specs.Counts.{Rises};
+ghost use Rattle.gs_tables.specs.Judged.{IsLoaded};
 ghost use Rattle.gs_gen.specs.Counts.{Generated};
 ghost use Rattle.gs_gen.specs.Counting.{PrintsGenerated};
 
 use crate::answering::{Answering, filter_one};
 use crate::counting::count_lines;
+use crate::counts::counts_text;
 use gs_chars::Memory;
 use gs_lines::{Status, print_line};
 use gs_port::Sink;
@@ -26,9 +28,7 @@ fn counts_line(alloc: Global, set: &TableSet, lines: u32) -> Result<String, Memo
         options: &options,
     };
     let counts = count_lines(alloc, by, lines)?;
-    let ok = counts.ok;
-    let bytes = counts.bytes;
-    Ok(format!(in alloc; "lines {lines} ok {ok} bytes {bytes}\n")?)
+    counts_text(alloc, lines, counts)
 }
 
 /// Answers so many lines of the generator by the tables, and writes one line of counts: of lines, of answers that are texts, and
@@ -42,6 +42,7 @@ fn counts_line(alloc: Global, set: &TableSet, lines: u32) -> Result<String, Memo
 /// `Done` comes where the line was written whole, and `WriteFault` only where the output's count rose. After it and after
 /// `Memory` an initial part of the line was written. No other status comes.
 pub fn generate<K: Sink>(alloc: Global, set: &TableSet, lines: u32, output: &mut K) -> Status
+    requires loaded { IsLoaded set.now }
     ensures written { Appends (K.held output.old) (K.held output.new) (λ out. PrintsGenerated set.now lines out result) }
     ensures fault { OnWriteFault result (Rises (K.faults output.old) (K.faults output.new)) }
     ensures counts { K.faults output.old ≤ K.faults output.new }

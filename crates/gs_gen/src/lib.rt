@@ -3,6 +3,7 @@
 
 mod answering;
 mod counting;
+mod counts;
 mod generating;
 mod generator;
 mod laws;
