@@ -1,0 +1,4 @@
+pub mod OneCount
+mod AnswerLemmas
+mod CountLemmas
+mod LineLemmas

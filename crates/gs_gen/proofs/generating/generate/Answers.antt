@@ -1,0 +1,9 @@
+use Rattle.std.proofs.Common.{[], refl, sym}
+use Rattle.gs_port.specs.Contents.{append_nothing}
+use Rattle.gs_gen.proofs.OneCount.{some_generated}
+use Rattle.gs_gen.proofs.generating.generate.Goals as goal
+
+pub returns-in-Err-clause-written : goal.returns-in-Err-clause-written
+returns-in-Err-clause-written g c =
+    let some = some_generated c.args.set.now c.requires.loaded c.args.lines in
+    ([], sym (append_nothing (g.K.Sink.held c.args.output.now)), (some.0, some.1, (0, refl)))

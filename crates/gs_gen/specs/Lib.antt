@@ -1,0 +1,3 @@
+pub mod Generator
+pub mod Counts
+pub mod Counting

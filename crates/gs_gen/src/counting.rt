@@ -1,0 +1,68 @@
+ghost use Rattle.std.specs.Prelude.{◌≡◌, ◌≢◌, [], ◌+◌, ◌*◌, ◌<◌, ◌≤◌, ◌^◌, Err, IfOk, length};
+ghost use Rattle.gs_translate.specs.declared.reason.Reason.TheVariants.{Memory as WantOfMemory};
+ghost use Rattle.gs_translate.specs.Reasons.{reason_text};
+ghost use Rattle.gs_gen.specs.Counts.{filter_one};
+ghost use Rattle.gs_gen.specs.Counting.{CountsFirst, CountsOneMore};
+
+use crate::answering::{Answering, answer_line};
+use crate::counts::Counts;
+use crate::generator::Generator;
+use gs_chars::{Memory, Text};
+use gs_translate::{Reason, append_reason};
+use std::alloc::Global;
+
+/// The bytes of the line of an answer beside its text: `ok ` or `no ` and the line feed.
+const FRAME: u128 = 4;
+
+/// The number of bytes of a reason, as it is printed.
+fn reason_length(alloc: Global, reason: &Reason) -> Result<usize, Memory>
+    ensures { IfOk result (λ len. len ≡ length (reason_text reason.now)) }
+{
+    let mut text = Vec::new(alloc);
+    append_reason(alloc, &mut text, reason)?;
+    Ok(text.len())
+}
+
+/// The counts with one answer more.
+fn count_answer(
+    alloc: Global,
+    counts: Counts,
+    answer: Result<Text, Reason>,
+) -> Result<Counts, Memory>
+    requires ok { counts.ok < 2 ^ 32 }
+    requires bytes { counts.bytes ≤ 2 ^ 97 }
+    ensures one_more { IfOk result (λ now. CountsOneMore counts answer now) }
+    ensures told { IfOk result (λ _. answer ≢ Err WantOfMemory) }
+    ensures bounded { IfOk result (λ now. now.bytes ≤ counts.bytes + 2 ^ 65) }
+{
+    match answer {
+        Ok(text) => Ok(Counts {
+            ok: counts.ok + 1,
+            bytes: counts.bytes + text.as_bytes().len() as u128 + FRAME,
+        }),
+        Err(Reason::Memory) => Err(Memory),
+        Err(reason) => {
+            let len = reason_length(alloc, &reason)?;
+            Ok(Counts {
+                ok: counts.ok,
+                bytes: counts.bytes + len as u128 + FRAME,
+            })
+        }
+    }
+}
+
+/// The counts of the answers to the first lines of the generator. One line is held at a time.
+pub fn count_lines(alloc: Global, by: Answering<'_>, lines: u32) -> Result<Counts, Memory>
+    requires prefixes { by.prefixes.now ≡ [] }
+    requires options { by.options.now ≡ filter_one }
+    ensures { IfOk result (λ counts. CountsFirst by.entry.set.now lines counts.ok counts.bytes) }
+{
+    let mut generator = Generator::new();
+    let mut counts = Counts { ok: 0, bytes: 0 };
+    for _ in 0..lines {
+        let line = generator.next_line(alloc)?;
+        let answer = answer_line(alloc, by, line.as_bytes());
+        counts = count_answer(alloc, counts, answer)?;
+    }
+    Ok(counts)
+}
