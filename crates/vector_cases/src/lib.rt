@@ -24,4 +24,4 @@ pub use case::{
 };
 pub use item_words::{item_of, item_word};
 pub use json_words::fault_word;
-pub use objects::{cut_of, files_of, section, sink_of, source_of};
+pub use objects::{cut_of, door_of, files_of, section, sink_of, source_of};

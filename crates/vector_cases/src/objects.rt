@@ -1,10 +1,10 @@
 //! Objects in memory of the arguments of a case.
 
-ghost use Rattle.std.specs.Prelude.{◌<◌, IfOk};
+ghost use Rattle.std.specs.Prelude.{◌≡◌, ◌<◌, IfOk, false, is_some};
 
 use crate::case::{Refusal, arg, behind, number, numbers_of, text_of};
 use gs_chars::Text;
-use gs_port::{MemFiles, MemSink, MemSource};
+use gs_port::{MemDoor, MemFiles, MemSink, MemSource};
 use std::alloc::Global;
 
 /// The part of the arguments of a number, of those that `/` divides.
@@ -53,4 +53,17 @@ pub fn files_of(alloc: Global, words: &[Text]) -> Result<MemFiles, Refusal> {
         files.push((name, arg(file, 1)?.to_vec(alloc)?))?;
     }
     Ok(MemFiles::new(alloc, files, fails))
+}
+
+/// The door of the most bytes that a read or a write moves, of the calls that fail, and of the inputs of the connections that
+/// wait at it.
+pub fn door_of(alloc: Global, words: &[Text]) -> Result<MemDoor, Refusal>
+    ensures closed { IfOk result (λ door. is_some door.current ≡ false) }
+{
+    let fails = numbers_of(alloc, arg(words, 1)?)?;
+    let mut inputs = Vec::new(alloc);
+    for input in behind(words, 2) {
+        inputs.push(input.as_bytes().to_vec(alloc)?)?;
+    }
+    Ok(MemDoor::new(alloc, inputs, cut_of(words, 0)?, fails)?)
 }

@@ -11,9 +11,7 @@ use crate::outside::{read_word, write_word};
 use gs_chars::Text;
 use gs_port::{AcceptAnswer, Conn, Door, MemDoor, OpenAnswer, Pair, ReadAnswer};
 use std::alloc::Global;
-use vector_cases::{
-    Answer, Refusal, add, arg, behind, cut_of, numbers_of, section, shown, sink_of, source_of,
-};
+use vector_cases::{Answer, Refusal, add, door_of, section, shown, sink_of, source_of};
 
 /// The answer to a call of gs_port over connections.
 pub fn answer(alloc: Global, call: &str, args: &[Text]) -> Answer {
@@ -90,7 +88,7 @@ fn visits(alloc: Global, door: &mut MemDoor) -> Answer
 }
 
 /// The number of finished connections, and what each was written.
-fn finished(alloc: Global, door: &MemDoor) -> Answer {
+pub fn finished(alloc: Global, door: &MemDoor) -> Answer {
     let mut answer = format!(in alloc; "{}", door.finished())?;
     for i in 0..door.finished() {
         add(&mut answer, shown(alloc, door.written(i))?.as_str())?;
@@ -99,12 +97,7 @@ fn finished(alloc: Global, door: &MemDoor) -> Answer {
 }
 
 fn door(alloc: Global, args: &[Text]) -> Answer {
-    let fails = numbers_of(alloc, arg(args, 1)?)?;
-    let mut inputs = Vec::new(alloc);
-    for input in behind(args, 2) {
-        inputs.push(input.as_bytes().to_vec(alloc)?)?;
-    }
-    let mut door = MemDoor::new(alloc, inputs, cut_of(args, 0)?, fails)?;
+    let mut door = door_of(alloc, args)?;
     match door.open("memory") {
         OpenAnswer::Opened => {
             let mut answer = visits(alloc, &mut door)?;

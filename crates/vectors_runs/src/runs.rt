@@ -2,17 +2,21 @@
 //!
 //! - `run WORD.. / FAILS NAME BYTES .. / CUT FAILS BYTES / CUT FAILS`: a whole run with these words, over these files, this
 //!   input and an empty output, of which a read and a write move at most CUT bytes, and whose calls of the numbers FAILS fail:
-//!   the status, what the output holds, and what is left of the input.
+//!   the status, what the output holds, and what is left of the input. Behind `/ CUT FAILS INPUT..`, a door with the inputs of
+//!   the connections that wait at it, stand too the number of finished connections, and what each was written.
 //! - `repeated WORD.. / FAILS NAME BYTES .. / CUT LINE COUNT / CUT FAILS`: the same over COUNT copies of a line, each with a
 //!   line feed: the status, how many bytes the output holds, how many of its lines are equal to the first, and that line.
 
+ghost use Rattle.std.specs.Prelude.{◌≡◌, IfOk, false, is_some};
+
+use crate::connections::finished;
 use gs_chars::Text;
-use gs_port::{MemFiles, MemSink, MemSource, ReadAnswer, Source};
+use gs_port::{MemDoor, MemFiles, MemSink, MemSource, ReadAnswer, Source};
 use gs_program::{Status, run};
 use std::alloc::Global;
 use vector_cases::{
-    Answer, Refusal, add, arg, cut_of, files_of, number, section, shown, sink_of, source_of,
-    text_of,
+    Answer, Refusal, add, arg, cut_of, door_of, files_of, number, section, shown, sink_of,
+    source_of, text_of,
 };
 
 /// The answer to a call of gs_program.
@@ -57,8 +61,11 @@ fn status_of(
     files: &mut MemFiles,
     input: &mut MemSource,
     output: &mut MemSink,
-) -> Status {
-    run(alloc, words, files, input, output)
+    door: &mut MemDoor,
+) -> Status
+    requires { is_some door.old.current ≡ false }
+{
+    run(alloc, words, files, input, output, door)
 }
 
 /// The status, what an output holds, and what is left of an input.
@@ -70,13 +77,42 @@ pub fn outcome(alloc: Global, status: Status, input: &mut MemSource, output: &Me
     Ok(answer)
 }
 
+/// A door at which no connection waits.
+fn no_door(alloc: Global) -> Result<MemDoor, Refusal>
+    ensures { IfOk result (λ door. is_some door.current ≡ false) }
+{
+    Ok(MemDoor::new(alloc, Vec::new(alloc), 1, Vec::new(alloc))?)
+}
+
+/// The door of a run, at which no connection waits where none is told.
+fn door_behind(alloc: Global, args: &[Text]) -> Result<MemDoor, Refusal>
+    ensures { IfOk result (λ door. is_some door.current ≡ false) }
+{
+    match section(args, 4) {
+        Ok(words) => door_of(alloc, words),
+        Err(_) => no_door(alloc),
+    }
+}
+
 fn ran(alloc: Global, args: &[Text]) -> Answer {
     let words = strings_of(alloc, section(args, 0)?)?;
     let mut files = files_of(alloc, section(args, 1)?)?;
     let mut input = source_of(alloc, section(args, 2)?)?;
     let mut output = sink_of(alloc, section(args, 3)?)?;
-    let status = status_of(alloc, &words, &mut files, &mut input, &mut output);
-    outcome(alloc, status, &mut input, &output)
+    let mut door = door_behind(alloc, args)?;
+    let status = status_of(
+        alloc,
+        &words,
+        &mut files,
+        &mut input,
+        &mut output,
+        &mut door,
+    );
+    let mut answer = outcome(alloc, status, &mut input, &output)?;
+    if section(args, 4).is_ok() {
+        add(&mut answer, finished(alloc, &door)?.as_str())?;
+    }
+    Ok(answer)
 }
 
 /// So many copies of a line, each with a line feed.
@@ -116,6 +152,14 @@ fn repeated(alloc: Global, args: &[Text]) -> Answer {
     let bytes = copies(alloc, arg(lines, 1)?, number(lines, 2)?)?;
     let mut input = MemSource::new(alloc, bytes, cut_of(lines, 0)?, Vec::new(alloc));
     let mut output = sink_of(alloc, section(args, 3)?)?;
-    let status = status_of(alloc, &words, &mut files, &mut input, &mut output);
+    let mut door = no_door(alloc)?;
+    let status = status_of(
+        alloc,
+        &words,
+        &mut files,
+        &mut input,
+        &mut output,
+        &mut door,
+    );
     counted(alloc, status, output.bytes())
 }
