@@ -1,42 +1,54 @@
 -- What was done of what is asked, by how its files were loaded and what its command did.
-use Rattle.std.proofs.Common.{◌≡◌, ◌≢◌, ◌⊎◌, inl, inr, ℕ, ◌+◌, ◌≤◌, List, [], Option, refl, arith}
+use Rattle.std.proofs.Common.{◌≡◌, ◌≢◌, ◌⊎◌, inl, inr, ℕ, ◌+◌, ◌≤◌, false, List, [], Option, refl, arith}
 use Rattle.std.specs.Prelude.{Result, Ok, Err}
 use Rattle.gs_lines.specs.declared.status.Status.{Status}
+use Rattle.gs_gen.proofs.OneCount.{some_generated}
 use Rattle.gs_lines.specs.declared.status.Status.TheVariants as status
 use Rattle.gs_lines.specs.Outputs.{Appends}
 use Rattle.gs_lines.specs.Printing.{IsInitialPart, PrintedAs}
 use Rattle.gs_lines.specs.Statuses.{OnAnswered, OnCutShort, OnReadFault, OnRefused, OnWriteFault, OnWritten, is_cut_short, is_read_fault, is_written}
 use Rattle.gs_lines.proofs.StatusLemmas.{when_map}
+use Rattle.gs_port.specs.Connections.{Finished}
+use Rattle.gs_port.specs.Contents.{append_known}
 use Rattle.gs_port.specs.Counts.{Rises}
 use Rattle.gs_tables.specs.Judged.{IsLoaded}
 use Rattle.gs_translate.specs.Steps.{HasSome}
 use Rattle.gs_program.specs.declared.command.Command.{Command}
-use Rattle.gs_program.specs.declared.command.Command.TheVariants.{Canon, Translate, Check}
+use Rattle.gs_program.specs.declared.command.Command.TheVariants.{Canon, Translate, Check, Resolve, Serve, Gen}
 use Rattle.gs_program.specs.declared.loading.Loaded.{Loaded}
 use Rattle.gs_program.specs.declared.loading.Unloaded.TheVariants as unloaded
 use Rattle.gs_program.specs.declared.refusal.Refusal.{Refusal}
 use Rattle.gs_program.specs.Asking.{AskedRan, Counts}
+use Rattle.gs_program.specs.Commands.{reads_input}
 use Rattle.gs_program.specs.Loads.{FilesGive, LoadedBy, Stop, missing, refused}
-use Rattle.gs_program.specs.Ran.{BeginsOne, CommandRan, Moment}
+use Rattle.gs_program.specs.Ran.{BeginsOne, CommandCause, CommandRan, Moment}
 use Rattle.gs_program.specs.Refusals.{refused_line}
 use Rattle.gs_program.specs.Requests.{Asked, Values}
-use Rattle.gs_program.specs.Runs.{AskedEnded, AskedRun, World, ran, stopped, stops}
-use Rattle.gs_program.specs.Works.{CommandRun, Outcome, canonizing, counts_line, input_limit, translating}
+use Rattle.gs_program.specs.Runs.{AskedEnded, AskedRun, World, none_finished, ran, some_finished, stopped, stops}
+use Rattle.gs_program.specs.Works.{CommandEnded, CommandRun, Doorway, Leaves, LeavesOutput, Outcome, canonizing, counts_line, input_limit, outcome_of, site_of, translating}
 use Rattle.gs_program.proofs.LineLemmas.{translated_some}
 use Rattle.gs_program.proofs.LoadLemmas.{files_some}
-use Rattle.gs_program.proofs.RanLemmas.{PrintedCase, fault, no_memory, printed_case, takes_nothing, whole}
+use Rattle.gs_program.proofs.RanLemmas.{PrintedCase, fault, no_memory, printed_case, stays_or_rises, takes_nothing, whole}
 use Rattle.gs_program.proofs.ReadLemmas.{loaded_of}
+use Rattle.gs_program.proofs.ServeLemmas.{serves_some}
+use Rattle.gs_program.proofs.SiteLemmas.{some_resolved}
 
 -- ---- what is asked has an outcome
 
-command_some : (command : Command) (values : Values) (loaded : Loaded) (input : Option (List ℕ)) → IsLoaded loaded.tables → HasSome (CommandRun command values loaded input)
-command_some (Canon form) values loaded input keeps = translated_some (canonizing loaded form) input keeps
-command_some (Translate from to) values loaded input keeps = translated_some (translating loaded values from to) input keeps
-command_some Check values loaded input keeps = (record { output = counts_line loaded; status = status.Done }, refl)
+leaves_some : (IsOutput : List ℕ → Type 0) → HasSome IsOutput → HasSome (LeavesOutput IsOutput)
+leaves_some IsOutput some = (outcome_of some.0 status.Done, record { is_output = some.1; none_finished = refl; done = refl })
+
+command_some : (command : Command) (values : Values) (loaded : Loaded) (input : Option (List ℕ)) (door : Doorway) → IsLoaded loaded.tables → HasSome (CommandRun command values loaded input door)
+command_some (Canon form) values loaded input door keeps = translated_some (canonizing loaded form) input keeps
+command_some (Translate from to) values loaded input door keeps = translated_some (translating loaded values from to) input keeps
+command_some Check values loaded input door keeps = (outcome_of (counts_line loaded) status.Done, refl)
+command_some Resolve values loaded input door keeps = leaves_some _ (some_resolved (site_of loaded) input)
+command_some Serve values loaded input door keeps = serves_some (site_of loaded) values.count door
+command_some (Gen lines) values loaded input door keeps = leaves_some _ (some_generated loaded.tables lines keeps)
 
 asked_from : (asked : Asked) (world : World) (answer : Result Loaded Stop) → FilesGive world.files asked answer → HasSome (AskedRun asked world)
 asked_from asked world (Ok loaded) gives =
-    let c = command_some asked.command asked.values loaded world.input (loaded_of world.files asked loaded gives) in
+    let c = command_some asked.command asked.values loaded world.input world.door (loaded_of world.files asked loaded gives) in
     (c.0, ran loaded gives c.1)
 asked_from asked world (Err stop) gives = (stopped stop, stops stop gives refl)
 
@@ -58,14 +70,23 @@ never_refused status.WriteFault fact un = tt
 never_refused status.InputLong fact un = tt
 never_refused status.Memory fact un = tt
 
-begins_asked : (asked : Asked) (world : World) (loaded : Loaded) (output : List ℕ) → FilesGive world.files asked (Ok loaded) → BeginsOne (CommandRun asked.command asked.values loaded world.input) output → BeginsOne (AskedRun asked world) output
+begins_asked : (asked : Asked) (world : World) (loaded : Loaded) (output : List ℕ) → FilesGive world.files asked (Ok loaded) → BeginsOne (CommandRun asked.command asked.values loaded world.input world.door) output → BeginsOne (AskedRun asked world) output
 begins_asked asked world loaded output gives b = record { outcome = b.outcome; is = ran loaded gives b.is; begins = b.begins }
 
-pub asked_of_command : (asked : Asked) (world : World) (before now : Counts) (left : Option (List ℕ)) (loaded : Loaded) (outcome : Outcome) → FilesGive world.files asked (Ok loaded) → before.file_faults ≤ now.file_faults → CommandRan asked.command asked.values loaded (record { input = world.input; input_faults = before.input_faults; output_faults = before.output_faults }) (record { input = left; input_faults = now.input_faults; output_faults = now.output_faults }) outcome → AskedRan asked world before now left outcome
+either_cause : (command : Command) (A B : Type 0) → CommandCause command A B → A ⊎ B
+either_cause (Canon form) A B cause = inl cause
+either_cause (Translate from to) A B cause = inl cause
+either_cause Check A B cause = inl cause
+either_cause Resolve A B cause = inl cause
+either_cause Serve A B cause = inr cause
+either_cause (Gen lines) A B cause = inl cause
+
+pub asked_of_command : (asked : Asked) (world : World) (before now : Counts) (left : Option (List ℕ)) (loaded : Loaded) (outcome : Outcome) → FilesGive world.files asked (Ok loaded) → before.file_faults ≤ now.file_faults → CommandRan asked.command asked.values loaded world.door before.door_faults now.door_faults (record { input = world.input; input_faults = before.input_faults; output_faults = before.output_faults }) (record { input = left; input_faults = now.input_faults; output_faults = now.output_faults }) outcome → AskedRan asked world before now left outcome
 asked_of_command asked world before now left loaded outcome gives counts r = record {
   written = when_map (is_written outcome.status) (λ run. ran loaded gives run) r.written;
   begun = when_map (is_cut_short outcome.status) (begins_asked asked world loaded outcome.output gives) r.begun;
-  read_fault = when_map (is_read_fault outcome.status) (λ rises. inl rises) r.read_fault;
+  finished = when_map (is_cut_short outcome.status) (λ served. some_finished loaded gives served) r.finished;
+  read_fault = when_map (is_read_fault outcome.status) (λ cause. inl (either_cause asked.command _ _ cause)) r.read_fault;
   write_fault = r.write_fault;
   refusal = never_refused outcome.status _ r.no_refusal;
   to_end = r.to_end;
@@ -77,9 +98,6 @@ asked_of_command asked world before now left loaded outcome gives counts r = rec
   no_usage = r.no_usage;
 }
 
-pub refusal_of_command : (s : Status) (fact : Type 0) (command : Command) (values : Values) (loaded : Loaded) (before now : Moment) (output : List ℕ) → CommandRan command values loaded before now (record { output = output; status = s }) → OnRefused s fact
-refusal_of_command s fact command values loaded before now output r = never_refused s fact r.no_refusal
-
 when_both : (A B : Type 0) (s : Status) → OnReadFault s A → OnReadFault s B → OnReadFault s (A × B)
 when_both A B status.Done a b = tt
 when_both A B status.SomeRefused a b = tt
@@ -90,11 +108,26 @@ when_both A B status.WriteFault a b = tt
 when_both A B status.InputLong a b = tt
 when_both A B status.Memory a b = tt
 
--- after a fault of the input the lines that had ended were answered
-pub ended_of_command : (nothing : Type 0) (asked : Asked) (world : World) (before now : Moment) (held holds : Option (List ℕ)) (loaded : Loaded) (s : Status) → FilesGive world.files asked (Ok loaded) → before.input ≡ world.input → Appends held holds (λ out. CommandRan asked.command asked.values loaded before now (record { output = out; status = s })) → OnReadFault s (nothing ⊎ (Rises before.input_faults now.input_faults × Appends held holds (AskedEnded asked world.files world.input now.input)))
-ended_of_command nothing asked world before now held holds loaded s gives same a =
-    when_map (is_read_fault s) (λ both. inr (both.0, (a.0, a.1, rw (← same) (record { loaded = loaded; loads = gives; ended = both.1 }))))
-    (when_both _ _ s a.2.read_fault a.2.ended)
+-- a command by whose read fault the input is as it was and nothing was written, or the input counted a fault
+ended_by : (Same A B : Type 0) (command : Command) (values : Values) (loaded : Loaded) (before now : Option (List ℕ)) (output : List ℕ) (s : Status) → (reads_input command ≡ false → Same) → OnReadFault s (CommandCause command A B) → OnReadFault s (CommandEnded command values loaded before now output) → OnReadFault s ((Same × (output ≡ [])) ⊎ (A × CommandEnded command values loaded before now output))
+ended_by Same A B (Canon form) values loaded before now output s same cause ended = when_map (is_read_fault s) (λ both. inr both) (when_both _ _ s cause ended)
+ended_by Same A B (Translate from to) values loaded before now output s same cause ended = when_map (is_read_fault s) (λ both. inr both) (when_both _ _ s cause ended)
+ended_by Same A B Check values loaded before now output s same cause ended = when_map (is_read_fault s) (λ e. absurd e) ended
+ended_by Same A B Resolve values loaded before now output s same cause ended = when_map (is_read_fault s) (λ both. inr both) (when_both _ _ s cause ended)
+ended_by Same A B Serve values loaded before now output s same cause ended = when_map (is_read_fault s) (λ none. inl (same refl, none)) ended
+ended_by Same A B (Gen lines) values loaded before now output s same cause ended = when_map (is_read_fault s) (λ e. absurd e) ended
+
+-- what was written of what is asked after a read fault
+ended_asked : (Same A : Type 0) (asked : Asked) (files : Option (List (List ℕ × List ℕ))) (before now held holds : Option (List ℕ)) (loaded : Loaded) (output : List ℕ) → FilesGive files asked (Ok loaded) → holds ≡ append_known held output → (Same × (output ≡ [])) ⊎ (A × CommandEnded asked.command asked.values loaded before now output) → (Same × Appends held holds (λ out. out ≡ [])) ⊎ (A × Appends held holds (AskedEnded asked files before now))
+ended_asked Same A asked files before now held holds loaded output gives wrote (inl both) = inl (both.0, (output, wrote, both.1))
+ended_asked Same A asked files before now held holds loaded output gives wrote (inr both) = inr (both.0, (output, wrote, record { loaded = loaded; loads = gives; ended = both.1 }))
+
+-- after a read fault nothing was written and the input is as it was, or the input counted a fault
+pub ended_of_command : (Same : Type 0) (asked : Asked) (files : Option (List (List ℕ × List ℕ))) (door : Doorway) (faults faults' : ℕ) (before now : Moment) (held holds : Option (List ℕ)) (ended ended' : Option (List Finished)) (loaded : Loaded) (s : Status) → FilesGive files asked (Ok loaded) → (reads_input asked.command ≡ false → Same) → Leaves held holds ended ended' s (CommandRan asked.command asked.values loaded door faults faults' before now) → OnReadFault s ((Same × Appends held holds (λ out. out ≡ [])) ⊎ (Rises before.input_faults now.input_faults × Appends held holds (AskedEnded asked files before.input now.input)))
+ended_of_command Same asked files door faults faults' before now held holds ended ended' loaded s gives same a =
+    let w = a.2 in
+    when_map (is_read_fault s) (ended_asked Same _ asked files before.input now.input held holds loaded w.0 gives w.1)
+    (ended_by Same (Rises before.input_faults now.input_faults) (Rises faults faults') asked.command asked.values loaded before.input now.input w.0 s same w.2.read_fault w.2.ended)
 
 -- ---- a file is refused
 
@@ -103,20 +136,20 @@ begins_refusal asked world refusal output gives part =
     record { outcome = stopped (refused refusal); is = stops (refused refusal) gives refl; begins = part }
 
 -- the facts of a run that leaves its input
-asked_by : (asked : Asked) (world : World) (before now : Counts) (output : List ℕ) (s : Status) → OnWritten s (AskedRun asked world (record { output = output; status = s })) → OnCutShort s (BeginsOne (AskedRun asked world) output) → OnReadFault s (Rises before.file_faults now.file_faults ⊎ FilesGive world.files asked (Err missing)) → OnWriteFault s (Rises before.output_faults now.output_faults) → OnRefused s ((refusal : Refusal) × FilesGive world.files asked (Err (refused refusal))) → s ≢ status.Done → s ≢ status.SomeRefused → s ≢ status.InputLong → s ≢ status.Usage → before.file_faults ≤ now.file_faults → before.input_faults ≡ now.input_faults → before.output_faults ≤ now.output_faults → AskedRan asked world before now world.input (record { output = output; status = s })
+asked_by : (asked : Asked) (world : World) (before now : Counts) (output : List ℕ) (s : Status) → OnWritten s (AskedRun asked world (outcome_of output s)) → OnCutShort s (BeginsOne (AskedRun asked world) output) → OnReadFault s (Rises before.file_faults now.file_faults ⊎ FilesGive world.files asked (Err missing)) → OnWriteFault s (Rises before.output_faults now.output_faults) → OnRefused s ((refusal : Refusal) × FilesGive world.files asked (Err (refused refusal))) → s ≢ status.Done → s ≢ status.SomeRefused → s ≢ status.InputLong → s ≢ status.Usage → before.file_faults ≤ now.file_faults → before.input_faults ≡ now.input_faults → before.output_faults ≤ now.output_faults → AskedRan asked world before now world.input (outcome_of output s)
 asked_by asked world before now output status.Done written begun read write refusal done some long usage files inputs outputs = absurd (done refl)
 asked_by asked world before now output status.SomeRefused written begun read write refusal done some long usage files inputs outputs = absurd (some refl)
 asked_by asked world before now output status.InputLong written begun read write refusal done some long usage files inputs outputs = absurd (long refl)
 asked_by asked world before now output status.Usage written begun read write refusal done some long usage files inputs outputs = absurd (usage refl)
-asked_by asked world before now output status.Refused written begun read write refusal done some long usage files inputs outputs = record { written = written; begun = tt; read_fault = tt; write_fault = tt; refusal = refusal; to_end = tt; long = tt; few = takes_nothing (input_limit + 1) world.input; file_counts = files; input_counts = omega arith; output_counts = outputs; no_usage = usage }
-asked_by asked world before now output status.ReadFault written begun read write refusal done some long usage files inputs outputs = record { written = tt; begun = begun; read_fault = inr read; write_fault = tt; refusal = tt; to_end = tt; long = tt; few = takes_nothing (input_limit + 1) world.input; file_counts = files; input_counts = omega arith; output_counts = outputs; no_usage = usage }
-asked_by asked world before now output status.WriteFault written begun read write refusal done some long usage files inputs outputs = record { written = tt; begun = begun; read_fault = tt; write_fault = write; refusal = tt; to_end = tt; long = tt; few = takes_nothing (input_limit + 1) world.input; file_counts = files; input_counts = omega arith; output_counts = outputs; no_usage = usage }
-asked_by asked world before now output status.Memory written begun read write refusal done some long usage files inputs outputs = record { written = tt; begun = begun; read_fault = tt; write_fault = tt; refusal = tt; to_end = tt; long = tt; few = takes_nothing (input_limit + 1) world.input; file_counts = files; input_counts = omega arith; output_counts = outputs; no_usage = usage }
+asked_by asked world before now output status.Refused written begun read write refusal done some long usage files inputs outputs = record { written = written; begun = tt; finished = tt; read_fault = tt; write_fault = tt; refusal = refusal; to_end = tt; long = tt; few = λ lines. takes_nothing (input_limit + 1) world.input; file_counts = files; input_counts = inl inputs; output_counts = stays_or_rises _ _ outputs; no_usage = usage }
+asked_by asked world before now output status.ReadFault written begun read write refusal done some long usage files inputs outputs = record { written = tt; begun = begun; finished = none_finished refl; read_fault = inr read; write_fault = tt; refusal = tt; to_end = tt; long = tt; few = λ lines. takes_nothing (input_limit + 1) world.input; file_counts = files; input_counts = inl inputs; output_counts = stays_or_rises _ _ outputs; no_usage = usage }
+asked_by asked world before now output status.WriteFault written begun read write refusal done some long usage files inputs outputs = record { written = tt; begun = begun; finished = none_finished refl; read_fault = tt; write_fault = write; refusal = tt; to_end = tt; long = tt; few = λ lines. takes_nothing (input_limit + 1) world.input; file_counts = files; input_counts = inl inputs; output_counts = stays_or_rises _ _ outputs; no_usage = usage }
+asked_by asked world before now output status.Memory written begun read write refusal done some long usage files inputs outputs = record { written = tt; begun = begun; finished = none_finished refl; read_fault = tt; write_fault = tt; refusal = tt; to_end = tt; long = tt; few = λ lines. takes_nothing (input_limit + 1) world.input; file_counts = files; input_counts = inl inputs; output_counts = stays_or_rises _ _ outputs; no_usage = usage }
 
-pub asked_of_refusal : (asked : Asked) (world : World) (before now : Counts) (refusal : Refusal) (output : List ℕ) (s : Status) → FilesGive world.files asked (Err (refused refusal)) → PrintedAs status.Refused (refused_line refusal) output s → OnWriteFault s (Rises before.output_faults now.output_faults) → before.file_faults ≤ now.file_faults → before.input_faults ≡ now.input_faults → before.output_faults ≤ now.output_faults → AskedRan asked world before now world.input (record { output = output; status = s })
+pub asked_of_refusal : (asked : Asked) (world : World) (before now : Counts) (refusal : Refusal) (output : List ℕ) (s : Status) → FilesGive world.files asked (Err (refused refusal)) → PrintedAs status.Refused (refused_line refusal) output s → OnWriteFault s (Rises before.output_faults now.output_faults) → before.file_faults ≤ now.file_faults → before.input_faults ≡ now.input_faults → before.output_faults ≤ now.output_faults → AskedRan asked world before now world.input (outcome_of output s)
 asked_of_refusal asked world before now refusal output s gives printed write files inputs outputs = by (printed_case status.Refused (refused_line refusal) output s printed)
   where
-    by : PrintedCase status.Refused (refused_line refusal) output s → AskedRan asked world before now world.input (record { output = output; status = s })
+    by : PrintedCase status.Refused (refused_line refusal) output s → AskedRan asked world before now world.input (outcome_of output s)
     by (whole e f) = rw (e, f) (asked_by asked world before now (refused_line refusal) status.Refused (stops (refused refusal) gives refl) tt tt tt (refusal, gives) (λ e. cc) (λ e. cc) (λ e. cc) (λ e. cc) files inputs outputs)
     by (fault e p) = let w : Rises before.output_faults now.output_faults = rw e at write in rw e (asked_by asked world before now output status.WriteFault tt (begins_refusal asked world refusal output gives p) tt w tt (λ e. cc) (λ e. cc) (λ e. cc) (λ e. cc) files inputs outputs)
     by (no_memory e p) = rw e (asked_by asked world before now output status.Memory tt (begins_refusal asked world refusal output gives p) tt tt tt (λ e. cc) (λ e. cc) (λ e. cc) (λ e. cc) files inputs outputs)
@@ -132,11 +165,11 @@ no_read_fault fact line output s printed = by (printed_case status.Refused line 
 
 -- ---- nothing was loaded
 
-pub asked_of_fault : (asked : Asked) (world : World) (before now : Counts) → LoadedBy (FilesGive world.files asked) before.file_faults now.file_faults (Err unloaded.ReadFault) → before.file_faults ≤ now.file_faults → before.input_faults ≡ now.input_faults → before.output_faults ≡ now.output_faults → AskedRan asked world before now world.input (record { output = []; status = status.ReadFault })
+pub asked_of_fault : (asked : Asked) (world : World) (before now : Counts) → LoadedBy (FilesGive world.files asked) before.file_faults now.file_faults (Err unloaded.ReadFault) → before.file_faults ≤ now.file_faults → before.input_faults ≡ now.input_faults → before.output_faults ≡ now.output_faults → AskedRan asked world before now world.input (outcome_of [] status.ReadFault)
 asked_of_fault asked world before now cause files inputs outputs =
     asked_by asked world before now [] status.ReadFault tt (begins_nothing asked world) cause tt tt (λ e. cc) (λ e. cc) (λ e. cc) (λ e. cc) files inputs (omega arith)
 
-pub asked_of_memory : (asked : Asked) (world : World) (before now : Counts) → before.file_faults ≤ now.file_faults → before.input_faults ≡ now.input_faults → before.output_faults ≡ now.output_faults → AskedRan asked world before now world.input (record { output = []; status = status.Memory })
+pub asked_of_memory : (asked : Asked) (world : World) (before now : Counts) → before.file_faults ≤ now.file_faults → before.input_faults ≡ now.input_faults → before.output_faults ≡ now.output_faults → AskedRan asked world before now world.input (outcome_of [] status.Memory)
 asked_of_memory asked world before now files inputs outputs =
     asked_by asked world before now [] status.Memory tt (begins_nothing asked world) tt tt tt (λ e. cc) (λ e. cc) (λ e. cc) (λ e. cc) files inputs (omega arith)
 

@@ -1,16 +1,18 @@
 -- What is loaded of a file of a kind, by how it was read and judged.
-use Rattle.std.proofs.Common.{◌≡◌, ℕ, ◌≤◌, List, Option, length, refl, sym, ap, inl, inr, arith}
+use Rattle.std.proofs.Common.{◌≡◌, ℕ, ◌≤◌, List, Option, Some, None, length, refl, sym, ap, inl, inr, arith}
 use Rattle.std.proofs.lemmas.Grind.{common_steps}
 use Rattle.std.specs.Prelude.{Result, Ok, Err}
+use Rattle.gs_http.specs.declared.settings.Settings.{Settings}
 use Rattle.gs_port.specs.Counts.{Rises}
 use Rattle.gs_port.specs.Files.{IsFile}
 use Rattle.gs_translate.specs.Steps.{Then, goes_on, refuses}
 use Rattle.gs_program.specs.declared.file_kind.FileKind.{FileKind}
+use Rattle.gs_program.specs.declared.file_kind.FileKind.TheVariants.{Describe}
 use Rattle.gs_program.specs.declared.loading.Unloaded.{Unloaded}
 use Rattle.gs_program.specs.declared.loading.Unloaded.TheVariants as unloaded
 use Rattle.gs_program.specs.declared.refusal.FileFault.{FileFault}
-use Rattle.gs_program.specs.Loads.{FileGives, LoadedBy, StandsFor, Stop, absent, judged, missing, of_verdict, refused, too_large}
-use Rattle.gs_program.specs.Reads.{JudgedAs, ReadBy}
+use Rattle.gs_program.specs.Loads.{AreSettings, DescriptionGives, FileGives, LoadedBy, StandsFor, Stop, absent, judged, missing, of_verdict, refused, too_large}
+use Rattle.gs_program.specs.Reads.{JudgedAs, ReadBy, SettingsAs}
 use Rattle.gs_program.specs.Refusals.{file_limit}
 
 -- a file that was not read
@@ -53,3 +55,17 @@ loads_on First Next before between now a (Err unloaded.Memory) f less g = tt
 loads_on First Next before between now a (Err unloaded.ReadFault) f less (inl rises) = inl (rises_before before between now less rises)
 loads_on First Next before between now a (Err unloaded.ReadFault) f less (inr none) = inr (goes_on a f none)
 loads_on First Next before between now a (Err (unloaded.Refused refusal)) f less g = goes_on a f g
+
+-- ---- the description
+
+pub description_read : (files : Option (List (List ℕ × List ℕ))) (name bytes : List ℕ) → IsFile files name bytes → length bytes ≤ file_limit Describe → DescriptionGives files (Some name) (Ok (Some bytes))
+description_read files name bytes is few = judged bytes (Ok (Some bytes)) is few refl refl
+
+pub description_unnamed : (files : Option (List (List ℕ × List ℕ))) → DescriptionGives files None (Ok None)
+description_unnamed files = record { verdict = Ok None; judged = refl; is = refl }
+
+pub settings_made : (files : Option (List (List ℕ × List ℕ))) (name : Option (List ℕ)) (voc : List ℕ) (before now : ℕ) (describe : Option (List ℕ)) (result : Result Settings Unloaded) → DescriptionGives files name (Ok describe) → SettingsAs voc describe result → LoadedBy (Then (DescriptionGives files name) (AreSettings voc)) before now result
+settings_made files name voc before now describe (Ok settings) gives e = goes_on describe gives (ap Ok e)
+settings_made files name voc before now describe (Err unloaded.Memory) gives e = tt
+settings_made files name voc before now describe (Err unloaded.ReadFault) gives e = absurd e
+settings_made files name voc before now describe (Err (unloaded.Refused refusal)) gives e = absurd e

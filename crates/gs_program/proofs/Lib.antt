@@ -1,5 +1,6 @@
 pub mod WordLemmas
 pub mod RangeLemmas
+pub mod NumeralLemmas
 pub mod PairLemmas
 pub mod RequestLemmas
 pub mod ValueLemmas
@@ -11,6 +12,9 @@ pub mod LoadLemmas
 pub mod ReadLemmas
 pub mod RanLemmas
 pub mod LineLemmas
+pub mod SiteLemmas
+pub mod ServeLemmas
+pub mod GenLemmas
 pub mod CanonLaws
 pub mod AskedLemmas
 pub mod RunLemmas

@@ -12,7 +12,7 @@ use Rattle.gs_translate.proofs.AnswerLaws.{suits_one, suits_some}
 use Rattle.gs_translate.proofs.OneTranslation.{one_translation, some_translation}
 use Rattle.gs_translate.proofs.StepLaws.{told_answer}
 use Rattle.gs_program.specs.LineAnswers.{AddsLine, IsTranslatedLine, Translating, line_of}
-use Rattle.gs_program.specs.Works.{Translated, input_limit}
+use Rattle.gs_program.specs.Works.{Translated, input_limit, outcome_of}
 
 -- the line of an answer that is told
 adds_line : (t : Translating) (text before now : List ℕ) (answer : Result (List ℕ) Reason) (any : Bool) → UnlessMemory answer (IsTranslation t.set t.prefixes t.options t.from t.to text answer) → answer ≢ Err Memory → AddsLine answer before now any → AddsAnswer (IsTranslatedLine t) text before now any
@@ -41,4 +41,4 @@ some_line t loaded text =
 pub translated_some : (t : Translating) (input : Option (List ℕ)) → IsLoaded t.set → HasSome (Translated t input)
 translated_some t input keeps =
     let o = some_outcome (IsTranslatedLine t) input_limit input (some_line t keeps) in
-    (record { output = o.output; status = o.status }, o.answers)
+    (outcome_of o.output o.status, (o.answers, refl))

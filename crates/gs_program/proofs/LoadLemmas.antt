@@ -5,6 +5,7 @@ use Rattle.std.proofs.lemmas.Bool.Decides.{leb_tells}
 use Rattle.gs_ai.specs.declared.row.AiRow.{AiRow}
 use Rattle.gs_document.specs.declared.fault.LoadFault.{LoadFault}
 use Rattle.gs_document.specs.declared.level_name.LevelName.{LevelName}
+use Rattle.gs_links.specs.declared.link.Link.{Link}
 use Rattle.gs_linkset.specs.Answers.{read_answer}
 use Rattle.gs_port.specs.Files.{IsAbsent, IsFile, file_of}
 use Rattle.gs_prefix.specs.Answers.{load_answer}
@@ -21,7 +22,7 @@ use Rattle.gs_program.specs.declared.file_kind.FileKind.TheVariants as kind
 use Rattle.gs_program.specs.declared.loading.Loaded.{Loaded}
 use Rattle.gs_program.specs.declared.refusal.FileFault.{FileFault}
 use Rattle.gs_program.specs.declared.refusal.FileFault.TheVariants.{Over}
-use Rattle.gs_program.specs.Loads.{FileGives, FilesGive, Gives, GivesBehind, GivesLinks, IsLoadedOf, IsNoLink, IsNoPrefix, JudgesLinks, JudgesPrefixes, JudgesTables, LinksGive, PrefixesGive, Stop, TablesGive, links_verdict, prefixes_verdict, absent, judged, missing, of_verdict, tables_verdict, too_large}
+use Rattle.gs_program.specs.Loads.{AreSettings, DescriptionGives, FileGives, FilesGive, Gives, GivesBehind, GivesLinks, GivesSettings, IsLoadedOf, IsNoDescription, IsNoLink, IsNoPrefix, JudgesDescription, JudgesLinks, JudgesPrefixes, JudgesTables, LinksGive, PrefixesGive, SettingsGive, Stop, TablesGive, links_verdict, prefixes_verdict, absent, judged, missing, of_verdict, tables_verdict, too_large}
 use Rattle.gs_program.specs.Refusals.{file_limit}
 use Rattle.gs_program.specs.Requests.{Asked}
 use Rattle.gs_program.specs.Runs.{ambiguous}
@@ -112,14 +113,28 @@ links_one files ais voc name = gives_one files kind.Links (JudgesLinks ais voc) 
     (λ bytes x y e f. one_stop (ap (of_verdict kind.Links) (e ∙ sym f)))
     (λ x y e f. one_stop (ap (of_verdict kind.Links) (e ∙ sym f)))
 
-last_one : (files : List (List ℕ × List ℕ)) (asked : Asked) (set : TableRows) (list : List PrefixEntry) → AreAlikeAll (GivesLinks (Some files) asked set list)
-last_one files asked set list = then_alike (LinksGive (Some files) set.ais asked.values.voc asked.files.links) (IsLoadedOf set list)
+description_one : (files : List (List ℕ × List ℕ)) (name : Option (List ℕ)) → AreAlikeAll (DescriptionGives (Some files) name)
+description_one files name = gives_one files kind.Describe JudgesDescription IsNoDescription name
+    (λ bytes x y e f. one_stop (ap (of_verdict kind.Describe) (e ∙ sym f)))
+    (λ x y e f. one_stop (ap (of_verdict kind.Describe) (e ∙ sym f)))
+
+settings_one : (files : List (List ℕ × List ℕ)) (asked : Asked) → AreAlikeAll (SettingsGive (Some files) asked)
+settings_one files asked = then_alike (DescriptionGives (Some files) asked.files.describe) (AreSettings asked.values.voc)
+    (description_one files asked.files.describe)
+    (λ describe x y e f. one_stop (e ∙ sym f))
+
+last_one : (files : List (List ℕ × List ℕ)) (asked : Asked) (set : TableRows) (list : List PrefixEntry) (links : List Link) → AreAlikeAll (GivesSettings (Some files) asked set list links)
+last_one files asked set list links = then_alike (SettingsGive (Some files) asked) (IsLoadedOf set list links) (settings_one files asked)
+    (λ settings x y e f. one_stop (e ∙ sym f))
+
+with_links_one : (files : List (List ℕ × List ℕ)) (asked : Asked) (set : TableRows) (list : List PrefixEntry) → AreAlikeAll (GivesLinks (Some files) asked set list)
+with_links_one files asked set list = then_alike (LinksGive (Some files) set.ais asked.values.voc asked.files.links) (GivesSettings (Some files) asked set list)
     (links_one files set.ais asked.values.voc asked.files.links)
-    (λ links x y e f. one_stop (e ∙ sym f))
+    (last_one files asked set list)
 
 behind_one : (files : List (List ℕ × List ℕ)) (asked : Asked) (set : TableRows) → AreAlikeAll (GivesBehind (Some files) asked set)
 behind_one files asked set = then_alike (PrefixesGive (Some files) asked.files.prefixes) (GivesLinks (Some files) asked set) (prefixes_one files asked.files.prefixes)
-    (last_one files asked set)
+    (with_links_one files asked set)
 
 pub files_one : (files : List (List ℕ × List ℕ)) (asked : Asked) (a b : Result Loaded Stop) → FilesGive (Some files) asked a → FilesGive (Some files) asked b → AlikeStops a b
 files_one files asked = then_alike (TablesGive (Some files) asked.files.tables) (GivesBehind (Some files) asked)
@@ -157,14 +172,26 @@ prefixes_some files name = gives_some files kind.Prefixes JudgesPrefixes IsNoPre
 links_some : (files : Option (List (List ℕ × List ℕ))) (ais : List AiRow) (voc : List ℕ) (name : Option (List ℕ)) → HasSome (LinksGive files ais voc name)
 links_some files ais voc name = gives_some files kind.Links (JudgesLinks ais voc) IsNoLink name (λ bytes. (links_verdict ais voc (read_answer bytes), refl)) (Ok [], refl)
 
-last_some : (files : Option (List (List ℕ × List ℕ))) (asked : Asked) (set : TableRows) (list : List PrefixEntry) → HasSome (GivesLinks files asked set list)
-last_some files asked set list = then_some (LinksGive files set.ais asked.values.voc asked.files.links) (IsLoadedOf set list)
+description_some : (files : Option (List (List ℕ × List ℕ))) (name : Option (List ℕ)) → HasSome (DescriptionGives files name)
+description_some files name = gives_some files kind.Describe JudgesDescription IsNoDescription name (λ bytes. (Ok (Some bytes), refl)) (Ok None, refl)
+
+settings_some : (files : Option (List (List ℕ × List ℕ))) (asked : Asked) → HasSome (SettingsGive files asked)
+settings_some files asked = then_some (DescriptionGives files asked.files.describe) (AreSettings asked.values.voc)
+    (description_some files asked.files.describe)
+    (λ describe gives. (Ok (record { voc = asked.values.voc; describe = describe }), refl))
+
+last_some : (files : Option (List (List ℕ × List ℕ))) (asked : Asked) (set : TableRows) (list : List PrefixEntry) (links : List Link) → HasSome (GivesSettings files asked set list links)
+last_some files asked set list links = then_some (SettingsGive files asked) (IsLoadedOf set list links) (settings_some files asked)
+    (λ settings gives. (Ok (record { tables = set; prefixes = list; links = links; settings = settings }), refl))
+
+with_links_some : (files : Option (List (List ℕ × List ℕ))) (asked : Asked) (set : TableRows) (list : List PrefixEntry) → HasSome (GivesLinks files asked set list)
+with_links_some files asked set list = then_some (LinksGive files set.ais asked.values.voc asked.files.links) (GivesSettings files asked set list)
     (links_some files set.ais asked.values.voc asked.files.links)
-    (λ links gives. (Ok (record { tables = set; prefixes = list; links = links }), refl))
+    (λ links gives. last_some files asked set list links)
 
 behind_some : (files : Option (List (List ℕ × List ℕ))) (asked : Asked) (set : TableRows) → HasSome (GivesBehind files asked set)
 behind_some files asked set = then_some (PrefixesGive files asked.files.prefixes) (GivesLinks files asked set) (prefixes_some files asked.files.prefixes)
-    (λ list gives. last_some files asked set list)
+    (λ list gives. with_links_some files asked set list)
 
 pub files_some : (files : Option (List (List ℕ × List ℕ))) (asked : Asked) → HasSome (FilesGive files asked)
 files_some files asked = then_some (TablesGive files asked.files.tables) (GivesBehind files asked)

@@ -1,39 +1,57 @@
 -- What commands did, by the lines that they answered or the line that they printed.
-use Rattle.std.proofs.Common.{◌≡◌, ◌≢◌, ℕ, ◌+◌, ◌≤◌, Bool, true, false, List, [], Option, refl, sym, ◌∙◌, arith}
+use Rattle.std.proofs.Common.{◌≡◌, ◌≢◌, inl, inr, ℕ, ◌+◌, ◌++◌, ◌≤◌, Bool, true, false, List, [], Option, None, Some, append-nil, ap, refl, sym, ◌∙◌, arith}
+use Rattle.std.specs.Prelude.{option_map}
+use Rattle.std.proofs.lemmas.Bool.Decides.{leb_tells}
+use Rattle.std.proofs.lemmas.Grind.{common_steps}
 use Rattle.gs_lines.specs.declared.status.Status.{Status}
 use Rattle.gs_lines.specs.declared.status.Status.TheVariants as status
 use Rattle.gs_lines.specs.Inputs.{IsAtEnd, TakesAtMost, TakesMoreThan}
-use Rattle.gs_lines.specs.Outputs.{AnswersEnded, AnswersInput, BeginsInput, HasAnswers, LineAnswer, WritesAnswers}
+use Rattle.gs_lines.specs.Outputs.{AnswersEnded, AnswersInput, Appends, BeginsInput, HasAnswers, LineAnswer, WritesAnswers}
 use Rattle.gs_lines.specs.Printing.{IsInitialPart, PrintedAs}
 use Rattle.gs_lines.specs.Statuses.{OnAnswered, OnCutShort, OnInputLong, OnReadFault, OnWriteFault, OnWritten, is_answered, is_cut_short, is_read_fault, is_written}
 use Rattle.gs_lines.proofs.OneOutcome.{whole_of_part}
 use Rattle.gs_lines.proofs.StatusLemmas.{when_always, when_map}
+use Rattle.gs_port.specs.Connections.{Finished}
 use Rattle.gs_port.specs.Contents.{prepend_nothing}
-use Rattle.gs_port.specs.Counts.{Rises}
+use Rattle.gs_port.specs.Counts.{Rises, counted}
+use Rattle.gs_serve.specs.Resolved.{count_if}
 use Rattle.gs_translate.specs.Steps.{HasSome}
-use Rattle.gs_program.specs.Ran.{BeginsOne, Moment, Ran}
-use Rattle.gs_program.specs.Works.{Outcome, input_limit}
+use Rattle.gs_program.specs.Ran.{BeginsOne, Moment, Ran, StaysOrRises}
+use Rattle.gs_program.specs.Works.{Leaves, Outcome, input_limit, outcome_of}
+
+-- ---- counts
+
+pub stays_or_rises : (before now : ℕ) → before ≤ now → StaysOrRises before now
+stays_or_rises before now less = elim (leb_tells now before) as (λ _. StaysOrRises before now) [
+  | inl e ↦ let l = e.1 in inl (omega arith)
+  | inr e ↦ let l = e.1 in inr (grind (arith, common_steps))
+]
+
+pub stays_or_counted : (rises : Bool) (before now : ℕ) → now ≡ count_if rises before → StaysOrRises before now
+stays_or_counted true before now e = let f : now ≡ counted before = e in inr (rw f (omega arith))
+stays_or_counted false before now e = inl (sym e)
 
 -- ---- lines
 
-begins_by : (Is : List ℕ → LineAnswer → Type 0) (input : Option (List ℕ)) (output : List ℕ) → HasAnswers Is → BeginsInput Is input_limit input output → BeginsOne (λ outcome. AnswersInput Is input_limit input outcome.output outcome.status) output
+begins_by : (Is : List ℕ → LineAnswer → Type 0) (input : Option (List ℕ)) (output : List ℕ) → HasAnswers Is → BeginsInput Is input_limit input output → BeginsOne (λ outcome. AnswersInput Is input_limit input outcome.output outcome.status × (outcome.finished ≡ [])) output
 begins_by Is input output some b =
     let h = whole_of_part Is input_limit input output some b in
-    record { outcome = record { output = h.output; status = h.status }; is = h.answers; begins = h.begins }
+    record { outcome = outcome_of h.output h.status; is = (h.answers, refl); begins = h.begins }
 
 -- A command that answers the lines of its input, by what is an answer to a text.
-pub ran_of_lines : (Is : List ℕ → LineAnswer → Type 0) (before now : Moment) (outcome : Outcome) → HasAnswers Is → WritesAnswers Is input_limit before.input now.input outcome.output outcome.status → OnAnswered outcome.status (IsAtEnd now.input) → OnInputLong outcome.status (TakesMoreThan input_limit before.input now.input) → TakesAtMost (input_limit + 1) before.input now.input → OnReadFault outcome.status (Rises before.input_faults now.input_faults) → OnWriteFault outcome.status (Rises before.output_faults now.output_faults) → before.input_faults ≤ now.input_faults → before.output_faults ≤ now.output_faults → outcome.status ≢ status.Usage → outcome.status ≢ status.Refused → Ran (λ o. AnswersInput Is input_limit before.input o.output o.status) (AnswersEnded Is before.input now.input) true before now outcome
-ran_of_lines Is before now outcome some writes end long few read write inputs outputs usage refusal = record {
-  written = writes.all;
-  begun = when_map (is_cut_short outcome.status) (begins_by Is before.input outcome.output some) writes.first;
+pub ran_of_lines : (Is : List ℕ → LineAnswer → Type 0) (before now : Moment) (output : List ℕ) (s : Status) → HasAnswers Is → WritesAnswers Is input_limit before.input now.input output s → OnAnswered s (IsAtEnd now.input) → OnInputLong s (TakesMoreThan input_limit before.input now.input) → TakesAtMost (input_limit + 1) before.input now.input → OnReadFault s (Rises before.input_faults now.input_faults) → OnWriteFault s (Rises before.output_faults now.output_faults) → before.input_faults ≤ now.input_faults → before.output_faults ≤ now.output_faults → s ≢ status.Usage → s ≢ status.Refused → Ran (λ o. AnswersInput Is input_limit before.input o.output o.status × (o.finished ≡ [])) (AnswersEnded Is before.input now.input) (λ status finished. finished ≡ []) (Rises before.input_faults now.input_faults) true before now (outcome_of output s)
+ran_of_lines Is before now output s some writes end long few read write inputs outputs usage refusal = record {
+  written = when_map (is_written s) (λ a. (a, refl)) writes.all;
+  begun = when_map (is_cut_short s) (begins_by Is before.input output some) writes.first;
+  finished = when_always (is_cut_short s) refl;
   read_fault = read;
   ended = writes.ended;
   write_fault = write;
-  to_end = when_map (is_answered outcome.status) (λ e lines. e) end;
+  to_end = when_map (is_answered s) (λ e lines. e) end;
   long = long;
-  few = few;
-  input_counts = inputs;
-  output_counts = outputs;
+  few = λ lines. few;
+  input_counts = stays_or_rises _ _ inputs;
+  output_counts = stays_or_rises _ _ outputs;
   no_usage = usage;
   no_refusal = refusal;
 }
@@ -60,38 +78,53 @@ pub takes_nothing : (most : ℕ) (input : Option (List ℕ)) → TakesAtMost mos
 takes_nothing most input = ([], omega arith, sym (prepend_nothing input))
 
 -- the facts of a command that leaves the input, by its status, which is no read fault
-module _ (Is : Outcome → Type 0) (Ended : List ℕ → Type 0) (reads : Bool) where
-  ran_by : (before now : Moment) (output : List ℕ) (s : Status) → OnWritten s (Is (record { output = output; status = s })) → OnCutShort s (BeginsOne Is output) → is_read_fault s ≡ false → OnWriteFault s (Rises before.output_faults now.output_faults) → OnAnswered s (reads ≡ true → IsAtEnd now.input) → OnInputLong s (TakesMoreThan input_limit before.input now.input) → before.input ≡ now.input → before.input_faults ≡ now.input_faults → before.output_faults ≤ now.output_faults → s ≢ status.Usage → s ≢ status.Refused → Ran Is Ended reads before now (record { output = output; status = s })
+-- and that finished no connection
+module _ (Is : Outcome → Type 0) (Ended : List ℕ → Type 0) (Cause : Type 0) (lines : Bool) where
+  ran_by : (before now : Moment) (output : List ℕ) (s : Status) → OnWritten s (Is (outcome_of output s)) → OnCutShort s (BeginsOne Is output) → is_read_fault s ≡ false → OnWriteFault s (Rises before.output_faults now.output_faults) → OnAnswered s (lines ≡ true → IsAtEnd now.input) → OnInputLong s (TakesMoreThan input_limit before.input now.input) → before.input ≡ now.input → before.input_faults ≡ now.input_faults → before.output_faults ≤ now.output_faults → s ≢ status.Usage → s ≢ status.Refused → Ran Is Ended (λ status finished. finished ≡ []) Cause lines before now (outcome_of output s)
   ran_by before now output s written begun unfaulted write end long same inputs outputs usage refusal = record {
     written = written;
     begun = begun;
+    finished = when_always (is_cut_short s) refl;
     read_fault = rw unfaulted tt;
     ended = rw unfaulted tt;
     write_fault = write;
     to_end = end;
     long = long;
-    few = rw same (takes_nothing (input_limit + 1) now.input);
-    input_counts = omega arith;
-    output_counts = outputs;
+    few = λ lines. rw same (takes_nothing (input_limit + 1) now.input);
+    input_counts = inl inputs;
+    output_counts = stays_or_rises _ _ outputs;
     no_usage = usage;
     no_refusal = refusal;
   }
 
-  begins_some : (line output : List ℕ) (s : Status) → Is (record { output = line; status = s }) → IsInitialPart output line → BeginsOne Is output
-  begins_some line output s is part = record { outcome = record { output = line; status = s }; is = is; begins = part }
+  begins_some : (line output : List ℕ) (s : Status) → Is (outcome_of line s) → IsInitialPart output line → BeginsOne Is output
+  begins_some line output s is part = record { outcome = outcome_of line s; is = is; begins = part }
 
   -- A command that reads nothing, and prints one line.
-  pub ran_of_line : (line : List ℕ) (before now : Moment) (output : List ℕ) (s : Status) → Is (record { output = line; status = status.Done }) → PrintedAs status.Done line output s → OnWriteFault s (Rises before.output_faults now.output_faults) → reads ≡ false → before.input ≡ now.input → before.input_faults ≡ now.input_faults → before.output_faults ≤ now.output_faults → Ran Is Ended reads before now (record { output = output; status = s })
+  pub ran_of_line : (line : List ℕ) (before now : Moment) (output : List ℕ) (s : Status) → Is (outcome_of line status.Done) → PrintedAs status.Done line output s → OnWriteFault s (Rises before.output_faults now.output_faults) → lines ≡ false → before.input ≡ now.input → before.input_faults ≡ now.input_faults → before.output_faults ≤ now.output_faults → Ran Is Ended (λ status finished. finished ≡ []) Cause lines before now (outcome_of output s)
   ran_of_line line before now output s is printed write none same inputs outputs = by (printed_case status.Done line output s printed)
     where
-      reads_none : reads ≡ true → IsAtEnd now.input
-      reads_none does = absurd (let e : false ≡ true = sym none ∙ does in cc)
+      no_lines : lines ≡ true → IsAtEnd now.input
+      no_lines does = absurd (let e : false ≡ true = sym none ∙ does in cc)
 
-      by : PrintedCase status.Done line output s → Ran Is Ended reads before now (record { output = output; status = s })
-      by (whole e f) = rw (e, f) (ran_by before now line status.Done is tt refl tt reads_none tt same inputs outputs (λ e. cc) (λ e. cc))
+      by : PrintedCase status.Done line output s → Ran Is Ended (λ status finished. finished ≡ []) Cause lines before now (outcome_of output s)
+      by (whole e f) = rw (e, f) (ran_by before now line status.Done is tt refl tt no_lines tt same inputs outputs (λ e. cc) (λ e. cc))
       by (fault e p) = let w : Rises before.output_faults now.output_faults = rw e at write in rw e (ran_by before now output status.WriteFault tt (begins_some line output status.Done is p) refl w tt tt same inputs outputs (λ e. cc) (λ e. cc))
       by (no_memory e p) = rw e (ran_by before now output status.Memory tt (begins_some line output status.Done is p) refl tt tt tt same inputs outputs (λ e. cc) (λ e. cc))
 
+  begins_any : HasSome Is → BeginsOne Is []
+  begins_any some = record { outcome = some.0; is = some.1; begins = (0, refl) }
+
   -- A command that did nothing, for want of memory.
-  pub ran_of_memory : (before : Moment) → HasSome Is → Ran Is Ended reads before before (record { output = []; status = status.Memory })
-  ran_of_memory before some = ran_by before before [] status.Memory tt (begins_some some.0.output [] some.0.status some.1 (0, refl)) refl tt tt tt refl refl (omega arith) (λ e. cc) (λ e. cc)
+  pub ran_of_memory : (before : Moment) → HasSome Is → Ran Is Ended (λ status finished. finished ≡ []) Cause lines before before (outcome_of [] status.Memory)
+  ran_of_memory before some = ran_by before before [] status.Memory tt (begins_any some) refl tt tt tt refl refl (omega arith) (λ e. cc) (λ e. cc)
+
+-- ---- the door
+
+none_more : (ended : Option (List Finished)) → ended ≡ option_map (λ before. before ++ []) ended
+none_more None = refl
+none_more (Some before) = ap Some (sym (append-nil before))
+
+-- what was written, where the door is as it was
+pub leaves_door : (held holds : Option (List ℕ)) (ended : Option (List Finished)) (s : Status) (fact : Outcome → Type 0) → Appends held holds (λ output. fact (outcome_of output s)) → Leaves held holds ended ended s fact
+leaves_door held holds ended s fact a = ([], none_more ended, a)

@@ -65,6 +65,7 @@ pub loaded_of : (files : Option (List (List ℕ × List ℕ))) (asked : Asked) (
 loaded_of files asked loaded (refuses stop gives e) = absurd (let f : Ok loaded ≡ Err stop = e in cc)
 loaded_of files asked loaded (goes_on set gives (refuses stop g e)) = absurd (let f : Ok loaded ≡ Err stop = e in cc)
 loaded_of files asked loaded (goes_on set gives (goes_on list g (refuses stop h e))) = absurd (let f : Ok loaded ≡ Err stop = e in cc)
-loaded_of files asked loaded (goes_on set gives (goes_on list g (goes_on links h e))) =
-    let same : loaded ≡ record { tables = set; prefixes = list; links = links } = cc in
+loaded_of files asked loaded (goes_on set gives (goes_on list g (goes_on links h (refuses stop i e)))) = absurd (let f : Ok loaded ≡ Err stop = e in cc)
+loaded_of files asked loaded (goes_on set gives (goes_on list g (goes_on links h (goes_on settings i e)))) =
+    let same : loaded ≡ record { tables = set; prefixes = list; links = links; settings = settings } = cc in
     rw same (loaded_named files asked.files.tables set gives)

@@ -1,41 +1,49 @@
 -- Each clause of a run, by what was done of what the words ask for.
-use Rattle.std.proofs.Common.{◌≡◌, ◌≢◌, ◌⊎◌, inl, inr, ℕ, Bool, true, false, List, [], ◌∷◌, Option, refl, ◌∙◌, ap, arith}
+use Rattle.std.proofs.Common.{◌≡◌, ◌≢◌, ◌⊎◌, inl, inr, ℕ, ◌+◌, Bool, true, false, List, [], ◌∷◌, Option, refl, ◌∙◌, ap, arith}
 use Rattle.std.specs.List.{Contains}
 use Rattle.gs_lines.specs.declared.status.Status.{Status}
 use Rattle.gs_lines.specs.declared.status.Status.TheVariants as status
-use Rattle.gs_lines.specs.Inputs.{IsAtEnd}
+use Rattle.gs_lines.specs.Inputs.{IsAtEnd, TakesAtMost}
 use Rattle.gs_lines.specs.Outputs.{Appends}
 use Rattle.gs_lines.specs.Printing.{IsInitialPart, PrintedAs}
 use Rattle.gs_lines.specs.Statuses.{OnAnswered, OnCutShort, OnInputLong, OnReadFault, OnRefused, OnUsage, OnWritten, is_answered, is_cut_short, is_read_fault, is_refusal, is_written}
-use Rattle.gs_lines.proofs.StatusLemmas.{when_map}
+use Rattle.gs_lines.proofs.StatusLemmas.{when_always, when_map}
+use Rattle.gs_port.specs.Connections.{Finished}
 use Rattle.gs_port.specs.Counts.{Rises}
 use Rattle.gs_program.specs.declared.command.Command.{Command}
 use Rattle.gs_program.specs.Asking.{AskedRan, Counts, ReadCause}
 use Rattle.gs_program.specs.Commands.{answers_lines}
 use Rattle.gs_program.specs.Ran.{BeginsOne}
-use Rattle.gs_program.specs.Requests.{Asked, AsksForLines, NamesFile, NotInOrder, WordsInOrder, names_in_order, usage_line}
-use Rattle.gs_program.specs.Runs.{AskedEnded, AskedRun, BeginsRun, DefinedRun, EndedRun, IsMissing, IsRefused, World, by_request, by_usage}
-use Rattle.gs_program.proofs.RanLemmas.{PrintedCase, fault, no_memory, printed_case, whole}
+use Rattle.gs_program.specs.Requests.{Asked, AsksFor, AsksForLines, NamesFile, NotInOrder, WordsInOrder, names_in_order, usage_line}
+use Rattle.gs_program.specs.Runs.{AskedEnded, AskedRun, BeginsRun, DefinedRun, EndedRun, FinishedRun, IsMissing, IsRefused, World, by_disorder, by_order, by_request, by_usage}
+use Rattle.gs_program.specs.Works.{Leaves, Outcome, input_limit, outcome_of}
+use Rattle.gs_program.proofs.RanLemmas.{PrintedCase, fault, leaves_door, no_memory, printed_case, whole}
 use Rattle.gs_program.proofs.RequestLemmas.{one_request}
 
 -- ---- words that ask for something
 
-pub defined_of : (words : List (List ℕ)) (asked : Asked) (world : World) (before now : Counts) (left held holds : Option (List ℕ)) (s : Status) → WordsInOrder words asked → Appends held holds (λ out. AskedRan asked world before now left (record { output = out; status = s })) → OnWritten s (Appends held holds (λ out. DefinedRun words world (record { output = out; status = s })))
-defined_of words asked world before now left held holds s order a = when_map (is_written s) (λ run. (a.0, a.1, by_request asked order run)) a.2.written
+pub defined_of : (words : List (List ℕ)) (asked : Asked) (world : World) (before now : Counts) (left held holds : Option (List ℕ)) (ended ended' : Option (List Finished)) (s : Status) → WordsInOrder words asked → Leaves held holds ended ended' s (AskedRan asked world before now left) → OnWritten s (Leaves held holds ended ended' s (DefinedRun words world))
+defined_of words asked world before now left held holds ended ended' s order a = let w = a.2 in when_map (is_written s) (λ run. (a.0, a.1, (w.0, w.1, by_request asked order run))) w.2.written
 
 begins_words : (words : List (List ℕ)) (asked : Asked) (world : World) (output : List ℕ) → WordsInOrder words asked → BeginsOne (AskedRun asked world) output → BeginsRun words world output
 begins_words words asked world output order b = record { outcome = b.outcome; is = by_request asked order b.is; begins = b.begins }
 
-pub begun_of : (words : List (List ℕ)) (asked : Asked) (world : World) (before now : Counts) (left held holds : Option (List ℕ)) (s : Status) → WordsInOrder words asked → Appends held holds (λ out. AskedRan asked world before now left (record { output = out; status = s })) → OnCutShort s (Appends held holds (BeginsRun words world))
-begun_of words asked world before now left held holds s order a = when_map (is_cut_short s) (λ b. (a.0, a.1, begins_words words asked world a.0 order b)) a.2.begun
+pub begun_of : (words : List (List ℕ)) (asked : Asked) (world : World) (before now : Counts) (left held holds : Option (List ℕ)) (ended ended' : Option (List Finished)) (s : Status) → WordsInOrder words asked → Leaves held holds ended ended' s (AskedRan asked world before now left) → OnCutShort s (Appends held holds (BeginsRun words world))
+begun_of words asked world before now left held holds ended ended' s order a = let w = a.2 in when_map (is_cut_short s) (λ b. (w.0, w.1, begins_words words asked world w.0 order b)) w.2.begun
 
-same_lines : (words : List (List ℕ)) (asked : Asked) → WordsInOrder words asked → AsksForLines words → answers_lines asked.command ≡ true
-same_lines words asked order lines =
-    let same : asked ≡ lines.asked = one_request words asked lines.asked order lines.order in
-    ap (λ (x : Asked). answers_lines x.command) same ∙ lines.lines
+pub finished_of : (words : List (List ℕ)) (asked : Asked) (world : World) (before now : Counts) (left held holds : Option (List ℕ)) (ended ended' : Option (List Finished)) (s : Status) → WordsInOrder words asked → Leaves held holds ended ended' s (AskedRan asked world before now left) → OnCutShort s (Leaves held holds ended ended' s (FinishedRun words world))
+finished_of words asked world before now left held holds ended ended' s order a = let w = a.2 in when_map (is_cut_short s) (λ f. (a.0, a.1, (w.0, w.1, by_order asked order f))) w.2.finished
+
+same_test : (test : Command → Bool) (words : List (List ℕ)) (asked : Asked) → WordsInOrder words asked → AsksFor test words → test asked.command ≡ true
+same_test test words asked order asks =
+    let same : asked ≡ asks.asked = one_request words asked asks.asked order asks.order in
+    ap (λ (x : Asked). test x.command) same ∙ asks.passes
 
 pub to_end_of : (words : List (List ℕ)) (asked : Asked) (left : Option (List ℕ)) (s : Status) → WordsInOrder words asked → OnAnswered s (answers_lines asked.command ≡ true → IsAtEnd left) → AsksForLines words → OnAnswered s (IsAtEnd left)
-to_end_of words asked left s order end lines = when_map (is_answered s) (λ e. e (same_lines words asked order lines)) end
+to_end_of words asked left s order end lines = when_map (is_answered s) (λ e. e (same_test answers_lines words asked order lines)) end
+
+pub few_of : (words : List (List ℕ)) (asked : Asked) (input left : Option (List ℕ)) → WordsInOrder words asked → (answers_lines asked.command ≡ true → TakesAtMost (input_limit + 1) input left) → AsksForLines words → TakesAtMost (input_limit + 1) input left
+few_of words asked input left order few lines = few (same_test answers_lines words asked order lines)
 
 never_usage : (s : Status) (fact : Type 0) → s ≢ status.Usage → OnUsage s fact
 never_usage status.Done fact un = tt
@@ -47,19 +55,19 @@ never_usage status.WriteFault fact un = tt
 never_usage status.InputLong fact un = tt
 never_usage status.Memory fact un = tt
 
-pub usage_of : (fact : Type 0) (asked : Asked) (world : World) (before now : Counts) (left : Option (List ℕ)) (output : List ℕ) (s : Status) → AskedRan asked world before now left (record { output = output; status = s }) → OnUsage s fact
-usage_of fact asked world before now left output s r = never_usage s fact r.no_usage
+pub usage_of : (fact : Type 0) (asked : Asked) (world : World) (before now : Counts) (left : Option (List ℕ)) (outcome : Outcome) → AskedRan asked world before now left outcome → OnUsage outcome.status fact
+usage_of fact asked world before now left outcome r = never_usage outcome.status fact r.no_usage
 
-pub refused_of : (words : List (List ℕ)) (asked : Asked) (world : World) (before now : Counts) (left : Option (List ℕ)) (output : List ℕ) (s : Status) → WordsInOrder words asked → AskedRan asked world before now left (record { output = output; status = s }) → OnRefused s (IsRefused words world.files)
-refused_of words asked world before now left output s order r = when_map (is_refusal s) (λ x. record { asked = asked; order = order; refusal = x.0; gives = x.1 }) r.refusal
+pub refused_of : (words : List (List ℕ)) (asked : Asked) (world : World) (before now : Counts) (left : Option (List ℕ)) (outcome : Outcome) → WordsInOrder words asked → AskedRan asked world before now left outcome → OnRefused outcome.status (IsRefused words world.files)
+refused_of words asked world before now left outcome order r = when_map (is_refusal outcome.status) (λ x. record { asked = asked; order = order; refusal = x.0; gives = x.1 }) r.refusal
 
-cause_of : (words : List (List ℕ)) (asked : Asked) (world : World) (before now : Counts) → WordsInOrder words asked → ReadCause asked world before now → Rises before.input_faults now.input_faults ⊎ (Rises before.file_faults now.file_faults ⊎ IsMissing words world.files)
+cause_of : (words : List (List ℕ)) (asked : Asked) (world : World) (before now : Counts) → WordsInOrder words asked → ReadCause asked world before now → (Rises before.input_faults now.input_faults ⊎ Rises before.door_faults now.door_faults) ⊎ (Rises before.file_faults now.file_faults ⊎ IsMissing words world.files)
 cause_of words asked world before now order (inl rises) = inl rises
 cause_of words asked world before now order (inr (inl rises)) = inr (inl rises)
 cause_of words asked world before now order (inr (inr gives)) = inr (inr (record { asked = asked; order = order; gives = gives }))
 
-pub read_fault_of : (words : List (List ℕ)) (asked : Asked) (world : World) (before now : Counts) (left : Option (List ℕ)) (output : List ℕ) (s : Status) → WordsInOrder words asked → AskedRan asked world before now left (record { output = output; status = s }) → OnReadFault s (Rises before.input_faults now.input_faults ⊎ (Rises before.file_faults now.file_faults ⊎ IsMissing words world.files))
-read_fault_of words asked world before now left output s order r = when_map (is_read_fault s) (cause_of words asked world before now order) r.read_fault
+pub read_fault_of : (words : List (List ℕ)) (asked : Asked) (world : World) (before now : Counts) (left : Option (List ℕ)) (outcome : Outcome) → WordsInOrder words asked → AskedRan asked world before now left outcome → OnReadFault outcome.status ((Rises before.input_faults now.input_faults ⊎ Rises before.door_faults now.door_faults) ⊎ (Rises before.file_faults now.file_faults ⊎ IsMissing words world.files))
+read_fault_of words asked world before now left outcome order r = when_map (is_read_fault outcome.status) (cause_of words asked world before now order) r.read_fault
 
 ended_words : (nothing rises : Type 0) (words : List (List ℕ)) (asked : Asked) (files : Option (List (List ℕ × List ℕ))) (old left held holds : Option (List ℕ)) → WordsInOrder words asked → nothing ⊎ (rises × Appends held holds (AskedEnded asked files old left)) → nothing ⊎ (rises × Appends held holds (EndedRun words files old left))
 ended_words nothing rises words asked files old left held holds order (inl n) = inl n
@@ -68,16 +76,13 @@ ended_words nothing rises words asked files old left held holds order (inr e) = 
 pub ended_of : (nothing rises : Type 0) (words : List (List ℕ)) (asked : Asked) (files : Option (List (List ℕ × List ℕ))) (old left held holds : Option (List ℕ)) (s : Status) → WordsInOrder words asked → OnReadFault s (nothing ⊎ (rises × Appends held holds (AskedEnded asked files old left))) → OnReadFault s (nothing ⊎ (rises × Appends held holds (EndedRun words files old left)))
 ended_of nothing rises words asked files old left held holds s order e = when_map (is_read_fault s) (ended_words nothing rises words asked files old left held holds order) e
 
--- a command that does not answer lines
-not_lines : (command : Command) → (answers_lines command ≡ true → ⊥) → answers_lines command ≡ false
-not_lines command none = by (answers_lines command) none
-  where
-    by : (b : Bool) → (b ≡ true → ⊥) → b ≡ false
-    by true f = absurd (f refl)
-    by false f = refl
+not_true : (b : Bool) → (b ≡ true → ⊥) → b ≡ false
+not_true true f = absurd (f refl)
+not_true false f = refl
 
-pub unread_of : (words : List (List ℕ)) (asked : Asked) → WordsInOrder words asked → (AsksForLines words → ⊥) → answers_lines asked.command ≡ false
-unread_of words asked order none = not_lines asked.command (λ lines. none (record { asked = asked; order = order; lines = lines }))
+-- the words ask for a command that does not pass a test
+pub asks_not : (test : Command → Bool) (words : List (List ℕ)) (asked : Asked) → WordsInOrder words asked → (AsksFor test words → ⊥) → test asked.command ≡ false
+asks_not test words asked order none = not_true (test asked.command) (λ passes. none (record { asked = asked; order = order; passes = passes }))
 
 -- no file is named
 no_names : (names : List (List ℕ)) → ((name : List ℕ) → Contains names name → ⊥) → names ≡ []
@@ -89,16 +94,16 @@ unopened_of words asked order none = no_names (names_in_order asked.files) (λ n
 
 -- ---- the usage line
 
-pub usage_defined : (words : List (List ℕ)) (world : World) (held holds : Option (List ℕ)) (s : Status) → NotInOrder words → Appends held holds (λ out. PrintedAs status.Usage usage_line out s) → OnWritten s (Appends held holds (λ out. DefinedRun words world (record { output = out; status = s })))
-usage_defined words world held holds s not a = by (printed_case status.Usage usage_line a.0 s a.2)
+pub usage_defined : (words : List (List ℕ)) (world : World) (held holds : Option (List ℕ)) (ended : Option (List Finished)) (s : Status) → NotInOrder words → Appends held holds (λ out. PrintedAs status.Usage usage_line out s) → OnWritten s (Leaves held holds ended ended s (DefinedRun words world))
+usage_defined words world held holds ended s not a = by (printed_case status.Usage usage_line a.0 s a.2)
   where
-    by : PrintedCase status.Usage usage_line a.0 s → OnWritten s (Appends held holds (λ out. DefinedRun words world (record { output = out; status = s })))
-    by (whole e f) = rw e (a.0, a.1, by_usage not (rw f refl))
+    by : PrintedCase status.Usage usage_line a.0 s → OnWritten s (Leaves held holds ended ended s (DefinedRun words world))
+    by (whole e f) = rw e (leaves_door held holds ended status.Usage (DefinedRun words world) (a.0, a.1, by_usage not (rw f refl)))
     by (fault e p) = rw e tt
     by (no_memory e p) = rw e tt
 
 begins_usage : (words : List (List ℕ)) (world : World) (output : List ℕ) → NotInOrder words → IsInitialPart output usage_line → BeginsRun words world output
-begins_usage words world output not part = record { outcome = record { output = usage_line; status = status.Usage }; is = by_usage not refl; begins = part }
+begins_usage words world output not part = record { outcome = outcome_of usage_line status.Usage; is = by_usage not refl; begins = part }
 
 pub usage_begun : (words : List (List ℕ)) (world : World) (held holds : Option (List ℕ)) (s : Status) → NotInOrder words → Appends held holds (λ out. PrintedAs status.Usage usage_line out s) → OnCutShort s (Appends held holds (BeginsRun words world))
 usage_begun words world held holds s not a = by (printed_case status.Usage usage_line a.0 s a.2)
@@ -107,6 +112,9 @@ usage_begun words world held holds s not a = by (printed_case status.Usage usage
     by (whole e f) = rw e tt
     by (fault e p) = rw e (a.0, a.1, begins_usage words world a.0 not p)
     by (no_memory e p) = rw e (a.0, a.1, begins_usage words world a.0 not p)
+
+pub usage_finished : (words : List (List ℕ)) (world : World) (held holds : Option (List ℕ)) (ended : Option (List Finished)) (s : Status) → NotInOrder words → Appends held holds (λ out. PrintedAs status.Usage usage_line out s) → OnCutShort s (Leaves held holds ended ended s (FinishedRun words world))
+usage_finished words world held holds ended s not a = when_always (is_cut_short s) (leaves_door held holds ended s (FinishedRun words world) (a.0, a.1, by_disorder not refl))
 
 -- the statuses that a usage line may end with
 pub usage_answered : (fact : Type 0) (output : List ℕ) (s : Status) → PrintedAs status.Usage usage_line output s → OnAnswered s fact

@@ -10,7 +10,7 @@ use Rattle.gs_ident.specs.Links.{canonical_stem}
 use Rattle.gs_translate.specs.Targets.{FitsFilter}
 use Rattle.gs_translate.specs.Translations.{AreInOrder}
 use Rattle.gs_program.specs.declared.name.Name.{Name}
-use Rattle.gs_program.specs.declared.name.Name.TheVariants.{Tables, Prefixes, Links, Describe, Voc, Filter, Gcp, Encoding, KeysOnly, Stem}
+use Rattle.gs_program.specs.declared.name.Name.TheVariants.{Tables, Prefixes, Links, Describe, Voc, Listen, Count, Filter, Gcp, Encoding, KeysOnly, Stem}
 use Rattle.gs_program.specs.declared.name.NameRow.{NameRow}
 use Rattle.gs_program.specs.Names.{AreTaken, in_range, look_up, name_word, none_taken, one_taken, takes}
 use Rattle.gs_program.specs.Ranges.{filter_of, is_numeral, is_vocabulary, number_within}
@@ -20,7 +20,7 @@ use Rattle.gs_program.specs.Works.{no_options}
 -- ---- names by their words
 
 names : List Name
-names = Tables ∷ Prefixes ∷ Links ∷ Describe ∷ Voc ∷ Filter ∷ Gcp ∷ Encoding ∷ KeysOnly ∷ Stem ∷ []
+names = Tables ∷ Prefixes ∷ Links ∷ Describe ∷ Voc ∷ Listen ∷ Count ∷ Filter ∷ Gcp ∷ Encoding ∷ KeysOnly ∷ Stem ∷ []
 
 abbrev name_of : List ℕ → Option Name
 name_of word = find (λ (name : Name). bytes_eq word (name_word name)) names
@@ -32,6 +32,8 @@ name_read Prefixes = refl
 name_read Links = refl
 name_read Describe = refl
 name_read Voc = refl
+name_read Listen = refl
+name_read Count = refl
 name_read Filter = refl
 name_read Gcp = refl
 name_read Encoding = refl

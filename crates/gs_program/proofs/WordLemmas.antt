@@ -31,3 +31,8 @@ if_none_map (Some x) f a = tt
 pub if_some_map : {X : Type 0} {A B : X → Type 0} (o : Option X) → ((x : X) → A x → B x) → IfSome o A → IfSome o B
 if_some_map None f a = tt
 if_some_map (Some x) f a = f x a
+
+-- a fact that holds whatever there is
+pub if_none_always : {X : Type 0} {A : Type 0} (o : Option X) → A → IfNone o A
+if_none_always None a = a
+if_none_always (Some x) a = tt

@@ -7,9 +7,9 @@ use Rattle.gs_port.specs.Counts.{Rises}
 use Rattle.gs_program.specs.declared.refusal.Refusal.{Refusal}
 use Rattle.gs_program.specs.Commands.{answers_lines}
 use Rattle.gs_program.specs.Loads.{FilesGive, missing, refused}
-use Rattle.gs_program.specs.Ran.{BeginsOne}
+use Rattle.gs_program.specs.Ran.{BeginsOne, StaysOrRises}
 use Rattle.gs_program.specs.Requests.{Asked}
-use Rattle.gs_program.specs.Runs.{AskedRun, World}
+use Rattle.gs_program.specs.Runs.{AskedFinished, AskedRun, World}
 use Rattle.gs_program.specs.Works.{Outcome, input_limit}
 
 -- the counts of faults at a moment
@@ -17,24 +17,26 @@ pub record Counts : Type 0 where
   pub file_faults : ℕ
   pub input_faults : ℕ
   pub output_faults : ℕ
+  pub door_faults : ℕ
 
--- The causes of a read fault: the input counted a fault, the files counted one, or the first file that is not loaded is not
--- there.
+-- The causes of a read fault: the input counted a fault, or the door counted one of its own, the files counted one, or the first
+-- file that is not loaded is not there.
 abbrev pub ReadCause : Asked → World → Counts → Counts → Type 0
-ReadCause asked world before now = Rises before.input_faults now.input_faults
+ReadCause asked world before now = (Rises before.input_faults now.input_faults ⊎ Rises before.door_faults now.door_faults)
     ⊎ (Rises before.file_faults now.file_faults ⊎ FilesGive world.files asked (Err missing))
 
 -- What a run ensures of what it is asked: what it wrote and its status, and the cause of each.
 pub record AskedRan (asked : Asked) (world : World) (before now : Counts) (left : Option (List ℕ)) (outcome : Outcome) : Type 0 where
   pub written : OnWritten outcome.status (AskedRun asked world outcome)
   pub begun : OnCutShort outcome.status (BeginsOne (AskedRun asked world) outcome.output)
+  pub finished : OnCutShort outcome.status (AskedFinished asked world outcome)
   pub read_fault : OnReadFault outcome.status (ReadCause asked world before now)
   pub write_fault : OnWriteFault outcome.status (Rises before.output_faults now.output_faults)
   pub refusal : OnRefused outcome.status ((refusal : Refusal) × FilesGive world.files asked (Err (refused refusal)))
   pub to_end : OnAnswered outcome.status (answers_lines asked.command ≡ true → IsAtEnd left)
   pub long : OnInputLong outcome.status (TakesMoreThan input_limit world.input left)
-  pub few : TakesAtMost (input_limit + 1) world.input left
+  pub few : answers_lines asked.command ≡ true → TakesAtMost (input_limit + 1) world.input left
   pub file_counts : before.file_faults ≤ now.file_faults
-  pub input_counts : before.input_faults ≤ now.input_faults
-  pub output_counts : before.output_faults ≤ now.output_faults
+  pub input_counts : StaysOrRises before.input_faults now.input_faults
+  pub output_counts : StaysOrRises before.output_faults now.output_faults
   pub no_usage : outcome.status ≢ Usage

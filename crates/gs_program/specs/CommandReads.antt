@@ -5,9 +5,10 @@ use Rattle.gs_translate.specs.declared.form.Form.TheVariants as form
 use Rattle.gs_translate.specs.declared.target.Target.{Target}
 use Rattle.gs_translate.specs.declared.target.Target.TheVariants as target
 use Rattle.gs_program.specs.declared.command.Command.{Command}
-use Rattle.gs_program.specs.declared.command.Command.TheVariants.{Canon, Translate, Check}
+use Rattle.gs_program.specs.declared.command.Command.TheVariants.{Canon, Translate, Check, Resolve, Serve, Gen}
 use Rattle.gs_program.specs.declared.arguments.Split.{Split}
 use Rattle.gs_program.specs.Commands.{form_word, target_word}
+use Rattle.gs_program.specs.Ranges.{lines_of}
 
 -- the forms that texts are read in
 abbrev pub forms : List Form
@@ -37,12 +38,20 @@ translation_of (word ∷ []) = None
 translation_of (from ∷ to ∷ words) =
     option_and_then (λ form. option_map (λ target. (Translate form target, words)) (target_named to)) (form_named from)
 
+-- the words behind `gen`
+abbrev pub gen_of : List (List ℕ) → Option (Command × List (List ℕ))
+gen_of [] = None
+gen_of (word ∷ words) = option_map (λ lines. (Gen lines, words)) (lines_of word)
+
 -- the words behind the word of a command
 abbrev pub command_by : List ℕ → List (List ℕ) → Option (Command × List (List ℕ))
 command_by word words =
     if bytes_eq word (codes "canon") then canon_of words
     else if bytes_eq word (codes "translate") then translation_of words
     else if bytes_eq word (codes "check") then Some (Check, words)
+    else if bytes_eq word (codes "resolve") then Some (Resolve, words)
+    else if bytes_eq word (codes "serve") then Some (Serve, words)
+    else if bytes_eq word (codes "gen") then gen_of words
     else None
 
 -- the command that words begin with, and the words behind it and its operands

@@ -2,6 +2,7 @@
 use Rattle.std.specs.Prelude.{◌≡◌, ◌⊎◌, ℕ, ◌<◌, ◌≤◌, List, [], length, take, Option, Some, None, Result, Ok, Err}
 use Rattle.gs_ai.specs.declared.row.AiRow.{AiRow}
 use Rattle.gs_document.specs.declared.fault.LoadFault.{LoadFault}
+use Rattle.gs_http.specs.declared.settings.Settings.{Settings}
 use Rattle.gs_json.specs.declared.fault.JsonFault.{JsonFault}
 use Rattle.gs_links.specs.declared.fault.StoreFault.{StoreFault}
 use Rattle.gs_links.specs.declared.link.Link.{Link}
@@ -110,13 +111,38 @@ IsNoLink verdict = verdict ≡ Ok []
 abbrev pub LinksGive : Option (List (List ℕ × List ℕ)) → List AiRow → List ℕ → Option (List ℕ) → Result (List Link) Stop → Type 0
 LinksGive files ais voc name answer = Gives files kind.Links (JudgesLinks ais voc) IsNoLink name answer
 
--- what is loaded of these tables, this list and these links
-abbrev pub IsLoadedOf : TableRows → List PrefixEntry → List Link → Result Loaded Stop → Type 0
-IsLoadedOf set list links answer = answer ≡ Ok (record { tables = set; prefixes = list; links = links })
+-- the verdict on a description: it is its bytes
+abbrev pub JudgesDescription : List ℕ → Result (Option (List ℕ)) FileFault → Type 0
+JudgesDescription bytes verdict = verdict ≡ Ok (Some bytes)
 
--- what the file of links gives behind these tables and this list
+-- no description
+abbrev pub IsNoDescription : Result (Option (List ℕ)) FileFault → Type 0
+IsNoDescription verdict = verdict ≡ Ok None
+
+-- the description in the named file, or none where none is named
+abbrev pub DescriptionGives : Option (List (List ℕ × List ℕ)) → Option (List ℕ) → Result (Option (List ℕ)) Stop → Type 0
+DescriptionGives files name answer = Gives files kind.Describe JudgesDescription IsNoDescription name answer
+
+-- how requests are answered, with a vocabulary and a description
+abbrev pub AreSettings : List ℕ → Option (List ℕ) → Result Settings Stop → Type 0
+AreSettings voc describe answer = answer ≡ Ok (record { voc = voc; describe = describe })
+
+-- how requests are answered, by the vocabulary and by what the file of the description gives
+abbrev pub SettingsGive : Option (List (List ℕ × List ℕ)) → Asked → Result Settings Stop → Type 0
+SettingsGive files asked answer = Then (DescriptionGives files asked.files.describe) (AreSettings asked.values.voc) answer
+
+-- what is loaded of these tables, this list, these links and these settings
+abbrev pub IsLoadedOf : TableRows → List PrefixEntry → List Link → Settings → Result Loaded Stop → Type 0
+IsLoadedOf set list links settings answer = answer ≡ Ok (record { tables = set; prefixes = list; links = links; settings = settings })
+
+-- what the file of the description gives behind these tables, this list and these links
+abbrev pub GivesSettings : Option (List (List ℕ × List ℕ)) → Asked → TableRows → List PrefixEntry → List Link → Result Loaded Stop → Type 0
+GivesSettings files asked set list links answer = Then (SettingsGive files asked) (IsLoadedOf set list links) answer
+
+-- what the file of links and that of the description give behind these tables and this list
 abbrev pub GivesLinks : Option (List (List ℕ × List ℕ)) → Asked → TableRows → List PrefixEntry → Result Loaded Stop → Type 0
-GivesLinks files asked set list answer = Then (LinksGive files set.ais asked.values.voc asked.files.links) (IsLoadedOf set list) answer
+GivesLinks files asked set list answer =
+    Then (LinksGive files set.ais asked.values.voc asked.files.links) (GivesSettings files asked set list) answer
 
 -- what the files behind the tables give
 abbrev pub GivesBehind : Option (List (List ℕ × List ℕ)) → Asked → TableRows → Result Loaded Stop → Type 0

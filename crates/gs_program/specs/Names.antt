@@ -4,9 +4,9 @@ use Rattle.std.specs.List.{find, list_all, list_any}
 use Rattle.std.specs.Option.{option_map}
 use Rattle.gs_dlink.specs.Stems.{stem_ok}
 use Rattle.gs_program.specs.declared.name.Name.{Name}
-use Rattle.gs_program.specs.declared.name.Name.TheVariants.{Tables, Prefixes, Links, Describe, Voc, Filter, Gcp, Encoding, KeysOnly, Stem}
+use Rattle.gs_program.specs.declared.name.Name.TheVariants.{Tables, Prefixes, Links, Describe, Voc, Listen, Count, Filter, Gcp, Encoding, KeysOnly, Stem}
 use Rattle.gs_program.specs.declared.name.NameRow.{NameRow}
-use Rattle.gs_program.specs.Ranges.{filter_of, gcp_of, is_vocabulary}
+use Rattle.gs_program.specs.Ranges.{count_of, filter_of, gcp_of, is_vocabulary}
 
 -- the word of a name
 abbrev pub name_word : Name → List ℕ
@@ -15,19 +15,23 @@ name_word Prefixes = codes "--prefixes"
 name_word Links = codes "--links"
 name_word Describe = codes "--describe"
 name_word Voc = codes "--voc"
+name_word Listen = codes "--listen"
+name_word Count = codes "--count"
 name_word Filter = codes "--filter"
 name_word Gcp = codes "--gcp"
 name_word Encoding = codes "--encoding"
 name_word KeysOnly = codes "--keys-only"
 name_word Stem = codes "--stem"
 
--- the values that a name may have; a file may have any name
+-- the values that a name may have; a file may have any name, and an address any text
 abbrev pub in_range : Name → List ℕ → Bool
 in_range Tables value = true
 in_range Prefixes value = true
 in_range Links value = true
 in_range Describe value = true
 in_range Voc value = is_vocabulary value
+in_range Listen value = true
+in_range Count value = is_some (count_of value)
 in_range Filter value = is_some (filter_of value)
 in_range Gcp value = is_some (gcp_of value)
 in_range Encoding value = nat_lt 0 (length value)

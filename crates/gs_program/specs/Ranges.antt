@@ -23,6 +23,18 @@ filter_of word = number_within 0 7 word
 abbrev pub gcp_of : List ℕ → Option ℕ
 gcp_of word = number_within 1 12 word
 
+-- a number of connections
+abbrev pub count_of : List ℕ → Option ℕ
+count_of word = number_within 1 1000000 word
+
+-- the most lines that are made
+abbrev pub most_lines : ℕ
+most_lines = 100000
+
+-- a number of lines
+abbrev pub lines_of : List ℕ → Option ℕ
+lines_of word = number_within 0 most_lines word
+
 -- what stands for `gs1:` in a relation: 1 to 256 bytes from 33 to 126
 abbrev pub is_vocabulary : List ℕ → Bool
 is_vocabulary value = nat_le 1 (length value) && (nat_le (length value) 256 && list_all is_ascii_graphic value)

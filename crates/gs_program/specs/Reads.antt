@@ -1,6 +1,7 @@
 -- How the reading of a file and the load of tables end, for a run.
 use Rattle.std.specs.Prelude.{◌≡◌, ◌≢◌, ◌⊎◌, ℕ, ◌<◌, ◌≤◌, List, length, Option, Result, Ok, Err}
 use Rattle.gs_document.specs.declared.fault.LoadFault.{LoadFault}
+use Rattle.gs_http.specs.declared.settings.Settings.{Settings}
 use Rattle.gs_port.specs.Counts.{Rises}
 use Rattle.gs_port.specs.Files.{IsAbsent, IsFile}
 use Rattle.gs_prefix.specs.declared.entry.PrefixEntry.{PrefixEntry}
@@ -45,3 +46,10 @@ PrefixesUnloadedAs answer (Err Memory) = Unit {0}
 PrefixesUnloadedAs answer (Err ReadFault) = ⊥
 PrefixesUnloadedAs answer (Err (Refused refusal)) =
     (answer ≢ Err prefix.Memory) × (of_verdict kind.Prefixes (prefixes_verdict answer) ≡ Err (refused refusal))
+
+-- how requests are answered, with a vocabulary and a description, with want of memory in place of it
+abbrev pub SettingsAs : List ℕ → Option (List ℕ) → Result Settings Unloaded → Type 0
+SettingsAs voc describe (Ok settings) = settings ≡ record { voc = voc; describe = describe }
+SettingsAs voc describe (Err Memory) = Unit {0}
+SettingsAs voc describe (Err ReadFault) = ⊥
+SettingsAs voc describe (Err (Refused refusal)) = ⊥

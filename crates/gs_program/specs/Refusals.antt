@@ -30,12 +30,14 @@ abbrev pub file_word : FileKind → List ℕ
 file_word kind.Tables = codes "tables"
 file_word kind.Prefixes = codes "prefixes"
 file_word kind.Links = codes "links"
+file_word kind.Describe = codes "describe"
 
 -- the most bytes of a kind of file
 abbrev pub file_limit : FileKind → ℕ
 file_limit kind.Tables = 1048576
 file_limit kind.Prefixes = 4194304
 file_limit kind.Links = 16777216
+file_limit kind.Describe = 1048576
 
 -- a place as it is printed: a question mark for each byte that is no visible character of ISO 646
 abbrev pub shown_byte : ℕ → ℕ

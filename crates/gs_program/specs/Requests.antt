@@ -6,13 +6,13 @@ use Rattle.gs_ident.specs.Links.{canonical_stem}
 use Rattle.gs_translate.specs.declared.options.Options.{Options}
 use Rattle.gs_program.specs.declared.command.Command.{Command}
 use Rattle.gs_program.specs.declared.name.Name.{Name}
-use Rattle.gs_program.specs.declared.name.Name.TheVariants.{Tables, Prefixes, Links, Describe, Voc, Filter, Gcp, Encoding, KeysOnly, Stem}
+use Rattle.gs_program.specs.declared.name.Name.TheVariants.{Tables, Prefixes, Links, Describe, Voc, Listen, Count, Filter, Gcp, Encoding, KeysOnly, Stem}
 use Rattle.gs_program.specs.declared.request.NamedFiles.{NamedFiles}
 use Rattle.gs_program.specs.declared.request.NamedValues.{NamedValues}
 use Rattle.gs_program.specs.declared.request.Request.{Request}
-use Rattle.gs_program.specs.Commands.{answers_lines, command_words, names_of}
+use Rattle.gs_program.specs.Commands.{answers_lines, command_words, names_of, operands_in_range, reads_input, uses_door}
 use Rattle.gs_program.specs.Names.{AreOfRows, has_required, look_up, name_word}
-use Rattle.gs_program.specs.Ranges.{filter_of, gcp_of}
+use Rattle.gs_program.specs.Ranges.{count_of, filter_of, gcp_of}
 
 -- the names of the files that are asked for
 pub record FileNames : Type 0 where
@@ -24,6 +24,8 @@ pub record FileNames : Type 0 where
 -- the values of the names that name no files
 pub record Values : Type 0 where
   pub voc : List ℕ
+  pub listen : List ℕ
+  pub count : ℕ
   pub filter : Option ℕ
   pub gcp : Option ℕ
   pub encoding : List ℕ
@@ -49,6 +51,10 @@ named_files pairs = record {
 abbrev pub default_voc : List ℕ
 default_voc = codes "https://ref.gs1.org/voc/"
 
+-- the address of a server where it is not named
+abbrev pub default_listen : List ℕ
+default_listen = codes "127.0.0.1:8080"
+
 -- the value of a name, or what stands in its place
 abbrev pub value_or : List ℕ → Name → List (List ℕ × List ℕ) → List ℕ
 value_or default name pairs = unwrap_or (look_up (name_word name) pairs) default
@@ -57,11 +63,14 @@ value_or default name pairs = unwrap_or (look_up (name_word name) pairs) default
 abbrev pub number_named : (List ℕ → Option ℕ) → Name → List (List ℕ × List ℕ) → Option ℕ
 number_named number_of name pairs = option_and_then number_of (look_up (name_word name) pairs)
 
--- The values of names in pairs, with their defaults: no filter value, no length of a company prefix, no encoding, all elements
+-- The values of names in pairs, with their defaults: no connection, since the command that serves some must name their number, no
+-- filter value, no length of a company prefix, no encoding, all elements
 -- kept, and the stem of canonical links.
 abbrev pub named_values : List (List ℕ × List ℕ) → Values
 named_values pairs = record {
   voc = value_or default_voc Voc pairs;
+  listen = value_or default_listen Listen pairs;
+  count = unwrap_or (number_named count_of Count pairs) 0;
   filter = number_named filter_of Filter pairs;
   gcp = number_named gcp_of Gcp pairs;
   encoding = value_or [] Encoding pairs;
@@ -81,30 +90,47 @@ pub record Asks (command : Command) (words : List (List ℕ)) (asked : Asked) : 
   pub required : has_required (names_of command) pairs ≡ true
   pub is : asked ≡ asked_of command pairs
 
--- The words are in order, and ask for this: a command, its operands, and pairs.
+-- The words are in order, and ask for this: a command, its operands, which are in range, and pairs.
 pub record WordsInOrder (words : List (List ℕ)) (asked : Asked) : Type 0 where
   pub command : Command
   pub behind : List (List ℕ)
   pub spelled : words ≡ command_words command ++ behind
+  pub in_range : operands_in_range command ≡ true
   pub asks : Asks command behind asked
 
 -- no request has these words
 abbrev pub NotInOrder : List (List ℕ) → Type 0
 NotInOrder words = (asked : Asked) → WordsInOrder words asked → ⊥
 
--- the words ask for a command that answers the lines of the input
-pub record AsksForLines (words : List (List ℕ)) : Type 0 where
+-- the words ask for a command that passes a test
+pub record AsksFor (test : Command → Bool) (words : List (List ℕ)) : Type 0 where
   pub asked : Asked
   pub order : WordsInOrder words asked
-  pub lines : answers_lines asked.command ≡ true
+  pub passes : test asked.command ≡ true
+
+-- the words ask for a command that answers the lines of the input
+abbrev pub AsksForLines : List (List ℕ) → Type 0
+AsksForLines words = AsksFor answers_lines words
+
+-- the words ask for a command that uses the input
+abbrev pub AsksForInput : List (List ℕ) → Type 0
+AsksForInput words = AsksFor reads_input words
+
+-- the words ask for a command that uses the door
+abbrev pub AsksForDoor : List (List ℕ) → Type 0
+AsksForDoor words = AsksFor uses_door words
 
 -- what is said of translations by values
 abbrev pub options_of : Values → Options
 options_of values = record { filter = values.filter; gcp = values.gcp; encoding = values.encoding; keys_only = values.keys_only; stem = values.stem }
 
+-- the names of the files that are read behind the tables and the company prefix lengths, in their order
+abbrev pub names_last : FileNames → List (List ℕ)
+names_last files = option_to_list files.links ++ option_to_list files.describe
+
 -- the names of the files that are read behind the tables, in their order
 abbrev pub names_behind : FileNames → List (List ℕ)
-names_behind files = option_to_list files.prefixes ++ option_to_list files.links
+names_behind files = option_to_list files.prefixes ++ names_last files
 
 -- the names of the files that are read, in their order
 abbrev pub names_in_order : FileNames → List (List ℕ)
@@ -131,7 +157,7 @@ told_files files = record { tables = told_name files.tables; prefixes = told_nam
 
 -- the values of a request
 abbrev pub told_values : NamedValues → Values
-told_values values = record { voc = values.voc.now; filter = values.filter; gcp = values.gcp; encoding = values.encoding.now; keys_only = values.keys_only; stem = values.stem.now }
+told_values values = record { voc = values.voc.now; listen = values.listen.now; count = values.count; filter = values.filter; gcp = values.gcp; encoding = values.encoding.now; keys_only = values.keys_only; stem = values.stem.now }
 
 -- what a request asks for
 abbrev pub told_request : Request → Asked

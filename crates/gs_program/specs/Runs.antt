@@ -1,10 +1,11 @@
 -- What a whole run leaves.
-use Rattle.std.specs.Prelude.{◌≡◌, ℕ, List, [], Option, Ok, Err}
+use Rattle.std.specs.Prelude.{◌≡◌, ℕ, true, List, [], ◌∷◌, Option, Ok, Err}
 use Rattle.gs_lines.specs.declared.status.Status.TheVariants as status
 use Rattle.gs_document.specs.declared.fault.LoadFault.TheVariants.{Ambiguous}
 use Rattle.gs_document.specs.declared.level_name.LevelName.{LevelName}
 use Rattle.gs_program.specs.declared.file_kind.FileKind.TheVariants.{Tables}
 use Rattle.gs_port.specs.Files.{AddsNames}
+use Rattle.gs_serve.specs.Visits.{Visit, is_done}
 use Rattle.gs_program.specs.declared.loading.Loaded.{Loaded}
 use Rattle.gs_program.specs.declared.refusal.FileFault.TheVariants.{Tables as Faulty}
 use Rattle.gs_program.specs.declared.refusal.Refusal.{Refusal}
@@ -12,37 +13,64 @@ use Rattle.gs_program.specs.Loads.{FilesGive, OpensFirst, Stop, missing, refused
 use Rattle.gs_program.specs.Ran.{BeginsOne}
 use Rattle.gs_program.specs.Refusals.{refused_line}
 use Rattle.gs_program.specs.Requests.{Asked, NotInOrder, WordsInOrder, names_in_order, usage_line}
-use Rattle.gs_program.specs.Works.{CommandEnded, CommandRun, Outcome}
+use Rattle.gs_program.specs.Works.{CommandEnded, CommandFinished, CommandRun, Doorway, Outcome, outcome_of, served_outcome}
 
--- what a run is given, as far as it is told: files, each a name and its bytes, and an input
+-- what a run is given, as far as it is told: files, each a name and its bytes, an input, and a door
 pub record World : Type 0 where
   pub files : Option (List (List ℕ × List ℕ))
   pub input : Option (List ℕ)
+  pub door : Doorway
 
 -- what a run leaves that goes no further than its files
 abbrev pub stopped : Stop → Outcome
-stopped missing = record { output = []; status = status.ReadFault }
-stopped (refused refusal) = record { output = refused_line refusal; status = status.Refused }
+stopped missing = outcome_of [] status.ReadFault
+stopped (refused refusal) = outcome_of (refused_line refusal) status.Refused
 
 -- What is left where this is asked: the files are loaded and the command runs, or it goes no further than the files.
 pub data AskedRun (asked : Asked) (world : World) (outcome : Outcome) : Type 0 where
-  ran : (loaded : Loaded) → FilesGive world.files asked (Ok loaded) → CommandRun asked.command asked.values loaded world.input outcome → AskedRun asked world outcome
+  ran : (loaded : Loaded) → FilesGive world.files asked (Ok loaded) → CommandRun asked.command asked.values loaded world.input world.door outcome → AskedRun asked world outcome
   stops : (stop : Stop) → FilesGive world.files asked (Err stop) → outcome ≡ stopped stop → AskedRun asked world outcome
 
 -- What a run with these words leaves in this world: what they ask for, or the usage line where they are not in order.
 pub data DefinedRun (words : List (List ℕ)) (world : World) (outcome : Outcome) : Type 0 where
   by_request : (asked : Asked) → WordsInOrder words asked → AskedRun asked world outcome → DefinedRun words world outcome
-  by_usage : NotInOrder words → outcome ≡ record { output = usage_line; status = status.Usage } → DefinedRun words world outcome
+  by_usage : NotInOrder words → outcome ≡ outcome_of usage_line status.Usage → DefinedRun words world outcome
 
 -- what a run stops at whose tables have an ambiguous level, by a text
 abbrev pub ambiguous : LevelName → ℕ → ℕ → List ℕ → Stop
 ambiguous name i j text = refused (record { kind = Tables; fault = Faulty (Ambiguous name i j text) })
 
--- Two outcomes are one, or both tell that a level of the tables is ambiguous, by one level and one pair of its options, and by
--- texts that may differ: such a text is any that shows a list with two derivations.
+-- the same connections were served twice: those at which serving was done both times were written the same
+pub data AlikeVisits : List Visit → List Visit → Type 0 where
+  no_visits : AlikeVisits [] []
+  more_visits : (one other : Visit) (ones others : List Visit) → one.input ≡ other.input → (is_done one.served ≡ true → is_done other.served ≡ true → one.entry.written ≡ other.entry.written) → AlikeVisits ones others → AlikeVisits (one ∷ ones) (other ∷ others)
+
+-- Two outcomes are of the same connections, of which as many are finished: what was read of each, the faults, their number, and what
+-- was written to those with a fault may differ.
+pub record AlikeServed (one other : Outcome) : Type 0 where
+  pub visits : List Visit
+  pub others : List Visit
+  pub alike : AlikeVisits visits others
+  pub one_is : one ≡ served_outcome visits
+  pub other_is : other ≡ served_outcome others
+
+-- Two outcomes are one, or are alike but for the faults of connections, or both tell that a level of the tables is ambiguous, by one
+-- level and one pair of its options, and by texts that may differ: such a text is any that shows a list with two derivations.
 pub data AreAlike (one other : Outcome) : Type 0 where
   same : one ≡ other → AreAlike one other
+  but_faults : AlikeServed one other → AreAlike one other
   but_text : (name : LevelName) (i j : ℕ) (text text' : List ℕ) → one ≡ stopped (ambiguous name i j text) → other ≡ stopped (ambiguous name i j text') → AreAlike one other
+
+-- What was finished of what is asked where less than what is defined may have been written: no connection, or those that the
+-- command finished over what was loaded.
+pub data AskedFinished (asked : Asked) (world : World) (outcome : Outcome) : Type 0 where
+  none_finished : outcome.finished ≡ [] → AskedFinished asked world outcome
+  some_finished : (loaded : Loaded) → FilesGive world.files asked (Ok loaded) → CommandFinished asked.command asked.values loaded world.door outcome.status outcome.finished → AskedFinished asked world outcome
+
+-- what a run with these words has finished where less than what is defined may have been written
+pub data FinishedRun (words : List (List ℕ)) (world : World) (outcome : Outcome) : Type 0 where
+  by_order : (asked : Asked) → WordsInOrder words asked → AskedFinished asked world outcome → FinishedRun words world outcome
+  by_disorder : NotInOrder words → outcome.finished ≡ [] → FinishedRun words world outcome
 
 -- an initial part of the output of some defined outcome
 abbrev pub BeginsRun : List (List ℕ) → World → List ℕ → Type 0

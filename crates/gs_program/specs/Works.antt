@@ -1,23 +1,41 @@
 -- What each command does, over what was loaded.
-use Rattle.std.specs.Prelude.{◌≡◌, ℕ, List, [], ◌∷◌, ◌++◌, length, codes, decimal, Option}
+use Rattle.std.specs.Prelude.{◌≡◌, ◌≢◌, ℕ, ◌≤◌, ◌-◌, false, List, [], ◌∷◌, ◌++◌, length, take, codes, decimal, IfSome, Option, is_some, option_map}
 use Rattle.gs_lines.specs.declared.status.Status.{Status}
-use Rattle.gs_lines.specs.declared.status.Status.TheVariants.{Done}
-use Rattle.gs_lines.specs.Outputs.{AnswersEnded, AnswersInput}
+use Rattle.gs_gen.specs.Counts.{Generated}
+use Rattle.gs_lines.specs.declared.status.Status.TheVariants.{Done, Memory, ReadFault}
+use Rattle.gs_lines.specs.Outputs.{AnswersEnded, AnswersInput, Appends}
+use Rattle.gs_port.specs.Connections.{Aside, Finished}
+use Rattle.gs_serve.specs.Doors.{line_of}
+use Rattle.gs_serve.specs.Resolved.{Resolved, Resolves}
+use Rattle.gs_serve.specs.Sites.{SiteData}
+use Rattle.gs_serve.specs.Visits.{AreVisits, Visit, entries_of, inputs_of, wants_memory}
 use Rattle.gs_translate.specs.declared.form.Form.{Form}
 use Rattle.gs_translate.specs.declared.options.Options.{Options}
 use Rattle.gs_translate.specs.declared.target.Target.{Target}
 use Rattle.gs_translate.specs.declared.target.Target.TheVariants as target
 use Rattle.gs_program.specs.declared.command.Command.{Command}
-use Rattle.gs_program.specs.declared.command.Command.TheVariants.{Canon, Translate, Check}
+use Rattle.gs_program.specs.declared.command.Command.TheVariants.{Canon, Translate, Check, Resolve, Serve, Gen}
 use Rattle.gs_program.specs.declared.loading.Loaded.{Loaded}
 use Rattle.gs_program.specs.declared.translating.Translation.{Translation}
 use Rattle.gs_program.specs.LineAnswers.{IsTranslatedLine, Translating}
 use Rattle.gs_program.specs.Requests.{Values, named_values, options_of, told_values}
 
--- what a run leaves: what it wrote, and its status
+-- what a run leaves: what it wrote, the connections that it finished, and its status
 pub record Outcome : Type 0 where
   pub output : List ℕ
+  pub finished : List Finished
   pub status : Status
+
+-- what is left where no connection was finished
+abbrev pub outcome_of : List ℕ → Status → Outcome
+outcome_of output status = record { output = output; finished = []; status = status }
+
+-- What a run leaves at a sink and at a door, as far as they tell it: bytes behind those that the sink held, and connections behind
+-- those that were finished.
+abbrev pub Leaves : Option (List ℕ) → Option (List ℕ) → Option (List Finished) → Option (List Finished) → Status → (Outcome → Type 0) → Type 0
+Leaves held held' ended ended' status fact =
+    (finished : List Finished) × (ended' ≡ option_map (λ before. before ++ finished) ended)
+    × Appends held held' (λ output. fact (record { output = output; finished = finished; status = status }))
 
 -- the most bytes of an input
 abbrev pub input_limit : ℕ
@@ -33,7 +51,8 @@ counts_line loaded =
 
 -- what is left where the lines of an input are translated
 abbrev pub Translated : Translating → Option (List ℕ) → Outcome → Type 0
-Translated t input outcome = AnswersInput (IsTranslatedLine t) input_limit input outcome.output outcome.status
+Translated t input outcome =
+    AnswersInput (IsTranslatedLine t) input_limit input outcome.output outcome.status × (outcome.finished ≡ [])
 
 -- what was written of translated lines after a fault of the input
 abbrev pub TranslatedEnded : Translating → Option (List ℕ) → Option (List ℕ) → List ℕ → Type 0
@@ -57,14 +76,78 @@ abbrev pub told_translation : Translation → Translating
 told_translation t =
     record { set = t.set.now; prefixes = t.prefixes.now; options = options_of (told_values t.values); from = t.from; to = t.to }
 
--- what a command leaves, by its values, over what was loaded and an input, as far as it is told
-abbrev pub CommandRun : Command → Values → Loaded → Option (List ℕ) → Outcome → Type 0
-CommandRun (Canon form) values loaded input outcome = Translated (canonizing loaded form) input outcome
-CommandRun (Translate from to) values loaded input outcome = Translated (translating loaded values from to) input outcome
-CommandRun Check values loaded input outcome = outcome ≡ record { output = counts_line loaded; status = Done }
+-- what is left by a command that writes this output, and finishes no connection
+pub record LeavesOutput (IsOutput : List ℕ → Type 0) (outcome : Outcome) : Type 0 where
+  pub is_output : IsOutput outcome.output
+  pub none_finished : outcome.finished ≡ []
+  pub done : outcome.status ≡ Done
+
+-- what requests are answered from
+abbrev pub site_of : Loaded → SiteData
+site_of loaded = record { table = loaded.tables.ais; links = loaded.links; settings = loaded.settings }
+
+-- what is told of a door: the inputs of the waiting connections, where it tells them, and its counts of failed reads and writes
+pub record Doorway : Type 0 where
+  pub waiting : Option (List (List ℕ))
+  pub reads : ℕ
+  pub writes : ℕ
+
+-- what is told of a door that sets this aside, at these counts
+abbrev pub doorway_of : Aside → ℕ → ℕ → Doorway
+doorway_of aside reads writes = record { waiting = aside.waiting; reads = reads; writes = writes }
+
+-- what is left of connections that were served: their numbers are written, and they are finished
+abbrev pub served_outcome : List Visit → Outcome
+served_outcome visits = record { output = line_of visits; finished = entries_of visits; status = Done }
+
+-- Connections were served: the first of those that wait, at most so many, one after the other, up to the last or to so many; all were
+-- answered up to their end or to a fault.
+pub record Serves (site : SiteData) (count : ℕ) (door : Doorway) (outcome : Outcome) : Type 0 where
+  pub visits : List Visit
+  pub reads : ℕ
+  pub writes : ℕ
+  pub are_visits : AreVisits site (is_some door.waiting) door.reads door.writes visits reads writes
+  pub few : length visits ≤ count
+  pub first : IfSome door.waiting (λ waiting. inputs_of visits ≡ take count waiting)
+  pub whole : wants_memory visits ≡ false
+  pub is : outcome ≡ served_outcome visits
+
+-- Connections were served, and perhaps not all: the first of those that wait, at most so many; memory ran out at the last alone, and
+-- where the status says so.
+pub record ServesFirst (site : SiteData) (count : ℕ) (door : Doorway) (status : Status) (finished : List Finished) : Type 0 where
+  pub visits : List Visit
+  pub reads : ℕ
+  pub writes : ℕ
+  pub are_visits : AreVisits site (is_some door.waiting) door.reads door.writes visits reads writes
+  pub few : length visits ≤ count
+  pub first : IfSome door.waiting (λ waiting. inputs_of visits ≡ take (length visits) waiting)
+  pub whole : status ≢ Memory → wants_memory visits ≡ false
+  pub last : wants_memory (take (length visits - 1) visits) ≡ false
+  pub entries : finished ≡ entries_of visits
+
+-- what a command leaves, by its values, over what was loaded, an input, as far as it is told, and a door
+abbrev pub CommandRun : Command → Values → Loaded → Option (List ℕ) → Doorway → Outcome → Type 0
+CommandRun (Canon form) values loaded input door outcome = Translated (canonizing loaded form) input outcome
+CommandRun (Translate from to) values loaded input door outcome = Translated (translating loaded values from to) input outcome
+CommandRun Check values loaded input door outcome = outcome ≡ outcome_of (counts_line loaded) Done
+CommandRun Resolve values loaded input door outcome = LeavesOutput (Resolves (site_of loaded) input) outcome
+CommandRun Serve values loaded input door outcome = Serves (site_of loaded) values.count door outcome
+CommandRun (Gen lines) values loaded input door outcome = LeavesOutput (Generated loaded.tables lines) outcome
 
 -- what a command has written after a fault of the input, by what was taken of it
 abbrev pub CommandEnded : Command → Values → Loaded → Option (List ℕ) → Option (List ℕ) → List ℕ → Type 0
 CommandEnded (Canon form) values loaded before now output = TranslatedEnded (canonizing loaded form) before now output
 CommandEnded (Translate from to) values loaded before now output = TranslatedEnded (translating loaded values from to) before now output
 CommandEnded Check values loaded before now output = ⊥
+CommandEnded Resolve values loaded before now output = Resolved (site_of loaded) before output ReadFault
+CommandEnded Serve values loaded before now output = output ≡ []
+CommandEnded (Gen lines) values loaded before now output = ⊥
+
+-- what a command has finished where less than what is defined may have been written, by its status
+abbrev pub CommandFinished : Command → Values → Loaded → Doorway → Status → List Finished → Type 0
+CommandFinished (Canon form) values loaded door status finished = finished ≡ []
+CommandFinished (Translate from to) values loaded door status finished = finished ≡ []
+CommandFinished Check values loaded door status finished = finished ≡ []
+CommandFinished Resolve values loaded door status finished = finished ≡ []
+CommandFinished Serve values loaded door status finished = ServesFirst (site_of loaded) values.count door status finished
+CommandFinished (Gen lines) values loaded door status finished = finished ≡ []

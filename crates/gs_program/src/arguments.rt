@@ -1,10 +1,11 @@
-ghost use Rattle.std.specs.Prelude.{◌≡◌, ◌∷◌, IfSome, IfNone, map, string_bytes};
-ghost use Rattle.gs_program.specs.CommandReads.{canon_of, command_by, command_of, form_named, target_named, told_split, translation_of};
+ghost use Rattle.std.specs.Prelude.{◌≡◌, ◌∷◌, IfSome, IfNone, Some, map, string_bytes};
+ghost use Rattle.gs_program.specs.CommandReads.{canon_of, command_by, command_of, form_named, gen_of, target_named, told_split, translation_of};
 ghost use Rattle.gs_program.specs.Requests.{Asked, Asks, NotInOrder, WordsInOrder, told_request};
 
 use crate::command::Command;
 use crate::naming::{named_files, named_values};
 use crate::pairs::{are_of_rows, has_required};
+use crate::ranges::lines_of;
 use crate::request::Request;
 use gs_translate::{Form, Target};
 
@@ -113,6 +114,34 @@ fn translation_of(words: &[String]) -> Option<Split<'_>>
     translation_by(words[0].as_str(), words[1].as_str(), &words[2..])
 }
 
+/// The command `gen` of the word of a number of lines, and the words behind it.
+fn gen_by<'a>(word: &str, behind: &'a [String]) -> Option<Split<'a>>
+    ensures { told_split result ≡ gen_of (word.now ∷ map string_bytes behind.now) }
+{
+    let lines = lines_of(word)?;
+    Some(Split {
+        command: Command::Gen(lines),
+        behind,
+    })
+}
+
+/// The command `gen` of the words behind that word.
+fn gen_of(words: &[String]) -> Option<Split<'_>>
+    ensures { told_split result ≡ gen_of (map string_bytes words.now) }
+{
+    if words.is_empty() {
+        return None;
+    }
+    gen_by(words[0].as_str(), &words[1..])
+}
+
+/// A command without operands, and the words behind it.
+fn plain(command: Command, behind: &[String]) -> Option<Split<'_>>
+    ensures { told_split result ≡ Some (command, map string_bytes behind.now) }
+{
+    Some(Split { command, behind })
+}
+
 /// The command of a word and of the words behind it.
 fn command_by<'a>(word: &str, behind: &'a [String]) -> Option<Split<'a>>
     ensures { told_split result ≡ command_by word.now (map string_bytes behind.now) }
@@ -124,10 +153,16 @@ fn command_by<'a>(word: &str, behind: &'a [String]) -> Option<Split<'a>>
         return translation_of(behind);
     }
     if word == "check" {
-        return Some(Split {
-            command: Command::Check,
-            behind,
-        });
+        return plain(Command::Check, behind);
+    }
+    if word == "resolve" {
+        return plain(Command::Resolve, behind);
+    }
+    if word == "serve" {
+        return plain(Command::Serve, behind);
+    }
+    if word == "gen" {
+        return gen_of(behind);
     }
     None
 }

@@ -6,12 +6,14 @@ ghost use Rattle.gs_port.specs.Counts.{Rises};
 ghost use Rattle.gs_port.specs.Files.{AddsNames};
 ghost use Rattle.gs_translate.specs.Translations.{AreInOrder};
 ghost use Rattle.gs_program.specs.Asking.{AskedRan};
-ghost use Rattle.gs_program.specs.Commands.{answers_lines};
+ghost use Rattle.gs_program.specs.Commands.{reads_input, uses_door};
 ghost use Rattle.gs_program.specs.Loads.{OpensFirst};
 ghost use Rattle.gs_program.specs.Ranges.{is_vocabulary};
+ghost use Rattle.gs_program.specs.Ran.{StaysOrRises};
 ghost use Rattle.gs_program.specs.Refusals.{refused_line};
 ghost use Rattle.gs_program.specs.Requests.{names_in_order, options_of, told_request};
 ghost use Rattle.gs_program.specs.Runs.{AskedEnded};
+ghost use Rattle.gs_program.specs.Works.{Leaves, doorway_of};
 
 use crate::commands::run_command;
 use crate::loading::{Unloaded, load_files};
@@ -20,7 +22,7 @@ use crate::refusals::refused_line;
 use crate::request::Request;
 use gs_chars::Memory;
 use gs_lines::{Status, print_line};
-use gs_port::{Files, Sink, Source};
+use gs_port::{Door, Files, Sink, Source};
 use std::alloc::Global;
 
 /// Writes the line of a refused file.
@@ -36,26 +38,32 @@ fn print_refusal<K: Sink>(alloc: Global, refusal: &Refusal, output: &mut K) -> S
 }
 
 /// Does what is asked: loads the files, and runs the command. Where a file is refused one line says why, and where one is
-/// not there or cannot be read nothing is written; in both cases the input is not read.
-pub fn run_request<F: Files, S: Source, K: Sink>(
+/// not there or cannot be read nothing is written; in both cases the input and the door are as they were.
+pub fn run_request<F: Files, S: Source, K: Sink, D: Door>(
     alloc: Global,
     request: Request<'_>,
     files: &mut F,
     input: &mut S,
     output: &mut K,
+    door: &mut D,
 ) -> Status
+    requires none_open { D.is_open door.old ≡ false }
     requires vocabulary { is_vocabulary request.values.voc.now ≡ true }
     requires options { AreInOrder (options_of (told_request request).values) }
-    ensures ran { Appends (K.held output.old) (K.held output.new) (λ out. AskedRan (told_request request.entry)
-        (record { files = F.files files.old; input = S.left input.old })
-        (record { file_faults = F.faults files.old; input_faults = S.faults input.old; output_faults = K.faults output.old })
-        (record { file_faults = F.faults files.new; input_faults = S.faults input.new; output_faults = K.faults output.new })
-        (S.left input.new) (record { output = out; status = result })) }
+    ensures ran { Leaves (K.held output.old) (K.held output.new) (D.aside door.old).finished (D.aside door.new).finished result
+        (AskedRan (told_request request.entry)
+        (record { files = F.files files.old; input = S.left input.old; door = doorway_of (D.aside door.old) (D.reads door.old) (D.writes door.old) })
+        (record { file_faults = F.faults files.old; input_faults = S.faults input.old; output_faults = K.faults output.old; door_faults = (D.aside door.old).faults })
+        (record { file_faults = F.faults files.new; input_faults = S.faults input.new; output_faults = K.faults output.new; door_faults = (D.aside door.new).faults })
+        (S.left input.new)) }
     ensures read_fault { OnReadFault result ((input.new ≡ input.old × Appends (K.held output.old) (K.held output.new) (λ out. out ≡ []))
         ⊎ (Rises (S.faults input.old) (S.faults input.new)
         × Appends (K.held output.old) (K.held output.new) (AskedEnded (told_request request.entry) (F.files files.old) (S.left input.old) (S.left input.new)))) }
-    ensures unread { answers_lines (told_request request.entry).command ≡ false → input.new ≡ input.old }
+    ensures unread { reads_input (told_request request.entry).command ≡ false → input.new ≡ input.old }
     ensures unread_refused { OnRefused result (input.new ≡ input.old) }
+    ensures unserved { uses_door (told_request request.entry).command ≡ false → door.new ≡ door.old }
+    ensures unserved_refused { OnRefused result (door.new ≡ door.old) }
+    ensures door_counts { StaysOrRises (D.aside door.old).faults (D.aside door.new).faults }
     ensures opened { OpensFirst (names_in_order (told_request request.entry).files) (F.opened files.old) (F.opened files.new) }
     ensures all_opened { OnAnswered result (AddsNames (F.opened files.old) (names_in_order (told_request request.entry).files) (F.opened files.new)) }
     ensures unopened { names_in_order (told_request request.entry).files ≡ [] → files.new ≡ files.old }
@@ -69,6 +77,7 @@ pub fn run_request<F: Files, S: Source, K: Sink>(
             &loaded,
             input,
             output,
+            door,
         ),
         Err(Unloaded::Refused(refusal)) => print_refusal(alloc, &refusal, output),
         Err(Unloaded::ReadFault) => Status::ReadFault,

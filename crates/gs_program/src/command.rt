@@ -13,6 +13,12 @@ pub enum Command {
     Translate(Form, Target),
     /// Loads the files, and counts what they have.
     Check,
+    /// Answers the requests that the input is, as one connection.
+    Resolve,
+    /// Answers the requests of the connections that come at a door.
+    Serve,
+    /// Translates so many generated lines, and counts the answers.
+    Gen(u32),
 }
 
 /// The name of the file of tables, which may be absent.
@@ -31,6 +37,30 @@ const PREFIXES: NameRow = NameRow {
 const LINKS: NameRow = NameRow {
     name: Name::Links,
     required: false,
+};
+
+/// The name of the file of links, which must be there.
+const LINKS_NEEDED: NameRow = NameRow {
+    name: Name::Links,
+    required: true,
+};
+
+/// The name of the description of the resolver, which may be absent.
+const DESCRIBE: NameRow = NameRow {
+    name: Name::Describe,
+    required: false,
+};
+
+/// The name of the address of a server, which may be absent.
+const LISTEN: NameRow = NameRow {
+    name: Name::Listen,
+    required: false,
+};
+
+/// The name of the number of connections, which must be there.
+const COUNT_NEEDED: NameRow = NameRow {
+    name: Name::Count,
+    required: true,
 };
 
 /// The name of the vocabulary, which may be absent.
@@ -78,6 +108,9 @@ impl Command {
             Command::Canon(_) => &[TABLES],
             Command::Translate(_, _) => &[TABLES, PREFIXES, FILTER, GCP, ENCODING, KEYS_ONLY, STEM],
             Command::Check => &[TABLES, PREFIXES, LINKS, VOC],
+            Command::Resolve => &[LINKS_NEEDED, TABLES, VOC, DESCRIBE],
+            Command::Serve => &[LINKS_NEEDED, COUNT_NEEDED, TABLES, VOC, DESCRIBE, LISTEN],
+            Command::Gen(_) => &[TABLES],
         }
     }
 }

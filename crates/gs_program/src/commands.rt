@@ -1,9 +1,9 @@
 ghost use Rattle.std.specs.Prelude.{◌≡◌, false};
-ghost use Rattle.gs_lines.specs.Outputs.{Appends};
 ghost use Rattle.gs_tables.specs.Judged.{IsLoaded};
-ghost use Rattle.gs_program.specs.Commands.{answers_lines};
-ghost use Rattle.gs_program.specs.Ran.{CommandRan};
+ghost use Rattle.gs_program.specs.Commands.{reads_input, uses_door};
+ghost use Rattle.gs_program.specs.Ran.{CommandRan, StaysOrRises};
 ghost use Rattle.gs_program.specs.Requests.{options_of, told_values};
+ghost use Rattle.gs_program.specs.Works.{Leaves, doorway_of, site_of};
 ghost use Rattle.gs_translate.specs.Translations.{AreInOrder};
 
 use crate::checking::check;
@@ -11,26 +11,45 @@ use crate::command::Command;
 use crate::loading::Loaded;
 use crate::request::NamedValues;
 use crate::translating::{canonize, translate_loaded};
+use gs_gen::generate;
 use gs_lines::Status;
-use gs_port::{Sink, Source};
+use gs_port::{Door, Sink, Source};
+use gs_serve::{Site, resolve, serve};
 use std::alloc::Global;
 
-/// Runs a command over what was loaded. A command that does not answer lines leaves the input as it is.
-pub fn run_command<S: Source, K: Sink>(
+/// What requests are answered from.
+fn site_of(loaded: &Loaded) -> Site<'_>
+    ensures { result.now ≡ site_of loaded.now }
+{
+    Site {
+        table: loaded.tables.ais(),
+        store: &loaded.links,
+        settings: &loaded.settings,
+    }
+}
+
+/// Runs a command over what was loaded. An input or a door that the command does not use is as it was.
+pub fn run_command<S: Source, K: Sink, D: Door>(
     alloc: Global,
     command: Command,
     values: NamedValues<'_>,
     loaded: &Loaded,
     input: &mut S,
     output: &mut K,
+    door: &mut D,
 ) -> Status
+    requires none_open { D.is_open door.old ≡ false }
     requires loaded { IsLoaded loaded.now.tables }
     requires options { AreInOrder (options_of (told_values values)) }
-    ensures ran { Appends (K.held output.old) (K.held output.new) (λ out. CommandRan command (told_values values.entry) loaded.now
+    ensures ran { Leaves (K.held output.old) (K.held output.new) (D.aside door.old).finished (D.aside door.new).finished result (CommandRan
+        command (told_values values.entry) loaded.now
+        (doorway_of (D.aside door.old) (D.reads door.old) (D.writes door.old))
+        (D.aside door.old).faults (D.aside door.new).faults
         (record { input = S.left input.old; input_faults = S.faults input.old; output_faults = K.faults output.old })
-        (record { input = S.left input.new; input_faults = S.faults input.new; output_faults = K.faults output.new })
-        (record { output = out; status = result })) }
-    ensures unread { answers_lines command ≡ false → input.new ≡ input.old }
+        (record { input = S.left input.new; input_faults = S.faults input.new; output_faults = K.faults output.new })) }
+    ensures unread { reads_input command ≡ false → input.new ≡ input.old }
+    ensures unserved { uses_door command ≡ false → door.new ≡ door.old }
+    ensures door_counts { StaysOrRises (D.aside door.old).faults (D.aside door.new).faults }
 {
     match command {
         Command::Canon(form) => canonize(alloc, form, loaded, input, output),
@@ -38,5 +57,15 @@ pub fn run_command<S: Source, K: Sink>(
             translate_loaded(alloc, from, to, values, loaded, input, output)
         }
         Command::Check => check(alloc, loaded, output),
+        Command::Resolve => resolve(alloc, &site_of(loaded), input, output),
+        Command::Serve => serve(
+            alloc,
+            &site_of(loaded),
+            values.listen,
+            values.count,
+            door,
+            output,
+        ),
+        Command::Gen(lines) => generate(alloc, &loaded.tables, lines, output),
     }
 }

@@ -10,6 +10,8 @@ pub enum FileKind {
     Prefixes,
     /// The links.
     Links,
+    /// The description of a resolver.
+    Describe,
 }
 
 impl FileKind {
@@ -21,6 +23,7 @@ impl FileKind {
             FileKind::Tables => b"tables",
             FileKind::Prefixes => b"prefixes",
             FileKind::Links => b"links",
+            FileKind::Describe => b"describe",
         }
     }
 
@@ -32,6 +35,7 @@ impl FileKind {
             FileKind::Tables => 1_048_576,
             FileKind::Prefixes => 4_194_304,
             FileKind::Links => 16_777_216,
+            FileKind::Describe => 1_048_576,
         }
     }
 }

@@ -15,12 +15,12 @@ pub fn words_ask_for_one_thing()
     ensures { (words : List (List ℕ)) → HasOne (WordsInOrder words) }
 {}
 
-/// Words have one outcome, output and status, over files and an input that are told, and no other but for the text that shows an
-/// ambiguous level of the tables.
+/// Words have one outcome, output, finished connections and status, over files, an input and waiting connections that are told,
+/// and no other but for the text that shows an ambiguous level of the tables, and for the faults of connections.
 pub fn words_have_one_outcome()
-    ensures at_most_one { (words : List (List ℕ)) (files : List (List ℕ × List ℕ)) (input : List ℕ) (one other : Outcome)
-        → DefinedRun words (record { files = Some files; input = Some input }) one
-        → DefinedRun words (record { files = Some files; input = Some input }) other → AreAlike one other }
+    ensures at_most_one { (words : List (List ℕ)) (files : List (List ℕ × List ℕ)) (input : List ℕ) (waiting : List (List ℕ)) (reads writes : ℕ) (one other : Outcome)
+        → DefinedRun words (record { files = Some files; input = Some input; door = record { waiting = Some waiting; reads = reads; writes = writes } }) one
+        → DefinedRun words (record { files = Some files; input = Some input; door = record { waiting = Some waiting; reads = reads; writes = writes } }) other → AreAlike one other }
     ensures some { (words : List (List ℕ)) (world : World) → HasSome (DefinedRun words world) }
 {}
 

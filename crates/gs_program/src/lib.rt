@@ -25,6 +25,7 @@ mod asking;
 mod checking;
 mod command;
 mod commands;
+mod description;
 mod file_kind;
 mod file_reading;
 mod laws;

@@ -1,14 +1,18 @@
 ghost use Rattle.std.specs.Prelude.{◌≡◌, ◌≤◌, [], IfOk, None, option_to_list, true};
 ghost use Rattle.gs_port.specs.Files.{AddsNames};
-ghost use Rattle.gs_program.specs.Loads.{FilesGive, GivesBehind, GivesLinks, LoadedBy, OpensFirst};
+ghost use Rattle.gs_program.specs.Loads.{FilesGive, GivesBehind, GivesLinks, GivesSettings, LoadedBy, OpensFirst, SettingsGive};
 ghost use Rattle.gs_program.specs.Ranges.{is_vocabulary};
-ghost use Rattle.gs_program.specs.Requests.{names_behind, names_in_order, told_files, told_name, told_request};
+ghost use Rattle.gs_program.specs.Reads.{SettingsAs};
+ghost use Rattle.gs_program.specs.Requests.{names_behind, names_in_order, names_last, told_files, told_name, told_request};
 
+use crate::description::load_description;
 use crate::links::load_links;
 use crate::prefixes::load_prefixes;
 use crate::refusal::Refusal;
 use crate::request::Request;
 use crate::tables::load_tables;
+use gs_chars::{Memory, Text};
+use gs_http::Settings;
 use gs_links::Store;
 use gs_port::Files;
 use gs_prefix::PrefixList;
@@ -24,6 +28,8 @@ pub struct Loaded {
     pub prefixes: PrefixList,
     /// The links.
     pub links: Store,
+    /// How requests are answered: the vocabulary, and the description of the resolver.
+    pub settings: Settings,
 }
 
 /// Why a run has not loaded its files.
@@ -37,8 +43,62 @@ pub enum Unloaded {
     Memory,
 }
 
-/// Loads the links, behind the tables and the company prefix lengths.
+/// How requests are answered, with this vocabulary and this description.
+fn settings_of(alloc: Global, voc: &str, describe: Option<Text>) -> Result<Settings, Unloaded>
+    ensures { SettingsAs voc.now describe result }
+{
+    match Text::from_bytes(alloc, voc.as_bytes()) {
+        Ok(voc) => Ok(Settings { voc, describe }),
+        Err(Memory) => Err(Unloaded::Memory),
+    }
+}
+
+/// Loads the description, and makes what says how requests are answered.
+fn load_settings<F: Files>(
+    alloc: Global,
+    request: Request<'_>,
+    files: &mut F,
+) -> Result<Settings, Unloaded>
+    ensures loaded { LoadedBy (SettingsGive (F.files files.old) (told_request request.entry)) (F.faults files.old) (F.faults files.new) result }
+    ensures opened { AddsNames (F.opened files.old) (option_to_list (told_name request.entry.files.describe)) (F.opened files.new) }
+    ensures unopened { told_name request.entry.files.describe ≡ None → files.new ≡ files.old }
+    ensures told { F.files files.new ≡ F.files files.old }
+    ensures counts { F.faults files.old ≤ F.faults files.new }
+{
+    match load_description(alloc, request.files.describe, files) {
+        Ok(describe) => settings_of(alloc, request.values.voc, describe),
+        Err(unloaded) => Err(unloaded),
+    }
+}
+
+/// Loads the description, behind the tables, the company prefix lengths and the links.
 fn load_last<F: Files>(
+    alloc: Global,
+    tables: TableSet,
+    prefixes: PrefixList,
+    links: Store,
+    request: Request<'_>,
+    files: &mut F,
+) -> Result<Loaded, Unloaded>
+    ensures loaded { LoadedBy (GivesSettings (F.files files.old) (told_request request.entry) tables prefixes links) (F.faults files.old) (F.faults files.new) result }
+    ensures opened { AddsNames (F.opened files.old) (option_to_list (told_name request.entry.files.describe)) (F.opened files.new) }
+    ensures unopened { told_name request.entry.files.describe ≡ None → files.new ≡ files.old }
+    ensures told { F.files files.new ≡ F.files files.old }
+    ensures counts { F.faults files.old ≤ F.faults files.new }
+{
+    match load_settings(alloc, request, files) {
+        Ok(settings) => Ok(Loaded {
+            tables,
+            prefixes,
+            links,
+            settings,
+        }),
+        Err(unloaded) => Err(unloaded),
+    }
+}
+
+/// Loads the links and the description, behind the tables and the company prefix lengths.
+fn load_with_links<F: Files>(
     alloc: Global,
     tables: TableSet,
     prefixes: PrefixList,
@@ -47,8 +107,9 @@ fn load_last<F: Files>(
 ) -> Result<Loaded, Unloaded>
     requires { is_vocabulary request.values.voc.now ≡ true }
     ensures loaded { LoadedBy (GivesLinks (F.files files.old) (told_request request.entry) tables prefixes) (F.faults files.old) (F.faults files.new) result }
-    ensures opened { AddsNames (F.opened files.old) (option_to_list (told_name request.entry.files.links)) (F.opened files.new) }
-    ensures unopened { told_name request.entry.files.links ≡ None → files.new ≡ files.old }
+    ensures opened { OpensFirst (names_last (told_files request.entry.files)) (F.opened files.old) (F.opened files.new) }
+    ensures all_opened { IfOk result (λ _. AddsNames (F.opened files.old) (names_last (told_files request.entry.files)) (F.opened files.new)) }
+    ensures unopened { names_last (told_files request.entry.files) ≡ [] → files.new ≡ files.old }
     ensures told { F.files files.new ≡ F.files files.old }
     ensures counts { F.faults files.old ≤ F.faults files.new }
 {
@@ -59,11 +120,7 @@ fn load_last<F: Files>(
         request.files.links,
         files,
     ) {
-        Ok(links) => Ok(Loaded {
-            tables,
-            prefixes,
-            links,
-        }),
+        Ok(links) => load_last(alloc, tables, prefixes, links, request, files),
         Err(unloaded) => Err(unloaded),
     }
 }
@@ -84,13 +141,13 @@ fn load_behind<F: Files>(
     ensures counts { F.faults files.old ≤ F.faults files.new }
 {
     match load_prefixes(alloc, request.files.prefixes, files) {
-        Ok(prefixes) => load_last(alloc, tables, prefixes, request, files),
+        Ok(prefixes) => load_with_links(alloc, tables, prefixes, request, files),
         Err(unloaded) => Err(unloaded),
     }
 }
 
-/// Loads the files in their order, tables, company prefix lengths and then links, up to the first that is not there, cannot be
-/// read or is refused. What is not named is the built-in tables, and no prefix and no link.
+/// Loads the files in their order, tables, company prefix lengths, links and then the description, up to the first that is not
+/// there, cannot be read or is refused. What is not named is the built-in tables, and no prefix, no link and no description.
 pub fn load_files<F: Files>(
     alloc: Global,
     request: Request<'_>,

@@ -1,7 +1,7 @@
 ghost use Rattle.std.specs.Prelude.{◌≡◌};
 ghost use Rattle.gs_program.specs.Names.{in_range, name_word};
 
-use crate::ranges::{filter_of, gcp_of, is_vocabulary};
+use crate::ranges::{count_of, filter_of, gcp_of, is_vocabulary};
 use gs_dlink::stem_ok;
 
 /// A name that stands in front of its value among the words.
@@ -17,6 +17,10 @@ pub enum Name {
     Describe,
     /// What stands for `gs1:` in relations.
     Voc,
+    /// The address that a server listens at.
+    Listen,
+    /// The number of connections that a server finishes.
+    Count,
     /// A filter value.
     Filter,
     /// The number of digits of a company prefix.
@@ -40,6 +44,8 @@ impl Name {
             Name::Links => "--links",
             Name::Describe => "--describe",
             Name::Voc => "--voc",
+            Name::Listen => "--listen",
+            Name::Count => "--count",
             Name::Filter => "--filter",
             Name::Gcp => "--gcp",
             Name::Encoding => "--encoding",
@@ -48,13 +54,14 @@ impl Name {
         }
     }
 
-    /// Whether the name may have this value. A file may have any name.
+    /// Whether the name may have this value. A file may have any name, and an address may be any text.
     pub fn has_in_range(self, value: &str) -> bool
         ensures { result ≡ in_range self value.now }
     {
         match self {
-            Name::Tables | Name::Prefixes | Name::Links | Name::Describe => true,
+            Name::Tables | Name::Prefixes | Name::Links | Name::Describe | Name::Listen => true,
             Name::Voc => is_vocabulary(value),
+            Name::Count => count_of(value).is_some(),
             Name::Filter => filter_of(value).is_some(),
             Name::Gcp => gcp_of(value).is_some(),
             Name::Encoding => !value.is_empty(),

@@ -1,15 +1,18 @@
-ghost use Rattle.std.specs.Prelude.{◌≡◌, [], ℕ, List, Option, map, option_and_then, string_bytes};
+ghost use Rattle.std.specs.Prelude.{◌≡◌, [], ℕ, List, Option, map, option_and_then, string_bytes, unwrap_or};
 ghost use Rattle.gs_program.specs.Names.{ArePairs};
 ghost use Rattle.gs_program.specs.Requests.{named_files, named_values, number_named, told_files, told_values, value_or};
-ghost use Rattle.gs_program.specs.Ranges.{filter_of, gcp_of};
+ghost use Rattle.gs_program.specs.Ranges.{count_of, filter_of, gcp_of};
 
 use crate::name::Name;
 use crate::pairs::look_up;
-use crate::ranges::{filter_of, gcp_of};
+use crate::ranges::{count_of, filter_of, gcp_of};
 use crate::request::{NamedFiles, NamedValues};
 
 /// What stands for `gs1:` in relations where that is not named.
 const DEFAULT_VOC: &str = "https://ref.gs1.org/voc/";
+
+/// The address of a server where it is not named.
+const DEFAULT_LISTEN: &str = "127.0.0.1:8080";
 
 /// The stem of links where it is not named.
 const DEFAULT_STEM: &str = "https://id.gs1.org";
@@ -36,6 +39,16 @@ fn value_or<'a>(words: &'a [String], name: Name, default: &'a str) -> &'a str
     }
 }
 
+/// The number of connections that is named, and 0 where none is.
+fn named_count(words: &[String]) -> u32
+    ensures { (pairs : List (List ℕ × List ℕ)) → ArePairs (map string_bytes words.now) pairs → result ≡ unwrap_or (number_named count_of Name.Count pairs) 0 }
+{
+    let Some(value) = look_up(words, Name::Count.word()) else {
+        return 0;
+    };
+    count_of(value).unwrap_or(0)
+}
+
 /// The filter value that is named.
 fn named_filter(words: &[String]) -> Option<u8>
     ensures { (pairs : List (List ℕ × List ℕ)) → ArePairs (map string_bytes words.now) pairs → result ≡ number_named filter_of Name.Filter pairs }
@@ -56,6 +69,8 @@ pub fn named_values(words: &[String]) -> NamedValues<'_>
 {
     NamedValues {
         voc: value_or(words, Name::Voc, DEFAULT_VOC),
+        listen: value_or(words, Name::Listen, DEFAULT_LISTEN),
+        count: named_count(words),
         filter: named_filter(words),
         gcp: named_gcp(words),
         encoding: value_or(words, Name::Encoding, ""),

@@ -4,7 +4,7 @@ ghost use Rattle.std.specs.List.{list_all};
 ghost use Rattle.gs_chars.specs.Characters.{are_digits};
 ghost use Rattle.gs_grammar.specs.Words.{decimal_value};
 ghost use Rattle.gs_grammar.specs.Writing.{has_leading_zero};
-ghost use Rattle.gs_program.specs.Ranges.{filter_of, gcp_of, is_numeral, is_vocabulary, number_within};
+ghost use Rattle.gs_program.specs.Ranges.{count_of, filter_of, gcp_of, is_numeral, is_vocabulary, lines_of, most_lines, number_within};
 
 /// Whether each byte is a digit.
 fn are_digits(bytes: &[u8]) -> bool
@@ -66,6 +66,21 @@ pub fn gcp_of(word: &str) -> Option<u8>
     ensures { result ≡ gcp_of word.now }
 {
     Some(number_within(word, 1, 12)? as u8)
+}
+
+/// The number of connections that the word writes.
+pub fn count_of(word: &str) -> Option<u32>
+    ensures { result ≡ count_of word.now }
+{
+    number_within(word, 1, 1_000_000)
+}
+
+/// The number of lines that the word writes.
+pub fn lines_of(word: &str) -> Option<u32>
+    ensures exact { result ≡ lines_of word.now }
+    ensures most { IfSome result (λ lines. lines ≤ most_lines) }
+{
+    number_within(word, 0, 100_000)
 }
 
 /// Whether each byte is a visible character of ISO 646.

@@ -18,6 +18,10 @@ pub struct NamedFiles<'a> {
 pub struct NamedValues<'a> {
     /// What stands for `gs1:` in relations.
     pub voc: &'a str,
+    /// The address that a server listens at.
+    pub listen: &'a str,
+    /// The number of connections that a server finishes, 1 to 1,000,000, and 0 where it is not named.
+    pub count: u32,
     /// A filter value, 0 to 7.
     pub filter: Option<u8>,
     /// The number of digits of a company prefix, 1 to 12.

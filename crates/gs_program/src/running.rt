@@ -1,39 +1,46 @@
-ghost use Rattle.std.specs.Prelude.{◌≡◌, ◌⊎◌, ℕ, ◌+◌, ◌≤◌, List, [], map, string_bytes};
+ghost use Rattle.std.specs.Prelude.{◌≡◌, ◌⊎◌, ℕ, ◌+◌, ◌≤◌, List, [], false, map, string_bytes};
 ghost use Rattle.gs_lines.specs.Inputs.{IsAtEnd, TakesAtMost, TakesMoreThan};
 ghost use Rattle.gs_lines.specs.Outputs.{Appends};
 ghost use Rattle.gs_lines.specs.Statuses.{OnAnswered, OnCutShort, OnInputLong, OnReadFault, OnRefused, OnUsage, OnWriteFault, OnWritten};
 ghost use Rattle.gs_port.specs.Counts.{Rises};
-ghost use Rattle.gs_program.specs.Requests.{AsksForLines, NamesFile, NotInOrder};
-ghost use Rattle.gs_program.specs.Runs.{BeginsRun, DefinedRun, EndedRun, IsMissing, IsRefused, OpensAll, OpensNamed};
-ghost use Rattle.gs_program.specs.Works.{input_limit};
+ghost use Rattle.gs_program.specs.Ran.{StaysOrRises};
+ghost use Rattle.gs_program.specs.Requests.{AsksForDoor, AsksForInput, AsksForLines, NamesFile, NotInOrder};
+ghost use Rattle.gs_program.specs.Runs.{BeginsRun, DefinedRun, EndedRun, FinishedRun, IsMissing, IsRefused, OpensAll, OpensNamed};
+ghost use Rattle.gs_program.specs.Works.{Leaves, doorway_of, input_limit};
 
 use crate::arguments::read_words;
 use crate::asking::run_request;
 use gs_lines::{Status, print_line};
-use gs_port::{Files, Sink, Source};
+use gs_port::{Door, Files, Sink, Source};
 use std::alloc::Global;
 
 /// What is printed where the words are not in order.
 const USAGE: &[u8] =
     b"usage: tdl canon FORM | translate FROM TO | check | resolve | serve | gen N, then --name value pairs\n";
 
-/// Runs the program: does what the words ask for, over these files, this input and this output, and says how it ended.
+/// Runs the program: does what the words ask for, over these files, this input, this output and this door, of which no
+/// connection is open, and says how it ended.
 ///
 /// `Usage` comes exactly where the words are not in order; the usage line is written then, and nothing is read or opened.
 /// `Refused` comes where a file, or the built-in rows, are refused, after the one line that says why; the input is not read.
-/// `ReadFault` comes only where the input or the files counted a fault, or where the files are told and a named one is not
-/// there. `InputLong` comes exactly where more than 4,294,967,296 bytes were taken from the input. `WriteFault` comes only where
-/// the output counted a fault. After `ReadFault`, `WriteFault` and `Memory` an initial part of the defined output was written.
-pub fn run<F: Files, S: Source, K: Sink>(
+/// `ReadFault` comes only where the input, the files or the door itself counted a fault, or where the files are told and a
+/// named one is not there. `InputLong` comes exactly where more than 4,294,967,296 bytes were taken from the lines of the
+/// input. `WriteFault` comes only where the output counted a fault. After `ReadFault`, `WriteFault` and `Memory` an initial
+/// part of the defined output was written, and of the waiting connections the first ones are finished.
+pub fn run<F: Files, S: Source, K: Sink, D: Door>(
     alloc: Global,
     words: &[String],
     files: &mut F,
     input: &mut S,
     output: &mut K,
+    door: &mut D,
 ) -> Status
-    // The headline: output and status are the defined ones, whatever count rose on the way.
-    ensures defined { OnWritten result (Appends (K.held output.old) (K.held output.new) (λ out. DefinedRun (map string_bytes words.now)
-        (record { files = F.files files.old; input = S.left input.old }) (record { output = out; status = result }))) }
+    requires none_open { D.is_open door.old ≡ false }
+
+    // The headline: output, finished connections and status are the defined ones, whatever count rose on the way.
+    ensures defined { OnWritten result (Leaves (K.held output.old) (K.held output.new) (D.aside door.old).finished (D.aside door.new).finished result
+        (DefinedRun (map string_bytes words.now)
+        (record { files = F.files files.old; input = S.left input.old; door = doorway_of (D.aside door.old) (D.reads door.old) (D.writes door.old) }))) }
     ensures read_to_end { AsksForLines (map string_bytes words.now) → OnAnswered result (IsAtEnd (S.left input.new)) }
 
     // The words decide whether it is the usage line, and the files whether one is refused.
@@ -41,17 +48,20 @@ pub fn run<F: Files, S: Source, K: Sink>(
     ensures not_in_order { NotInOrder (map string_bytes words.now) → OnWritten result (result ≡ Status.Usage) }
     ensures refused { OnRefused result (IsRefused (map string_bytes words.now) (F.files files.old)) }
 
-    // What a command does not use is as it was, and so is the input where a file is refused.
-    ensures unread { (AsksForLines (map string_bytes words.now) → ⊥) → input.new ≡ input.old }
+    // What a command does not use is as it was, and so are the input and the door where a file is refused.
+    ensures unread { (AsksForInput (map string_bytes words.now) → ⊥) → input.new ≡ input.old }
     ensures unread_refused { OnRefused result (input.new ≡ input.old) }
-    ensures few { TakesAtMost (input_limit + 1) (S.left input.old) (S.left input.new) }
+    ensures few { AsksForLines (map string_bytes words.now) → TakesAtMost (input_limit + 1) (S.left input.old) (S.left input.new) }
+    ensures unserved { (AsksForDoor (map string_bytes words.now) → ⊥) → door.new ≡ door.old }
+    ensures unserved_refused { OnRefused result (door.new ≡ door.old) }
     ensures unopened { ((name : List ℕ) → NamesFile (map string_bytes words.now) name → ⊥) → files.new ≡ files.old }
     ensures opened { OpensNamed (map string_bytes words.now) (F.opened files.old) (F.opened files.new) }
     ensures all_opened { OnAnswered result (OpensAll (map string_bytes words.now) (F.opened files.old) (F.opened files.new)) }
     ensures told { F.files files.new ≡ F.files files.old }
 
     // Each cause.
-    ensures read_fault { OnReadFault result (Rises (S.faults input.old) (S.faults input.new)
+    ensures read_fault { OnReadFault result ((Rises (S.faults input.old) (S.faults input.new)
+        ⊎ Rises (D.aside door.old).faults (D.aside door.new).faults)
         ⊎ (Rises (F.faults files.old) (F.faults files.new) ⊎ IsMissing (map string_bytes words.now) (F.files files.old))) }
     ensures write_fault { OnWriteFault result (Rises (K.faults output.old) (K.faults output.new)) }
     ensures input_long { OnInputLong result (TakesMoreThan input_limit (S.left input.old) (S.left input.new)) }
@@ -61,13 +71,17 @@ pub fn run<F: Files, S: Source, K: Sink>(
         ⊎ (Rises (S.faults input.old) (S.faults input.new) × Appends (K.held output.old) (K.held output.new)
         (EndedRun (map string_bytes words.now) (F.files files.old) (S.left input.old) (S.left input.new)))) }
     ensures begun { OnCutShort result (Appends (K.held output.old) (K.held output.new)
-        (BeginsRun (map string_bytes words.now) (record { files = F.files files.old; input = S.left input.old }))) }
-    ensures input_counts { S.faults input.old ≤ S.faults input.new }
+        (BeginsRun (map string_bytes words.now) (record { files = F.files files.old; input = S.left input.old; door = doorway_of (D.aside door.old) (D.reads door.old) (D.writes door.old) }))) }
+    ensures finished { OnCutShort result (Leaves (K.held output.old) (K.held output.new) (D.aside door.old).finished (D.aside door.new).finished result
+        (FinishedRun (map string_bytes words.now)
+        (record { files = F.files files.old; input = S.left input.old; door = doorway_of (D.aside door.old) (D.reads door.old) (D.writes door.old) }))) }
+    ensures input_counts { StaysOrRises (S.faults input.old) (S.faults input.new) }
     ensures file_counts { F.faults files.old ≤ F.faults files.new }
-    ensures output_counts { K.faults output.old ≤ K.faults output.new }
+    ensures output_counts { StaysOrRises (K.faults output.old) (K.faults output.new) }
+    ensures door_counts { StaysOrRises (D.aside door.old).faults (D.aside door.new).faults }
 {
     match read_words(words) {
-        Some(request) => run_request(alloc, request, files, input, output),
+        Some(request) => run_request(alloc, request, files, input, output, door),
         None => print_line(output, USAGE, Status::Usage),
     }
 }

@@ -4,7 +4,7 @@ ghost use Rattle.gs_tables.specs.Judged.{IsLoaded};
 ghost use Rattle.gs_translate.specs.Translations.{AreInOrder};
 ghost use Rattle.gs_program.specs.Ran.{TranslationRan};
 ghost use Rattle.gs_program.specs.Requests.{options_of, told_values};
-ghost use Rattle.gs_program.specs.Works.{canonizing, told_translation, translating};
+ghost use Rattle.gs_program.specs.Works.{canonizing, outcome_of, told_translation, translating};
 
 use crate::loading::Loaded;
 use crate::naming::no_values;
@@ -61,7 +61,7 @@ fn translate_lines<S: Source, K: Sink>(
     ensures { Appends (K.held output.old) (K.held output.new) (λ out. TranslationRan (told_translation translation.entry)
         (record { input = S.left input.old; input_faults = S.faults input.old; output_faults = K.faults output.old })
         (record { input = S.left input.new; input_faults = S.faults input.new; output_faults = K.faults output.new })
-        (record { output = out; status = result })) }
+        (outcome_of out result)) }
 {
     match options_of(alloc, translation.values) {
         Ok(options) => {
@@ -90,7 +90,7 @@ pub fn canonize<S: Source, K: Sink>(
     ensures { Appends (K.held output.old) (K.held output.new) (λ out. TranslationRan (canonizing loaded.now form)
         (record { input = S.left input.old; input_faults = S.faults input.old; output_faults = K.faults output.old })
         (record { input = S.left input.new; input_faults = S.faults input.new; output_faults = K.faults output.new })
-        (record { output = out; status = result })) }
+        (outcome_of out result)) }
 {
     let prefixes = PrefixList::empty(alloc);
     let values = no_values();
@@ -120,7 +120,7 @@ pub fn translate_loaded<S: Source, K: Sink>(
     ensures { Appends (K.held output.old) (K.held output.new) (λ out. TranslationRan (translating loaded.now (told_values values.entry) from to)
         (record { input = S.left input.old; input_faults = S.faults input.old; output_faults = K.faults output.old })
         (record { input = S.left input.new; input_faults = S.faults input.new; output_faults = K.faults output.new })
-        (record { output = out; status = result })) }
+        (outcome_of out result)) }
 {
     let translation = Translation {
         set: &loaded.tables,

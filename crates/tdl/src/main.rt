@@ -5,7 +5,7 @@ mod ending;
 mod words;
 
 use ending::{NO_WORDS, exit_code};
-use gs_port::{HostFiles, StdinSource, StdoutSink};
+use gs_port::{HostFiles, StdinSource, StdoutSink, TcpDoor};
 use gs_program::{Status, run};
 use std::process::ExitCode;
 use std::{env, io};
@@ -31,11 +31,13 @@ fn main(rt: HostRuntime) -> ExitCode {
     let mut files = HostFiles::new(rt);
     let mut input = StdinSource::new(rt.stdin());
     let mut output = StdoutSink::new(rt.stdout());
+    let mut door = TcpDoor::new(rt);
     exit_code(run(
         rt.alloc(),
         words_behind(words.as_slice()),
         &mut files,
         &mut input,
         &mut output,
+        &mut door,
     ))
 }

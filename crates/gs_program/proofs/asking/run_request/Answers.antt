@@ -1,50 +1,34 @@
 use Rattle.std.proofs.Common.{[], refl, sym}
 use Rattle.gs_port.specs.Contents.{append_nothing}
-use Rattle.gs_program.specs.Asking.{Counts}
-use Rattle.gs_program.specs.Ran.{Moment}
 use Rattle.gs_program.specs.Requests.{told_request}
-use Rattle.gs_program.specs.Runs.{World}
 use Rattle.gs_lines.specs.Statuses.{is_answered}
 use Rattle.gs_lines.proofs.StatusLemmas.{when_always}
 use Rattle.gs_program.proofs.AskedLemmas.{asked_of_command, asked_of_fault, asked_of_memory, asked_of_refusal, ended_of_command, never_refused, refusal_answered}
+use Rattle.gs_program.proofs.RanLemmas.{leaves_door}
 use Rattle.gs_program.proofs.asking.run_request.Goals as goal
 
 pub returns-in-Ok-clause-ran : goal.returns-in-Ok-clause-ran
 returns-in-Ok-clause-ran g c =
-    let world : World = record { files = g.F.Files.files c.args.files.now; input = g.S.Source.left c.args.input.now } in
-    let before : Counts = record { file_faults = g.F.Files.faults c.args.files.now; input_faults = g.S.Source.faults c.args.input.now; output_faults = g.K.Sink.faults c.args.output.now } in
-    let now : Counts = record { file_faults = g.F.Files.faults c.load_files.new.files; input_faults = g.S.Source.faults c.run_command.new.input; output_faults = g.K.Sink.faults c.run_command.new.output } in
-    let w = c.run_command.ensures.ran in
-    (w.0, w.1, asked_of_command (told_request c.args.request) world before now (g.S.Source.left c.run_command.new.input) c.in-Ok.loaded (record { output = w.0; status = c.run_command.result }) c.in-Ok.ensures.loaded c.load_files.ensures.counts w.2)
+    let a = c.run_command.ensures.ran in
+    let w = a.2 in
+    (a.0, a.1, (w.0, w.1, asked_of_command (told_request c.args.request) _ _ _ _ c.in-Ok.loaded _ c.in-Ok.ensures.loaded c.load_files.ensures.counts w.2))
 
 pub returns-in-Ok-clause-read_fault : goal.returns-in-Ok-clause-read_fault
 returns-in-Ok-clause-read_fault g c =
-    let world : World = record { files = g.F.Files.files c.args.files.now; input = g.S.Source.left c.args.input.now } in
-    let before : Moment = record { input = g.S.Source.left c.args.input.now; input_faults = g.S.Source.faults c.args.input.now; output_faults = g.K.Sink.faults c.args.output.now } in
-    let now : Moment = record { input = g.S.Source.left c.run_command.new.input; input_faults = g.S.Source.faults c.run_command.new.input; output_faults = g.K.Sink.faults c.run_command.new.output } in
-    ended_of_command _ (told_request c.args.request) world before now (g.K.Sink.held c.args.output.now) (g.K.Sink.held c.run_command.new.output) c.in-Ok.loaded c.run_command.result c.in-Ok.ensures.loaded refl c.run_command.ensures.ran
+    ended_of_command _ (told_request c.args.request) _ _ _ _ _ _ _ _ _ _ c.in-Ok.loaded c.run_command.result c.in-Ok.ensures.loaded c.run_command.ensures.unread c.run_command.ensures.ran
 
 pub returns-in-Err-Refused-clause-ran : goal.returns-in-Err-Refused-clause-ran
 returns-in-Err-Refused-clause-ran g c =
-    let world : World = record { files = g.F.Files.files c.args.files.now; input = g.S.Source.left c.args.input.now } in
-    let before : Counts = record { file_faults = g.F.Files.faults c.args.files.now; input_faults = g.S.Source.faults c.args.input.now; output_faults = g.K.Sink.faults c.args.output.now } in
-    let now : Counts = record { file_faults = g.F.Files.faults c.load_files.new.files; input_faults = g.S.Source.faults c.args.input.now; output_faults = g.K.Sink.faults c.print_refusal.new.output } in
     let w = c.print_refusal.ensures.written in
-    (w.0, w.1, asked_of_refusal (told_request c.args.request) world before now c.in-Err-Refused.refusal w.0 c.print_refusal.result (rw c.in-Err-Refused.field-0-is at c.in-Err-Refused.ensures.loaded) w.2 c.print_refusal.ensures.fault c.load_files.ensures.counts refl c.print_refusal.ensures.counts)
+    leaves_door _ _ _ _ _ (w.0, w.1, asked_of_refusal (told_request c.args.request) _ _ _ c.in-Err-Refused.refusal w.0 c.print_refusal.result (rw c.in-Err-Refused.field-0-is at c.in-Err-Refused.ensures.loaded) w.2 c.print_refusal.ensures.fault c.load_files.ensures.counts refl c.print_refusal.ensures.counts)
 
 pub returns-in-Err-ReadFault-clause-ran : goal.returns-in-Err-ReadFault-clause-ran
 returns-in-Err-ReadFault-clause-ran g c =
-    let world : World = record { files = g.F.Files.files c.args.files.now; input = g.S.Source.left c.args.input.now } in
-    let before : Counts = record { file_faults = g.F.Files.faults c.args.files.now; input_faults = g.S.Source.faults c.args.input.now; output_faults = g.K.Sink.faults c.args.output.now } in
-    let now : Counts = record { file_faults = g.F.Files.faults c.load_files.new.files; input_faults = g.S.Source.faults c.args.input.now; output_faults = g.K.Sink.faults c.args.output.now } in
-    ([], sym (append_nothing (g.K.Sink.held c.args.output.now)), asked_of_fault (told_request c.args.request) world before now (rw c.in-Err-ReadFault.field-0-is at c.in-Err-ReadFault.ensures.loaded) c.load_files.ensures.counts refl refl)
+    leaves_door _ _ _ _ _ ([], sym (append_nothing (g.K.Sink.held c.args.output.now)), asked_of_fault (told_request c.args.request) _ _ _ (rw c.in-Err-ReadFault.field-0-is at c.in-Err-ReadFault.ensures.loaded) c.load_files.ensures.counts refl refl)
 
 pub returns-in-Err-Memory-clause-ran : goal.returns-in-Err-Memory-clause-ran
 returns-in-Err-Memory-clause-ran g c =
-    let world : World = record { files = g.F.Files.files c.args.files.now; input = g.S.Source.left c.args.input.now } in
-    let before : Counts = record { file_faults = g.F.Files.faults c.args.files.now; input_faults = g.S.Source.faults c.args.input.now; output_faults = g.K.Sink.faults c.args.output.now } in
-    let now : Counts = record { file_faults = g.F.Files.faults c.load_files.new.files; input_faults = g.S.Source.faults c.args.input.now; output_faults = g.K.Sink.faults c.args.output.now } in
-    ([], sym (append_nothing (g.K.Sink.held c.args.output.now)), asked_of_memory (told_request c.args.request) world before now c.load_files.ensures.counts refl refl)
+    leaves_door _ _ _ _ _ ([], sym (append_nothing (g.K.Sink.held c.args.output.now)), asked_of_memory (told_request c.args.request) _ _ _ c.load_files.ensures.counts refl refl)
 
 pub returns-in-Ok-clause-all_opened : goal.returns-in-Ok-clause-all_opened
 returns-in-Ok-clause-all_opened g c = when_always (is_answered c.run_command.result) c.in-Ok.ensures.all_opened
@@ -53,4 +37,7 @@ pub returns-in-Err-Refused-clause-all_opened : goal.returns-in-Err-Refused-claus
 returns-in-Err-Refused-clause-all_opened g c = refusal_answered _ _ c.print_refusal.ensures.written.0 c.print_refusal.result c.print_refusal.ensures.written.2
 
 pub returns-in-Ok-clause-unread_refused : goal.returns-in-Ok-clause-unread_refused
-returns-in-Ok-clause-unread_refused g c = never_refused c.run_command.result _ c.run_command.ensures.ran.2.no_refusal
+returns-in-Ok-clause-unread_refused g c = never_refused c.run_command.result _ c.run_command.ensures.ran.2.2.no_refusal
+
+pub returns-in-Ok-clause-unserved_refused : goal.returns-in-Ok-clause-unserved_refused
+returns-in-Ok-clause-unserved_refused g c = never_refused c.run_command.result _ c.run_command.ensures.ran.2.2.no_refusal

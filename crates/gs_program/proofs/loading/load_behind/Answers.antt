@@ -1,27 +1,25 @@
 use Rattle.std.proofs.Common.{option_to_list}
 use Rattle.gs_program.specs.Loads.{GivesLinks, PrefixesGive}
-use Rattle.gs_program.specs.Requests.{told_name, told_request}
+use Rattle.gs_program.specs.Requests.{names_last, told_files, told_name, told_request}
 use Rattle.gs_program.proofs.FileLoads.{loads_on, not_loaded}
-use Rattle.gs_program.proofs.OpenedNames.{adds_both, opens_all, opens_front, whatever_given}
+use Rattle.gs_program.proofs.OpenedNames.{adds_given, opens_both, opens_front}
 use Rattle.gs_program.proofs.loading.load_behind.Goals as goal
 
 pub returns-in-Ok-clause-loaded : goal.returns-in-Ok-clause-loaded
 returns-in-Ok-clause-loaded g c =
     loads_on (PrefixesGive (g.F.Files.files c.args.files.now) (told_name c.args.request.files.prefixes)) (GivesLinks (g.F.Files.files c.args.files.now) (told_request c.args.request) c.args.tables)
-    (g.F.Files.faults c.args.files.now) (g.F.Files.faults c.load_prefixes.new.files) (g.F.Files.faults c.load_last.new.files) c.in-Ok.prefixes c.load_last.result
-    c.in-Ok.ensures.loaded c.in-Ok.ensures.counts (rw c.in-Ok.ensures.told at c.load_last.ensures.loaded)
+    (g.F.Files.faults c.args.files.now) (g.F.Files.faults c.load_prefixes.new.files) (g.F.Files.faults c.load_with_links.new.files) c.in-Ok.prefixes c.load_with_links.result
+    c.in-Ok.ensures.loaded c.in-Ok.ensures.counts (rw c.in-Ok.ensures.told at c.load_with_links.ensures.loaded)
 
 pub returns-in-Ok-clause-opened : goal.returns-in-Ok-clause-opened
 returns-in-Ok-clause-opened g c =
-    opens_all _ _ _
-    (adds_both (g.F.Files.opened c.args.files.now) (g.F.Files.opened c.load_prefixes.new.files) (g.F.Files.opened c.load_last.new.files)
-    (option_to_list (told_name c.args.request.files.prefixes)) (option_to_list (told_name c.args.request.files.links)) c.in-Ok.ensures.opened c.load_last.ensures.opened)
+    opens_both (g.F.Files.opened c.args.files.now) (g.F.Files.opened c.load_prefixes.new.files) (g.F.Files.opened c.load_with_links.new.files)
+    (option_to_list (told_name c.args.request.files.prefixes)) (names_last (told_files c.args.request.files)) c.in-Ok.ensures.opened c.load_with_links.ensures.opened
 
 pub returns-in-Ok-clause-all_opened : goal.returns-in-Ok-clause-all_opened
 returns-in-Ok-clause-all_opened g c =
-    whatever_given c.load_last.result _
-    (adds_both (g.F.Files.opened c.args.files.now) (g.F.Files.opened c.load_prefixes.new.files) (g.F.Files.opened c.load_last.new.files)
-    (option_to_list (told_name c.args.request.files.prefixes)) (option_to_list (told_name c.args.request.files.links)) c.in-Ok.ensures.opened c.load_last.ensures.opened)
+    adds_given c.load_with_links.result (g.F.Files.opened c.args.files.now) (g.F.Files.opened c.load_prefixes.new.files) (g.F.Files.opened c.load_with_links.new.files)
+    (option_to_list (told_name c.args.request.files.prefixes)) (names_last (told_files c.args.request.files)) c.in-Ok.ensures.opened c.load_with_links.ensures.all_opened
 
 pub returns-in-Err-clause-loaded : goal.returns-in-Err-clause-loaded
 returns-in-Err-clause-loaded g c =
@@ -30,4 +28,4 @@ returns-in-Err-clause-loaded g c =
 
 pub returns-in-Err-clause-opened : goal.returns-in-Err-clause-opened
 returns-in-Err-clause-opened g c =
-    opens_front (option_to_list (told_name c.args.request.files.prefixes)) (option_to_list (told_name c.args.request.files.links)) _ _ c.in-Err.ensures.opened
+    opens_front (option_to_list (told_name c.args.request.files.prefixes)) (names_last (told_files c.args.request.files)) _ _ c.in-Err.ensures.opened

@@ -3,28 +3,27 @@ use Rattle.gs_lines.specs.Statuses.{is_answered}
 use Rattle.gs_lines.proofs.StatusLemmas.{when_map}
 use Rattle.gs_program.specs.Requests.{told_request}
 use Rattle.gs_program.specs.Runs.{named}
-use Rattle.gs_program.proofs.RunLemmas.{begun_of, defined_of, read_fault_of, refused_of, unopened_of, usage_begun}
+use Rattle.gs_program.proofs.RunLemmas.{begun_of, defined_of, few_of, finished_of, read_fault_of, refused_of, unopened_of, usage_begun, usage_defined, usage_finished}
 use Rattle.gs_program.proofs.ValueLemmas.{options_fit, vocabulary_fits}
 use Rattle.gs_program.proofs.running.run.Goals as goal
 
 pub run_request-requires-clause-vocabulary : goal.run_request-requires-clause-vocabulary
 run_request-requires-clause-vocabulary g c = vocabulary_fits (map string_bytes c.args.words.now) (told_request c.in-Some.request) c.in-Some.ensures.request
 
+pub run_request-requires-clause-options : goal.run_request-requires-clause-options
+run_request-requires-clause-options g c = options_fit (map string_bytes c.args.words.now) (told_request c.in-Some.request) c.in-Some.ensures.request
+
 pub returns-in-Some-clause-defined : goal.returns-in-Some-clause-defined
 returns-in-Some-clause-defined g c =
-    defined_of (map string_bytes c.args.words.now) (told_request c.in-Some.request)
-    (record { files = g.F.Files.files c.args.files.now; input = g.S.Source.left c.args.input.now })
-    (record { file_faults = g.F.Files.faults c.args.files.now; input_faults = g.S.Source.faults c.args.input.now; output_faults = g.K.Sink.faults c.args.output.now })
-    (record { file_faults = g.F.Files.faults c.run_request.new.files; input_faults = g.S.Source.faults c.run_request.new.input; output_faults = g.K.Sink.faults c.run_request.new.output })
-    (g.S.Source.left c.run_request.new.input) (g.K.Sink.held c.args.output.now) (g.K.Sink.held c.run_request.new.output) c.run_request.result c.in-Some.ensures.request c.run_request.ensures.ran
+    defined_of (map string_bytes c.args.words.now) (told_request c.in-Some.request) _ _ _ _ _ _ _ _ c.run_request.result c.in-Some.ensures.request c.run_request.ensures.ran
 
 pub returns-in-Some-clause-refused : goal.returns-in-Some-clause-refused
 returns-in-Some-clause-refused g c =
-    let w = c.run_request.ensures.ran in refused_of (map string_bytes c.args.words.now) (told_request c.in-Some.request)
-    (record { files = g.F.Files.files c.args.files.now; input = g.S.Source.left c.args.input.now })
-    (record { file_faults = g.F.Files.faults c.args.files.now; input_faults = g.S.Source.faults c.args.input.now; output_faults = g.K.Sink.faults c.args.output.now })
-    (record { file_faults = g.F.Files.faults c.run_request.new.files; input_faults = g.S.Source.faults c.run_request.new.input; output_faults = g.K.Sink.faults c.run_request.new.output })
-    (g.S.Source.left c.run_request.new.input) w.0 c.run_request.result c.in-Some.ensures.request w.2
+    refused_of (map string_bytes c.args.words.now) (told_request c.in-Some.request) _ _ _ _ _ c.in-Some.ensures.request c.run_request.ensures.ran.2.2
+
+pub returns-in-Some-clause-few : goal.returns-in-Some-clause-few
+returns-in-Some-clause-few g c =
+    few_of (map string_bytes c.args.words.now) (told_request c.in-Some.request) _ _ c.in-Some.ensures.request c.run_request.ensures.ran.2.2.few
 
 pub returns-in-Some-clause-unopened : goal.returns-in-Some-clause-unopened
 returns-in-Some-clause-unopened g c =
@@ -40,24 +39,24 @@ returns-in-Some-clause-all_opened g c =
 
 pub returns-in-Some-clause-read_fault : goal.returns-in-Some-clause-read_fault
 returns-in-Some-clause-read_fault g c =
-    let w = c.run_request.ensures.ran in read_fault_of (map string_bytes c.args.words.now) (told_request c.in-Some.request)
-    (record { files = g.F.Files.files c.args.files.now; input = g.S.Source.left c.args.input.now })
-    (record { file_faults = g.F.Files.faults c.args.files.now; input_faults = g.S.Source.faults c.args.input.now; output_faults = g.K.Sink.faults c.args.output.now })
-    (record { file_faults = g.F.Files.faults c.run_request.new.files; input_faults = g.S.Source.faults c.run_request.new.input; output_faults = g.K.Sink.faults c.run_request.new.output })
-    (g.S.Source.left c.run_request.new.input) w.0 c.run_request.result c.in-Some.ensures.request w.2
+    read_fault_of (map string_bytes c.args.words.now) (told_request c.in-Some.request) _ _ _ _ _ c.in-Some.ensures.request c.run_request.ensures.ran.2.2
 
 pub returns-in-Some-clause-begun : goal.returns-in-Some-clause-begun
 returns-in-Some-clause-begun g c =
-    begun_of (map string_bytes c.args.words.now) (told_request c.in-Some.request)
-    (record { files = g.F.Files.files c.args.files.now; input = g.S.Source.left c.args.input.now })
-    (record { file_faults = g.F.Files.faults c.args.files.now; input_faults = g.S.Source.faults c.args.input.now; output_faults = g.K.Sink.faults c.args.output.now })
-    (record { file_faults = g.F.Files.faults c.run_request.new.files; input_faults = g.S.Source.faults c.run_request.new.input; output_faults = g.K.Sink.faults c.run_request.new.output })
-    (g.S.Source.left c.run_request.new.input) (g.K.Sink.held c.args.output.now) (g.K.Sink.held c.run_request.new.output) c.run_request.result c.in-Some.ensures.request c.run_request.ensures.ran
+    begun_of (map string_bytes c.args.words.now) (told_request c.in-Some.request) _ _ _ _ _ _ _ _ c.run_request.result c.in-Some.ensures.request c.run_request.ensures.ran
+
+pub returns-in-None-clause-defined : goal.returns-in-None-clause-defined
+returns-in-None-clause-defined g c =
+    usage_defined (map string_bytes c.args.words.now) _ _ _ _ c.print_line.result c.in-None.ensures.none c.print_line.ensures.written
 
 pub returns-in-None-clause-begun : goal.returns-in-None-clause-begun
 returns-in-None-clause-begun g c =
-    usage_begun (map string_bytes c.args.words.now) (record { files = g.F.Files.files c.args.files.now; input = g.S.Source.left c.args.input.now })
-    (g.K.Sink.held c.args.output.now) (g.K.Sink.held c.print_line.new.output) c.print_line.result c.in-None.ensures.none c.print_line.ensures.written
+    usage_begun (map string_bytes c.args.words.now) _ _ _ c.print_line.result c.in-None.ensures.none c.print_line.ensures.written
 
-pub run_request-requires-clause-options : goal.run_request-requires-clause-options
-run_request-requires-clause-options g c = options_fit (map string_bytes c.args.words.now) (told_request c.in-Some.request) c.in-Some.ensures.request
+pub returns-in-Some-clause-finished : goal.returns-in-Some-clause-finished
+returns-in-Some-clause-finished g c =
+    finished_of (map string_bytes c.args.words.now) (told_request c.in-Some.request) _ _ _ _ _ _ _ _ c.run_request.result c.in-Some.ensures.request c.run_request.ensures.ran
+
+pub returns-in-None-clause-finished : goal.returns-in-None-clause-finished
+returns-in-None-clause-finished g c =
+    usage_finished (map string_bytes c.args.words.now) _ _ _ _ c.print_line.result c.in-None.ensures.none c.print_line.ensures.written

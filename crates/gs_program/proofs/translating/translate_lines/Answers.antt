@@ -3,7 +3,7 @@ use Rattle.gs_port.specs.Contents.{append_nothing}
 use Rattle.gs_translate.specs.declared.options.Options.{Options}
 use Rattle.gs_program.specs.LineAnswers.{IsTranslatedLine, Translating}
 use Rattle.gs_program.specs.Ran.{Moment, TranslationRan}
-use Rattle.gs_program.specs.Works.{Outcome, Translated, TranslatedEnded, told_translation}
+use Rattle.gs_program.specs.Works.{Outcome, Translated, TranslatedEnded, outcome_of, told_translation}
 use Rattle.gs_program.proofs.LineLemmas.{some_line, translated_some}
 use Rattle.gs_program.proofs.RanLemmas.{ran_of_lines, ran_of_memory}
 use Rattle.gs_program.proofs.translating.translate_lines.Goals as goal
@@ -16,9 +16,9 @@ returns-in-Ok g c =
     let before : Moment = record { input = g.S.Source.left c.args.input.now; input_faults = g.S.Source.faults c.args.input.now; output_faults = g.K.Sink.faults c.args.output.now } in
     let now : Moment = record { input = g.S.Source.left c.answer_lines.new.input; input_faults = g.S.Source.faults c.answer_lines.new.input; output_faults = g.K.Sink.faults c.answer_lines.new.output } in
     let w = e.written in
-    let outcome : Outcome = record { output = w.0; status = c.answer_lines.result } in
+    let outcome : Outcome = outcome_of w.0 c.answer_lines.result in
     let ran : TranslationRan t before now outcome =
-    ran_of_lines (IsTranslatedLine t) before now outcome (some_line t c.requires.loaded) w.2 e.read_to_end e.input_long e.few e.read_fault e.write_fault
+    ran_of_lines (IsTranslatedLine t) before now w.0 c.answer_lines.result (some_line t c.requires.loaded) w.2 e.read_to_end e.input_long e.few e.read_fault e.write_fault
     e.input_counts e.output_counts e.no_usage e.no_refusal in (
       w.0,
       w.1,
@@ -29,4 +29,4 @@ pub returns-in-Err : goal.returns-in-Err
 returns-in-Err g c =
     let t : Translating = told_translation c.args.translation in
     let before : Moment = record { input = g.S.Source.left c.args.input.now; input_faults = g.S.Source.faults c.args.input.now; output_faults = g.K.Sink.faults c.args.output.now } in
-    ([], sym (append_nothing (g.K.Sink.held c.args.output.now)), ran_of_memory (Translated t before.input) (TranslatedEnded t before.input before.input) _ before (translated_some t before.input c.requires.loaded))
+    ([], sym (append_nothing (g.K.Sink.held c.args.output.now)), ran_of_memory (Translated t before.input) (TranslatedEnded t before.input before.input) _ _ before (translated_some t before.input c.requires.loaded))
