@@ -19,7 +19,7 @@ use std::alloc::Global;
 
 /// What requests are answered from.
 fn site_of(loaded: &Loaded) -> Site<'_>
-    ensures { result.now ≡ site_of loaded.now }
+    ensures { result ≡ site_of loaded.now }
 {
     Site {
         table: loaded.tables.ais(),
