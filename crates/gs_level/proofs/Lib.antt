@@ -10,4 +10,3 @@ mod Literals
 mod Readers
 mod OneNext
 mod AloneRuns
-mod Begun

@@ -32,7 +32,6 @@ mod one;
 mod probing;
 mod read;
 mod reading;
-mod standing;
 mod trail;
 mod values;
 
