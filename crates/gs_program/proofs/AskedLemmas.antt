@@ -44,7 +44,7 @@ command_some (Translate from to) values loaded input door keeps = translated_som
 command_some Check values loaded input door keeps = (outcome_of (counts_line loaded) status.Done, refl)
 command_some Resolve values loaded input door keeps = leaves_some _ (some_resolved (site_of loaded) input)
 command_some Serve values loaded input door keeps = serves_some (site_of loaded) values.count door
-command_some (Gen lines) values loaded input door keeps = leaves_some _ (some_generated loaded.tables lines keeps)
+command_some (Gen lines) values loaded input door keeps = leaves_some _ (some_generated loaded.tables keeps lines)
 
 asked_from : (asked : Asked) (world : World) (answer : Result Loaded Stop) → FilesGive world.files asked answer → HasSome (AskedRun asked world)
 asked_from asked world (Ok loaded) gives =

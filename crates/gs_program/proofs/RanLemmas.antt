@@ -121,7 +121,7 @@ module _ (Is : Outcome → Type 0) (Ended : List ℕ → Type 0) (Cause : Type 0
 
 -- ---- the door
 
-none_more : (ended : Option (List Finished)) → ended ≡ option_map (λ before. before ++ []) ended
+pub none_more : (ended : Option (List Finished)) → ended ≡ option_map (λ before. before ++ []) ended
 none_more None = refl
 none_more (Some before) = ap Some (sym (append-nil before))
 

@@ -20,7 +20,6 @@ use gs_tables::TableSet;
 use std::alloc::Global;
 
 /// What a run has loaded.
-#[derive(Drop)]
 pub struct Loaded {
     /// The tables.
     pub tables: TableSet,
@@ -30,6 +29,18 @@ pub struct Loaded {
     pub links: Store,
     /// How requests are answered: the vocabulary, and the description of the resolver.
     pub settings: Settings,
+}
+
+// by hand, so that a function that drops what was loaded calls this one: a derived drop is written out at each of its exits
+impl Drop for Loaded {
+    fn drop(self) {
+        let Loaded {
+            tables: _,
+            prefixes: _,
+            links: _,
+            settings: _,
+        } = self;
+    }
 }
 
 /// Why a run has not loaded its files.

@@ -4,7 +4,7 @@ use Rattle.gs_program.specs.Requests.{told_request}
 use Rattle.gs_lines.specs.Statuses.{is_answered}
 use Rattle.gs_lines.proofs.StatusLemmas.{when_always}
 use Rattle.gs_program.proofs.AskedLemmas.{asked_of_command, asked_of_fault, asked_of_memory, asked_of_refusal, ended_of_command, never_refused, refusal_answered}
-use Rattle.gs_program.proofs.RanLemmas.{leaves_door}
+use Rattle.gs_program.proofs.RanLemmas.{none_more}
 use Rattle.gs_program.proofs.asking.run_request.Goals as goal
 
 pub returns-in-Ok-clause-ran : goal.returns-in-Ok-clause-ran
@@ -20,15 +20,15 @@ returns-in-Ok-clause-read_fault g c =
 pub returns-in-Err-Refused-clause-ran : goal.returns-in-Err-Refused-clause-ran
 returns-in-Err-Refused-clause-ran g c =
     let w = c.print_refusal.ensures.written in
-    leaves_door _ _ _ _ _ (w.0, w.1, asked_of_refusal (told_request c.args.request) _ _ _ c.in-Err-Refused.refusal w.0 c.print_refusal.result (rw c.in-Err-Refused.field-0-is at c.in-Err-Refused.ensures.loaded) w.2 c.print_refusal.ensures.fault c.load_files.ensures.counts refl c.print_refusal.ensures.counts)
+    ([], none_more _, (w.0, w.1, asked_of_refusal (told_request c.args.request) _ _ _ c.in-Err-Refused.refusal w.0 c.print_refusal.result (rw c.in-Err-Refused.field-0-is at c.in-Err-Refused.ensures.loaded) w.2 c.print_refusal.ensures.fault c.load_files.ensures.counts refl c.print_refusal.ensures.counts))
 
 pub returns-in-Err-ReadFault-clause-ran : goal.returns-in-Err-ReadFault-clause-ran
 returns-in-Err-ReadFault-clause-ran g c =
-    leaves_door _ _ _ _ _ ([], sym (append_nothing (g.K.Sink.held c.args.output.now)), asked_of_fault (told_request c.args.request) _ _ _ (rw c.in-Err-ReadFault.field-0-is at c.in-Err-ReadFault.ensures.loaded) c.load_files.ensures.counts refl refl)
+    ([], none_more _, ([], sym (append_nothing (g.K.Sink.held c.args.output.now)), asked_of_fault (told_request c.args.request) _ _ _ (rw c.in-Err-ReadFault.field-0-is at c.in-Err-ReadFault.ensures.loaded) c.load_files.ensures.counts refl refl))
 
 pub returns-in-Err-Memory-clause-ran : goal.returns-in-Err-Memory-clause-ran
 returns-in-Err-Memory-clause-ran g c =
-    leaves_door _ _ _ _ _ ([], sym (append_nothing (g.K.Sink.held c.args.output.now)), asked_of_memory (told_request c.args.request) _ _ _ c.load_files.ensures.counts refl refl)
+    ([], none_more _, ([], sym (append_nothing (g.K.Sink.held c.args.output.now)), asked_of_memory (told_request c.args.request) _ _ _ c.load_files.ensures.counts refl refl))
 
 pub returns-in-Ok-clause-all_opened : goal.returns-in-Ok-clause-all_opened
 returns-in-Ok-clause-all_opened g c = when_always (is_answered c.run_command.result) c.in-Ok.ensures.all_opened

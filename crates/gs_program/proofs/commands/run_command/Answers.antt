@@ -1,34 +1,35 @@
-use Rattle.std.proofs.Common.{refl}
-use Rattle.gs_program.proofs.RanLemmas.{leaves_door, ran_of_line, stays_or_counted}
+use Rattle.std.proofs.Common.{[], None, refl}
+use Rattle.gs_program.specs.Requests.{told_values}
+use Rattle.gs_program.proofs.RanLemmas.{none_more, ran_of_line, stays_or_counted}
 use Rattle.gs_program.proofs.GenLemmas.{gen_ran}
 use Rattle.gs_program.proofs.ServeLemmas.{serve_ran}
 use Rattle.gs_program.proofs.SiteLemmas.{resolve_ran}
 use Rattle.gs_program.proofs.commands.run_command.Goals as goal
 
 pub returns-in-Canon-clause-ran : goal.returns-in-Canon-clause-ran
-returns-in-Canon-clause-ran g c = rw c.in-Canon.is (leaves_door _ _ _ c.canonize.result _ c.canonize.ensures)
+returns-in-Canon-clause-ran g c = rw c.in-Canon.is ([], none_more _, c.canonize.ensures)
 
 pub returns-in-Translate-clause-ran : goal.returns-in-Translate-clause-ran
-returns-in-Translate-clause-ran g c = rw c.in-Translate.is (leaves_door _ _ _ c.translate_loaded.result _ c.translate_loaded.ensures)
+returns-in-Translate-clause-ran g c = rw c.in-Translate.is ([], none_more _, c.translate_loaded.ensures)
 
 pub returns-in-Check-clause-ran : goal.returns-in-Check-clause-ran
 returns-in-Check-clause-ran g c =
     let w = c.check.ensures.written in
-    rw c.in-Check.is (leaves_door _ _ _ c.check.result _ (w.0, w.1, ran_of_line _ _ _ _ _ _ _ w.0 c.check.result refl w.2 c.check.ensures.fault refl refl refl c.check.ensures.counts))
+    rw c.in-Check.is ([], none_more _, (w.0, w.1, ran_of_line _ _ _ _ _ _ _ w.0 c.check.result refl w.2 c.check.ensures.fault refl refl refl c.check.ensures.counts))
 
 pub returns-in-Resolve-clause-ran : goal.returns-in-Resolve-clause-ran
 returns-in-Resolve-clause-ran g c =
     let e = c.resolve.ensures in
     let w = e.written in
-    rw c.in-Resolve.is (leaves_door _ _ _ c.resolve.result _ (w.0, w.1, resolve_ran c.args.loaded.now _ _ _ _ _ _ w.0 c.resolve.result (rw c.site_of.ensures at w.2) e.read_fault e.write_fault (stays_or_counted _ _ _ e.input_count) (stays_or_counted _ _ _ e.output_count)))
+    rw c.in-Resolve.is ([], none_more _, (w.0, w.1, resolve_ran c.args.loaded.now (told_values c.args.values) (record { waiting = None; reads = 0; writes = 0 }) 0 0 _ _ w.0 c.resolve.result (rw c.site_of.ensures at w.2) e.read_fault e.write_fault (stays_or_counted _ _ _ e.input_count) (stays_or_counted _ _ _ e.output_count)))
 
 pub returns-in-Serve-clause-ran : goal.returns-in-Serve-clause-ran
 returns-in-Serve-clause-ran g c =
     let e = c.serve.ensures in
-    rw c.in-Serve.is (serve_ran c.args.loaded.now _ _ _ _ _ _ _ _ _ c.serve.result (rw c.site_of-2.ensures at e.ran) refl refl e.read_fault e.write_fault e.output_counts)
+    rw c.in-Serve.is (serve_ran c.args.loaded.now (told_values c.args.values) _ _ _ _ _ _ _ _ c.serve.result (rw c.site_of-in-Serve.ensures at e.ran) refl refl e.read_fault e.write_fault e.output_counts)
 
 pub returns-in-Gen-clause-ran : goal.returns-in-Gen-clause-ran
 returns-in-Gen-clause-ran g c =
     let e = c.generate.ensures in
     let w = e.written in
-    rw c.in-Gen.is (leaves_door _ _ _ c.generate.result _ (w.0, w.1, gen_ran c.args.loaded.now _ _ _ _ _ _ _ w.0 c.generate.result w.2 e.fault e.counts refl refl))
+    rw c.in-Gen.is ([], none_more _, (w.0, w.1, gen_ran c.args.loaded.now (told_values c.args.values) c.in-Gen.lines (record { waiting = None; reads = 0; writes = 0 }) 0 0 _ _ w.0 c.generate.result w.2 e.fault e.counts refl refl))

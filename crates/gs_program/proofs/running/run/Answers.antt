@@ -1,9 +1,10 @@
 use Rattle.std.proofs.Common.{map, string_bytes}
 use Rattle.gs_lines.specs.Statuses.{is_answered}
 use Rattle.gs_lines.proofs.StatusLemmas.{when_map}
+use Rattle.gs_program.specs.Commands.{uses_door}
 use Rattle.gs_program.specs.Requests.{told_request}
 use Rattle.gs_program.specs.Runs.{named}
-use Rattle.gs_program.proofs.RunLemmas.{begun_of, defined_of, few_of, finished_of, read_fault_of, refused_of, unopened_of, usage_begun, usage_defined, usage_finished}
+use Rattle.gs_program.proofs.RunLemmas.{asks_not, begun_of, defined_of, few_of, finished_of, read_fault_of, refused_of, unopened_of, usage_begun, usage_defined, usage_finished}
 use Rattle.gs_program.proofs.ValueLemmas.{options_fit, vocabulary_fits}
 use Rattle.gs_program.proofs.running.run.Goals as goal
 
@@ -44,6 +45,10 @@ returns-in-Some-clause-read_fault g c =
 pub returns-in-Some-clause-begun : goal.returns-in-Some-clause-begun
 returns-in-Some-clause-begun g c =
     begun_of (map string_bytes c.args.words.now) (told_request c.in-Some.request) _ _ _ _ _ _ _ _ c.run_request.result c.in-Some.ensures.request c.run_request.ensures.ran
+
+pub returns-in-Some-clause-unserved : goal.returns-in-Some-clause-unserved
+returns-in-Some-clause-unserved g c =
+    λ none. c.run_request.ensures.unserved (asks_not uses_door (map string_bytes c.args.words.now) (told_request c.in-Some.request) c.in-Some.ensures.request none)
 
 pub returns-in-None-clause-defined : goal.returns-in-None-clause-defined
 returns-in-None-clause-defined g c =
