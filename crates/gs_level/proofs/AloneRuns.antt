@@ -40,7 +40,7 @@ record Moved (form : AutoForm) (to : ℕ) (above rest : List ℕ) : Type 0 where
   border : is_border form.borders to ≡ is_first above to
   between : Between form to rest
 
-below_next : (border : ℕ) (borders : List ℕ) (state : ℕ) → Rises border borders → state ≡ border → IsBelowFirst state borders
+pub below_next : (border : ℕ) (borders : List ℕ) (state : ℕ) → Rises border borders → state ≡ border → IsBelowFirst state borders
 below_next border [] state r e = tt
 below_next border (next ∷ borders) state r e = let l = r.0 in omega arith
 
@@ -94,11 +94,11 @@ pub record Followed (form : AutoForm) (symbols : List ℕ) (n state : ℕ) (cuts
   pub between : Between form state above
   pub goes : (all : List ℕ) → Accepts form all symbols → GoesOnAlone form symbols n state
 
-all_uncrossed : (form : AutoForm) (above : List ℕ) (k : ℕ) → IsMachine form → ((i : ℕ) → i < length above → Uncrossed form.table (get_or above i 0)) → AreUncrossed form.table above
+pub all_uncrossed : (form : AutoForm) (above : List ℕ) (k : ℕ) → IsMachine form → ((i : ℕ) → i < length above → Uncrossed form.table (get_or above i 0)) → AreUncrossed form.table above
 all_uncrossed form [] k m h = tt
 all_uncrossed form (border ∷ above) k m h = (h 0 (omega arith), all_uncrossed form above k m (λ i l. h (suc i) (omega arith)))
 
-rises_from : (border : ℕ) (borders : List ℕ) → ((k : ℕ) → k < length borders → get_or (border ∷ borders) k 0 < get_or borders k 0) → Rises border borders
+pub rises_from : (border : ℕ) (borders : List ℕ) → ((k : ℕ) → k < length borders → get_or (border ∷ borders) k 0 < get_or borders k 0) → Rises border borders
 rises_from border [] h = tt
 rises_from border (next ∷ borders) h = (h 0 (omega arith), rises_from next borders (λ k l. h (suc k) (omega arith)))
 
@@ -125,7 +125,7 @@ first_cut border above =
     let here : eqb border border ≡ true = grind (arith, nat_tests) in
     stands_here (border ∷ above) 0 border [] (rw here refl)
 
-started : (form : AutoForm) (symbols : List ℕ) (border : ℕ) (rest above cuts : List ℕ) (start : ℕ) → IsMachine form → form.borders ≡ border ∷ rest → above ≡ rest → start ≡ start_of form → start_of form < states_of form → cuts ≡ 0 ∷ [] → Followed form symbols 0 start cuts above
+pub started : (form : AutoForm) (symbols : List ℕ) (border : ℕ) (rest above cuts : List ℕ) (start : ℕ) → IsMachine form → form.borders ≡ border ∷ rest → above ≡ rest → start ≡ start_of form → start_of form < states_of form → cuts ≡ 0 ∷ [] → Followed form symbols 0 start cuts above
 started form symbols border rest above cuts start m e a s l c =
     let first : start_of form ≡ border = ap (λ (bs : List ℕ). get_or bs 0 0) e in
     rw (a, s) (record {
@@ -138,12 +138,12 @@ started form symbols border rest above cuts start m e a s l c =
       goes = λ all run. record { rest = all; walk = run };
     })
 
-record Parted (borders : List ℕ) : Type 0 where
-  border : ℕ
-  rest : List ℕ
-  whole : borders ≡ border ∷ rest
+pub record Parted (borders : List ℕ) : Type 0 where
+  pub border : ℕ
+  pub rest : List ℕ
+  pub whole : borders ≡ border ∷ rest
 
-parted : (borders : List ℕ) → 0 < length borders → Parted borders
+pub parted : (borders : List ℕ) → 0 < length borders → Parted borders
 parted [] l = absurd (omega arith)
 parted (border ∷ rest) l = record { border = border; rest = rest; whole = refl }
 

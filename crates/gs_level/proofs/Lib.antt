@@ -10,3 +10,4 @@ mod Literals
 mod Readers
 mod OneNext
 mod AloneRuns
+mod Begun

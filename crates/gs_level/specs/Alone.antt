@@ -1,12 +1,15 @@
 -- Runs that are the only ones to go on with, as far as one symbol more tells.
-use Rattle.std.specs.Prelude.{◌≡◌, ◌==◌, ◌≤◌, ℕ, Bool, false, if◌then◌else◌, List, [], ◌∷◌, ◌++◌, drop, Option, Some, None}
+use Rattle.std.specs.Prelude.{◌≡◌, ◌==◌, ◌≤◌, ℕ, Bool, false, if◌then◌else◌, List, [], ◌∷◌, ◌++◌, length, drop, slice_index, Option, Some, None}
+use Rattle.gs_grammar.specs.declared.item.Item.{Item}
+use Rattle.gs_grammar.specs.declared.item.Item.TheVariants.{Lit}
 use Rattle.gs_machine.specs.declared.edge.Edge.{Edge}
 use Rattle.gs_machine.specs.Walks.{Fits, edges_at}
-use Rattle.gs_machine.specs.Machines.{AutoForm, accept_of}
+use Rattle.gs_machine.specs.Machines.{AutoForm, start_of, accept_of}
 use Rattle.gs_level.specs.declared.alone.Next.{Next}
 use Rattle.gs_level.specs.declared.alone.Next.TheVariants.{One, Nowhere, Many}
 use Rattle.gs_level.specs.declared.alone.Alone.{Alone}
 use Rattle.gs_level.specs.declared.alone.Alone.TheVariants.{Accepted, Refused, Unsure}
+use Rattle.gs_level.specs.Guides.{StandsAt}
 use Rattle.gs_level.specs.Trails.{AreCuts, HasNoRun}
 
 -- a run can go on from the state with this symbol, or ends there where there is none
@@ -44,6 +47,18 @@ is_first (border ∷ borders) state = border == state
 pub record Passes (above : List ℕ) (state place : ℕ) (before after rest : List ℕ) : Type 0 where
   pub cuts : after ≡ before ++ (if is_first above state then place ∷ [] else [])
   pub borders : rest ≡ (if is_first above state then drop 1 above else above)
+
+-- the items begin with the literal, and so do the symbols
+pub record IsFront (items : List Item) (symbols literal : List ℕ) : Type 0 where
+  pub others : List Item
+  pub first : items ≡ Lit literal ∷ others
+  pub stands : StandsAt 0 literal symbols
+
+-- a run begins in this state, with this number of symbols behind it, these cuts and these borders above: at the start, or behind
+-- the literal that the items and the symbols begin with
+pub data Begins (form : AutoForm) (items : List Item) (symbols : List ℕ) (state place : ℕ) (cuts above : List ℕ) : Type 0 where
+  at_start : state ≡ start_of form → place ≡ 0 → cuts ≡ 0 ∷ [] → above ≡ drop 1 form.borders → Begins form items symbols state place cuts above
+  behind_literal : (literal : List ℕ) → IsFront items symbols literal → state ≡ slice_index form.borders 1 → place ≡ length literal → cuts ≡ 0 ∷ length literal ∷ [] → above ≡ drop 2 form.borders → Begins form items symbols state place cuts above
 
 -- what one run alone says of the symbols
 abbrev pub IsAlone : AutoForm → List ℕ → List ℕ → Alone → Type 0

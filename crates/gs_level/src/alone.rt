@@ -1,12 +1,15 @@
 ghost use Rattle.std.specs.Prelude.{◌≡◌, ◌↔◌, ◌<◌, ◌∷◌, [], All, IsTrue, IfOk, slice_get};
 ghost use Rattle.std.specs.List.{list_any};
 ghost use Rattle.gs_level.specs.Trails.{leads_with};
+ghost use Rattle.gs_compile.specs.Readers.{ReadsItems};
 ghost use Rattle.gs_machine.specs.Machines.{IsMachine, states_of};
 ghost use Rattle.gs_machine.specs.Walks.{edges_at};
 ghost use Rattle.gs_level.specs.Alone.{HasWay, LeadsOn, IsNext, Passes, IsAlone};
 
+use crate::standing::begin;
 use crate::trail::leads_with;
 use gs_chars::Memory;
+use gs_grammar::Item;
 use gs_machine::{Auto, Edge};
 
 /// Where a symbol leads from a state.
@@ -125,22 +128,32 @@ fn symbol_at(symbols: &[u8], place: usize) -> Option<u8>
 
 /// Follows the machine over the symbols as long as each leads to one state alone, as far as it and the next one tell. Where it
 /// accepts them, the cuts of the run stand in `cuts`.
-pub fn follow_alone(machine: &Auto, symbols: &[u8], cuts: &mut Vec<usize>) -> Result<Alone, Memory>
-    requires { IsMachine machine.now }
+pub fn follow_alone(
+    machine: &Auto,
+    items: &[Item],
+    symbols: &[u8],
+    cuts: &mut Vec<usize>,
+) -> Result<Alone, Memory>
+    requires rules { IsMachine machine.now }
+    requires reads { ReadsItems machine.now items.now }
     ensures { IfOk result (λ alone. IsAlone machine.now symbols.now cuts.new.items alone) }
 {
-    cuts.clear();
-    cuts.push(0)?;
-    let mut state = machine.start();
-    let mut above = &machine.borders()[1..];
-    for (place, symbol) in symbols.iter().enumerate() {
-        let next = next_of(machine, state, *symbol, symbol_at(symbols, place + 1));
-        let to = match next {
+    let stand = begin(machine, items, symbols, cuts)?;
+    let mut state = stand.state;
+    let mut above = stand.above;
+    let mut place = stand.place;
+    // The number of the symbols is known to be small by it.
+    let _count = symbols.len();
+    let mut ahead = symbol_at(symbols, place);
+    while let Some(symbol) = ahead {
+        place += 1;
+        ahead = symbol_at(symbols, place);
+        let to = match next_of(machine, state, symbol, ahead) {
             Next::One(to) => to,
             Next::Nowhere => return Ok(Alone::Refused),
             Next::Many => return Ok(Alone::Unsure),
         };
-        above = pass(cuts, above, to, place + 1)?;
+        above = pass(cuts, above, to, place)?;
         state = to;
     }
     if state == machine.accept() {

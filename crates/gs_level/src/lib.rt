@@ -32,6 +32,7 @@ mod one;
 mod probing;
 mod read;
 mod reading;
+mod standing;
 mod trail;
 mod values;
 

@@ -66,7 +66,7 @@ pub fn read_items(
     ensures found { IfOk result (λ found. IfSome found (λ values. HasValues items.now symbols.now values)) }
     ensures none { IfOk result (λ found. IfNone found (IsDerived items.now symbols.now → ⊥)) }
 {
-    match follow_alone(machine, symbols, &mut scratch.cuts)? {
+    match follow_alone(machine, items, symbols, &mut scratch.cuts)? {
         Alone::Accepted => {
             let values = values_of(alloc, items, symbols, scratch.cuts.as_slice())?;
             Ok(Some(values))

@@ -1,17 +1,48 @@
 use Rattle.std.proofs.Common.{refl, arith}
-use Rattle.gs_level.proofs.AloneRuns.{above_first, followed_start, followed_step, no_run, refused}
+use Rattle.gs_level.proofs.AloneRuns.{accepted, followed_step, no_run, refused}
+use Rattle.gs_level.proofs.Begun.{followed_begun, none_here, symbol_here}
 use Rattle.gs_level.proofs.alone.follow_alone.Goals as goal
 
-pub loop-place-init : goal.loop-place-init
-loop-place-init c =
-    followed_start _ _ _ _ _ _ _ c.requires c.borders.ensures (above_first _) c.start-state.ensures.start (rw (← c.start-state.ensures.start) c.start-state.ensures.inside) c.clear.ensures.items c.in_ok-push.ensures.items
+pub loop-ahead-init : goal.loop-ahead-init
+loop-ahead-init c = record {
+  followed = followed_begun _ _ _ _ _ _ _ c.requires.rules c.requires.reads c.in_ok-stand.ensures;
+  ahead = c.symbol_at-ahead.ensures;
+}
+
+pub overflow_add-place : goal.overflow_add-place
+overflow_add-place c =
+    let here = symbol_here c.args.symbols.now c.loop-ahead.place c.in-Some.symbol c.loop-ahead.ahead c.loop-ahead.invariant.ahead c.in-Some.is in
+    let low = here.0 in
+    grind arith
+
+pub next_of-requires : goal.next_of-requires
+next_of-requires c = c.loop-ahead.invariant.followed.inside
 
 pub returns-in-Nowhere : goal.returns-in-Nowhere
-returns-in-Nowhere c = no_run _ _ _ _ _ _ _ _ c.loop-place.invariant c.loop-place-test.true refl c.symbol_at.ensures (rw c.in-Nowhere.is at c.next_of-next.ensures)
+returns-in-Nowhere c =
+    let here = symbol_here c.args.symbols.now c.loop-ahead.place c.in-Some.symbol c.loop-ahead.ahead c.loop-ahead.invariant.ahead c.in-Some.is in
+    no_run _ _ _ _ _ _ _ _ c.loop-ahead.invariant.followed here.0 here.1 c.symbol_at-ahead-in-Some.ensures (rw c.in-Nowhere.is at c.next_of.ensures)
 
-pub loop-place-preserved : goal.loop-place-preserved
-loop-place-preserved c =
-    followed_step _ _ _ _ _ _ _ _ _ _ _ _ c.requires c.loop-place.invariant c.loop-place-test.true refl c.symbol_at.ensures (rw c.in-One.is at c.next_of-next.ensures) refl c.in_ok-above.ensures
+pub loop-ahead-smaller : goal.loop-ahead-smaller
+loop-ahead-smaller c =
+    let here = symbol_here c.args.symbols.now c.loop-ahead.place c.in-Some.symbol c.loop-ahead.ahead c.loop-ahead.invariant.ahead c.in-Some.is in
+    let low = here.0 in
+    omega arith
+
+pub loop-ahead-preserved : goal.loop-ahead-preserved
+loop-ahead-preserved c =
+    let here = symbol_here c.args.symbols.now c.loop-ahead.place c.in-Some.symbol c.loop-ahead.ahead c.loop-ahead.invariant.ahead c.in-Some.is in
+    record {
+      followed = followed_step _ _ _ _ _ _ _ _ _ _ _ _ c.requires.rules c.loop-ahead.invariant.followed here.0 here.1 c.symbol_at-ahead-in-Some.ensures (rw c.in-One.is at c.next_of.ensures) refl c.in_ok-above.ensures;
+      ahead = c.symbol_at-ahead-in-Some.ensures;
+    }
+
+pub returns-then-state-accept : goal.returns-then-state-accept
+returns-then-state-accept c =
+    let none = none_here c.args.symbols.now c.loop-ahead.place c.loop-ahead.ahead c.loop-ahead.invariant.ahead c.in_default.not-Some in
+    accepted _ _ _ _ _ _ _ c.loop-ahead.invariant.followed none c.accept.ensures.accept c.if-state-accept.true
 
 pub returns-else-state-accept : goal.returns-else-state-accept
-returns-else-state-accept c = refused _ _ _ _ _ _ _ c.loop-place.invariant (grind arith) c.accept.ensures.accept c.if-state-accept.false
+returns-else-state-accept c =
+    let none = none_here c.args.symbols.now c.loop-ahead.place c.loop-ahead.ahead c.loop-ahead.invariant.ahead c.in_default.not-Some in
+    refused _ _ _ _ _ _ _ c.loop-ahead.invariant.followed none c.accept.ensures.accept c.if-state-accept.false

@@ -1,5 +1,13 @@
+use Rattle.std.proofs.Common.{◌≡◌, ◌-◌, length}
+use Rattle.std.specs.List.{slice_get}
 use Rattle.gs_level.proofs.AloneRuns.{Followed}
 use Rattle.gs_level.proofs.alone.follow_alone.Given as goal
 
-abbrev pub invariant-loop-place : goal.invariant-loop-place
-invariant-loop-place l = Followed l.machine l.symbols l.place l.state l.cuts.items l.above
+abbrev pub invariant-loop-ahead : goal.invariant-loop-ahead
+invariant-loop-ahead l = record {
+  followed : Followed l.machine l.symbols l.place l.state l.cuts.items l.above;
+  ahead : l.ahead ≡ slice_get l.symbols l.place;
+}
+
+abbrev pub decreases-loop-ahead : goal.decreases-loop-ahead
+decreases-loop-ahead l = length l.symbols - l.place

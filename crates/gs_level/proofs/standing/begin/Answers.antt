@@ -1,0 +1,6 @@
+use Rattle.std.proofs.Common.{refl}
+use Rattle.gs_level.proofs.Begun.{begins_behind}
+use Rattle.gs_level.proofs.standing.begin.Goals as goal
+
+pub returns : goal.returns
+returns c = begins_behind _ _ _ _ _ _ _ _ _ _ c.in-Some.ensures c.borders-borders.ensures refl c.clear.ensures.items c.in_ok-push.ensures.items c.in_ok-push-2.ensures.items refl
