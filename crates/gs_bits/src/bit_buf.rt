@@ -7,6 +7,7 @@ use crate::cursor::Cursor;
 use crate::faults::{Full, HexFault};
 use crate::hex_text::{decode, encode};
 use crate::packed::{number_in, write_behind};
+use crate::spread::spread;
 use gs_chars::{Memory, Text};
 use std::alloc::Global;
 use std::marker::Model;
@@ -57,6 +58,17 @@ impl<const N: usize> BitBuf<N> {
         ensures { IsTrue result ↔ (slice_index self.now i ≡ 1) }
     {
         self.number_at(i, 1) == 1
+    }
+
+    /// Writes the bits to the front of the symbols, one to a symbol, and gives their number.
+    pub fn unpack(&self, symbols: &mut [u8]) -> usize
+        requires { 8 * N ≤ length symbols.old }
+        ensures count { result ≡ length self.now }
+        ensures same { length symbols.new ≡ length symbols.old }
+        ensures written { take result symbols.new ≡ self.now }
+    {
+        spread(&self.bytes[..(self.len + 7) / 8], symbols);
+        self.len
     }
 
     /// The number of the n bits from a place on, the highest first.

@@ -7,6 +7,7 @@ mod faults;
 mod hex_text;
 mod laws;
 mod packed;
+mod spread;
 
 pub use bit_buf::BitBuf;
 pub use cursor::Cursor;

@@ -26,7 +26,7 @@ pub fn spelled(alloc: Global, symbols: &[u8]) -> Result<Vec<u8>, Memory>
     ensures { IfOk result (λ value. SpellsEach value.items symbols.now) }
 {
     let mut rest = symbols;
-    let mut value = Vec::new(alloc);
+    let mut value = Vec::with_capacity(alloc, symbols.len())?;
     while !rest.is_empty() {
         let Some((character, used)) = read_escape(rest) else {
             unreachable!()

@@ -29,5 +29,5 @@ pub use laws::{
 };
 pub use opt::Opt;
 pub use tally::read_option;
-pub use words::value_of;
+pub use words::{read_word, value_of};
 pub use writing::write_text;

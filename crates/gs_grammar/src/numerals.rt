@@ -91,11 +91,13 @@ pub fn padded(alloc: Global, number: u64, n: u8) -> Result<Vec<u8>, Memory>
     requires fits { number < 10 ^ n }
     ensures { IfOk result (λ digits. IsPadded n number digits.items) }
 {
-    let mut digits = Vec::new(alloc);
+    let mut digits = Vec::with_capacity(alloc, usize::from(n))?;
     let mut place = u32::from(n);
+    let mut power = 10u64.pow(place);
     while place > 0 {
         place -= 1;
-        let digit = number / 10u64.pow(place) % 10;
+        power /= 10;
+        let digit = number / power % 10;
         digits.push(b'0' + digit as u8)?;
     }
     Ok(digits)
@@ -105,6 +107,11 @@ pub fn padded(alloc: Global, number: u64, n: u8) -> Result<Vec<u8>, Memory>
 pub fn decimal_text(alloc: Global, number: u64) -> Result<Text, Memory>
     ensures { IfOk result (λ text. text ≡ decimal number) }
 {
-    let text = format!(in alloc; "{number}")?;
-    Ok(Text::from_vec(text.into_bytes()))
+    let count = digit_count(number);
+    if count > 18 {
+        let text = format!(in alloc; "{number}")?;
+        return Ok(Text::from_vec(text.into_bytes()));
+    }
+    let digits = padded(alloc, number, count as u8)?;
+    Ok(Text::from_vec(digits))
 }
