@@ -14,7 +14,7 @@ pub fn is_set(bits: &[u64], number: usize) -> bool
     }
 }
 
-/// Sets a bit.
+/// Sets a bit. There is room for it.
 pub fn set(bits: &mut Vec<u64>, number: usize)
     requires { number / 64 < length bits.old.items }
     ensures set { IsSet bits.new.items number }
@@ -44,7 +44,7 @@ fn clear_word(bits: &mut Vec<u64>, number: usize)
     }
 }
 
-/// Clears the bits of these numbers, which are all that are set.
+/// Clears the bits of these numbers, which are all that are set. No other bit is set.
 pub fn clear(bits: &mut Vec<u64>, numbers: &[usize])
     requires { (number : ℕ) → IsSet bits.old.items number → Contains numbers.now number }
     ensures { (number : ℕ) → IsSet bits.new.items number → ⊥ }

@@ -63,8 +63,8 @@ fn upper_digit(n: u8) -> u8
     if n < 10 { b'0' + n } else { b'A' + (n - 10) }
 }
 
-/// Writes the one spelling of a character of the 82 with upper-case letters (TDS 2.0, sections 6.3.1 and 7.1), and
-/// answers its number of bytes. The bytes behind it stay as they were.
+/// Writes the one spelling of a character of the 82 with upper-case letters (TDS 2.0, sections 6.3.1 and 7.1), and answers its
+/// number of bytes. The bytes behind it stay as they were. The character is one of the 82.
 pub fn write_escape(c: u8, out: &mut [u8; 3]) -> usize
     requires { IsTrue (is_in_set82 c) }
     ensures len { result ≡ length (written_spelling c) }

@@ -66,7 +66,7 @@ fn add_fork(table: Table, more: usize) -> Result<Table, Memory>
     table.with_state(&[forth, out])
 }
 
-/// Adds the states of a run of zeros of either of two lengths.
+/// Adds the states of a run of zeros of either of two lengths. The lengths ascend, and the least is not 0.
 pub fn add_fill(table: Table, least: usize, most: usize) -> Result<Table, Memory>
     requires some { 0 < least }
     requires order { least ≤ most }
@@ -127,7 +127,7 @@ fn rest_of(greatest: u64, left: u8) -> u64
     }
 }
 
-/// Adds the states of a number in so many bits, up to a greatest.
+/// Adds the states of a number in so many bits, up to a greatest. There are at most 64 bits.
 pub fn add_bound(table: Table, bits: u8, greatest: u64) -> Result<Table, Memory>
     requires { bits ≤ 64 }
     ensures { IfOk result (λ new. new ≡ table ++ bound_table bits greatest (length table)) }

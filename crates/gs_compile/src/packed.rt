@@ -140,7 +140,8 @@ fn add_codes(
     Ok(whole)
 }
 
-/// Adds the states of packed characters, at least `lo` and at most `hi`, and of zeros up to the width.
+/// Adds the states of packed characters, at least `lo` and at most `hi`, and of zeros up to the width. `lo` is at most `hi`,
+/// and `hi` characters have room in the width.
 pub fn add_packed(alloc: Global, table: Table, lo: u8, hi: u8, bits: u16) -> Result<Table, Memory>
     requires order { lo ≤ hi }
     requires room { 7 * hi ≤ bits }

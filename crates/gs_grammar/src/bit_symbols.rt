@@ -3,7 +3,7 @@ ghost use Rattle.gs_bits.specs.Bits.{AreBits};
 
 use gs_bits::BitBuf;
 
-/// The bit at a place, as a symbol 0 or 1.
+/// The bit at a place, as a symbol 0 or 1. The place is one of the bits, of which each is 0 or 1.
 pub fn bit_at<const N: usize>(bits: &BitBuf<N>, place: usize) -> u8
     requires within { place < length bits.now }
     requires bits { AreBits bits.now }
@@ -12,7 +12,7 @@ pub fn bit_at<const N: usize>(bits: &BitBuf<N>, place: usize) -> u8
     if bits.get(place) { 1 } else { 0 }
 }
 
-/// Writes the bits to the front of the symbols, and gives their number.
+/// Writes the bits to the front of the symbols, and gives their number. There is room for 512 symbols.
 pub fn unpack<const N: usize>(bits: &BitBuf<N>, symbols: &mut [u8]) -> usize
     requires { length symbols.old ≡ 512 }
     ensures within { result ≤ length symbols.new }

@@ -19,7 +19,7 @@ pub fn digit_count(number: u64) -> usize
     }
 }
 
-/// Whether a number has at most n digits.
+/// Whether a number has at most n digits. n is at most 18.
 pub fn has_at_most_digits(number: u64, n: u8) -> bool
     requires { n ≤ 18 }
     ensures { IsTrue result ↔ (number < 10 ^ n) }
@@ -85,7 +85,7 @@ pub fn numeral(symbols: &[u8]) -> Option<u64>
     decimal_number(symbols)
 }
 
-/// The n digits of a number, zeros in front.
+/// The n digits of a number, zeros in front. n is at most 18, and the number has no more digits.
 pub fn padded(alloc: Global, number: u64, n: u8) -> Result<Vec<u8>, Memory>
     requires few { n ≤ 18 }
     requires fits { number < 10 ^ n }

@@ -24,7 +24,7 @@ fn are_n_digits(symbols: &[u8], n: usize) -> bool
     symbols.len() == n && all_digits(symbols)
 }
 
-/// Whether the symbols are a word of the item.
+/// Whether the symbols are a word of the item. The item keeps its bounds.
 pub fn is_word(item: &Item, symbols: &[u8]) -> bool
     requires { IsItem item.now }
     ensures { IsTrue result ↔ IsWord item.now symbols.now }
@@ -75,7 +75,7 @@ fn number_of_bits(word: &[u8], bits: u8) -> u64
     }
 }
 
-/// The value of a word of the item.
+/// The value of a word of the item. The item keeps its bounds.
 pub fn value_of(alloc: Global, item: &Item, word: &[u8]) -> Result<Text, Memory>
     requires item { IsItem item.now }
     requires word { IsWord item.now word.now }
@@ -97,7 +97,8 @@ pub fn value_of(alloc: Global, item: &Item, word: &[u8]) -> Result<Text, Memory>
     }
 }
 
-/// The number that a whole word writes: its bits, where the item is a number in bits, and 0 of any other item.
+/// The number that a whole word writes: its bits, where the item is a number in bits, and 0 of any other item. The item keeps
+/// its bounds, and the symbols are a word of it.
 pub fn number_of_word(item: &Item, word: &[u8]) -> u64
     requires item { IsItem item.now }
     requires word { IsWord item.now word.now }

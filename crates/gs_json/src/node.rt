@@ -116,7 +116,8 @@ impl<'a> Node<'a> {
         }
     }
 
-    /// The item of an array at a number, counted from 0. The one refusal is want of memory.
+    /// The item of an array at a number, counted from 0. The one refusal is want of memory. This is an array, and the number is
+    /// below the number of its items.
     pub fn item(&self, alloc: Global, i: usize) -> Result<Node<'a>, JsonFault>
         requires { i < items_count (view self.now.tree) }
         ensures item { IfOk result (λ node. Some (view node.tree) ≡ at i (view self.now.tree)) }

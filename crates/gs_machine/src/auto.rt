@@ -100,7 +100,8 @@ impl Auto {
         self.borders[self.borders.len() - 1]
     }
 
-    /// The edges that leave a state. Each leads to a higher state, which is there, and over no border.
+    /// The edges that leave a state. Each leads to a higher state, which is there, and over no border. The state is one of the
+    /// machine.
     pub fn edges(&self, state: usize) -> &[Edge]
         requires { state < states_of self.now }
         ensures edges { result.now ≡ edges_at self.now.table state }

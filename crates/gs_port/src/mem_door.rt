@@ -66,9 +66,9 @@ impl Model for MemDoor {
 }
 
 impl MemDoor {
-    /// A door that was not opened yet, with the inputs of the connections that come at it, in order. A read or a write moves
-    /// at most `cut` bytes. The calls but `finish` whose numbers, from 0, are in `fails` fail. The memory for the list of
-    /// finished connections is taken here.
+    /// A door that was not opened yet, with the inputs of the connections that come at it, in order. A read or a write moves at
+    /// most `cut` bytes. The calls but `finish` whose numbers, from 0, are in `fails` fail. The memory for the list of finished
+    /// connections is taken here. `cut` is not 0.
     pub fn new(
         alloc: Global,
         inputs: Vec<Vec<u8>>,
@@ -102,7 +102,7 @@ impl MemDoor {
         self.finished.len()
     }
 
-    /// What was written to the finished connection with the number.
+    /// What was written to the finished connection with the number. The number, from 0, is below the number of these.
     pub fn written(&self, i: usize) -> &[u8]
         requires { i < length self.now.finished }
         ensures { Some result.now ≡ written_at self.now.finished i }

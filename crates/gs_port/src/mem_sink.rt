@@ -30,7 +30,7 @@ impl Model for MemSink {
 }
 
 impl MemSink {
-    /// An empty sink. A write takes at most `cut` bytes. The calls whose numbers, from 0, are in `fails` fail.
+    /// An empty sink. A write takes at most `cut` bytes. The calls whose numbers, from 0, are in `fails` fail. `cut` is not 0.
     pub fn new(alloc: Global, cut: usize, fails: Vec<u64>) -> MemSink
         requires some { 0 < cut }
         ensures { result ≡ record { kept = []; most = cut; plan = record { fails = fails.items; next = 0 }; count = 0 } }

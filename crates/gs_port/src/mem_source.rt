@@ -32,7 +32,8 @@ impl Model for MemSource {
 }
 
 impl MemSource {
-    /// A source of the bytes. A read moves at most `cut` of them. The calls whose numbers, from 0, are in `fails` fail.
+    /// A source of the bytes. A read moves at most `cut` of them. The calls whose numbers, from 0, are in `fails` fail. `cut`
+    /// is not 0.
     pub fn new(_alloc: Global, bytes: Vec<u8>, cut: usize, fails: Vec<u64>) -> MemSource
         requires some { 0 < cut }
         ensures { result ≡ record { rest = bytes.items; most = cut; plan = record { fails = fails.items; next = 0 }; count = 0 } }

@@ -33,9 +33,10 @@ impl From<AllocError> for FileFault {
 /// The most bytes that one read asks for.
 const BLOCK: usize = 65_536;
 
-/// Reads the named file whole, if it has at most `max` bytes. `Over` comes exactly where `max + 1` bytes could be read,
-/// and carries them. `Failed` comes only where the files counted a fault, or where they are told and the named one is
-/// not among them. After any answer the name is the last of those that were opened, where they are still told.
+/// Reads the named file whole, if it has at most `max` bytes. `Over` comes exactly where `max + 1` bytes could be read, and
+/// carries them. `Failed` comes only where the files counted a fault, or where they are told and the named one is not among
+/// them. After any answer the name is the last of those that were opened, where they are still told. `max` is at most
+/// 16,777,216.
 pub fn read_file<F: Files>(
     alloc: Global,
     files: &mut F,

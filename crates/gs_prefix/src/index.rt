@@ -50,7 +50,7 @@ impl Index {
         Ok(())
     }
 
-    /// The length of the entry of a prefix.
+    /// The length of the entry of a prefix. `None` comes exactly where there is no such entry.
     pub fn length_of(&self, prefix: &[u8]) -> Option<u8>
         ensures { result ≡ option_map (λ entry. entry.length) (find (has_prefix prefix.now) self.now) }
     {
