@@ -1,7 +1,7 @@
 ghost use Rattle.std.specs.Prelude.{◌≡◌, ℕ, ◌+◌, ◌*◌, ◌%◌, ◌^◌, ◌≤◌, ◌<◌, ◌↔◌, List, [], ◌++◌, length, take, drop, slice_index, IsTrue, IsOk, IsErr, IfOk, OnOk, OnErr, Ok, Err};
 ghost use Rattle.std.specs.List.{AllPass};
 ghost use Rattle.gs_bits.specs.Bits.{AreBits, bits_of, number_of};
-ghost use Rattle.gs_bits.specs.HexText.{FirstBadDigit, bits_of_hex, hex_of_bits, is_hex_digit};
+ghost use Rattle.gs_bits.specs.HexText.{HasBadDigitWithin, NeedsMoreThan, bits_of_hex, hex_of_bits, is_hex_digit};
 
 use crate::cursor::Cursor;
 use crate::faults::{Full, HexFault};
@@ -97,8 +97,8 @@ impl<const N: usize> BitBuf<N> {
     pub fn from_hex(text: &[u8]) -> Result<BitBuf<N>, HexFault>
         requires { N ≤ 64 }
         ensures odd { (result ≡ Err (HexFault.OddDigits)) ↔ (length text.now % 2 ≡ 1) }
-        ensures full { (result ≡ Err (HexFault.Full)) ↔ ((length text.now % 2 ≡ 0) × (2 * N < length text.now)) }
-        ensures bad { (place : ℕ) → (result ≡ Err (HexFault.BadDigit place)) ↔ ((length text.now % 2 ≡ 0) × (length text.now ≤ 2 * N) × FirstBadDigit text.now place) }
+        ensures full { (result ≡ Err (HexFault.Full)) ↔ NeedsMoreThan N text.now }
+        ensures bad { (place : ℕ) → (result ≡ Err (HexFault.BadDigit place)) ↔ HasBadDigitWithin N text.now place }
         ensures digits { IsOk result → AllPass is_hex_digit text.now }
         ensures bits { IfOk result (λ buf. buf ≡ bits_of_hex text.now) }
     {

@@ -1,5 +1,6 @@
 ghost use Rattle.std.specs.Prelude.{◌≡◌, ◌≤◌, ◌<◌, length, take, slice_index};
 ghost use Rattle.gs_bits.specs.Bits.{AreBits};
+ghost use Rattle.gs_grammar.specs.Limits.{most_symbols};
 
 use gs_bits::BitBuf;
 
@@ -14,7 +15,7 @@ pub fn bit_at<const N: usize>(bits: &BitBuf<N>, place: usize) -> u8
 
 /// Writes the bits to the front of the symbols, and gives their number. There is room for 512 symbols.
 pub fn unpack<const N: usize>(bits: &BitBuf<N>, symbols: &mut [u8]) -> usize
-    requires { length symbols.old ≡ 512 }
+    requires { length symbols.old ≡ most_symbols }
     ensures within { result ≤ length symbols.new }
     ensures written { take result symbols.new ≡ bits.now }
 {

@@ -46,7 +46,7 @@ pub use laws::{
     unambiguous_levels_read_alone, what_is_written_is_derived, what_is_written_is_read,
     word_fixes_its_value, word_writes_its_value, words_without_values,
 };
-pub use opt::Opt;
+pub use opt::{MOST_SYMBOLS, Opt};
 pub use tally::read_option;
 pub use words::value_of;
 pub use writing::write_text;

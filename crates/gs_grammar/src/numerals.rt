@@ -1,5 +1,5 @@
-ghost use Rattle.std.specs.Prelude.{◌≡◌, ◌↔◌, ◌^◌, ◌<◌, ◌≤◌, ℕ, List, IsTrue, IfSome, IfNone, IfOk, SomeIff, length, decimal, nat_lt};
-ghost use Rattle.gs_grammar.specs.Numerals.{IsPadded};
+ghost use Rattle.std.specs.Prelude.{◌≡◌, ◌↔◌, ◌^◌, ◌<◌, ◌≤◌, List, IsTrue, IfSome, IfNone, IfOk, SomeIff, length, decimal, nat_lt};
+ghost use Rattle.gs_grammar.specs.Numerals.{IsPadded, NoNumeral};
 ghost use Rattle.gs_grammar.specs.Words.{decimal_value};
 ghost use Rattle.gs_grammar.specs.Writing.{has_leading_zero};
 
@@ -71,7 +71,7 @@ pub fn fits_wide_bits(digits: &[u8], bits: u8) -> bool
 /// number below 2 to the 64.
 pub fn numeral(symbols: &[u8]) -> Option<u64>
     ensures some { IfSome result (λ number. symbols.now ≡ decimal number) }
-    ensures none { IfNone result ((number : ℕ) → number < 2 ^ 64 → symbols.now ≡ decimal number → ⊥) }
+    ensures none { IfNone result (NoNumeral symbols.now) }
 {
     if symbols.is_empty() {
         return None;
