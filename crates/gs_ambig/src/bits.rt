@@ -1,6 +1,6 @@
-ghost use Rattle.std.specs.Prelude.{◌≡◌, ◌≢◌, ◌↔◌, ◌/◌, ◌<◌, ℕ, IsTrue, OnOk, length, slice_index};
+ghost use Rattle.std.specs.Prelude.{◌≡◌, ◌↔◌, ◌/◌, ◌<◌, ℕ, IsTrue, OnOk, length, slice_index};
 ghost use Rattle.std.specs.List.{Contains};
-ghost use Rattle.gs_ambig.specs.Marks.{IsSet};
+ghost use Rattle.gs_ambig.specs.Marks.{IsSet, SameBesides, WordIsCleared};
 
 use gs_chars::Memory;
 
@@ -18,7 +18,7 @@ pub fn is_set(bits: &[u64], number: usize) -> bool
 pub fn set(bits: &mut Vec<u64>, number: usize)
     requires { number / 64 < length bits.old.items }
     ensures set { IsSet bits.new.items number }
-    ensures others { (other : ℕ) → other ≢ number → (IsSet bits.new.items other ↔ IsSet bits.old.items other) }
+    ensures others { SameBesides number bits.old.items bits.new.items }
 {
     bits[number / 64] |= 1 << (number % 64);
 }
@@ -37,7 +37,7 @@ pub fn make_room(bits: &mut Vec<u64>, number: usize) -> Result<(), Memory>
 
 /// Clears the word of a bit.
 fn clear_word(bits: &mut Vec<u64>, number: usize)
-    ensures { (other : ℕ) → IsSet bits.new.items other → (IsSet bits.old.items other × (other / 64 ≢ number / 64)) }
+    ensures { WordIsCleared number bits.old.items bits.new.items }
 {
     if number / 64 < bits.len() {
         bits[number / 64] = 0;
