@@ -40,7 +40,8 @@ fn counts_line(alloc: Global, set: &TableSet, lines: u32) -> Result<String, Memo
 /// and no company prefix lengths, or the first refusal.
 ///
 /// `Done` comes where the line was written whole, and `WriteFault` only where the output's count rose. After it and after
-/// `Memory` an initial part of the line was written. No other status comes.
+/// `Memory` an initial part of the line was written. No other status comes. The tables are loaded, so that no text has two
+/// readings.
 pub fn generate<K: Sink>(alloc: Global, set: &TableSet, lines: u32, output: &mut K) -> Status
     requires loaded { IsLoaded set.now }
     ensures written { Appends (K.held output.old) (K.held output.new) (λ out. PrintsGenerated set.now lines out result) }

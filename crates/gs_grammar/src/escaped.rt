@@ -20,7 +20,7 @@ pub fn spelled_count(symbols: &[u8]) -> Option<usize>
     Some(count)
 }
 
-/// The characters that the symbols spell.
+/// The characters that the symbols spell. They spell some characters.
 pub fn spelled(alloc: Global, symbols: &[u8]) -> Result<Vec<u8>, Memory>
     requires { (value : List ℕ) × SpellsEach value symbols.now }
     ensures { IfOk result (λ value. SpellsEach value.items symbols.now) }

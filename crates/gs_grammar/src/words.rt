@@ -25,7 +25,7 @@ fn are_n_digits(symbols: &[u8], n: usize) -> bool
     symbols.len() == n && all_digits(symbols)
 }
 
-/// Whether the symbols are a word of the item.
+/// Whether the symbols are a word of the item. The item keeps its bounds.
 pub fn is_word(item: &Item, symbols: &[u8]) -> bool
     requires { IsItem item.now }
     ensures { IsTrue result ↔ IsWord item.now symbols.now }
@@ -76,7 +76,7 @@ fn number_of_bits(word: &[u8], bits: u8) -> u64
     }
 }
 
-/// The value of a word of the item.
+/// The value of a word of the item. The item keeps its bounds.
 pub fn value_of(alloc: Global, item: &Item, word: &[u8]) -> Result<Text, Memory>
     requires item { IsItem item.now }
     requires word { IsWord item.now word.now }
@@ -144,8 +144,8 @@ fn read_any(alloc: Global, item: &Item, symbols: &[u8]) -> Result<Option<Text>, 
     Ok(Some(value))
 }
 
-/// The value of the symbols, where they are a word of the item. `None` comes exactly where they are none. The bits of a number
-/// are gone through once.
+/// The value of the symbols, where they are a word of the item. `None` comes exactly where they are none. The item keeps its
+/// bounds. The bits of a number are gone through once.
 pub fn read_word(alloc: Global, item: &Item, symbols: &[u8]) -> Result<Option<Text>, Memory>
     requires { IsItem item.now }
     ensures found { IfOk result (λ found. IfSome found (λ value. Word item.now value symbols.now)) }
@@ -158,7 +158,8 @@ pub fn read_word(alloc: Global, item: &Item, symbols: &[u8]) -> Result<Option<Te
     }
 }
 
-/// The number that a whole word writes: its bits, where the item is a number in bits, and 0 of any other item.
+/// The number that a whole word writes: its bits, where the item is a number in bits, and 0 of any other item. The item keeps
+/// its bounds, and the symbols are a word of it.
 pub fn number_of_word(item: &Item, word: &[u8]) -> u64
     requires item { IsItem item.now }
     requires word { IsWord item.now word.now }

@@ -34,7 +34,8 @@ impl Identity {
         }
     }
 
-    /// The identity of the key and the first `k` qualifiers. The one refusal is want of memory.
+    /// The identity of the key and the first `k` qualifiers. The one refusal is want of memory. `k`, how many qualifiers are
+    /// kept, is at most their number.
     pub fn prefix(&self, alloc: Global, k: usize) -> Result<Identity, Memory>
         requires { k ≤ length self.now.qualifiers }
         ensures { IfOk result (λ identity. identity ≡ first_qualifiers k self.now) }

@@ -135,8 +135,8 @@ fn status_after(earlier: bool, last: Answering) -> Status
 /// at most one byte more is taken.
 ///
 /// `ReadFault` comes only where the input's count of faults rose in this call; the lines that had ended are answered then.
-/// `WriteFault` comes only where the output's count rose. `InputLong` comes exactly where more than `limit` bytes were
-/// taken. After each of these and after `Memory`, what was written is an initial part of the answer lines.
+/// `WriteFault` comes only where the output's count rose. `InputLong` comes exactly where more than `limit` bytes were taken.
+/// After each of these and after `Memory`, what was written is an initial part of the answer lines. `limit` is below 2^63.
 pub fn answer_lines<A: Answerer, S: Source, K: Sink>(
     alloc: Global,
     answerer: &A,

@@ -50,7 +50,7 @@ impl LineBuffer {
         &self.room[..self.len]
     }
 
-    /// Reads behind the bytes, at most `most` of the input.
+    /// Reads behind the bytes, at most `most` of the input. At most the bytes of one line are held, and `most` is not 0.
     pub fn read<S: Source>(&mut self, input: &mut S, most: u64) -> ReadAnswer
         requires held { length self.old ≤ most_held }
         requires some { 0 < most }
@@ -72,7 +72,7 @@ impl LineBuffer {
         }
     }
 
-    /// Drops the bytes before a place, and holds the first of those behind it.
+    /// Drops the bytes before a place, and holds the first of those behind it. The place is not behind the bytes.
     pub fn hold_from(&mut self, start: usize)
         requires { start ≤ length self.old }
         ensures { self.new ≡ take most_held (drop start self.old) }

@@ -7,8 +7,8 @@ ghost use Rattle.gs_lines.specs.Statuses.{OnWriteFault};
 use crate::status::Status;
 use gs_port::{Sink, Whole, write_whole};
 
-/// Writes a line, and answers this status where it was written whole. `WriteFault` comes only where the output's count
-/// rose; after it and after `Memory` an initial part of the line was written.
+/// Writes a line, and answers this status where it was written whole. `WriteFault` comes only where the output's count rose;
+/// after it and after `Memory` an initial part of the line was written. The status that is asked for is neither of these two.
 pub fn print_line<K: Sink>(output: &mut K, line: &[u8], status: Status) -> Status
     requires ends { status ≢ Status.WriteFault }
     requires written { status ≢ Status.Memory }
