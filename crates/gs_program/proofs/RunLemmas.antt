@@ -11,11 +11,11 @@ use Rattle.gs_lines.proofs.StatusLemmas.{when_always, when_map}
 use Rattle.gs_port.specs.Connections.{Finished}
 use Rattle.gs_port.specs.Counts.{Rises}
 use Rattle.gs_program.specs.declared.command.Command.{Command}
-use Rattle.gs_program.specs.Asking.{AskedRan, Counts, ReadCause}
+use Rattle.gs_program.specs.Asking.{AskedRan, ReadCause}
 use Rattle.gs_program.specs.Commands.{answers_lines}
 use Rattle.gs_program.specs.Ran.{BeginsOne}
 use Rattle.gs_program.specs.Requests.{Asked, AsksFor, AsksForLines, NamesFile, NotInOrder, WordsInOrder, names_in_order, usage_line}
-use Rattle.gs_program.specs.Runs.{AskedEnded, AskedRun, BeginsRun, DefinedRun, EndedRun, FinishedRun, IsMissing, IsRefused, World, by_disorder, by_order, by_request, by_usage}
+use Rattle.gs_program.specs.Runs.{AskedEnded, AskedRun, BeginsRun, Counts, DefinedRun, EndedRun, FinishedRun, IsMissing, IsRefused, World, by_disorder, by_order, by_request, by_usage}
 use Rattle.gs_program.specs.Works.{Leaves, Outcome, input_limit, outcome_of}
 use Rattle.gs_program.proofs.RanLemmas.{PrintedCase, fault, leaves_door, no_memory, printed_case, whole}
 use Rattle.gs_program.proofs.RequestLemmas.{one_request}

@@ -1,9 +1,13 @@
 -- What a whole run leaves.
-use Rattle.std.specs.Prelude.{◌≡◌, ℕ, true, List, [], ◌∷◌, Option, Ok, Err}
+use Rattle.std.specs.Prelude.{◌≡◌, ◌⊎◌, ℕ, ◌≤◌, true, List, [], ◌∷◌, length, Option, Some, Ok, Err}
+use Rattle.gs_lines.specs.declared.status.Status.{Status}
 use Rattle.gs_lines.specs.declared.status.Status.TheVariants as status
+use Rattle.gs_lines.specs.Statuses.{is_answered}
 use Rattle.gs_document.specs.declared.fault.LoadFault.TheVariants.{Ambiguous}
 use Rattle.gs_document.specs.declared.level_name.LevelName.{LevelName}
 use Rattle.gs_program.specs.declared.file_kind.FileKind.TheVariants.{Tables}
+use Rattle.gs_port.specs.Connections.{Aside}
+use Rattle.gs_port.specs.Counts.{Rises}
 use Rattle.gs_port.specs.Files.{AddsNames}
 use Rattle.gs_serve.specs.Visits.{Visit, is_done}
 use Rattle.gs_program.specs.declared.loading.Loaded.{Loaded}
@@ -12,14 +16,25 @@ use Rattle.gs_program.specs.declared.refusal.Refusal.{Refusal}
 use Rattle.gs_program.specs.Loads.{FilesGive, OpensFirst, Stop, missing, refused}
 use Rattle.gs_program.specs.Ran.{BeginsOne}
 use Rattle.gs_program.specs.Refusals.{refused_line}
-use Rattle.gs_program.specs.Requests.{Asked, NotInOrder, WordsInOrder, names_in_order, usage_line}
-use Rattle.gs_program.specs.Works.{CommandEnded, CommandFinished, CommandRun, Doorway, Outcome, outcome_of, served_outcome}
+use Rattle.gs_program.specs.Requests.{Asked, AsksForLines, NotInOrder, WordsInOrder, names_in_order, usage_line}
+use Rattle.gs_program.specs.Works.{CommandEnded, CommandFinished, CommandRun, Doorway, Outcome, input_limit, outcome_of, served_outcome}
 
 -- what a run is given, as far as it is told: files, each a name and its bytes, an input, and a door
 pub record World : Type 0 where
   pub files : Option (List (List ℕ × List ℕ))
   pub input : Option (List ℕ)
   pub door : Doorway
+
+-- the counts of faults at a moment: of the files, of the input, of the output and of the door itself
+pub record Counts : Type 0 where
+  pub file_faults : ℕ
+  pub input_faults : ℕ
+  pub output_faults : ℕ
+  pub door_faults : ℕ
+
+-- the counts of faults of the files, of the input, of the output and of a door that sets this aside
+abbrev pub counts_of : ℕ → ℕ → ℕ → Aside → Counts
+counts_of files input output aside = record { file_faults = files; input_faults = input; output_faults = output; door_faults = aside.faults }
 
 -- what a run leaves that goes no further than its files
 abbrev pub stopped : Stop → Outcome
@@ -111,3 +126,31 @@ pub record OpensAll (words : List (List ℕ)) (before now : Option (List (List �
 pub data OpensNamed (words : List (List ℕ)) (before now : Option (List (List ℕ))) : Type 0 where
   named : (asked : Asked) → WordsInOrder words asked → OpensFirst (names_in_order asked.files) before now → OpensNamed words before now
   none_named : NotInOrder words → now ≡ before → OpensNamed words before now
+
+-- The words are in order, and all that they need is loaded: the run stops at no file that they name, and at no row that stands in the
+-- place of one.
+pub record LoadsAll (words : List (List ℕ)) (files : Option (List (List ℕ × List ℕ))) : Type 0 where
+  pub asked : Asked
+  pub order : WordsInOrder words asked
+  pub goes_on : (stop : Stop) → FilesGive files asked (Err stop) → ⊥
+
+-- an input is told, and has at most so many bytes
+pub record IsWithin (limit : ℕ) (input : Option (List ℕ)) : Type 0 where
+  pub bytes : List ℕ
+  pub is_told : input ≡ Some bytes
+  pub fits : length bytes ≤ limit
+
+-- where the words ask for a command that answers the lines of the input, that is told and has at most 4,294,967,296 bytes
+abbrev pub InputFits : List (List ℕ) → Option (List ℕ) → Type 0
+InputFits words input = AsksForLines words → IsWithin input_limit input
+
+-- between two moments no count rose, of the files, of the input, of the output and of the door itself
+pub record NoneRises (before now : Counts) : Type 0 where
+  pub files : Rises before.file_faults now.file_faults → ⊥
+  pub input : Rises before.input_faults now.input_faults → ⊥
+  pub output : Rises before.output_faults now.output_faults → ⊥
+  pub door : Rises before.door_faults now.door_faults → ⊥
+
+-- the run was done, with or without lines that are refused, or memory ran out
+abbrev pub IsDoneOrMemory : Status → Type 0
+IsDoneOrMemory ending = (is_answered ending ≡ true) ⊎ (ending ≡ status.Memory)

@@ -1,5 +1,6 @@
-ghost use Rattle.std.specs.Prelude.{◌≡◌, ◌↔◌, ℕ, List, Some};
+ghost use Rattle.std.specs.Prelude.{◌≡◌, ◌↔◌, ℕ, List, Some, true};
 ghost use Rattle.gs_lines.specs.Outputs.{LineAnswer, accepted};
+ghost use Rattle.gs_lines.specs.Statuses.{is_answered};
 ghost use Rattle.gs_tables.specs.Judged.{IsLoaded};
 ghost use Rattle.gs_translate.specs.declared.form.Form.{Form};
 ghost use Rattle.gs_translate.specs.Steps.{HasOne, HasSome};
@@ -7,7 +8,7 @@ ghost use Rattle.gs_translate.specs.Translations.{NameOne};
 ghost use Rattle.gs_program.specs.declared.loading.Loaded.{Loaded};
 ghost use Rattle.gs_program.specs.LineAnswers.{IsCanonLine, IsTranslatedLine};
 ghost use Rattle.gs_program.specs.Requests.{WordsInOrder};
-ghost use Rattle.gs_program.specs.Runs.{AreAlike, DefinedRun, World};
+ghost use Rattle.gs_program.specs.Runs.{AreAlike, DefinedRun, InputFits, LoadsAll, World};
 ghost use Rattle.gs_program.specs.Works.{Outcome, canonizing};
 
 /// Words ask for one thing at most.
@@ -22,6 +23,13 @@ pub fn words_have_one_outcome()
         → DefinedRun words (record { files = Some files; input = Some input; door = record { waiting = Some waiting; reads = reads; writes = writes } }) one
         → DefinedRun words (record { files = Some files; input = Some input; door = record { waiting = Some waiting; reads = reads; writes = writes } }) other → AreAlike one other }
     ensures some { (words : List (List ℕ)) (world : World) → HasSome (DefinedRun words world) }
+{}
+
+/// Where the words are in order, all files load and the input fits, all that is defined ends with `Done` or `SomeRefused`. So
+/// where no count rose, a run has written all of that, or memory ran out.
+pub fn words_in_order_are_answered()
+    ensures { (words : List (List ℕ)) (world : World) (outcome : Outcome) → LoadsAll words world.files
+        → InputFits words world.input → DefinedRun words world outcome → is_answered outcome.status ≡ true }
 {}
 
 /// The answer of `canon` to a line of tables that are loaded is the canonical link of what the line names, or the first reason

@@ -5,7 +5,7 @@ ghost use Rattle.gs_lines.specs.Statuses.{OnAnswered, OnCutShort, OnInputLong, O
 ghost use Rattle.gs_port.specs.Counts.{Rises};
 ghost use Rattle.gs_program.specs.Ran.{StaysOrRises};
 ghost use Rattle.gs_program.specs.Requests.{AsksForDoor, AsksForInput, AsksForLines, NamesFile, NotInOrder};
-ghost use Rattle.gs_program.specs.Runs.{BeginsRun, DefinedRun, EndedRun, FinishedRun, IsMissing, IsRefused, OpensAll, OpensNamed};
+ghost use Rattle.gs_program.specs.Runs.{BeginsRun, DefinedRun, EndedRun, FinishedRun, InputFits, IsDoneOrMemory, IsMissing, IsRefused, LoadsAll, NoneRises, OpensAll, OpensNamed, counts_of};
 ghost use Rattle.gs_program.specs.Works.{Leaves, doorway_of, input_limit};
 
 use crate::arguments::read_words;
@@ -26,7 +26,9 @@ const USAGE: &[u8] =
 /// `ReadFault` comes only where the input, the files or the door itself counted a fault, or where the files are told and a
 /// named one is not there. `InputLong` comes exactly where more than 4,294,967,296 bytes were taken from the lines of the
 /// input. `WriteFault` comes only where the output counted a fault. After `ReadFault`, `WriteFault` and `Memory` an initial
-/// part of the defined output was written, and of the waiting connections the first ones are finished.
+/// part of the defined output was written, and of the waiting connections the first ones are finished. Where the words are in
+/// order, all files load, the lines of the input are at most 4,294,967,296 bytes and no count rose of the files, the input, the
+/// output and the door itself, the status is `Done`, `SomeRefused` or `Memory`, whatever single connections did.
 pub fn run<F: Files, S: Source, K: Sink, D: Door>(
     alloc: Global,
     words: &[String],
@@ -65,6 +67,13 @@ pub fn run<F: Files, S: Source, K: Sink, D: Door>(
         ⊎ (Rises (F.faults files.old) (F.faults files.new) ⊎ IsMissing (map string_bytes words.now) (F.files files.old))) }
     ensures write_fault { OnWriteFault result (Rises (K.faults output.old) (K.faults output.new)) }
     ensures input_long { OnInputLong result (TakesMoreThan input_limit (S.left input.old) (S.left input.new)) }
+
+    // Completeness: where words, files, input and counts are in order, all that is defined was written, or memory ran out.
+    ensures complete { LoadsAll (map string_bytes words.now) (F.files files.old)
+        → InputFits (map string_bytes words.now) (S.left input.old)
+        → NoneRises (counts_of (F.faults files.old) (S.faults input.old) (K.faults output.old) (D.aside door.old))
+        (counts_of (F.faults files.new) (S.faults input.new) (K.faults output.new) (D.aside door.new))
+        → IsDoneOrMemory result }
 
     // What was written then.
     ensures ended { OnReadFault result ((input.new ≡ input.old × Appends (K.held output.old) (K.held output.new) (λ out. out ≡ []))
