@@ -1,12 +1,12 @@
 -- What was done of what is asked, by how its files were loaded and what its command did.
-use Rattle.std.proofs.Common.{◌≡◌, ◌≢◌, ◌⊎◌, inl, inr, ℕ, ◌+◌, ◌≤◌, false, List, [], Option, refl, arith}
+use Rattle.std.proofs.Common.{◌≡◌, ◌≢◌, ◌⊎◌, inl, inr, ℕ, ◌+◌, ◌≤◌, false, List, [], Option, refl, ap, arith}
 use Rattle.std.specs.Prelude.{Result, Ok, Err}
 use Rattle.gs_lines.specs.declared.status.Status.{Status}
 use Rattle.gs_gen.proofs.OneCount.{some_generated}
 use Rattle.gs_lines.specs.declared.status.Status.TheVariants as status
 use Rattle.gs_lines.specs.Outputs.{Appends}
 use Rattle.gs_lines.specs.Printing.{IsInitialPart, PrintedAs}
-use Rattle.gs_lines.specs.Statuses.{OnAnswered, OnCutShort, OnReadFault, OnRefused, OnWriteFault, OnWritten, is_cut_short, is_read_fault, is_written}
+use Rattle.gs_lines.specs.Statuses.{OnAnswered, OnCutShort, OnReadFault, OnRefused, OnWriteFault, OnWritten, is_answered, is_cut_short, is_read_fault, is_written}
 use Rattle.gs_lines.proofs.StatusLemmas.{when_map}
 use Rattle.gs_port.specs.Connections.{Finished}
 use Rattle.gs_port.specs.Contents.{append_known}
@@ -181,3 +181,11 @@ refusal_answered fact line output s p = by (printed_case status.Refused line out
     by (whole e f) = rw e tt
     by (fault e p) = rw e tt
     by (no_memory e p) = rw e tt
+
+pub refusal_unanswered : (line output : List ℕ) (s : Status) → PrintedAs status.Refused line output s → is_answered s ≡ false
+refusal_unanswered line output s p = by (printed_case status.Refused line output s p)
+  where
+    by : PrintedCase status.Refused line output s → is_answered s ≡ false
+    by (whole e f) = ap is_answered e
+    by (fault e p) = ap is_answered e
+    by (no_memory e p) = ap is_answered e

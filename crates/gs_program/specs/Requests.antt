@@ -10,7 +10,7 @@ use Rattle.gs_program.specs.declared.name.Name.TheVariants.{Tables, Prefixes, Li
 use Rattle.gs_program.specs.declared.request.NamedFiles.{NamedFiles}
 use Rattle.gs_program.specs.declared.request.NamedValues.{NamedValues}
 use Rattle.gs_program.specs.declared.request.Request.{Request}
-use Rattle.gs_program.specs.Commands.{answers_lines, command_words, names_of, operands_in_range, reads_input, uses_door}
+use Rattle.gs_program.specs.Commands.{answers_heads, answers_lines, command_words, names_of, operands_in_range, reads_input, uses_door}
 use Rattle.gs_program.specs.Names.{AreOfRows, has_required, look_up, name_word}
 use Rattle.gs_program.specs.Ranges.{count_of, filter_of, gcp_of}
 
@@ -111,6 +111,10 @@ pub record AsksFor (test : Command → Bool) (words : List (List ℕ)) : Type 0 
 -- the words ask for a command that answers the lines of the input
 abbrev pub AsksForLines : List (List ℕ) → Type 0
 AsksForLines words = AsksFor answers_lines words
+
+-- the words ask for a command that answers the heads of the input
+abbrev pub AsksForHeads : List (List ℕ) → Type 0
+AsksForHeads words = AsksFor answers_heads words
 
 -- the words ask for a command that uses the input
 abbrev pub AsksForInput : List (List ℕ) → Type 0

@@ -1,5 +1,5 @@
 -- What a whole run leaves.
-use Rattle.std.specs.Prelude.{◌≡◌, ◌⊎◌, ℕ, ◌≤◌, true, List, [], ◌∷◌, length, Option, Some, Ok, Err}
+use Rattle.std.specs.Prelude.{◌≡◌, ◌⊎◌, ℕ, ◌≤◌, true, false, List, [], ◌∷◌, length, Option, Some, None, Ok, Err}
 use Rattle.gs_lines.specs.declared.status.Status.{Status}
 use Rattle.gs_lines.specs.declared.status.Status.TheVariants as status
 use Rattle.gs_lines.specs.Statuses.{is_answered}
@@ -9,6 +9,7 @@ use Rattle.gs_program.specs.declared.file_kind.FileKind.TheVariants.{Tables}
 use Rattle.gs_port.specs.Connections.{Aside}
 use Rattle.gs_port.specs.Counts.{Rises}
 use Rattle.gs_port.specs.Files.{AddsNames}
+use Rattle.gs_serve.specs.Resolved.{StreamServed}
 use Rattle.gs_serve.specs.Visits.{Visit, is_done}
 use Rattle.gs_program.specs.declared.loading.Loaded.{Loaded}
 use Rattle.gs_program.specs.declared.refusal.FileFault.TheVariants.{Tables as Faulty}
@@ -17,7 +18,7 @@ use Rattle.gs_program.specs.Loads.{FilesGive, OpensFirst, Stop, missing, refused
 use Rattle.gs_program.specs.Ran.{BeginsOne}
 use Rattle.gs_program.specs.Refusals.{refused_line}
 use Rattle.gs_program.specs.Requests.{Asked, AsksForLines, NotInOrder, WordsInOrder, names_in_order, usage_line}
-use Rattle.gs_program.specs.Works.{CommandEnded, CommandFinished, CommandRun, Doorway, Outcome, input_limit, outcome_of, served_outcome}
+use Rattle.gs_program.specs.Works.{CommandEnded, CommandFinished, CommandRun, Doorway, Outcome, input_limit, outcome_of, served_outcome, site_of}
 
 -- what a run is given, as far as it is told: files, each a name and its bytes, an input, and a door
 pub record World : Type 0 where
@@ -126,6 +127,20 @@ pub record OpensAll (words : List (List ℕ)) (before now : Option (List (List �
 pub data OpensNamed (words : List (List ℕ)) (before now : Option (List (List ℕ))) : Type 0 where
   named : (asked : Asked) → WordsInOrder words asked → OpensFirst (names_in_order asked.files) before now → OpensNamed words before now
   none_named : NotInOrder words → now ≡ before → OpensNamed words before now
+
+-- What was done of the input and of the output where this is asked, a command that answers the heads of the input: it was served as
+-- one connection, over what was loaded: at most 1,000 replies, at most 12,288 bytes taken beyond the answered heads, and with `Done`
+-- nothing left unread but behind a reply that ends the connection. Or the run went no further than its files; then the input is as it
+-- was.
+pub data AskedServes (AsItWas : Type 0) (asked : Asked) (files : Option (List (List ℕ × List ℕ))) (ending : Status) (left left' held held' : Option (List ℕ)) : Type 0 where
+  served : (loaded : Loaded) → FilesGive files asked (Ok loaded) → StreamServed (site_of loaded) ending left left' None None held held' → AskedServes AsItWas asked files ending left left' held held'
+  unserved : AsItWas → is_answered ending ≡ false → AskedServes AsItWas asked files ending left left' held held'
+
+-- What was done of the input and of the output where the words ask for a command that answers the heads of the input.
+pub record ServesInput (AsItWas : Type 0) (words : List (List ℕ)) (files : Option (List (List ℕ × List ℕ))) (ending : Status) (left left' held held' : Option (List ℕ)) : Type 0 where
+  pub asked : Asked
+  pub order : WordsInOrder words asked
+  pub serves : AskedServes AsItWas asked files ending left left' held held'
 
 -- The words are in order, and all that they need is loaded: the run stops at no file that they name, and at no row that stands in the
 -- place of one.

@@ -6,13 +6,13 @@ ghost use Rattle.gs_port.specs.Counts.{Rises};
 ghost use Rattle.gs_port.specs.Files.{AddsNames};
 ghost use Rattle.gs_translate.specs.Translations.{AreInOrder};
 ghost use Rattle.gs_program.specs.Asking.{AskedRan};
-ghost use Rattle.gs_program.specs.Commands.{reads_input, uses_door};
+ghost use Rattle.gs_program.specs.Commands.{answers_heads, reads_input, uses_door};
 ghost use Rattle.gs_program.specs.Loads.{OpensFirst};
 ghost use Rattle.gs_program.specs.Ranges.{is_vocabulary};
 ghost use Rattle.gs_program.specs.Ran.{StaysOrRises};
 ghost use Rattle.gs_program.specs.Refusals.{refused_line};
 ghost use Rattle.gs_program.specs.Requests.{names_in_order, options_of, told_request};
-ghost use Rattle.gs_program.specs.Runs.{AskedEnded};
+ghost use Rattle.gs_program.specs.Runs.{AskedEnded, AskedServes};
 ghost use Rattle.gs_program.specs.Works.{Leaves, doorway_of};
 
 use crate::commands::run_command;
@@ -59,6 +59,9 @@ pub fn run_request<F: Files, S: Source, K: Sink, D: Door>(
     ensures read_fault { OnReadFault result ((input.new ≡ input.old × Appends (K.held output.old) (K.held output.new) (λ out. out ≡ []))
         ⊎ (Rises (S.faults input.old) (S.faults input.new)
         × Appends (K.held output.old) (K.held output.new) (AskedEnded (told_request request.entry) (F.files files.old) (S.left input.old) (S.left input.new)))) }
+    ensures served { answers_heads (told_request request.entry).command ≡ true → AskedServes (input.new ≡ input.old)
+        (told_request request.entry) (F.files files.old) result
+        (S.left input.old) (S.left input.new) (K.held output.old) (K.held output.new) }
     ensures unread { reads_input (told_request request.entry).command ≡ false → input.new ≡ input.old }
     ensures unread_refused { OnRefused result (input.new ≡ input.old) }
     ensures unserved { uses_door (told_request request.entry).command ≡ false → door.new ≡ door.old }

@@ -1,6 +1,7 @@
-ghost use Rattle.std.specs.Prelude.{◌≡◌, false};
+ghost use Rattle.std.specs.Prelude.{◌≡◌, None, false, true};
+ghost use Rattle.gs_serve.specs.Resolved.{StreamServed};
 ghost use Rattle.gs_tables.specs.Judged.{IsLoaded};
-ghost use Rattle.gs_program.specs.Commands.{reads_input, uses_door};
+ghost use Rattle.gs_program.specs.Commands.{answers_heads, reads_input, uses_door};
 ghost use Rattle.gs_program.specs.Ran.{CommandRan, StaysOrRises};
 ghost use Rattle.gs_program.specs.Requests.{options_of, told_values};
 ghost use Rattle.gs_program.specs.Works.{Leaves, doorway_of, site_of};
@@ -47,6 +48,8 @@ pub fn run_command<S: Source, K: Sink, D: Door>(
         (D.aside door.old).faults (D.aside door.new).faults
         (record { input = S.left input.old; input_faults = S.faults input.old; output_faults = K.faults output.old })
         (record { input = S.left input.new; input_faults = S.faults input.new; output_faults = K.faults output.new })) }
+    ensures served { answers_heads command ≡ true → StreamServed (site_of loaded.now) result
+        (S.left input.old) (S.left input.new) None None (K.held output.old) (K.held output.new) }
     ensures unread { reads_input command ≡ false → input.new ≡ input.old }
     ensures unserved { uses_door command ≡ false → door.new ≡ door.old }
     ensures door_counts { StaysOrRises (D.aside door.old).faults (D.aside door.new).faults }

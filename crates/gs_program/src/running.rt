@@ -4,8 +4,8 @@ ghost use Rattle.gs_lines.specs.Outputs.{Appends};
 ghost use Rattle.gs_lines.specs.Statuses.{OnAnswered, OnCutShort, OnInputLong, OnReadFault, OnRefused, OnUsage, OnWriteFault, OnWritten};
 ghost use Rattle.gs_port.specs.Counts.{Rises};
 ghost use Rattle.gs_program.specs.Ran.{StaysOrRises};
-ghost use Rattle.gs_program.specs.Requests.{AsksForDoor, AsksForInput, AsksForLines, NamesFile, NotInOrder};
-ghost use Rattle.gs_program.specs.Runs.{BeginsRun, DefinedRun, EndedRun, FinishedRun, InputFits, IsDoneOrMemory, IsMissing, IsRefused, LoadsAll, NoneRises, OpensAll, OpensNamed, counts_of};
+ghost use Rattle.gs_program.specs.Requests.{AsksForDoor, AsksForHeads, AsksForInput, AsksForLines, NamesFile, NotInOrder};
+ghost use Rattle.gs_program.specs.Runs.{BeginsRun, DefinedRun, EndedRun, FinishedRun, InputFits, IsDoneOrMemory, IsMissing, IsRefused, LoadsAll, NoneRises, OpensAll, OpensNamed, ServesInput, counts_of};
 ghost use Rattle.gs_program.specs.Works.{Leaves, doorway_of, input_limit};
 
 use crate::arguments::read_words;
@@ -20,6 +20,9 @@ const USAGE: &[u8] =
 
 /// Runs the program: does what the words ask for, over these files, this input, this output and this door, of which no
 /// connection is open, and says how it ended.
+///
+/// Of an input whose heads are answered, as those of one connection, at most 12,288 bytes are taken beyond the answered heads,
+/// and at most 1,000 replies are written; `Done` leaves nothing unread but behind a reply that ends the connection.
 ///
 /// `Usage` comes exactly where the words are not in order; the usage line is written then, and nothing is read or opened.
 /// `Refused` comes where a file, or the built-in rows, are refused, after the one line that says why; the input is not read.
@@ -49,6 +52,11 @@ pub fn run<F: Files, S: Source, K: Sink, D: Door>(
     ensures usage { OnUsage result (NotInOrder (map string_bytes words.now)) }
     ensures not_in_order { NotInOrder (map string_bytes words.now) → OnWritten result (result ≡ Status.Usage) }
     ensures refused { OnRefused result (IsRefused (map string_bytes words.now) (F.files files.old)) }
+
+    // An input whose heads are answered is served as one connection is.
+    ensures served { AsksForHeads (map string_bytes words.now) → ServesInput (input.new ≡ input.old)
+        (map string_bytes words.now) (F.files files.old) result
+        (S.left input.old) (S.left input.new) (K.held output.old) (K.held output.new) }
 
     // What a command does not use is as it was, and so are the input and the door where a file is refused.
     ensures unread { (AsksForInput (map string_bytes words.now) → ⊥) → input.new ≡ input.old }
