@@ -32,10 +32,12 @@ done_or_refused false = refl
 answered_within : (bytes : List ℕ) (any_refused : Bool) → length bytes ≤ input_limit → is_answered (status_of input_limit bytes any_refused) ≡ true
 answered_within bytes any_refused fits = rw (le-ltb input_limit (length bytes) fits) (done_or_refused any_refused)
 
+told_bytes : (input : Option (List ℕ)) (told bytes : List ℕ) → input ≡ Some told → IsTold input bytes → bytes ≡ told
+told_bytes input told bytes e t = let f : IsTold (Some told) bytes = rw e at t in f
+
 answered_lines : (Is : List ℕ → LineAnswer → Type 0) (input : Option (List ℕ)) (output : List ℕ) (s : Status) → IsWithin input_limit input → AnswersInput Is input_limit input output s → is_answered s ≡ true
 answered_lines Is input output s within a =
-    let told : IsTold (Some within.bytes) a.bytes = rw within.is_told at a.of_input in
-    let same : a.bytes ≡ within.bytes = told in
+    let same : a.bytes ≡ within.bytes = told_bytes input within.bytes a.bytes within.is_told a.of_input in
     let fits : length a.bytes ≤ input_limit = rw same within.fits in
     rw a.has_status (answered_within a.bytes a.any_refused fits)
 
