@@ -65,7 +65,7 @@ heads_headless n i held left low begins = elim begins.1 [
 -- ---- replies that end the connection
 
 module _ (table : List AiRow) (links : List Link) (settings : Settings) where
-  none_closes : (last : Bool) (reply : Reply) → IsReplyTo table links settings None last reply → reply.close ≡ true
+  pub none_closes : (last : Bool) (reply : Reply) → IsReplyTo table links settings None last reply → reply.close ≡ true
   unfolding reply_of
   none_closes last reply e = ap (λ (r : Reply). r.close) e
 
@@ -75,7 +75,7 @@ module _ (table : List AiRow) (links : List Link) (settings : Settings) where
   says_last (Some asked) last e = or_first last _ e
 
   -- a reply after which the connection stays is not the last that may come
-  stays_before_last : (head : List ℕ) (last : Bool) (reply : Reply) → IsReplyTo table links settings (Some head) last reply → reply.close ≡ false → last ≡ false
+  pub stays_before_last : (head : List ℕ) (last : Bool) (reply : Reply) → IsReplyTo table links settings (Some head) last reply → reply.close ≡ false → last ≡ false
   stays_before_last head last reply is stays = says_last is.asked last (sym (ap (λ (r : Reply). r.close) is.is_reply) ∙ stays)
 
   -- ---- the turns so far

@@ -3,7 +3,9 @@
 use Rattle.std.specs.Prelude.{◌≡◌, ◌≤◌, ℕ, ◌==◌, ◌&&◌, ◌||◌, not, Bool, false, List, [], ◌∷◌, map, length, Option, Some, None}
 use Rattle.std.specs.List.{list_any, zip}
 use Rattle.httparse.specs.Grammar.{ReadsRequest, RequestHead}
-use Rattle.httparse.specs.Spans.{header_bytes, name_and_value}
+use Rattle.httparse.specs.Spans.{IsRequestAt, header_bytes, name_and_value}
+use Rattle.httparse.specs.declared.spans.HeaderSpan.{HeaderSpan}
+use Rattle.httparse.specs.declared.spans.RequestSpans.{RequestSpans}
 use Rattle.gs_http.specs.declared.request.Request.{Request}
 use Rattle.gs_http.specs.declared.sign.Sign.TheVariants.{Encoded, Sized}
 use Rattle.gs_http.specs.Fields.{is_shown}
@@ -22,6 +24,10 @@ asked_of h = record { method = h.method; target = h.target; minor = h.minor; fie
 -- what the request that this crate lends says
 abbrev pub asked_by : Request → Asked
 asked_by r = record { method = r.method.now; target = r.target.now; minor = r.minor; fields = map (header_bytes r.head.now) r.fields.now }
+
+-- the request says what a head of the grammar says whose parts lie there
+abbrev pub SaysHead : Request → List ℕ → List HeaderSpan → RequestSpans → Type 0
+SaysHead request head spans parts = (h : RequestHead) → IsRequestAt head spans parts h → asked_by request ≡ asked_of h
 
 -- the bytes are this head and nothing else, with at most 64 fields
 pub record IsWhole (head : List ℕ) (h : RequestHead) : Type 0 where

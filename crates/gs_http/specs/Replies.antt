@@ -45,6 +45,10 @@ body_of bad_request = []
 body_of not_found = []
 body_of not_allowed = []
 
+-- the field that says how many bytes the body has (RFC 9110, section 8.6)
+abbrev pub length_field : ℕ → List ℕ
+length_field len = line (codes "Content-Length: " ++ decimal len)
+
 -- the field that says that the connection is closed (RFC 9112, section 9.6)
 abbrev pub close_field : Bool → List ℕ
 close_field close = if close then line (codes "Connection: close") else []
@@ -54,7 +58,7 @@ unfoldable pub reply_bytes : Bool → Bool → Answer → List ℕ
 reply_bytes head_only close answer =
     line (codes "HTTP/1.1 " ++ status_of answer)
     ++ own_field answer
-    ++ line (codes "Content-Length: " ++ decimal (length (body_of answer)))
+    ++ length_field (length (body_of answer))
     ++ close_field close
     ++ line []
     ++ (if head_only then [] else body_of answer)

@@ -68,6 +68,7 @@ impl Buffer {
         ensures comes { Comes result self.old self.new (C.left conn.new) }
         ensures few { length self.new ≤ length self.old + 4096 }
         ensures count { C.reads conn.new ≡ reads_with result (C.reads conn.old) }
+        ensures counts { C.reads conn.old ≤ C.reads conn.new }
         ensures same_held { C.held conn.new ≡ C.held conn.old }
         ensures same_writes { C.writes conn.new ≡ C.writes conn.old }
         ensures stays_open { C.is_open conn.new ≡ true }

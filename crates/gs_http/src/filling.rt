@@ -67,6 +67,7 @@ pub(crate) fn fill<C: Conn>(conn: &mut C, bytes: &mut Buffer) -> Filled
     ensures begins { Begins result bytes.new (C.left conn.new) }
     ensures few { length bytes.new ≤ 12287 }
     ensures count { C.reads conn.new ≡ reads_after result (C.reads conn.old) }
+    ensures counts { C.reads conn.old ≤ C.reads conn.new }
     ensures same_held { C.held conn.new ≡ C.held conn.old }
     ensures same_writes { C.writes conn.new ≡ C.writes conn.old }
     ensures stays_open { C.is_open conn.new ≡ true }

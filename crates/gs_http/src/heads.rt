@@ -1,7 +1,7 @@
 ghost use Rattle.std.specs.Prelude.{◌≡◌, length, IfSome, MatchOption};
 ghost use Rattle.httparse.specs.Grammar.{RequestHead};
 ghost use Rattle.httparse.specs.Spans.{IsRequestAt, IsRequestWithin};
-ghost use Rattle.gs_http.specs.Heads.{IsWhole, asked_by, asked_of, has_lone_feed, is_lone, is_refused};
+ghost use Rattle.gs_http.specs.Heads.{IsWhole, SaysHead, asked_by, has_lone_feed, is_lone, is_refused};
 
 use crate::fields::is_shown;
 use crate::request::Request;
@@ -35,7 +35,7 @@ pub(crate) fn request_at<'a>(
     parts: RequestSpans,
 ) -> Request<'a>
     requires { IsRequestWithin head.now spans.now parts }
-    ensures says { (h : RequestHead) → IsRequestAt head.now spans.now parts h → asked_by result ≡ asked_of h }
+    ensures says { SaysHead result head.now spans.now parts }
     ensures head { result.head.now ≡ head.now }
 {
     Request {

@@ -28,6 +28,7 @@ pub(crate) fn read_more<C: Conn>(conn: &mut C, bytes: &mut Vec<u8>) -> More
     ensures comes { Comes result bytes.old.items bytes.new.items (C.left conn.new) }
     ensures few { length bytes.new.items ≤ length bytes.old.items + 4096 }
     ensures count { C.reads conn.new ≡ reads_with result (C.reads conn.old) }
+    ensures counts { C.reads conn.old ≤ C.reads conn.new }
     ensures same_held { C.held conn.new ≡ C.held conn.old }
     ensures same_writes { C.writes conn.new ≡ C.writes conn.old }
     ensures stays_open { C.is_open conn.new ≡ true }

@@ -19,6 +19,7 @@ pub(crate) fn send<C: Conn>(conn: &mut C, bytes: &[u8]) -> Sent
     requires current { C.is_open conn.old ≡ true }
     ensures writes { Writes result bytes.now (C.held conn.old) (C.held conn.new) }
     ensures count { C.writes conn.new ≡ writes_after result (C.writes conn.old) }
+    ensures counts { C.writes conn.old ≤ C.writes conn.new }
     ensures same_left { C.left conn.new ≡ C.left conn.old }
     ensures same_taken { C.taken conn.new ≡ C.taken conn.old }
     ensures same_reads { C.reads conn.new ≡ C.reads conn.old }

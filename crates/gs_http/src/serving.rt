@@ -1,4 +1,4 @@
-ghost use Rattle.std.specs.Prelude.{◌≡◌, ◌-◌, ◌<◌, ◌==◌, IfOk, true, vec_len};
+ghost use Rattle.std.specs.Prelude.{◌≡◌, ◌-◌, ◌<◌, ◌≤◌, ◌==◌, IfOk, true, vec_len};
 ghost use Rattle.gs_http.specs.Serving.{IsServed, reads_when, writes_when};
 
 use crate::buffer::Buffer;
@@ -47,6 +47,8 @@ pub fn serve_one<C: Conn>(
         (C.taken conn.old) (C.taken conn.new) (C.held conn.old) (C.held conn.new) }
     ensures reads { C.reads conn.new ≡ reads_when result (C.reads conn.old) }
     ensures writes { C.writes conn.new ≡ writes_when result (C.writes conn.old) }
+    ensures read_counts { C.reads conn.old ≤ C.reads conn.new }
+    ensures write_counts { C.writes conn.old ≤ C.writes conn.new }
     ensures stays_open { C.is_open conn.new ≡ true }
     ensures same_aside { C.aside conn.new ≡ C.aside conn.old }
     ensures same_ends { C.ends conn.new ≡ C.ends conn.old }

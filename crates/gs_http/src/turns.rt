@@ -21,6 +21,8 @@ fn deliver<C: Conn>(conn: &mut C, reply: &Reply) -> Turn
     ensures delivers { Delivers result reply.now (C.held conn.old) (C.held conn.new) }
     ensures write_count { C.writes conn.new ≡ writes_at result (C.writes conn.old) }
     ensures read_count { C.reads conn.new ≡ reads_at result (C.reads conn.old) }
+    ensures write_counts { C.writes conn.old ≤ C.writes conn.new }
+    ensures read_counts { C.reads conn.old ≤ C.reads conn.new }
     ensures same_left { C.left conn.new ≡ C.left conn.old }
     ensures same_taken { C.taken conn.new ≡ C.taken conn.old }
     ensures stays_open { C.is_open conn.new ≡ true }
@@ -46,6 +48,8 @@ fn refuse<C: Conn>(alloc: Global, conn: &mut C) -> Turn
         → Answered table links settings result None last (C.held conn.old) (C.held conn.new) }
     ensures write_count { C.writes conn.new ≡ writes_at result (C.writes conn.old) }
     ensures read_count { C.reads conn.new ≡ reads_at result (C.reads conn.old) }
+    ensures write_counts { C.writes conn.old ≤ C.writes conn.new }
+    ensures read_counts { C.reads conn.old ≤ C.reads conn.new }
     ensures same_left { C.left conn.new ≡ C.left conn.old }
     ensures same_taken { C.taken conn.new ≡ C.taken conn.old }
     ensures stays_open { C.is_open conn.new ≡ true }
@@ -78,6 +82,8 @@ fn answer_head<C: Conn>(
     ensures lets_go { LetsGo result len bytes.old bytes.new }
     ensures write_count { C.writes conn.new ≡ writes_at result (C.writes conn.old) }
     ensures read_count { C.reads conn.new ≡ reads_at result (C.reads conn.old) }
+    ensures write_counts { C.writes conn.old ≤ C.writes conn.new }
+    ensures read_counts { C.reads conn.old ≤ C.reads conn.new }
     ensures same_left { C.left conn.new ≡ C.left conn.old }
     ensures same_taken { C.taken conn.new ≡ C.taken conn.old }
     ensures stays_open { C.is_open conn.new ≡ true }
@@ -116,6 +122,8 @@ pub(crate) fn answer_next<C: Conn>(
         (C.held conn.old) (C.held conn.new) }
     ensures write_count { C.writes conn.new ≡ writes_at result (C.writes conn.old) }
     ensures read_count { C.reads conn.new ≡ reads_at result (C.reads conn.old) }
+    ensures write_counts { C.writes conn.old ≤ C.writes conn.new }
+    ensures read_counts { C.reads conn.old ≤ C.reads conn.new }
     ensures stays_open { C.is_open conn.new ≡ true }
     ensures same_aside { C.aside conn.new ≡ C.aside conn.old }
     ensures same_ends { C.ends conn.new ≡ C.ends conn.old }

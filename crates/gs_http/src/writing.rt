@@ -1,6 +1,6 @@
-ghost use Rattle.std.specs.Prelude.{◌≡◌, ◌++◌, [], if◌then◌else◌, IfOk, OnOk, codes, decimal};
+ghost use Rattle.std.specs.Prelude.{◌≡◌, ◌++◌, [], if◌then◌else◌, IfOk, OnOk};
 ghost use Rattle.gs_http.specs.Answers.{said};
-ghost use Rattle.gs_http.specs.Replies.{body_of, close_field, line, own_field, reply_bytes, status_of};
+ghost use Rattle.gs_http.specs.Replies.{body_of, close_field, length_field, line, own_field, reply_bytes, status_of};
 
 use crate::answer::Answer;
 use gs_chars::{Memory, Text};
@@ -63,7 +63,7 @@ fn append_own_field(out: &mut Vec<u8>, answer: &Answer<'_>) -> Result<(), Memory
 
 /// Appends the field with the length of the body.
 fn append_length(alloc: Global, out: &mut Vec<u8>, len: usize) -> Result<(), Memory>
-    ensures { OnOk result (out.new.items ≡ out.old.items ++ line (codes "Content-Length: " ++ decimal len)) }
+    ensures { OnOk result (out.new.items ≡ out.old.items ++ length_field len) }
 {
     let number = format!(in alloc; "{len}")?;
     append_line(out, b"Content-Length: ", number.as_bytes())

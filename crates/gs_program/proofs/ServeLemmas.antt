@@ -2,8 +2,7 @@
 use Rattle.std.proofs.Common.{◌≡◌, ◌≢◌, ◌⊎◌, inl, inr, ℕ, ◌+◌, ◌-◌, ◌≤◌, zero, suc, Bool, true, false, List, [], ◌∷◌, ◌++◌, length, take, Option, None, Some, append-nil, refl, sym, ◌∙◌, ap, arith}
 use Rattle.std.specs.Prelude.{IfSome, is_some, map, option_map}
 use Rattle.std.proofs.lemmas.List.{take_all, length-map}
-use Rattle.std.proofs.Math.Seq.{take-append_seam, take-length}
-use Rattle.gs_http.specs.declared.served.Served.TheVariants as served
+use Rattle.std.proofs.Math.Seq.{take-append_seam}
 use Rattle.gs_http.specs.Serving.{reads_when, writes_when}
 use Rattle.gs_lines.specs.declared.status.Status.{Status}
 use Rattle.gs_lines.specs.declared.status.Status.TheVariants as status
@@ -14,6 +13,7 @@ use Rattle.gs_port.specs.Counts.{Rises}
 use Rattle.gs_serve.specs.Doors.{IsOver, ServePrints, ServeRan, line_of}
 use Rattle.gs_serve.specs.Sites.{AreSiteReplies, Replied, SiteData}
 use Rattle.gs_serve.specs.Visits.{AreVisits, DoorState, IsVisit, Visit, Visited, entries_of, inputs_of, is_done, no_visit, one_visit, wants_memory}
+use Rattle.gs_serve.proofs.DoneVisits.{done_visit, is_done_visit}
 use Rattle.gs_translate.specs.Steps.{HasSome}
 use Rattle.gs_program.specs.declared.command.Command.TheVariants.{Serve}
 use Rattle.gs_program.specs.declared.loading.Loaded.{Loaded}
@@ -22,30 +22,9 @@ use Rattle.gs_program.specs.Requests.{Values}
 use Rattle.gs_program.specs.Runs.{AlikeServed, AlikeVisits, more_visits, no_visits}
 use Rattle.gs_program.specs.Works.{Doorway, Leaves, Outcome, Serves, ServesFirst, doorway_of, served_outcome, site_of}
 use Rattle.gs_program.proofs.RanLemmas.{stays_or_rises, takes_nothing}
-use Rattle.gs_program.proofs.SiteLemmas.{no_lines, one_replies_of_site, some_replies_of_site}
+use Rattle.gs_program.proofs.SiteLemmas.{no_lines, one_replies_of_site}
 
 -- ---- some connections are served
-
--- a connection of which all was read, and to which all replies were written
-done_visit : SiteData → List ℕ → Visit
-done_visit site input =
-    let r = some_replies_of_site site input in
-    record { input = input; served = served.Done; entry = record { read = Some input; written = Some r.0; reads = 0; writes = 0 } }
-
-is_done_visit : (site : SiteData) (reads writes : ℕ) (input : List ℕ) → IsVisit site true reads writes (done_visit site input)
-unfolding done_visit
-is_done_visit site reads writes input =
-    let r = some_replies_of_site site input in
-    record {
-      read = input;
-      written = r.0;
-      is_read = refl;
-      is_written = refl;
-      of_input = (length input, sym (take-length input));
-      replied = record { replies = r.0; are_replies = r.1; begun = (length r.0, sym (take-length r.0)); all = refl };
-      read_count = omega arith;
-      write_count = omega arith;
-    }
 
 -- the first of the inputs, at most so many
 done_visits : SiteData → ℕ → List (List ℕ) → List Visit

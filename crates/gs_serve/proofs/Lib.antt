@@ -4,3 +4,4 @@ pub mod TurnLemmas
 pub mod SessionLemmas
 pub mod RunLemmas
 pub mod RiseLemmas
+pub mod DoneVisits

@@ -35,13 +35,13 @@ goes_on site a b c finished faults faulty x y = record {
 }
 
 -- no connection came any more
-pub none_came : (site : SiteData) (a b c : DoorState) (finished faults count : ℕ) → SoFar site a b finished faults → Visited site b c [] × NoneWaits c → finished ≤ count
+pub none_came : (site : SiteData) (a b c : DoorState) (finished faults count : ℕ) → SoFar site a b finished faults → Visited site b c [] × NoneWaits c → finished ≤ count → c.aside.opened ≡ true
     → SessionDid (session.Over (record { finished = finished; faults = faults })) site count a c
-none_came site a b c finished faults count x y low = record {
+none_came site a b c finished faults count x y low opened = record {
   visits = x.visits ++ [];
   visited = visited_twice site a b c x.visits [] x.visited y.0;
   few = let e = number in omega arith;
-  are = (record { reached = inr y.1; served = same_wants }, sym number, sym same_faults);
+  are = (record { reached = inr y.1; served = same_wants; opened = opened }, sym number, sym same_faults);
 }
   where
     number : length (x.visits ++ []) ≡ finished
@@ -54,12 +54,13 @@ none_came site a b c finished faults count x y low = record {
     same_faults = ap faults_of (append-nil x.visits) ∙ x.failed
 
 -- as many were served as were asked for
-pub all_served : (site : SiteData) (a b : DoorState) (count faults : ℕ) → SoFar site a b count faults → SessionDid (session.Over (record { finished = count; faults = faults })) site count a b
-all_served site a b count faults x = record {
+pub all_served : (site : SiteData) (a b : DoorState) (count faults : ℕ) → SoFar site a b count faults → b.aside.opened ≡ true
+    → SessionDid (session.Over (record { finished = count; faults = faults })) site count a b
+all_served site a b count faults x opened = record {
   visits = x.visits;
   visited = x.visited;
   few = let e = x.number in omega arith;
-  are = (record { reached = inl x.number; served = x.served }, sym x.number, sym x.failed);
+  are = (record { reached = inl x.number; served = x.served; opened = opened }, sym x.number, sym x.failed);
 }
 
 -- no connection could be accepted

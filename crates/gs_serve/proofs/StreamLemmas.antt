@@ -1,6 +1,6 @@
 -- What is written for a stream.
-use Rattle.std.proofs.Common.{◌≡◌, ℕ, List, ◌++◌, Option, Some, None, take, length, refl, sym, ap, ◌∙◌, subst}
-use Rattle.std.specs.Prelude.{IfSome}
+use Rattle.std.proofs.Common.{◌≡◌, ℕ, List, [], ◌++◌, append-nil, inl, inr, Option, Some, None, take, length, refl, sym, ap, ◌∙◌, subst}
+use Rattle.std.specs.Prelude.{◌⊎◌, IfSome}
 use Rattle.std.proofs.Math.Seq.{take-append_seam}
 use Rattle.gs_http.specs.declared.served.Served.{Served}
 use Rattle.gs_http.specs.declared.served.Served.TheVariants as served
@@ -15,7 +15,7 @@ use Rattle.gs_lines.specs.Statuses.{OnWritten, When, is_written}
 use Rattle.gs_port.specs.Contents.{prepend_known}
 use Rattle.gs_serve.specs.Resolved.{Resolved, StreamServed, status_of}
 use Rattle.gs_serve.specs.Sites.{Replied, SiteData}
-use Rattle.gs_serve.specs.Visits.{is_done}
+use Rattle.gs_serve.specs.Visits.{ReadsAsAnswered, is_done}
 
 -- a front is an initial part
 pub front_is_part : (front rest : List ℕ) → IsInitialPart front (front ++ rest)
@@ -41,6 +41,28 @@ replied site served left left' taken taken' held held' is = record {
   are_replies = record { replies = is.replies; are_replies = is.are_replies; is_output = refl };
   begun = (length is.written, sym (take-append_seam is.written is.begun.0) ∙ ap (take (length is.written)) (sym is.begun.1));
   all = when_done served _ _ is.whole;
+}
+
+unread : (served : Served) (read rest : List ℕ) (written closing : Type 0) → OnDone served (written × ((rest ≡ []) ⊎ closing)) → OnDone served ((read ≡ read ++ rest) ⊎ closing)
+unread served.Done read rest written closing both = elim both.1 [
+  | inl none ↦ inl (sym (append-nil read) ∙ ap (λ more. read ++ more) (sym none))
+  | inr closes ↦ inr closes
+]
+unread served.ReadFault read rest written closing both = tt
+unread served.WriteFault read rest written closing both = tt
+unread served.Memory read rest written closing both = tt
+
+-- of so many heads the replies were written, and little was read beyond these
+pub as_answered : (site : SiteData) (served : Served) (left left' taken taken' held held' : Option (List ℕ))
+    → (is : IsServed 1000 site.table site.links site.settings served left left' taken taken' held held')
+    → ReadsAsAnswered site (is.read ++ is.rest) served is.read is.written
+as_answered site served left left' taken taken' held held' is = record {
+  replies = is.replies;
+  answered = is.answered;
+  are_replies = is.are_replies;
+  front = is.front;
+  few = is.few;
+  unread = unread served is.read is.rest _ _ is.whole;
 }
 
 same_when : (served : Served) → is_done served ≡ is_written (status_of served)

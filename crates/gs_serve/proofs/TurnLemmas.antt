@@ -12,7 +12,7 @@ use Rattle.gs_serve.specs.declared.visiting.Turn.{Turn}
 use Rattle.gs_serve.specs.Sites.{SiteData}
 use Rattle.gs_serve.specs.Turns.{OpenServed, TurnDid, turn_of}
 use Rattle.gs_serve.specs.Visits.{AreVisits, DoorState, IsVisit, Visit, Visited, is_fault, is_want, no_visit, one_visit, told_if}
-use Rattle.gs_serve.proofs.StreamLemmas.{front_is_part, replied, told_whole}
+use Rattle.gs_serve.proofs.StreamLemmas.{as_answered, front_is_part, replied, told_whole}
 
 begun_told : (waiting : Option (List (List ℕ))) (before now : Option (List ℕ)) (bytes : List ℕ) → waiting ≢ Some [] → before ≡ first_begun waiting → now ≡ append_known before bytes
     → now ≡ told_if (is_some waiting) bytes
@@ -55,6 +55,7 @@ accepted site turn before mid now left taken held some whole unread unwritten as
       is_written = begun_told before.aside.waiting held x.held' is.written some unwritten is.wrote;
       of_input = front_is_part is.read is.rest;
       replied = replied site x.served left x.left' taken x.taken' held x.held' is;
+      as_answered = as_answered site x.served left x.left' taken x.taken' held x.held' is;
       read_count = ap (λ n. n - mid.aside.reads_then) new_reads ∙ ap (λ n. reads_when x.served before.reads - n) from_reads;
       write_count = ap (λ n. n - mid.aside.writes_then) new_writes ∙ ap (λ n. writes_when x.served before.writes - n) from_writes;
     } in

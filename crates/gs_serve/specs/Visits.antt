@@ -1,9 +1,11 @@
 -- The connections that a site served, one after the other.
-use Rattle.std.specs.Prelude.{◌≡◌, ℕ, ◌+◌, ◌-◌, ◌==◌, not, Bool, true, false, List, [], ◌∷◌, ◌++◌, Option, Some, None, is_some, option_map, if◌then◌else◌, length, map}
+use Rattle.std.specs.Prelude.{◌≡◌, ◌⊎◌, ◌≤◌, ℕ, ◌+◌, ◌-◌, ◌==◌, not, Bool, true, false, List, [], ◌∷◌, ◌++◌, Option, Some, None, is_some, option_map, if◌then◌else◌, length, map, take}
 use Rattle.std.specs.List.{filter, list_any}
 use Rattle.gs_http.specs.declared.served.Served.{Served}
 use Rattle.gs_http.specs.declared.served.Served.TheVariants.{Done, ReadFault, WriteFault, Memory}
-use Rattle.gs_http.specs.Serving.{reads_when, writes_when}
+use Rattle.gs_http.specs.declared.settings.Reply.{Reply}
+use Rattle.gs_http.specs.Serving.{OnDone, reads_when, writes_when}
+use Rattle.gs_http.specs.Streams.{AreReplies, BeginsWith, all_bytes, bytes_of, has_closing, heads_of}
 use Rattle.gs_lines.specs.Printing.{IsInitialPart}
 use Rattle.gs_port.specs.Connections.{Aside, Finished}
 use Rattle.gs_serve.specs.Sites.{Replied, SiteData}
@@ -55,6 +57,16 @@ wants_memory visits = list_any (λ (visit : Visit). is_want visit.served) visits
 abbrev pub told_if : Bool → List ℕ → Option (List ℕ)
 told_if told bytes = if told then Some bytes else None
 
+-- What was read of a connection, by what was written to it: of so many heads the replies were written, and at most 12,288 bytes
+-- were read beyond these heads; where serving was done nothing is unread, but behind a reply that ends the connection.
+pub record ReadsAsAnswered (site : SiteData) (input : List ℕ) (served : Served) (read written : List ℕ) : Type 0 where
+  pub replies : List Reply
+  pub answered : ℕ
+  pub are_replies : AreReplies site.table site.links site.settings 1000 (heads_of 1000 input) replies
+  pub front : BeginsWith written (all_bytes (take answered replies))
+  pub few : length read ≤ length (bytes_of (take answered (heads_of 1000 input))) + 12288
+  pub unread : OnDone served ((read ≡ input) ⊎ (has_closing replies ≡ true))
+
 -- Serving a connection, from these counts of reads and of writes: a front of its input was read, and a front of the replies to
 -- its whole input was written, all of them where serving was done; a count rose where serving ended by a fault.
 pub record IsVisit (site : SiteData) (told : Bool) (reads writes : ℕ) (visit : Visit) : Type 0 where
@@ -64,6 +76,7 @@ pub record IsVisit (site : SiteData) (told : Bool) (reads writes : ℕ) (visit :
   pub is_written : visit.entry.written ≡ told_if told written
   pub of_input : IsInitialPart read visit.input
   pub replied : Replied site visit.input (is_done visit.served) written
+  pub as_answered : ReadsAsAnswered site visit.input visit.served read written
   pub read_count : visit.entry.reads ≡ reads_when visit.served reads - reads
   pub write_count : visit.entry.writes ≡ writes_when visit.served writes - writes
 

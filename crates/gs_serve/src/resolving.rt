@@ -1,4 +1,4 @@
-ghost use Rattle.std.specs.Prelude.{◌≡◌, None, true};
+ghost use Rattle.std.specs.Prelude.{◌≡◌, ◌≤◌, None, true};
 ghost use Rattle.gs_lines.specs.Outputs.{Appends};
 ghost use Rattle.gs_lines.specs.Statuses.{OnReadFault, OnWriteFault, is_read_fault, is_write_fault};
 ghost use Rattle.gs_port.specs.Counts.{Rises};
@@ -31,6 +31,8 @@ fn answer_stream<C: Conn>(alloc: Global, site: &Site<'_>, conn: &mut C) -> Statu
         (C.taken conn.old) (C.taken conn.new) (C.held conn.old) (C.held conn.new) }
     ensures read_count { C.reads conn.new ≡ count_if (is_read_fault result) (C.reads conn.old) }
     ensures write_count { C.writes conn.new ≡ count_if (is_write_fault result) (C.writes conn.old) }
+    ensures read_counts { C.reads conn.old ≤ C.reads conn.new }
+    ensures write_counts { C.writes conn.old ≤ C.writes conn.new }
     ensures same_ends { C.ends conn.new ≡ C.ends conn.old }
 {
     let served = serve_one(alloc, conn, site.table, site.store, site.settings);
@@ -55,6 +57,8 @@ pub fn resolve<S: Source, K: Sink>(
     ensures write_fault { OnWriteFault result (Rises (K.faults output.old) (K.faults output.new)) }
     ensures input_count { S.faults input.new ≡ count_if (is_read_fault result) (S.faults input.old) }
     ensures output_count { K.faults output.new ≡ count_if (is_write_fault result) (K.faults output.old) }
+    ensures input_counts { S.faults input.old ≤ S.faults input.new }
+    ensures output_counts { K.faults output.old ≤ K.faults output.new }
 {
     let mut conn = Pair::new(input, output);
     answer_stream(alloc, site, &mut conn)

@@ -1,8 +1,8 @@
 ghost use Rattle.std.specs.Prelude.{◌≡◌, ◌+◌, ◌-◌, ◌<◌, ◌≤◌, ◌^◌, false, true};
 ghost use Rattle.gs_lines.specs.Outputs.{Appends};
-ghost use Rattle.gs_lines.specs.Statuses.{OnReadFault, OnWriteFault, is_read_fault};
+ghost use Rattle.gs_lines.specs.Statuses.{OnReadFault, OnWriteFault};
 ghost use Rattle.gs_port.specs.Counts.{Rises};
-ghost use Rattle.gs_serve.specs.Doors.{ServeRan};
+ghost use Rattle.gs_serve.specs.Doors.{CountsFaults, ServeRan};
 ghost use Rattle.gs_serve.specs.Resolved.{count_if};
 ghost use Rattle.gs_serve.specs.Turns.{SessionDid, fault_number, is_failed};
 
@@ -41,6 +41,7 @@ fn serve_all<D: Door>(alloc: Global, site: &Site<'_>, count: u32, door: &mut D) 
         (record { aside = D.aside door.new; reads = D.reads door.new; writes = D.writes door.new }) }
     ensures closed { D.is_open door.new ≡ false }
     ensures own_count { (D.aside door.new).faults ≡ count_if (is_failed result) (D.aside door.old).faults }
+    ensures own_counts { (D.aside door.old).faults ≤ (D.aside door.new).faults }
     ensures same_ends { D.ends door.new ≡ D.ends door.old }
 {
     let mut faults = 0;
@@ -79,7 +80,8 @@ pub fn serve<D: Door, K: Sink>(
     ensures closed { D.is_open door.new ≡ false }
     ensures read_fault { OnReadFault result (Rises (D.aside door.old).faults (D.aside door.new).faults) }
     ensures write_fault { OnWriteFault result (Rises (K.faults output.old) (K.faults output.new)) }
-    ensures door_count { (D.aside door.new).faults ≡ count_if (is_read_fault result) (D.aside door.old).faults }
+    ensures door_count { CountsFaults result (D.aside door.old) (D.aside door.new) }
+    ensures door_counts { (D.aside door.old).faults ≤ (D.aside door.new).faults }
     ensures output_counts { K.faults output.old ≤ K.faults output.new }
     ensures same_ends { D.ends door.new ≡ D.ends door.old }
 {

@@ -1,4 +1,4 @@
-ghost use Rattle.std.specs.Prelude.{◌≡◌, false, true};
+ghost use Rattle.std.specs.Prelude.{◌≡◌, ◌≤◌, false, true};
 ghost use Rattle.gs_serve.specs.Resolved.{count_if};
 ghost use Rattle.gs_serve.specs.Turns.{OpenServed, TurnDid, is_failure, turn_of};
 
@@ -55,6 +55,7 @@ pub fn visit<D: Door>(alloc: Global, site: &Site<'_>, door: &mut D) -> Turn
     ensures closed { D.is_open door.new ≡ false }
     ensures listens { (D.aside door.new).opened ≡ true }
     ensures own_count { (D.aside door.new).faults ≡ count_if (is_failure result) (D.aside door.old).faults }
+    ensures own_counts { (D.aside door.old).faults ≤ (D.aside door.new).faults }
     ensures same_ends { D.ends door.new ≡ D.ends door.old }
 {
     match door.accept() {

@@ -14,7 +14,7 @@ loop-finished-init g c = record {
 
 pub returns-in-Closed-clause-did : goal.returns-in-Closed-clause-did
 returns-in-Closed-clause-did g c =
-    none_came c.args.site.now _ _ _ _ _ c.args.count c.loop-finished.invariant.so_far c.in-Closed.ensures.did c.loop-finished.invariant.within
+    none_came c.args.site.now _ _ _ _ _ c.args.count c.loop-finished.invariant.so_far c.in-Closed.ensures.did c.loop-finished.invariant.within c.in-Closed.ensures.listens
 
 pub returns-in-Failed-clause-did : goal.returns-in-Failed-clause-did
 returns-in-Failed-clause-did g c =
