@@ -110,7 +110,7 @@ impl<const N: usize> BitBuf<N> {
         requires { N ≤ 64 }
         ensures odd { (result ≡ Err (HexFault.OddDigits)) ↔ (length text.now % 2 ≡ 1) }
         ensures full { (result ≡ Err (HexFault.Full)) ↔ NeedsMoreThan N text.now }
-        ensures bad { (place : ℕ) → (result ≡ Err (HexFault.BadDigit place)) ↔ HasBadDigitWithin N text.now place }
+        ensures bad { (i : ℕ) → (result ≡ Err (HexFault.BadDigit i)) ↔ HasBadDigitWithin N text.now i }
         ensures digits { IsOk result → AllPass is_hex_digit text.now }
         ensures bits { IfOk result (λ buf. buf ≡ bits_of_hex text.now) }
     {
