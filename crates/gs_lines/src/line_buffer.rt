@@ -55,7 +55,7 @@ impl LineBuffer {
         requires held { length self.old ≤ most_held }
         requires some { 0 < most }
         ensures within { IfGot result (λ n. n ≤ most) }
-        ensures moved { IfGot result (λ n. ReadsMore self.old self.new (S.left input.old) (S.left input.new) n) }
+        ensures moved { IfGot result (ReadsMore self.old self.new (S.left input.old) (S.left input.new)) }
         ensures end { IfGot result (λ n. n ≡ 0 → IsAtEnd (S.left input.new)) }
         ensures unmoved { OnReadFailed result (S.left input.new ≡ S.left input.old) }
         ensures failed { OnReadFailed result (Rises (S.faults input.old) (S.faults input.new)) }

@@ -1,7 +1,6 @@
 ghost use Rattle.std.specs.Prelude.{◌≡◌, ◌≢◌, ◌≤◌};
 ghost use Rattle.gs_port.specs.Counts.{Rises};
-ghost use Rattle.gs_lines.specs.Outputs.{Appends};
-ghost use Rattle.gs_lines.specs.Printing.{PrintedAs};
+ghost use Rattle.gs_lines.specs.Printing.{AppendsLine};
 ghost use Rattle.gs_lines.specs.Statuses.{OnWriteFault};
 
 use crate::status::Status;
@@ -12,7 +11,7 @@ use gs_port::{Sink, Whole, write_whole};
 pub fn print_line<K: Sink>(output: &mut K, line: &[u8], status: Status) -> Status
     requires ends { status ≢ Status.WriteFault }
     requires written { status ≢ Status.Memory }
-    ensures written { Appends (K.held output.old) (K.held output.new) (λ out. PrintedAs status line.now out result) }
+    ensures written { AppendsLine status line.now result (K.held output.old) (K.held output.new) }
     ensures fault { OnWriteFault result (Rises (K.faults output.old) (K.faults output.new)) }
     ensures counts { K.faults output.old ≤ K.faults output.new }
 {

@@ -45,6 +45,10 @@ pub record IsMachine (form : AutoForm) : Type 0 where
   pub ascend : AscendBefore form.borders (length form.borders)
   pub inside : accept_of form < length form.table
 
+-- a table and borders that break one of these rules
+abbrev pub IsNoMachine : AutoForm → Type 0
+IsNoMachine form = IsMachine form → ⊥
+
 -- a run on the list of symbols, told by the states after the start, that ends in the accepting state
 abbrev pub Accepts : AutoForm → List ℕ → List ℕ → Type 0
 Accepts form run symbols = Walk form.table (start_of form) run symbols (accept_of form)

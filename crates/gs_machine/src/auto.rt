@@ -1,5 +1,5 @@
 ghost use Rattle.std.specs.Prelude.{◌≡◌, ◌↔◌, ◌<◌, IsTrue, IfOk, IfSome, IfNone};
-ghost use Rattle.gs_machine.specs.Machines.{IsMachine, auto_form, states_of, start_of, accept_of};
+ghost use Rattle.gs_machine.specs.Machines.{IsMachine, IsNoMachine, auto_form, states_of, start_of, accept_of};
 ghost use Rattle.gs_machine.specs.Walks.{edges_at};
 
 use crate::edge::Edge;
@@ -59,7 +59,7 @@ impl Auto {
     ) -> Result<Option<Auto>, Memory>
         ensures made { IfOk result (λ made. IfSome made (λ auto. auto ≡ auto_form rows.now borders.items)) }
         ensures rules { IfOk result (λ made. IfSome made (λ auto. IsMachine auto)) }
-        ensures broken { IfOk result (λ made. IfNone made (IsMachine (auto_form rows.now borders.items) → ⊥)) }
+        ensures broken { IfOk result (λ made. IfNone made (IsNoMachine (auto_form rows.now borders.items))) }
     {
         if !is_machine(rows, borders.as_slice()) {
             return Ok(None);

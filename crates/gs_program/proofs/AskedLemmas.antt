@@ -1,12 +1,12 @@
 -- What was done of what is asked, by how its files were loaded and what its command did.
-use Rattle.std.proofs.Common.{◌≡◌, ◌≢◌, ◌⊎◌, inl, inr, ℕ, ◌+◌, ◌≤◌, false, List, [], Option, refl, arith}
+use Rattle.std.proofs.Common.{◌≡◌, ◌≢◌, ◌⊎◌, inl, inr, ℕ, ◌+◌, ◌≤◌, false, List, [], Option, refl, ap, arith}
 use Rattle.std.specs.Prelude.{Result, Ok, Err}
 use Rattle.gs_lines.specs.declared.status.Status.{Status}
 use Rattle.gs_gen.proofs.OneCount.{some_generated}
 use Rattle.gs_lines.specs.declared.status.Status.TheVariants as status
 use Rattle.gs_lines.specs.Outputs.{Appends}
 use Rattle.gs_lines.specs.Printing.{IsInitialPart, PrintedAs}
-use Rattle.gs_lines.specs.Statuses.{OnAnswered, OnCutShort, OnReadFault, OnRefused, OnWriteFault, OnWritten, is_cut_short, is_read_fault, is_written}
+use Rattle.gs_lines.specs.Statuses.{OnAnswered, OnCutShort, OnReadFault, OnRefused, OnWriteFault, OnWritten, is_answered, is_cut_short, is_read_fault, is_written}
 use Rattle.gs_lines.proofs.StatusLemmas.{when_map}
 use Rattle.gs_port.specs.Connections.{Finished}
 use Rattle.gs_port.specs.Contents.{append_known}
@@ -18,13 +18,13 @@ use Rattle.gs_program.specs.declared.command.Command.TheVariants.{Canon, Transla
 use Rattle.gs_program.specs.declared.loading.Loaded.{Loaded}
 use Rattle.gs_program.specs.declared.loading.Unloaded.TheVariants as unloaded
 use Rattle.gs_program.specs.declared.refusal.Refusal.{Refusal}
-use Rattle.gs_program.specs.Asking.{AskedRan, Counts}
+use Rattle.gs_program.specs.Asking.{AskedRan}
 use Rattle.gs_program.specs.Commands.{reads_input}
 use Rattle.gs_program.specs.Loads.{FilesGive, LoadedBy, Stop, missing, refused}
 use Rattle.gs_program.specs.Ran.{BeginsOne, CommandCause, CommandRan, Moment}
 use Rattle.gs_program.specs.Refusals.{refused_line}
 use Rattle.gs_program.specs.Requests.{Asked, Values}
-use Rattle.gs_program.specs.Runs.{AskedEnded, AskedRun, World, none_finished, ran, some_finished, stopped, stops}
+use Rattle.gs_program.specs.Runs.{AskedEnded, AskedRun, Counts, World, none_finished, ran, some_finished, stopped, stops}
 use Rattle.gs_program.specs.Works.{CommandEnded, CommandRun, Doorway, Leaves, LeavesOutput, Outcome, canonizing, counts_line, input_limit, outcome_of, site_of, translating}
 use Rattle.gs_program.proofs.LineLemmas.{translated_some}
 use Rattle.gs_program.proofs.LoadLemmas.{files_some}
@@ -181,3 +181,11 @@ refusal_answered fact line output s p = by (printed_case status.Refused line out
     by (whole e f) = rw e tt
     by (fault e p) = rw e tt
     by (no_memory e p) = rw e tt
+
+pub refusal_unanswered : (line output : List ℕ) (s : Status) → PrintedAs status.Refused line output s → is_answered s ≡ false
+refusal_unanswered line output s p = by (printed_case status.Refused line output s p)
+  where
+    by : PrintedCase status.Refused line output s → is_answered s ≡ false
+    by (whole e f) = ap is_answered e
+    by (fault e p) = ap is_answered e
+    by (no_memory e p) = ap is_answered e

@@ -18,5 +18,6 @@ pub mod GenLemmas
 pub mod CanonLaws
 pub mod AskedLemmas
 pub mod RunLemmas
+pub mod CompleteLemmas
 pub mod DecidedWords
 pub mod RunLaws

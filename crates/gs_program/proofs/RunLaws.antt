@@ -14,7 +14,7 @@ use Rattle.gs_program.specs.declared.loading.Loaded.{Loaded}
 use Rattle.gs_program.specs.LineAnswers.{IsTranslatedLine, Translating}
 use Rattle.gs_program.specs.Loads.{Stop}
 use Rattle.gs_program.specs.Requests.{Asked, Values, WordsInOrder, usage_line}
-use Rattle.gs_program.specs.Runs.{AreAlike, AskedRun, DefinedRun, World, ambiguous, but_faults, but_text, by_request, by_usage, ran, same, stopped, stops}
+use Rattle.gs_program.specs.Runs.{AreAlike, AskedRun, DefinedRun, World, ambiguous, but_faults, but_text, by_request, by_usage, ran, same, stopped, stops, told_world}
 use Rattle.gs_program.specs.Works.{CommandRun, LeavesOutput, Outcome, Translated, canonizing, input_limit, outcome_of, site_of, translating}
 use Rattle.gs_program.proofs.AskedLemmas.{asked_some}
 use Rattle.gs_program.proofs.DecidedWords.{Decided, order_or_not}
@@ -24,10 +24,6 @@ use Rattle.gs_program.proofs.ReadLemmas.{loaded_of}
 use Rattle.gs_program.proofs.RequestLemmas.{one_request}
 use Rattle.gs_program.proofs.ServeLemmas.{serves_alike}
 use Rattle.gs_program.proofs.SiteLemmas.{one_resolved}
-
--- files, an input and waiting connections that are told
-abbrev pub told : List (List ℕ × List ℕ) → List ℕ → List (List ℕ) → ℕ → ℕ → World
-told files input waiting reads writes = record { files = Some files; input = Some input; door = record { waiting = Some waiting; reads = reads; writes = writes } }
 
 same_outcome : (one other : Outcome) → one.output ≡ other.output → one.finished ≡ other.finished → one.status ≡ other.status → one ≡ other
 same_outcome one other e f g =
@@ -77,7 +73,7 @@ same_loaded : (loaded loaded' : Loaded) → AlikeStops (Ok loaded) (Ok loaded') 
 same_loaded loaded loaded' (one_stop e) = let f : Ok loaded ≡ Ok loaded' = e in cc
 same_loaded loaded loaded' (two_texts name i j text text' e f) = absurd (let g : Ok loaded ≡ Err (ambiguous name i j text) = e in cc)
 
-pub asked_one : (asked : Asked) (files : List (List ℕ × List ℕ)) (input : List ℕ) (waiting : List (List ℕ)) (reads writes : ℕ) (one other : Outcome) → AskedRun asked (told files input waiting reads writes) one → AskedRun asked (told files input waiting reads writes) other → AreAlike one other
+pub asked_one : (asked : Asked) (files : List (List ℕ × List ℕ)) (input : List ℕ) (waiting : List (List ℕ)) (reads writes : ℕ) (one other : Outcome) → AskedRun asked (told_world files input waiting reads writes) one → AskedRun asked (told_world files input waiting reads writes) other → AreAlike one other
 asked_one asked files input waiting reads writes one other (ran loaded gives a) (ran loaded' gives' b) =
     let is = same_loaded loaded loaded' (files_one files asked (Ok loaded) (Ok loaded') gives gives') in
     let moved : CommandRun asked.command asked.values loaded (Some input) (record { waiting = Some waiting; reads = reads; writes = writes }) other = rw is b in
@@ -86,10 +82,10 @@ asked_one asked files input waiting reads writes one other (ran loaded gives a) 
 asked_one asked files input waiting reads writes one other (stops stop gives a) (ran loaded gives' b) = absurd (not_alike loaded stop (files_one files asked (Ok loaded) (Err stop) gives' gives))
 asked_one asked files input waiting reads writes one other (stops stop gives a) (stops stop' gives' b) = stops_alike stop stop' one other a b (files_one files asked (Err stop) (Err stop') gives gives')
 
-pub run_one : (words : List (List ℕ)) (files : List (List ℕ × List ℕ)) (input : List ℕ) (waiting : List (List ℕ)) (reads writes : ℕ) (one other : Outcome) → DefinedRun words (told files input waiting reads writes) one → DefinedRun words (told files input waiting reads writes) other → AreAlike one other
+pub run_one : (words : List (List ℕ)) (files : List (List ℕ × List ℕ)) (input : List ℕ) (waiting : List (List ℕ)) (reads writes : ℕ) (one other : Outcome) → DefinedRun words (told_world files input waiting reads writes) one → DefinedRun words (told_world files input waiting reads writes) other → AreAlike one other
 run_one words files input waiting reads writes one other (by_request asked order a) (by_request asked' order' b) =
     let is : asked ≡ asked' = one_request words asked asked' order order' in
-    let moved : AskedRun asked (told files input waiting reads writes) other = rw is b in
+    let moved : AskedRun asked (told_world files input waiting reads writes) other = rw is b in
     asked_one asked files input waiting reads writes one other a moved
 run_one words files input waiting reads writes one other (by_request asked order a) (by_usage not b) = absurd (not asked order)
 run_one words files input waiting reads writes one other (by_usage not a) (by_request asked order b) = absurd (not asked order)

@@ -11,11 +11,11 @@ use Rattle.gs_lines.proofs.StatusLemmas.{when_always, when_map}
 use Rattle.gs_port.specs.Connections.{Finished}
 use Rattle.gs_port.specs.Counts.{Rises}
 use Rattle.gs_program.specs.declared.command.Command.{Command}
-use Rattle.gs_program.specs.Asking.{AskedRan, Counts, ReadCause}
-use Rattle.gs_program.specs.Commands.{answers_lines}
+use Rattle.gs_program.specs.Asking.{AskedRan, ReadCause}
+use Rattle.gs_program.specs.Commands.{answers_heads, answers_lines}
 use Rattle.gs_program.specs.Ran.{BeginsOne}
-use Rattle.gs_program.specs.Requests.{Asked, AsksFor, AsksForLines, NamesFile, NotInOrder, WordsInOrder, names_in_order, usage_line}
-use Rattle.gs_program.specs.Runs.{AskedEnded, AskedRun, BeginsRun, DefinedRun, EndedRun, FinishedRun, IsMissing, IsRefused, World, by_disorder, by_order, by_request, by_usage}
+use Rattle.gs_program.specs.Requests.{Asked, AsksFor, AsksForHeads, AsksForLines, NamesFile, NotInOrder, WordsInOrder, names_in_order, usage_line}
+use Rattle.gs_program.specs.Runs.{AskedEnded, AskedRun, AskedServes, BeginsRun, Counts, DefinedRun, EndedRun, FinishedRun, IsMissing, IsRefused, ServesInput, World, by_disorder, by_order, by_request, by_usage}
 use Rattle.gs_program.specs.Works.{Leaves, Outcome, input_limit, outcome_of}
 use Rattle.gs_program.proofs.RanLemmas.{PrintedCase, fault, leaves_door, no_memory, printed_case, whole}
 use Rattle.gs_program.proofs.RequestLemmas.{one_request}
@@ -44,6 +44,11 @@ to_end_of words asked left s order end lines = when_map (is_answered s) (λ e. e
 
 pub few_of : (words : List (List ℕ)) (asked : Asked) (input left : Option (List ℕ)) → WordsInOrder words asked → (answers_lines asked.command ≡ true → TakesAtMost (input_limit + 1) input left) → AsksForLines words → TakesAtMost (input_limit + 1) input left
 few_of words asked input left order few lines = few (same_test answers_lines words asked order lines)
+
+-- an input whose heads are answered
+pub served_of : (AsItWas : Type 0) (words : List (List ℕ)) (asked : Asked) (files : Option (List (List ℕ × List ℕ))) (left left' held held' : Option (List ℕ)) (s : Status) → WordsInOrder words asked → (answers_heads asked.command ≡ true → AskedServes AsItWas asked files s left left' held held') → AsksForHeads words → ServesInput AsItWas words files s left left' held held'
+served_of AsItWas words asked files left left' held held' s order serves heads =
+    record { asked = asked; order = order; serves = serves (same_test answers_heads words asked order heads) }
 
 never_usage : (s : Status) (fact : Type 0) → s ≢ status.Usage → OnUsage s fact
 never_usage status.Done fact un = tt

@@ -9,15 +9,8 @@ use Rattle.gs_program.specs.Commands.{answers_lines}
 use Rattle.gs_program.specs.Loads.{FilesGive, missing, refused}
 use Rattle.gs_program.specs.Ran.{BeginsOne, StaysOrRises}
 use Rattle.gs_program.specs.Requests.{Asked}
-use Rattle.gs_program.specs.Runs.{AskedFinished, AskedRun, World}
+use Rattle.gs_program.specs.Runs.{AskedFinished, AskedRun, Counts, World}
 use Rattle.gs_program.specs.Works.{Outcome, input_limit}
-
--- the counts of faults at a moment
-pub record Counts : Type 0 where
-  pub file_faults : ℕ
-  pub input_faults : ℕ
-  pub output_faults : ℕ
-  pub door_faults : ℕ
 
 -- The causes of a read fault: the input counted a fault, or the door counted one of its own, the files counted one, or the first
 -- file that is not loaded is not there.

@@ -84,6 +84,15 @@ reads_input Resolve = true
 reads_input Serve = false
 reads_input (Gen lines) = false
 
+-- the command answers the heads of the input, as those of one connection
+abbrev pub answers_heads : Command → Bool
+answers_heads (Canon form) = false
+answers_heads (Translate from to) = false
+answers_heads Check = false
+answers_heads Resolve = true
+answers_heads Serve = false
+answers_heads (Gen lines) = false
+
 -- the command uses the door
 abbrev pub uses_door : Command → Bool
 uses_door (Canon form) = false

@@ -1,5 +1,5 @@
 -- What files give, and the rows in their place where they are not named.
-use Rattle.std.specs.Prelude.{◌≡◌, ◌⊎◌, ℕ, ◌<◌, ◌≤◌, List, [], length, take, Option, Some, None, Result, Ok, Err}
+use Rattle.std.specs.Prelude.{◌≡◌, ◌⊎◌, ℕ, ◌<◌, ◌≤◌, List, [], length, take, Option, Some, None, Result, Ok, Err, IfOk, option_to_list}
 use Rattle.gs_ai.specs.declared.row.AiRow.{AiRow}
 use Rattle.gs_document.specs.declared.fault.LoadFault.{LoadFault}
 use Rattle.gs_http.specs.declared.settings.Settings.{Settings}
@@ -28,6 +28,10 @@ use Rattle.gs_program.specs.declared.refusal.Refusal.{Refusal}
 use Rattle.gs_program.specs.Refusals.{file_limit}
 use Rattle.gs_program.specs.Requests.{Asked}
 
+-- files in memory, each a name and its bytes
+abbrev pub FilesInMemory : Type 0
+FilesInMemory = List (List ℕ × List ℕ)
+
 -- why a run goes no further than its files: one is not there, or is refused
 pub data Stop : Type 0 where
   missing : Stop
@@ -40,7 +44,7 @@ of_verdict kind (Err fault) = Err (refused (record { kind = kind; fault = fault 
 
 -- A step: what a named file of a kind gives, whose bytes are judged so. It is not there, or has more bytes than its kind may
 -- have, or is as it is judged.
-pub data FileGives {A : Type 0} (files : Option (List (List ℕ × List ℕ))) (kind : FileKind) (Judges : List ℕ → Result A FileFault → Type 0) (name : List ℕ) (answer : Result A Stop) : Type 0 where
+pub data FileGives {A : Type 0} (files : Option FilesInMemory) (kind : FileKind) (Judges : List ℕ → Result A FileFault → Type 0) (name : List ℕ) (answer : Result A Stop) : Type 0 where
   absent : IsAbsent files name → answer ≡ Err missing → FileGives files kind Judges name answer
   too_large : (bytes : List ℕ) → IsFile files name bytes → file_limit kind < length bytes → answer ≡ of_verdict kind (Err Over) → FileGives files kind Judges name answer
   judged : (bytes : List ℕ) (verdict : Result A FileFault) → IsFile files name bytes → length bytes ≤ file_limit kind → Judges bytes verdict → answer ≡ of_verdict kind verdict → FileGives files kind Judges name answer
@@ -52,7 +56,7 @@ pub record StandsFor {A : Type 0} (kind : FileKind) (Unnamed : Result A FileFaul
   pub is : answer ≡ of_verdict kind verdict
 
 -- what a file of a kind gives, be it named or not
-abbrev pub Gives : {A : Type 0} → Option (List (List ℕ × List ℕ)) → FileKind → (List ℕ → Result A FileFault → Type 0) → (Result A FileFault → Type 0) → Option (List ℕ) → Result A Stop → Type 0
+abbrev pub Gives : {A : Type 0} → Option FilesInMemory → FileKind → (List ℕ → Result A FileFault → Type 0) → (Result A FileFault → Type 0) → Option (List ℕ) → Result A Stop → Type 0
 Gives files kind Judges Unnamed None answer = StandsFor kind Unnamed answer
 Gives files kind Judges Unnamed (Some name) answer = FileGives files kind Judges name answer
 
@@ -69,7 +73,7 @@ pub record JudgesTables (Answer : Result TableRows LoadFault → Type 0) (verdic
   pub is : verdict ≡ tables_verdict answer
 
 -- the tables of the named file, or the built-in ones where none is named
-abbrev pub TablesGive : Option (List (List ℕ × List ℕ)) → Option (List ℕ) → Result TableRows Stop → Type 0
+abbrev pub TablesGive : Option FilesInMemory → Option (List ℕ) → Result TableRows Stop → Type 0
 TablesGive files name answer = Gives files kind.Tables (λ bytes. JudgesTables (LoadAnswer bytes)) (JudgesTables BuiltInAnswer) name answer
 
 -- the verdict on a list of company prefix lengths by the answer of its load
@@ -86,7 +90,7 @@ abbrev pub IsNoPrefix : Result (List PrefixEntry) FileFault → Type 0
 IsNoPrefix verdict = verdict ≡ Ok []
 
 -- the company prefix lengths of the named file, or none where none is named
-abbrev pub PrefixesGive : Option (List (List ℕ × List ℕ)) → Option (List ℕ) → Result (List PrefixEntry) Stop → Type 0
+abbrev pub PrefixesGive : Option FilesInMemory → Option (List ℕ) → Result (List PrefixEntry) Stop → Type 0
 PrefixesGive files name answer = Gives files kind.Prefixes JudgesPrefixes IsNoPrefix name answer
 
 -- the verdict on a linkset by the answer of its load as a store
@@ -108,7 +112,7 @@ abbrev pub IsNoLink : Result (List Link) FileFault → Type 0
 IsNoLink verdict = verdict ≡ Ok []
 
 -- the links of the named file, or none where none is named
-abbrev pub LinksGive : Option (List (List ℕ × List ℕ)) → List AiRow → List ℕ → Option (List ℕ) → Result (List Link) Stop → Type 0
+abbrev pub LinksGive : Option FilesInMemory → List AiRow → List ℕ → Option (List ℕ) → Result (List Link) Stop → Type 0
 LinksGive files ais voc name answer = Gives files kind.Links (JudgesLinks ais voc) IsNoLink name answer
 
 -- the verdict on a description: it is its bytes
@@ -120,7 +124,7 @@ abbrev pub IsNoDescription : Result (Option (List ℕ)) FileFault → Type 0
 IsNoDescription verdict = verdict ≡ Ok None
 
 -- the description in the named file, or none where none is named
-abbrev pub DescriptionGives : Option (List (List ℕ × List ℕ)) → Option (List ℕ) → Result (Option (List ℕ)) Stop → Type 0
+abbrev pub DescriptionGives : Option FilesInMemory → Option (List ℕ) → Result (Option (List ℕ)) Stop → Type 0
 DescriptionGives files name answer = Gives files kind.Describe JudgesDescription IsNoDescription name answer
 
 -- how requests are answered, with a vocabulary and a description
@@ -128,7 +132,7 @@ abbrev pub AreSettings : List ℕ → Option (List ℕ) → Result Settings Stop
 AreSettings voc describe answer = answer ≡ Ok (record { voc = voc; describe = describe })
 
 -- how requests are answered, by the vocabulary and by what the file of the description gives
-abbrev pub SettingsGive : Option (List (List ℕ × List ℕ)) → Asked → Result Settings Stop → Type 0
+abbrev pub SettingsGive : Option FilesInMemory → Asked → Result Settings Stop → Type 0
 SettingsGive files asked answer = Then (DescriptionGives files asked.files.describe) (AreSettings asked.values.voc) answer
 
 -- what is loaded of these tables, this list, these links and these settings
@@ -136,20 +140,20 @@ abbrev pub IsLoadedOf : TableRows → List PrefixEntry → List Link → Setting
 IsLoadedOf set list links settings answer = answer ≡ Ok (record { tables = set; prefixes = list; links = links; settings = settings })
 
 -- what the file of the description gives behind these tables, this list and these links
-abbrev pub GivesSettings : Option (List (List ℕ × List ℕ)) → Asked → TableRows → List PrefixEntry → List Link → Result Loaded Stop → Type 0
+abbrev pub GivesSettings : Option FilesInMemory → Asked → TableRows → List PrefixEntry → List Link → Result Loaded Stop → Type 0
 GivesSettings files asked set list links answer = Then (SettingsGive files asked) (IsLoadedOf set list links) answer
 
 -- what the file of links and that of the description give behind these tables and this list
-abbrev pub GivesLinks : Option (List (List ℕ × List ℕ)) → Asked → TableRows → List PrefixEntry → Result Loaded Stop → Type 0
+abbrev pub GivesLinks : Option FilesInMemory → Asked → TableRows → List PrefixEntry → Result Loaded Stop → Type 0
 GivesLinks files asked set list answer =
     Then (LinksGive files set.ais asked.values.voc asked.files.links) (GivesSettings files asked set list) answer
 
 -- what the files behind the tables give
-abbrev pub GivesBehind : Option (List (List ℕ × List ℕ)) → Asked → TableRows → Result Loaded Stop → Type 0
+abbrev pub GivesBehind : Option FilesInMemory → Asked → TableRows → Result Loaded Stop → Type 0
 GivesBehind files asked set answer = Then (PrefixesGive files asked.files.prefixes) (GivesLinks files asked set) answer
 
 -- What the files give, in their order, of what is asked of each, or the first that is not there, is too large or is refused.
-abbrev pub FilesGive : Option (List (List ℕ × List ℕ)) → Asked → Result Loaded Stop → Type 0
+abbrev pub FilesGive : Option FilesInMemory → Asked → Result Loaded Stop → Type 0
 FilesGive files asked answer = Then (TablesGive files asked.files.tables) (GivesBehind files asked) answer
 
 -- The answer of a load, by what the files give: a fault comes only where the files counted one, or where the first that is
@@ -163,3 +167,15 @@ LoadedBy Give before now (Err Memory) = Unit {0}
 -- the first of these names were opened, in their order, where it is told
 abbrev pub OpensFirst : List (List ℕ) → Option (List (List ℕ)) → Option (List (List ℕ)) → Type 0
 OpensFirst names before now = (count : ℕ) × AddsNames before (take count names) now
+
+-- where a file is named, it was opened, where it is told
+abbrev pub OpensIfNamed : Option (List ℕ) → Option (List (List ℕ)) → Option (List (List ℕ)) → Type 0
+OpensIfNamed name before now = AddsNames before (option_to_list name) now
+
+-- where a load gives something, the files of these names were opened, in their order, where it is told
+abbrev pub Opens : {A : Type 0} → List (List ℕ) → Option (List (List ℕ)) → Option (List (List ℕ)) → Result A Unloaded → Type 0
+Opens names before now answer = IfOk answer (λ _. AddsNames before names now)
+
+-- the answer of a load of tables is that of the built-in ones, whatever the files are
+abbrev pub IsOfBuiltIn : Result TableRows Unloaded → Type 0
+IsOfBuiltIn answer = (files : Option FilesInMemory) (count : ℕ) → LoadedBy (TablesGive files None) count count answer

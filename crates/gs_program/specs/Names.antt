@@ -8,6 +8,10 @@ use Rattle.gs_program.specs.declared.name.Name.TheVariants.{Tables, Prefixes, Li
 use Rattle.gs_program.specs.declared.name.NameRow.{NameRow}
 use Rattle.gs_program.specs.Ranges.{count_of, filter_of, gcp_of, is_vocabulary}
 
+-- pairs of a name and its value
+abbrev pub NamedPairs : Type 0
+NamedPairs = List (List ℕ × List ℕ)
+
 -- the word of a name
 abbrev pub name_word : Name → List ℕ
 name_word Tables = codes "--tables"
@@ -43,24 +47,36 @@ abbrev pub takes : List NameRow → List ℕ → List ℕ → Bool
 takes rows name value = list_any (λ (row : NameRow). bytes_eq (name_word row.name) name && in_range row.name value) rows
 
 -- the value of the first pair with the name
-abbrev pub look_up : List ℕ → List (List ℕ × List ℕ) → Option (List ℕ)
+abbrev pub look_up : List ℕ → NamedPairs → Option (List ℕ)
 look_up name pairs = option_map (λ (pair : List ℕ × List ℕ). pair.1) (find (λ (pair : List ℕ × List ℕ). bytes_eq pair.0 name) pairs)
 
 -- the words are these pairs, each a name and its value
-pub data ArePairs : List (List ℕ) → List (List ℕ × List ℕ) → Type 0 where
+pub data ArePairs : List (List ℕ) → NamedPairs → Type 0 where
   no_pair : ArePairs [] []
-  one_pair : (name value : List ℕ) (words : List (List ℕ)) (pairs : List (List ℕ × List ℕ)) → ArePairs words pairs → ArePairs (name ∷ value ∷ words) ((name, value) ∷ pairs)
+  one_pair : (name value : List ℕ) (words : List (List ℕ)) (pairs : NamedPairs) → ArePairs words pairs → ArePairs (name ∷ value ∷ words) ((name, value) ∷ pairs)
 
 -- the rows take each of the pairs, and each name stands at most once
-pub data AreTaken (rows : List NameRow) : List (List ℕ × List ℕ) → Type 0 where
+pub data AreTaken (rows : List NameRow) : NamedPairs → Type 0 where
   none_taken : AreTaken rows []
-  one_taken : (name value : List ℕ) (pairs : List (List ℕ × List ℕ)) → takes rows name value ≡ true → look_up name pairs ≡ None → AreTaken rows pairs → AreTaken rows ((name, value) ∷ pairs)
+  one_taken : (name value : List ℕ) (pairs : NamedPairs) → takes rows name value ≡ true → look_up name pairs ≡ None → AreTaken rows pairs → AreTaken rows ((name, value) ∷ pairs)
 
 -- the words are pairs that the rows take, each name at most once
-pub record AreOfRows (rows : List NameRow) (words : List (List ℕ)) (pairs : List (List ℕ × List ℕ)) : Type 0 where
+pub record AreOfRows (rows : List NameRow) (words : List (List ℕ)) (pairs : NamedPairs) : Type 0 where
   pub are : ArePairs words pairs
   pub taken : AreTaken rows pairs
 
+-- the words are pairs that the rows take, each name at most once
+abbrev pub HasPairs : List NameRow → List (List ℕ) → Type 0
+HasPairs rows words = (pairs : NamedPairs) × AreOfRows rows words pairs
+
+-- the words are no pairs that the rows take, each name at most once
+abbrev pub HasNoPairs : List NameRow → List (List ℕ) → Type 0
+HasNoPairs rows words = (pairs : NamedPairs) → AreOfRows rows words pairs → ⊥
+
+-- a fact of the pairs that the words are, where they are pairs
+abbrev pub OfPairs : List (List ℕ) → (NamedPairs → Type 0) → Type 0
+OfPairs words Fact = (pairs : NamedPairs) → ArePairs words pairs → Fact pairs
+
 -- each name that must be there is there
-abbrev pub has_required : List NameRow → List (List ℕ × List ℕ) → Bool
+abbrev pub has_required : List NameRow → NamedPairs → Bool
 has_required rows pairs = list_all (λ (row : NameRow). not row.required || is_some (look_up (name_word row.name) pairs)) rows

@@ -3,6 +3,7 @@ use Rattle.std.specs.Prelude.{◌≡◌, ◌≢◌, ◌⊎◌, ℕ, ◌+◌, Boo
 use Rattle.gs_lines.specs.declared.status.Status.{Status}
 use Rattle.gs_lines.specs.declared.status.Status.TheVariants.{Usage, Refused}
 use Rattle.gs_lines.specs.Inputs.{IsAtEnd, TakesAtMost, TakesMoreThan}
+use Rattle.gs_lines.specs.Outputs.{Appends}
 use Rattle.gs_lines.specs.Printing.{IsInitialPart}
 use Rattle.gs_lines.specs.Statuses.{OnAnswered, OnCutShort, OnInputLong, OnReadFault, OnWriteFault, OnWritten}
 use Rattle.gs_port.specs.Connections.{Finished}
@@ -13,13 +14,17 @@ use Rattle.gs_program.specs.declared.loading.Loaded.{Loaded}
 use Rattle.gs_program.specs.Commands.{answers_lines}
 use Rattle.gs_program.specs.LineAnswers.{Translating}
 use Rattle.gs_program.specs.Requests.{Values}
-use Rattle.gs_program.specs.Works.{CommandEnded, CommandFinished, CommandRun, Doorway, Outcome, Translated, TranslatedEnded, input_limit}
+use Rattle.gs_program.specs.Works.{CommandEnded, CommandFinished, CommandRun, Doorway, Outcome, Translated, TranslatedEnded, input_limit, outcome_of}
 
 -- what is told of the input at a moment, and the counts of faults of the input and of the output
 pub record Moment : Type 0 where
   pub input : Option (List ℕ)
   pub input_faults : ℕ
   pub output_faults : ℕ
+
+-- a moment at which this is told of the input, with these counts
+abbrev pub moment_of : Option (List ℕ) → ℕ → ℕ → Moment
+moment_of input input_faults output_faults = record { input = input; input_faults = input_faults; output_faults = output_faults }
 
 -- a count of faults is as it was, or a fault was counted
 abbrev pub StaysOrRises : ℕ → ℕ → Type 0
@@ -71,3 +76,7 @@ abbrev pub TranslationRan : Translating → Moment → Moment → Outcome → Ty
 TranslationRan t before now outcome =
     Ran (Translated t before.input) (TranslatedEnded t before.input now.input) (λ status finished. finished ≡ []) (Rises before.input_faults now.input_faults) true
     before now outcome
+
+-- what a translation of the lines of an input did between two moments, and wrote to a sink, with this status
+abbrev pub Translates : Translating → Status → Option (List ℕ) → Option (List ℕ) → Moment → Moment → Type 0
+Translates t ending held held' before now = Appends held held' (λ output. TranslationRan t before now (outcome_of output ending))

@@ -15,11 +15,11 @@ use Rattle.gs_program.specs.declared.loading.Unloaded.{Unloaded}
 use Rattle.gs_program.specs.declared.loading.Unloaded.TheVariants.{Refused, ReadFault, Memory}
 use Rattle.gs_program.specs.declared.refusal.FileFault.{FileFault}
 use Rattle.gs_program.specs.declared.refusal.FileFault.TheVariants.{Over}
-use Rattle.gs_program.specs.Loads.{of_verdict, prefixes_verdict, refused, tables_verdict}
+use Rattle.gs_program.specs.Loads.{FilesInMemory, of_verdict, prefixes_verdict, refused, tables_verdict}
 use Rattle.gs_program.specs.Refusals.{file_limit}
 
 -- the bytes of a named file, that it has too many, or a fault
-abbrev pub ReadBy : Option (List (List ℕ × List ℕ)) → FileKind → List ℕ → ℕ → ℕ → Result (List ℕ) Unloaded → Type 0
+abbrev pub ReadBy : Option FilesInMemory → FileKind → List ℕ → ℕ → ℕ → Result (List ℕ) Unloaded → Type 0
 ReadBy files kind name before now (Ok bytes) = IsFile files name bytes × (length bytes ≤ file_limit kind)
 ReadBy files kind name before now (Err (Refused refusal)) = (bytes : List ℕ) × IsFile files name bytes × (file_limit kind < length bytes) × (refusal ≡ record { kind = kind; fault = Over })
 ReadBy files kind name before now (Err ReadFault) = Rises before now ⊎ IsAbsent files name

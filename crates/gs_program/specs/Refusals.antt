@@ -1,5 +1,5 @@
 -- Refusals of files, as they are printed.
-use Rattle.std.specs.Prelude.{ℕ, ◌&&◌, nat_le, if◌then◌else◌, List, [], ◌∷◌, ◌++◌, map, codes, decimal}
+use Rattle.std.specs.Prelude.{ℕ, ◌&&◌, nat_le, if◌then◌else◌, List, [], ◌∷◌, ◌++◌, map, codes, decimal, Option}
 use Rattle.gs_ai.specs.declared.faults.AiFault.{AiFault}
 use Rattle.gs_ai.specs.declared.faults.AiFault.TheVariants as ai
 use Rattle.gs_document.specs.declared.fault.LimitName.{LimitName}
@@ -10,6 +10,10 @@ use Rattle.gs_document.specs.declared.level_name.LevelName.{LevelName}
 use Rattle.gs_document.specs.declared.level_name.LevelName.TheVariants.{Binary, Tag, Pure}
 use Rattle.gs_json.specs.declared.fault.JsonFault.{JsonFault}
 use Rattle.gs_json.specs.declared.fault.JsonFault.TheVariants as json
+use Rattle.gs_lines.specs.declared.status.Status.{Status}
+use Rattle.gs_lines.specs.declared.status.Status.TheVariants.{Refused}
+use Rattle.gs_lines.specs.Outputs.{Appends}
+use Rattle.gs_lines.specs.Printing.{PrintedAs}
 use Rattle.gs_links.specs.declared.fault.AnchorWhy.{AnchorWhy}
 use Rattle.gs_links.specs.declared.fault.AnchorWhy.TheVariants as anchor
 use Rattle.gs_links.specs.declared.fault.StoreFault.{StoreFault}
@@ -81,6 +85,14 @@ numbered_twice word i j = numbered (numbered word i) j
 abbrev pub of_level : List ℕ → LevelName → List ℕ
 of_level word level = word ++ 32 ∷ level_text level
 
+-- a word, a level and two numbers
+abbrev pub of_level_twice : List ℕ → LevelName → ℕ → ℕ → List ℕ
+of_level_twice word level i j = numbered_twice (of_level word level) i j
+
+-- an option that does not fit its kind, by its level and its number
+abbrev pub mismatch_text : LevelName → ℕ → List ℕ
+mismatch_text level i = numbered (of_level (codes "mismatch") level) i
+
 -- why an application identifier breaks a rule
 abbrev pub ai_text : AiFault → List ℕ
 ai_text (ai.BadAi i) = numbered (codes "ai") i
@@ -91,7 +103,7 @@ ai_text ai.Memory = codes "memory"
 
 -- the first ambiguous level, the first pair of its options that shares a list, and a text that shows such a list
 abbrev pub ambiguous_text : LevelName → ℕ → ℕ → List ℕ → List ℕ
-ambiguous_text level i j text = numbered_twice (of_level (codes "ambiguous") level) i j ++ 32 ∷ text
+ambiguous_text level i j text = of_level_twice (codes "ambiguous") level i j ++ 32 ∷ text
 
 -- a fault of tables
 abbrev pub tables_text : LoadFault → List ℕ
@@ -100,9 +112,9 @@ tables_text Version = codes "version"
 tables_text (Limit name) = codes "limit " ++ limit_text name
 tables_text (Ai fault) = ai_text fault
 tables_text (BadKind i) = numbered (codes "bad-kind") i
-tables_text (BadItem level i k) = numbered_twice (of_level (codes "bad-item") level) i k
-tables_text (Mismatch level i) = numbered (of_level (codes "mismatch") level) i
-tables_text (Duplicate level j i) = numbered_twice (of_level (codes "duplicate") level) j i
+tables_text (BadItem level i k) = of_level_twice (codes "bad-item") level i k
+tables_text (Mismatch level i) = mismatch_text level i
+tables_text (Duplicate level j i) = of_level_twice (codes "duplicate") level j i
 tables_text (Ambiguous level i j text) = ambiguous_text level i j text
 tables_text Memory = codes "memory"
 
@@ -147,3 +159,7 @@ fault_text (Store fault) = store_text fault
 -- the line of a refused file: `refused WHICH REASON`, and a line feed
 abbrev pub refused_line : Refusal → List ℕ
 refused_line refusal = codes "refused " ++ file_word refusal.kind ++ 32 ∷ fault_text refusal.fault ++ 10 ∷ []
+
+-- the line of a refused file was written to a sink, or a front of it, by the status
+abbrev pub PrintsRefusal : Refusal → Status → Option (List ℕ) → Option (List ℕ) → Type 0
+PrintsRefusal refusal ending held held' = Appends held held' (λ output. PrintedAs Refused (refused_line refusal) output ending)

@@ -1,25 +1,53 @@
 -- What a whole run leaves.
-use Rattle.std.specs.Prelude.{◌≡◌, ℕ, true, List, [], ◌∷◌, Option, Ok, Err}
+use Rattle.std.specs.Prelude.{◌≡◌, ◌⊎◌, ℕ, ◌+◌, ◌≤◌, true, false, List, [], ◌∷◌, length, Option, Some, None, Ok, Err}
+use Rattle.gs_lines.specs.declared.status.Status.{Status}
 use Rattle.gs_lines.specs.declared.status.Status.TheVariants as status
+use Rattle.gs_lines.specs.Inputs.{IsAtEnd, TakesAtMost}
+use Rattle.gs_lines.specs.Outputs.{Appends}
+use Rattle.gs_lines.specs.Statuses.{OnAnswered, is_answered}
 use Rattle.gs_document.specs.declared.fault.LoadFault.TheVariants.{Ambiguous}
 use Rattle.gs_document.specs.declared.level_name.LevelName.{LevelName}
 use Rattle.gs_program.specs.declared.file_kind.FileKind.TheVariants.{Tables}
+use Rattle.gs_port.specs.Connections.{Aside}
+use Rattle.gs_port.specs.Counts.{Rises}
 use Rattle.gs_port.specs.Files.{AddsNames}
+use Rattle.gs_serve.specs.Resolved.{StreamServed}
 use Rattle.gs_serve.specs.Visits.{Visit, is_done}
 use Rattle.gs_program.specs.declared.loading.Loaded.{Loaded}
 use Rattle.gs_program.specs.declared.refusal.FileFault.TheVariants.{Tables as Faulty}
 use Rattle.gs_program.specs.declared.refusal.Refusal.{Refusal}
-use Rattle.gs_program.specs.Loads.{FilesGive, OpensFirst, Stop, missing, refused}
+use Rattle.gs_program.specs.declared.request.Request.{Request}
+use Rattle.gs_program.specs.Loads.{FilesGive, FilesInMemory, OpensFirst, Stop, missing, refused}
 use Rattle.gs_program.specs.Ran.{BeginsOne}
 use Rattle.gs_program.specs.Refusals.{refused_line}
-use Rattle.gs_program.specs.Requests.{Asked, NotInOrder, WordsInOrder, names_in_order, usage_line}
-use Rattle.gs_program.specs.Works.{CommandEnded, CommandFinished, CommandRun, Doorway, Outcome, outcome_of, served_outcome}
+use Rattle.gs_program.specs.Requests.{Asked, AsksForLines, NotInOrder, WordsInOrder, all_named, names_in_order, usage_line}
+use Rattle.gs_program.specs.Works.{CommandEnded, CommandFinished, CommandRun, Doorway, Outcome, doorway_of, input_limit, outcome_of, served_outcome, site_of}
 
 -- what a run is given, as far as it is told: files, each a name and its bytes, an input, and a door
 pub record World : Type 0 where
-  pub files : Option (List (List ℕ × List ℕ))
+  pub files : Option FilesInMemory
   pub input : Option (List ℕ)
   pub door : Doorway
+
+-- the world of a run: these files, this input, and a door that sets this aside, at these counts of its reads and its writes
+abbrev pub world_of : Option FilesInMemory → Option (List ℕ) → Aside → ℕ → ℕ → World
+world_of files input aside reads writes = record { files = files; input = input; door = doorway_of aside reads writes }
+
+-- a world whose files, input and waiting connections are told
+abbrev pub told_world : FilesInMemory → List ℕ → List (List ℕ) → ℕ → ℕ → World
+told_world files input waiting reads writes =
+    record { files = Some files; input = Some input; door = record { waiting = Some waiting; reads = reads; writes = writes } }
+
+-- the counts of faults at a moment: of the files, of the input, of the output and of the door itself
+pub record Counts : Type 0 where
+  pub file_faults : ℕ
+  pub input_faults : ℕ
+  pub output_faults : ℕ
+  pub door_faults : ℕ
+
+-- the counts of faults of the files, of the input, of the output and of a door that sets this aside
+abbrev pub counts_of : ℕ → ℕ → ℕ → Aside → Counts
+counts_of files input output aside = record { file_faults = files; input_faults = input; output_faults = output; door_faults = aside.faults }
 
 -- what a run leaves that goes no further than its files
 abbrev pub stopped : Stop → Outcome
@@ -61,6 +89,13 @@ pub data AreAlike (one other : Outcome) : Type 0 where
   but_faults : AlikeServed one other → AreAlike one other
   but_text : (name : LevelName) (i j : ℕ) (text text' : List ℕ) → one ≡ stopped (ambiguous name i j text) → other ≡ stopped (ambiguous name i j text') → AreAlike one other
 
+-- words have one outcome over what is told, and no other but such as is alike
+abbrev pub HasOneOutcome : List (List ℕ) → Type 0
+HasOneOutcome words =
+    (files : FilesInMemory) (input : List ℕ) (waiting : List (List ℕ)) (reads writes : ℕ) (one other : Outcome)
+    → DefinedRun words (told_world files input waiting reads writes) one → DefinedRun words (told_world files input waiting reads writes) other
+    → AreAlike one other
+
 -- What was finished of what is asked where less than what is defined may have been written: no connection, or those that the
 -- command finished over what was loaded.
 pub data AskedFinished (asked : Asked) (world : World) (outcome : Outcome) : Type 0 where
@@ -77,37 +112,107 @@ abbrev pub BeginsRun : List (List ℕ) → World → List ℕ → Type 0
 BeginsRun words world output = BeginsOne (DefinedRun words world) output
 
 -- what the command that is asked for has written after a fault of the input, by what was taken of it
-pub record AskedEnded (asked : Asked) (files : Option (List (List ℕ × List ℕ))) (before now : Option (List ℕ)) (output : List ℕ) : Type 0 where
+pub record AskedEnded (asked : Asked) (files : Option FilesInMemory) (before now : Option (List ℕ)) (output : List ℕ) : Type 0 where
   pub loaded : Loaded
   pub loads : FilesGive files asked (Ok loaded)
   pub ended : CommandEnded asked.command asked.values loaded before now output
 
 -- what a run with these words has written after a fault of the input, by what was taken of it
-pub record EndedRun (words : List (List ℕ)) (files : Option (List (List ℕ × List ℕ))) (before now : Option (List ℕ)) (output : List ℕ) : Type 0 where
+pub record EndedRun (words : List (List ℕ)) (files : Option FilesInMemory) (before now : Option (List ℕ)) (output : List ℕ) : Type 0 where
   pub asked : Asked
   pub order : WordsInOrder words asked
   pub ended : AskedEnded asked files before now output
 
 -- the words ask for files, and the first that is not loaded is not there
-pub record IsMissing (words : List (List ℕ)) (files : Option (List (List ℕ × List ℕ))) : Type 0 where
+pub record IsMissing (words : List (List ℕ)) (files : Option FilesInMemory) : Type 0 where
   pub asked : Asked
   pub order : WordsInOrder words asked
   pub gives : FilesGive files asked (Err missing)
 
 -- the words ask for files, and the first that is not loaded is refused
-pub record IsRefused (words : List (List ℕ)) (files : Option (List (List ℕ × List ℕ))) : Type 0 where
+pub record IsRefused (words : List (List ℕ)) (files : Option FilesInMemory) : Type 0 where
   pub asked : Asked
   pub order : WordsInOrder words asked
   pub refusal : Refusal
   pub gives : FilesGive files asked (Err (refused refusal))
 
+-- The causes of a read fault of a run between two moments: the input counted a fault, or the door one of its own, or the files counted
+-- one, or the first file that is not loaded is not there.
+abbrev pub RunCause : List (List ℕ) → Option FilesInMemory → Counts → Counts → Type 0
+RunCause words files before now =
+    (Rises before.input_faults now.input_faults ⊎ Rises before.door_faults now.door_faults)
+    ⊎ (Rises before.file_faults now.file_faults ⊎ IsMissing words files)
+
+-- where the lines of the input are answered, nothing is left of it once all is answered
+abbrev pub ReadsToEnd : List (List ℕ) → Status → Option (List ℕ) → Type 0
+ReadsToEnd words ending left = AsksForLines words → OnAnswered ending (IsAtEnd left)
+
+-- where the lines of the input are answered, at most one byte is taken beyond 4,294,967,296
+abbrev pub TakesFew : List (List ℕ) → Option (List ℕ) → Option (List ℕ) → Type 0
+TakesFew words before now = AsksForLines words → TakesAtMost (input_limit + 1) before now
+
+-- What was written after a read fault: nothing, and the input is as it was; or the input counted a fault, and this was written.
+abbrev pub WritesAfterFault : Type 0 → Type 0 → Option (List ℕ) → Option (List ℕ) → (List ℕ → Type 0) → Type 0
+WritesAfterFault AsItWas Counted held held' Ended =
+    (AsItWas × Appends held held' (λ output. output ≡ [])) ⊎ (Counted × Appends held held' Ended)
+
 -- all files that the words name were opened, in their order, where it is told
-pub record OpensAll (words : List (List ℕ)) (before now : Option (List (List ℕ))) : Type 0 where
+pub record OpensEach (words : List (List ℕ)) (before now : Option (List (List ℕ))) : Type 0 where
   pub asked : Asked
   pub order : WordsInOrder words asked
   pub all : AddsNames before (names_in_order asked.files) now
+
+-- once all is answered, all files that the words name were opened, in their order, where it is told
+abbrev pub OpensAll : Status → List (List ℕ) → Option (List (List ℕ)) → Option (List (List ℕ)) → Type 0
+OpensAll ending words before now = OnAnswered ending (OpensEach words before now)
+
+-- once all is answered, all files of a request were opened, in their order, where it is told
+abbrev pub OpensAsked : Status → Request → Option (List (List ℕ)) → Option (List (List ℕ)) → Type 0
+OpensAsked ending request before now = OnAnswered ending (AddsNames before (all_named request) now)
 
 -- no file but the first of those that the words name were opened, in their order, where it is told
 pub data OpensNamed (words : List (List ℕ)) (before now : Option (List (List ℕ))) : Type 0 where
   named : (asked : Asked) → WordsInOrder words asked → OpensFirst (names_in_order asked.files) before now → OpensNamed words before now
   none_named : NotInOrder words → now ≡ before → OpensNamed words before now
+
+-- What was done of the input and of the output where this is asked, a command that answers the heads of the input: it was served as
+-- one connection, over what was loaded: at most 1,000 replies, at most 12,288 bytes taken beyond the answered heads, and with `Done`
+-- nothing left unread but behind a reply that ends the connection. Or the run went no further than its files; then the input is as it
+-- was.
+pub data AskedServes (AsItWas : Type 0) (asked : Asked) (files : Option FilesInMemory) (ending : Status) (left left' held held' : Option (List ℕ)) : Type 0 where
+  served : (loaded : Loaded) → FilesGive files asked (Ok loaded) → StreamServed (site_of loaded) ending left left' None None held held' → AskedServes AsItWas asked files ending left left' held held'
+  unserved : AsItWas → is_answered ending ≡ false → AskedServes AsItWas asked files ending left left' held held'
+
+-- What was done of the input and of the output where the words ask for a command that answers the heads of the input.
+pub record ServesInput (AsItWas : Type 0) (words : List (List ℕ)) (files : Option FilesInMemory) (ending : Status) (left left' held held' : Option (List ℕ)) : Type 0 where
+  pub asked : Asked
+  pub order : WordsInOrder words asked
+  pub serves : AskedServes AsItWas asked files ending left left' held held'
+
+-- The words are in order, and all that they need is loaded: the run stops at no file that they name, and at no row that stands in the
+-- place of one.
+pub record LoadsAll (words : List (List ℕ)) (files : Option FilesInMemory) : Type 0 where
+  pub asked : Asked
+  pub order : WordsInOrder words asked
+  pub goes_on : (stop : Stop) → FilesGive files asked (Err stop) → ⊥
+
+-- an input is told, and has at most so many bytes
+pub record IsWithin (limit : ℕ) (input : Option (List ℕ)) : Type 0 where
+  pub bytes : List ℕ
+  pub is_told : input ≡ Some bytes
+  pub fits : length bytes ≤ limit
+
+-- where the words ask for a command that answers the lines of the input, that is told and has at most 4,294,967,296 bytes
+abbrev pub InputFits : List (List ℕ) → Option (List ℕ) → Type 0
+InputFits words input = AsksForLines words → IsWithin input_limit input
+
+-- between two moments no count rose, of the files, of the input, of the output and of the door itself
+pub record NoneRises (before now : Counts) : Type 0 where
+  pub files : Rises before.file_faults now.file_faults → ⊥
+  pub input : Rises before.input_faults now.input_faults → ⊥
+  pub output : Rises before.output_faults now.output_faults → ⊥
+  pub door : Rises before.door_faults now.door_faults → ⊥
+
+-- the run was done, with or without lines that are refused, or memory ran out
+abbrev pub IsDoneOrMemory : Status → Type 0
+IsDoneOrMemory ending = (is_answered ending ≡ true) ⊎ (ending ≡ status.Memory)

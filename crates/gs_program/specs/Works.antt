@@ -3,7 +3,9 @@ use Rattle.std.specs.Prelude.{◌≡◌, ◌≢◌, ℕ, ◌≤◌, ◌-◌, fal
 use Rattle.gs_lines.specs.declared.status.Status.{Status}
 use Rattle.gs_gen.specs.Counts.{Generated}
 use Rattle.gs_lines.specs.declared.status.Status.TheVariants.{Done, Memory, ReadFault}
+use Rattle.gs_lines.specs.Inputs.{TakesMoreThan}
 use Rattle.gs_lines.specs.Outputs.{AnswersEnded, AnswersInput, Appends}
+use Rattle.gs_lines.specs.Printing.{PrintedAs}
 use Rattle.gs_port.specs.Connections.{Aside, Finished}
 use Rattle.gs_serve.specs.Doors.{line_of}
 use Rattle.gs_serve.specs.Resolved.{Resolved, Resolves}
@@ -48,6 +50,14 @@ counts_line loaded =
     ++ codes " binary " ++ decimal (length loaded.tables.binary.info) ++ codes " tag " ++ decimal (length loaded.tables.tag.info)
     ++ codes " pure " ++ decimal (length loaded.tables.pure.info) ++ codes " prefixes " ++ decimal (length loaded.prefixes)
     ++ codes " links " ++ decimal (length loaded.links) ++ 10 ∷ []
+
+-- the line of counts was written to a sink, or a front of it, by the status
+abbrev pub PrintsCounts : Loaded → Status → Option (List ℕ) → Option (List ℕ) → Type 0
+PrintsCounts loaded ending held held' = Appends held held' (λ output. PrintedAs Done (counts_line loaded) output ending)
+
+-- more than 4,294,967,296 bytes were taken of an input
+abbrev pub PassesLimit : Option (List ℕ) → Option (List ℕ) → Type 0
+PassesLimit before now = TakesMoreThan input_limit before now
 
 -- what is left where the lines of an input are translated
 abbrev pub Translated : Translating → Option (List ℕ) → Outcome → Type 0

@@ -1,6 +1,6 @@
 ghost use Rattle.std.specs.Prelude.{◌≡◌, ◌∷◌, IfSome, IfNone, Some, map, string_bytes};
 ghost use Rattle.gs_program.specs.CommandReads.{canon_of, command_by, command_of, form_named, gen_of, target_named, told_split, translation_of};
-ghost use Rattle.gs_program.specs.Requests.{Asked, Asks, NotInOrder, WordsInOrder, told_request};
+ghost use Rattle.gs_program.specs.Requests.{Asks, AsksNothing, NotInOrder, WordsInOrder, told_request, told_words};
 
 use crate::command::Command;
 use crate::naming::{named_files, named_values};
@@ -180,8 +180,8 @@ fn command_of(words: &[String]) -> Option<Split<'_>>
 /// The request of a command with the words behind its operands. `None` comes exactly where these are no pairs that the
 /// command takes, or lack a name that it must have.
 fn request_of(command: Command, words: &[String]) -> Option<Request<'_>>
-    ensures request { IfSome result (λ request. Asks command (map string_bytes words.now) (told_request request)) }
-    ensures none { IfNone result ((asked : Asked) → Asks command (map string_bytes words.now) asked → ⊥) }
+    ensures request { IfSome result (λ request. Asks command (told_words words.now) (told_request request)) }
+    ensures none { IfNone result (AsksNothing command (told_words words.now)) }
 {
     if !are_of_rows(words, command.names()) {
         return None;
@@ -198,8 +198,8 @@ fn request_of(command: Command, words: &[String]) -> Option<Request<'_>>
 
 /// The request that the words spell. `None` comes exactly where they are not in order.
 pub fn read_words(words: &[String]) -> Option<Request<'_>>
-    ensures request { IfSome result (λ request. WordsInOrder (map string_bytes words.now) (told_request request)) }
-    ensures none { IfNone result (NotInOrder (map string_bytes words.now)) }
+    ensures request { IfSome result (λ request. WordsInOrder (told_words words.now) (told_request request)) }
+    ensures none { IfNone result (NotInOrder (told_words words.now)) }
 {
     let split = command_of(words)?;
     request_of(split.command, split.behind)

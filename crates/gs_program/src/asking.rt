@@ -1,19 +1,16 @@
-ghost use Rattle.std.specs.Prelude.{◌≡◌, ◌⊎◌, ◌≤◌, [], false, true};
-ghost use Rattle.gs_lines.specs.Outputs.{Appends};
-ghost use Rattle.gs_lines.specs.Printing.{PrintedAs};
-ghost use Rattle.gs_lines.specs.Statuses.{OnAnswered, OnReadFault, OnRefused, OnWriteFault};
+ghost use Rattle.std.specs.Prelude.{◌≡◌, ◌≤◌, [], false, true};
+ghost use Rattle.gs_lines.specs.Statuses.{OnReadFault, OnRefused, OnWriteFault};
 ghost use Rattle.gs_port.specs.Counts.{Rises};
-ghost use Rattle.gs_port.specs.Files.{AddsNames};
 ghost use Rattle.gs_translate.specs.Translations.{AreInOrder};
 ghost use Rattle.gs_program.specs.Asking.{AskedRan};
-ghost use Rattle.gs_program.specs.Commands.{reads_input, uses_door};
+ghost use Rattle.gs_program.specs.Commands.{answers_heads, reads_input, uses_door};
 ghost use Rattle.gs_program.specs.Loads.{OpensFirst};
-ghost use Rattle.gs_program.specs.Ranges.{is_vocabulary};
 ghost use Rattle.gs_program.specs.Ran.{StaysOrRises};
-ghost use Rattle.gs_program.specs.Refusals.{refused_line};
-ghost use Rattle.gs_program.specs.Requests.{names_in_order, options_of, told_request};
-ghost use Rattle.gs_program.specs.Runs.{AskedEnded};
-ghost use Rattle.gs_program.specs.Works.{Leaves, doorway_of};
+ghost use Rattle.gs_program.specs.Ranges.{is_vocabulary};
+ghost use Rattle.gs_program.specs.Refusals.{PrintsRefusal, refused_line};
+ghost use Rattle.gs_program.specs.Requests.{all_named, options_of, told_request};
+ghost use Rattle.gs_program.specs.Runs.{AskedEnded, AskedServes, OpensAsked, WritesAfterFault, counts_of, world_of};
+ghost use Rattle.gs_program.specs.Works.{Leaves};
 
 use crate::commands::run_command;
 use crate::loading::{Unloaded, load_files};
@@ -27,7 +24,7 @@ use std::alloc::Global;
 
 /// Writes the line of a refused file.
 fn print_refusal<K: Sink>(alloc: Global, refusal: &Refusal, output: &mut K) -> Status
-    ensures written { Appends (K.held output.old) (K.held output.new) (λ out. PrintedAs Status.Refused (refused_line refusal.now) out result) }
+    ensures written { PrintsRefusal refusal.now result (K.held output.old) (K.held output.new) }
     ensures fault { OnWriteFault result (Rises (K.faults output.old) (K.faults output.new)) }
     ensures counts { K.faults output.old ≤ K.faults output.new }
 {
@@ -50,23 +47,28 @@ pub fn run_request<F: Files, S: Source, K: Sink, D: Door>(
     requires none_open { D.is_open door.old ≡ false }
     requires vocabulary { is_vocabulary request.values.voc.now ≡ true }
     requires options { AreInOrder (options_of (told_request request).values) }
-    ensures ran { Leaves (K.held output.old) (K.held output.new) (D.aside door.old).finished (D.aside door.new).finished result
+    ensures ran { Leaves (K.held output.old) (K.held output.new)
+        (D.aside door.old).finished (D.aside door.new).finished result
         (AskedRan (told_request request.entry)
-        (record { files = F.files files.old; input = S.left input.old; door = doorway_of (D.aside door.old) (D.reads door.old) (D.writes door.old) })
-        (record { file_faults = F.faults files.old; input_faults = S.faults input.old; output_faults = K.faults output.old; door_faults = (D.aside door.old).faults })
-        (record { file_faults = F.faults files.new; input_faults = S.faults input.new; output_faults = K.faults output.new; door_faults = (D.aside door.new).faults })
+        (world_of (F.files files.old) (S.left input.old)
+        (D.aside door.old) (D.reads door.old) (D.writes door.old))
+        (counts_of (F.faults files.old) (S.faults input.old) (K.faults output.old) (D.aside door.old))
+        (counts_of (F.faults files.new) (S.faults input.new) (K.faults output.new) (D.aside door.new))
         (S.left input.new)) }
-    ensures read_fault { OnReadFault result ((input.new ≡ input.old × Appends (K.held output.old) (K.held output.new) (λ out. out ≡ []))
-        ⊎ (Rises (S.faults input.old) (S.faults input.new)
-        × Appends (K.held output.old) (K.held output.new) (AskedEnded (told_request request.entry) (F.files files.old) (S.left input.old) (S.left input.new)))) }
+    ensures read_fault { OnReadFault result (WritesAfterFault (input.new ≡ input.old)
+        (Rises (S.faults input.old) (S.faults input.new)) (K.held output.old) (K.held output.new)
+        (AskedEnded (told_request request.entry) (F.files files.old) (S.left input.old) (S.left input.new))) }
+    ensures served { answers_heads (told_request request.entry).command ≡ true
+        → AskedServes (input.new ≡ input.old) (told_request request.entry) (F.files files.old) result
+        (S.left input.old) (S.left input.new) (K.held output.old) (K.held output.new) }
     ensures unread { reads_input (told_request request.entry).command ≡ false → input.new ≡ input.old }
     ensures unread_refused { OnRefused result (input.new ≡ input.old) }
     ensures unserved { uses_door (told_request request.entry).command ≡ false → door.new ≡ door.old }
     ensures unserved_refused { OnRefused result (door.new ≡ door.old) }
     ensures door_counts { StaysOrRises (D.aside door.old).faults (D.aside door.new).faults }
-    ensures opened { OpensFirst (names_in_order (told_request request.entry).files) (F.opened files.old) (F.opened files.new) }
-    ensures all_opened { OnAnswered result (AddsNames (F.opened files.old) (names_in_order (told_request request.entry).files) (F.opened files.new)) }
-    ensures unopened { names_in_order (told_request request.entry).files ≡ [] → files.new ≡ files.old }
+    ensures opened { OpensFirst (all_named request.entry) (F.opened files.old) (F.opened files.new) }
+    ensures all_opened { OpensAsked result request.entry (F.opened files.old) (F.opened files.new) }
+    ensures unopened { all_named request.entry ≡ [] → files.new ≡ files.old }
     ensures told { F.files files.new ≡ F.files files.old }
 {
     match load_files(alloc, request, files) {

@@ -1,9 +1,7 @@
 ghost use Rattle.std.specs.Prelude.{◌≡◌, ◌≤◌, ◌++◌, IfOk, OnOk, decimal};
-ghost use Rattle.gs_port.specs.Counts.{Rises};
-ghost use Rattle.gs_lines.specs.Outputs.{Appends};
-ghost use Rattle.gs_lines.specs.Printing.{PrintedAs};
 ghost use Rattle.gs_lines.specs.Statuses.{OnWriteFault};
-ghost use Rattle.gs_program.specs.Works.{counts_line};
+ghost use Rattle.gs_port.specs.Counts.{Rises};
+ghost use Rattle.gs_program.specs.Works.{PrintsCounts, counts_line};
 
 use crate::loading::Loaded;
 use gs_chars::Memory;
@@ -47,7 +45,7 @@ fn counts_line(alloc: Global, loaded: &Loaded) -> Result<Vec<u8>, Memory>
 
 /// Writes the line of counts of what is loaded.
 pub fn check<K: Sink>(alloc: Global, loaded: &Loaded, output: &mut K) -> Status
-    ensures written { Appends (K.held output.old) (K.held output.new) (λ out. PrintedAs Status.Done (counts_line loaded.now) out result) }
+    ensures written { PrintsCounts loaded.now result (K.held output.old) (K.held output.new) }
     ensures fault { OnWriteFault result (Rises (K.faults output.old) (K.faults output.new)) }
     ensures counts { K.faults output.old ≤ K.faults output.new }
 {

@@ -1,10 +1,11 @@
-ghost use Rattle.std.specs.Prelude.{◌≡◌, false};
+ghost use Rattle.std.specs.Prelude.{◌≡◌, None, false, true};
+ghost use Rattle.gs_serve.specs.Resolved.{StreamServed};
 ghost use Rattle.gs_tables.specs.Judged.{IsLoaded};
-ghost use Rattle.gs_program.specs.Commands.{reads_input, uses_door};
-ghost use Rattle.gs_program.specs.Ran.{CommandRan, StaysOrRises};
+ghost use Rattle.gs_translate.specs.Translations.{AreInOrder};
+ghost use Rattle.gs_program.specs.Commands.{answers_heads, reads_input, uses_door};
+ghost use Rattle.gs_program.specs.Ran.{CommandRan, StaysOrRises, moment_of};
 ghost use Rattle.gs_program.specs.Requests.{options_of, told_values};
 ghost use Rattle.gs_program.specs.Works.{Leaves, doorway_of, site_of};
-ghost use Rattle.gs_translate.specs.Translations.{AreInOrder};
 
 use crate::checking::check;
 use crate::command::Command;
@@ -41,12 +42,15 @@ pub fn run_command<S: Source, K: Sink, D: Door>(
     requires none_open { D.is_open door.old ≡ false }
     requires loaded { IsLoaded loaded.now.tables }
     requires options { AreInOrder (options_of (told_values values)) }
-    ensures ran { Leaves (K.held output.old) (K.held output.new) (D.aside door.old).finished (D.aside door.new).finished result (CommandRan
-        command (told_values values.entry) loaded.now
+    ensures ran { Leaves (K.held output.old) (K.held output.new)
+        (D.aside door.old).finished (D.aside door.new).finished result
+        (CommandRan command (told_values values.entry) loaded.now
         (doorway_of (D.aside door.old) (D.reads door.old) (D.writes door.old))
         (D.aside door.old).faults (D.aside door.new).faults
-        (record { input = S.left input.old; input_faults = S.faults input.old; output_faults = K.faults output.old })
-        (record { input = S.left input.new; input_faults = S.faults input.new; output_faults = K.faults output.new })) }
+        (moment_of (S.left input.old) (S.faults input.old) (K.faults output.old))
+        (moment_of (S.left input.new) (S.faults input.new) (K.faults output.new))) }
+    ensures served { answers_heads command ≡ true → StreamServed (site_of loaded.now) result
+        (S.left input.old) (S.left input.new) None None (K.held output.old) (K.held output.new) }
     ensures unread { reads_input command ≡ false → input.new ≡ input.old }
     ensures unserved { uses_door command ≡ false → door.new ≡ door.old }
     ensures door_counts { StaysOrRises (D.aside door.old).faults (D.aside door.new).faults }

@@ -1,6 +1,6 @@
-ghost use Rattle.std.specs.Prelude.{◌≡◌, ◌≤◌, ◌∷◌, [], Some, None, option_to_list};
+ghost use Rattle.std.specs.Prelude.{◌≡◌, ◌≤◌, ◌∷◌, [], Some, None};
 ghost use Rattle.gs_port.specs.Files.{AddsNames};
-ghost use Rattle.gs_program.specs.Loads.{DescriptionGives, LoadedBy};
+ghost use Rattle.gs_program.specs.Loads.{DescriptionGives, LoadedBy, OpensIfNamed};
 ghost use Rattle.gs_program.specs.Requests.{told_name};
 
 use crate::file_kind::FileKind;
@@ -12,7 +12,8 @@ use std::alloc::Global;
 
 /// The description in the named file, which is refused by its size alone.
 fn load_named<F: Files>(alloc: Global, name: &str, files: &mut F) -> Result<Option<Text>, Unloaded>
-    ensures loaded { LoadedBy (DescriptionGives (F.files files.old) (Some name.now)) (F.faults files.old) (F.faults files.new) result }
+    ensures loaded { LoadedBy (DescriptionGives (F.files files.old) (Some name.now))
+        (F.faults files.old) (F.faults files.new) result }
     ensures opened { AddsNames (F.opened files.old) (name.now ∷ []) (F.opened files.new) }
     ensures told { F.files files.new ≡ F.files files.old }
     ensures counts { F.faults files.old ≤ F.faults files.new }
@@ -29,8 +30,9 @@ pub fn load_description<F: Files>(
     name: Option<&str>,
     files: &mut F,
 ) -> Result<Option<Text>, Unloaded>
-    ensures loaded { LoadedBy (DescriptionGives (F.files files.old) (told_name name.entry)) (F.faults files.old) (F.faults files.new) result }
-    ensures opened { AddsNames (F.opened files.old) (option_to_list (told_name name.entry)) (F.opened files.new) }
+    ensures loaded { LoadedBy (DescriptionGives (F.files files.old) (told_name name.entry))
+        (F.faults files.old) (F.faults files.new) result }
+    ensures opened { OpensIfNamed (told_name name.entry) (F.opened files.old) (F.opened files.new) }
     ensures unopened { told_name name.entry ≡ None → files.new ≡ files.old }
     ensures told { F.files files.new ≡ F.files files.old }
     ensures counts { F.faults files.old ≤ F.faults files.new }

@@ -1,5 +1,6 @@
-ghost use Rattle.std.specs.Prelude.{◌≡◌, ◌↔◌, ℕ, List, Some};
+ghost use Rattle.std.specs.Prelude.{◌≡◌, ◌↔◌, ℕ, List, true};
 ghost use Rattle.gs_lines.specs.Outputs.{LineAnswer, accepted};
+ghost use Rattle.gs_lines.specs.Statuses.{is_answered};
 ghost use Rattle.gs_tables.specs.Judged.{IsLoaded};
 ghost use Rattle.gs_translate.specs.declared.form.Form.{Form};
 ghost use Rattle.gs_translate.specs.Steps.{HasOne, HasSome};
@@ -7,7 +8,7 @@ ghost use Rattle.gs_translate.specs.Translations.{NameOne};
 ghost use Rattle.gs_program.specs.declared.loading.Loaded.{Loaded};
 ghost use Rattle.gs_program.specs.LineAnswers.{IsCanonLine, IsTranslatedLine};
 ghost use Rattle.gs_program.specs.Requests.{WordsInOrder};
-ghost use Rattle.gs_program.specs.Runs.{AreAlike, DefinedRun, World};
+ghost use Rattle.gs_program.specs.Runs.{DefinedRun, HasOneOutcome, InputFits, LoadsAll, World};
 ghost use Rattle.gs_program.specs.Works.{Outcome, canonizing};
 
 /// Words ask for one thing at most.
@@ -18,10 +19,16 @@ pub fn words_ask_for_one_thing()
 /// Words have one outcome, output, finished connections and status, over files, an input and waiting connections that are told,
 /// and no other but for the text that shows an ambiguous level of the tables, and for the faults of connections.
 pub fn words_have_one_outcome()
-    ensures at_most_one { (words : List (List ℕ)) (files : List (List ℕ × List ℕ)) (input : List ℕ) (waiting : List (List ℕ)) (reads writes : ℕ) (one other : Outcome)
-        → DefinedRun words (record { files = Some files; input = Some input; door = record { waiting = Some waiting; reads = reads; writes = writes } }) one
-        → DefinedRun words (record { files = Some files; input = Some input; door = record { waiting = Some waiting; reads = reads; writes = writes } }) other → AreAlike one other }
+    ensures at_most_one { (words : List (List ℕ)) → HasOneOutcome words }
     ensures some { (words : List (List ℕ)) (world : World) → HasSome (DefinedRun words world) }
+{}
+
+/// Where the words are in order, all files load and the input fits, all that is defined ends with `Done` or `SomeRefused`. So
+/// where no count rose, a run has written all of that, or memory ran out.
+pub fn words_in_order_are_answered()
+    ensures { (words : List (List ℕ)) (world : World) (outcome : Outcome) → LoadsAll words world.files
+        → InputFits words world.input → DefinedRun words world outcome
+        → is_answered outcome.status ≡ true }
 {}
 
 /// The answer of `canon` to a line of tables that are loaded is the canonical link of what the line names, or the first reason
@@ -30,7 +37,8 @@ pub fn words_have_one_outcome()
 pub fn canon_answers_by_canonical_links()
     ensures canonical { (loaded : Loaded) (form : Form) (text : List ℕ) (line : LineAnswer)
         → IsTranslatedLine (canonizing loaded form) text line ↔ IsCanonLine loaded.tables form text line }
-    ensures headline { (loaded : Loaded) (form other : Form) (text given link wanted : List ℕ) → IsLoaded loaded.tables
+    ensures headline { (loaded : Loaded) (form other : Form) (text given link wanted : List ℕ)
+        → IsLoaded loaded.tables
         → IsTranslatedLine (canonizing loaded form) text (accepted link)
         → IsTranslatedLine (canonizing loaded other) given (accepted wanted)
         → (link ≡ wanted) ↔ NameOne loaded.tables form text other given }

@@ -1,9 +1,9 @@
-ghost use Rattle.std.specs.Prelude.{◌≡◌, ◌≤◌, [], ◌∷◌, Ok, Some, None, option_to_list, true};
+ghost use Rattle.std.specs.Prelude.{◌≡◌, ◌≤◌, [], ◌∷◌, Ok, Some, None, true};
 ghost use Rattle.gs_links.specs.Loading.{load_answer};
 ghost use Rattle.gs_linkset.specs.Answers.{read_answer};
 ghost use Rattle.gs_port.specs.Files.{AddsNames};
 ghost use Rattle.gs_program.specs.declared.file_kind.FileKind.TheVariants.{Links as OfLinks};
-ghost use Rattle.gs_program.specs.Loads.{LinksGive, LoadedBy, links_verdict, store_verdict};
+ghost use Rattle.gs_program.specs.Loads.{LinksGive, LoadedBy, OpensIfNamed, links_verdict, store_verdict};
 ghost use Rattle.gs_program.specs.Ranges.{is_vocabulary};
 ghost use Rattle.gs_program.specs.Reads.{JudgedAs};
 ghost use Rattle.gs_program.specs.Requests.{told_name};
@@ -59,7 +59,8 @@ fn load_named<F: Files>(
     files: &mut F,
 ) -> Result<Store, Unloaded>
     requires { is_vocabulary voc.now ≡ true }
-    ensures loaded { LoadedBy (LinksGive (F.files files.old) ais.now voc.now (Some name.now)) (F.faults files.old) (F.faults files.new) result }
+    ensures loaded { LoadedBy (LinksGive (F.files files.old) ais.now voc.now (Some name.now))
+        (F.faults files.old) (F.faults files.new) result }
     ensures opened { AddsNames (F.opened files.old) (name.now ∷ []) (F.opened files.new) }
     ensures told { F.files files.new ≡ F.files files.old }
     ensures counts { F.faults files.old ≤ F.faults files.new }
@@ -91,8 +92,9 @@ pub fn load_links<F: Files>(
     files: &mut F,
 ) -> Result<Store, Unloaded>
     requires { is_vocabulary voc.now ≡ true }
-    ensures loaded { LoadedBy (LinksGive (F.files files.old) ais.now voc.now (told_name name.entry)) (F.faults files.old) (F.faults files.new) result }
-    ensures opened { AddsNames (F.opened files.old) (option_to_list (told_name name.entry)) (F.opened files.new) }
+    ensures loaded { LoadedBy (LinksGive (F.files files.old) ais.now voc.now (told_name name.entry))
+        (F.faults files.old) (F.faults files.new) result }
+    ensures opened { OpensIfNamed (told_name name.entry) (F.opened files.old) (F.opened files.new) }
     ensures unopened { told_name name.entry ≡ None → files.new ≡ files.old }
     ensures told { F.files files.new ≡ F.files files.old }
     ensures counts { F.faults files.old ≤ F.faults files.new }

@@ -1,9 +1,8 @@
-ghost use Rattle.std.specs.Prelude.{◌≡◌, ◌≤◌, [], IfOk, None, option_to_list, true};
-ghost use Rattle.gs_port.specs.Files.{AddsNames};
-ghost use Rattle.gs_program.specs.Loads.{FilesGive, GivesBehind, GivesLinks, GivesSettings, LoadedBy, OpensFirst, SettingsGive};
+ghost use Rattle.std.specs.Prelude.{◌≡◌, ◌≤◌, [], None, true};
+ghost use Rattle.gs_program.specs.Loads.{FilesGive, GivesBehind, GivesLinks, GivesSettings, LoadedBy, Opens, OpensFirst, OpensIfNamed, SettingsGive};
 ghost use Rattle.gs_program.specs.Ranges.{is_vocabulary};
 ghost use Rattle.gs_program.specs.Reads.{SettingsAs};
-ghost use Rattle.gs_program.specs.Requests.{names_behind, names_in_order, names_last, told_files, told_name, told_request};
+ghost use Rattle.gs_program.specs.Requests.{all_named, behind_named, describe_named, last_named, told_request};
 
 use crate::description::load_description;
 use crate::links::load_links;
@@ -70,9 +69,10 @@ fn load_settings<F: Files>(
     request: Request<'_>,
     files: &mut F,
 ) -> Result<Settings, Unloaded>
-    ensures loaded { LoadedBy (SettingsGive (F.files files.old) (told_request request.entry)) (F.faults files.old) (F.faults files.new) result }
-    ensures opened { AddsNames (F.opened files.old) (option_to_list (told_name request.entry.files.describe)) (F.opened files.new) }
-    ensures unopened { told_name request.entry.files.describe ≡ None → files.new ≡ files.old }
+    ensures loaded { LoadedBy (SettingsGive (F.files files.old) (told_request request.entry))
+        (F.faults files.old) (F.faults files.new) result }
+    ensures opened { OpensIfNamed (describe_named request.entry) (F.opened files.old) (F.opened files.new) }
+    ensures unopened { describe_named request.entry ≡ None → files.new ≡ files.old }
     ensures told { F.files files.new ≡ F.files files.old }
     ensures counts { F.faults files.old ≤ F.faults files.new }
 {
@@ -91,9 +91,10 @@ fn load_last<F: Files>(
     request: Request<'_>,
     files: &mut F,
 ) -> Result<Loaded, Unloaded>
-    ensures loaded { LoadedBy (GivesSettings (F.files files.old) (told_request request.entry) tables prefixes links) (F.faults files.old) (F.faults files.new) result }
-    ensures opened { AddsNames (F.opened files.old) (option_to_list (told_name request.entry.files.describe)) (F.opened files.new) }
-    ensures unopened { told_name request.entry.files.describe ≡ None → files.new ≡ files.old }
+    ensures loaded { LoadedBy (GivesSettings (F.files files.old) (told_request request.entry)
+        tables prefixes links) (F.faults files.old) (F.faults files.new) result }
+    ensures opened { OpensIfNamed (describe_named request.entry) (F.opened files.old) (F.opened files.new) }
+    ensures unopened { describe_named request.entry ≡ None → files.new ≡ files.old }
     ensures told { F.files files.new ≡ F.files files.old }
     ensures counts { F.faults files.old ≤ F.faults files.new }
 {
@@ -117,10 +118,11 @@ fn load_with_links<F: Files>(
     files: &mut F,
 ) -> Result<Loaded, Unloaded>
     requires { is_vocabulary request.values.voc.now ≡ true }
-    ensures loaded { LoadedBy (GivesLinks (F.files files.old) (told_request request.entry) tables prefixes) (F.faults files.old) (F.faults files.new) result }
-    ensures opened { OpensFirst (names_last (told_files request.entry.files)) (F.opened files.old) (F.opened files.new) }
-    ensures all_opened { IfOk result (λ _. AddsNames (F.opened files.old) (names_last (told_files request.entry.files)) (F.opened files.new)) }
-    ensures unopened { names_last (told_files request.entry.files) ≡ [] → files.new ≡ files.old }
+    ensures loaded { LoadedBy (GivesLinks (F.files files.old) (told_request request.entry) tables prefixes)
+        (F.faults files.old) (F.faults files.new) result }
+    ensures opened { OpensFirst (last_named request.entry) (F.opened files.old) (F.opened files.new) }
+    ensures all_opened { Opens (last_named request.entry) (F.opened files.old) (F.opened files.new) result }
+    ensures unopened { last_named request.entry ≡ [] → files.new ≡ files.old }
     ensures told { F.files files.new ≡ F.files files.old }
     ensures counts { F.faults files.old ≤ F.faults files.new }
 {
@@ -144,10 +146,11 @@ fn load_behind<F: Files>(
     files: &mut F,
 ) -> Result<Loaded, Unloaded>
     requires { is_vocabulary request.values.voc.now ≡ true }
-    ensures loaded { LoadedBy (GivesBehind (F.files files.old) (told_request request.entry) tables) (F.faults files.old) (F.faults files.new) result }
-    ensures opened { OpensFirst (names_behind (told_files request.entry.files)) (F.opened files.old) (F.opened files.new) }
-    ensures all_opened { IfOk result (λ _. AddsNames (F.opened files.old) (names_behind (told_files request.entry.files)) (F.opened files.new)) }
-    ensures unopened { names_behind (told_files request.entry.files) ≡ [] → files.new ≡ files.old }
+    ensures loaded { LoadedBy (GivesBehind (F.files files.old) (told_request request.entry) tables)
+        (F.faults files.old) (F.faults files.new) result }
+    ensures opened { OpensFirst (behind_named request.entry) (F.opened files.old) (F.opened files.new) }
+    ensures all_opened { Opens (behind_named request.entry) (F.opened files.old) (F.opened files.new) result }
+    ensures unopened { behind_named request.entry ≡ [] → files.new ≡ files.old }
     ensures told { F.files files.new ≡ F.files files.old }
     ensures counts { F.faults files.old ≤ F.faults files.new }
 {
@@ -165,10 +168,11 @@ pub fn load_files<F: Files>(
     files: &mut F,
 ) -> Result<Loaded, Unloaded>
     requires { is_vocabulary request.values.voc.now ≡ true }
-    ensures loaded { LoadedBy (FilesGive (F.files files.old) (told_request request.entry)) (F.faults files.old) (F.faults files.new) result }
-    ensures opened { OpensFirst (names_in_order (told_files request.entry.files)) (F.opened files.old) (F.opened files.new) }
-    ensures all_opened { IfOk result (λ _. AddsNames (F.opened files.old) (names_in_order (told_files request.entry.files)) (F.opened files.new)) }
-    ensures unopened { names_in_order (told_files request.entry.files) ≡ [] → files.new ≡ files.old }
+    ensures loaded { LoadedBy (FilesGive (F.files files.old) (told_request request.entry))
+        (F.faults files.old) (F.faults files.new) result }
+    ensures opened { OpensFirst (all_named request.entry) (F.opened files.old) (F.opened files.new) }
+    ensures all_opened { Opens (all_named request.entry) (F.opened files.old) (F.opened files.new) result }
+    ensures unopened { all_named request.entry ≡ [] → files.new ≡ files.old }
     ensures told { F.files files.new ≡ F.files files.old }
     ensures counts { F.faults files.old ≤ F.faults files.new }
 {

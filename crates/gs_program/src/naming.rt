@@ -1,7 +1,7 @@
-ghost use Rattle.std.specs.Prelude.{◌≡◌, [], ℕ, List, Option, map, option_and_then, string_bytes, unwrap_or};
-ghost use Rattle.gs_program.specs.Names.{ArePairs};
-ghost use Rattle.gs_program.specs.Requests.{named_files, named_values, number_named, told_files, told_values, value_or};
+ghost use Rattle.std.specs.Prelude.{◌≡◌, [], Option, unwrap_or};
+ghost use Rattle.gs_program.specs.Names.{OfPairs};
 ghost use Rattle.gs_program.specs.Ranges.{count_of, filter_of, gcp_of};
+ghost use Rattle.gs_program.specs.Requests.{count_named, named_files, named_values, number_named, told_files, told_values, told_words, value_or};
 
 use crate::name::Name;
 use crate::pairs::look_up;
@@ -19,7 +19,7 @@ const DEFAULT_STEM: &str = "https://id.gs1.org";
 
 /// The files that pairs name.
 pub fn named_files(words: &[String]) -> NamedFiles<'_>
-    ensures { (pairs : List (List ℕ × List ℕ)) → ArePairs (map string_bytes words.now) pairs → told_files result ≡ named_files pairs }
+    ensures { OfPairs (told_words words.now) (λ pairs. told_files result ≡ named_files pairs) }
 {
     NamedFiles {
         tables: look_up(words, Name::Tables.word()),
@@ -31,7 +31,7 @@ pub fn named_files(words: &[String]) -> NamedFiles<'_>
 
 /// The value of a name, or what stands in its place.
 fn value_or<'a>(words: &'a [String], name: Name, default: &'a str) -> &'a str
-    ensures { (pairs : List (List ℕ × List ℕ)) → ArePairs (map string_bytes words.now) pairs → result.now ≡ value_or default.now name pairs }
+    ensures { OfPairs (told_words words.now) (λ pairs. result.now ≡ value_or default.now name pairs) }
 {
     match look_up(words, name.word()) {
         Some(value) => value,
@@ -41,7 +41,7 @@ fn value_or<'a>(words: &'a [String], name: Name, default: &'a str) -> &'a str
 
 /// The number of connections that is named, and 0 where none is.
 fn named_count(words: &[String]) -> u32
-    ensures { (pairs : List (List ℕ × List ℕ)) → ArePairs (map string_bytes words.now) pairs → result ≡ unwrap_or (number_named count_of Name.Count pairs) 0 }
+    ensures { OfPairs (told_words words.now) (λ pairs. result ≡ count_named pairs) }
 {
     let Some(value) = look_up(words, Name::Count.word()) else {
         return 0;
@@ -51,21 +51,21 @@ fn named_count(words: &[String]) -> u32
 
 /// The filter value that is named.
 fn named_filter(words: &[String]) -> Option<u8>
-    ensures { (pairs : List (List ℕ × List ℕ)) → ArePairs (map string_bytes words.now) pairs → result ≡ number_named filter_of Name.Filter pairs }
+    ensures { OfPairs (told_words words.now) (λ pairs. result ≡ number_named filter_of Name.Filter pairs) }
 {
     filter_of(look_up(words, Name::Filter.word())?)
 }
 
 /// The number of digits of a company prefix that is named.
 fn named_gcp(words: &[String]) -> Option<u8>
-    ensures { (pairs : List (List ℕ × List ℕ)) → ArePairs (map string_bytes words.now) pairs → result ≡ number_named gcp_of Name.Gcp pairs }
+    ensures { OfPairs (told_words words.now) (λ pairs. result ≡ number_named gcp_of Name.Gcp pairs) }
 {
     gcp_of(look_up(words, Name::Gcp.word())?)
 }
 
 /// The values that pairs name, with their defaults.
 pub fn named_values(words: &[String]) -> NamedValues<'_>
-    ensures { (pairs : List (List ℕ × List ℕ)) → ArePairs (map string_bytes words.now) pairs → told_values result ≡ named_values pairs }
+    ensures { OfPairs (told_words words.now) (λ pairs. told_values result ≡ named_values pairs) }
 {
     NamedValues {
         voc: value_or(words, Name::Voc, DEFAULT_VOC),

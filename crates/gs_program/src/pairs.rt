@@ -1,13 +1,13 @@
-ghost use Rattle.std.specs.Prelude.{◌≡◌, ℕ, List, true, false, is_some, map, string_bytes};
+ghost use Rattle.std.specs.Prelude.{◌≡◌, true, false};
 ghost use Rattle.gs_program.specs.declared.name.NameRow.{NameRow};
-ghost use Rattle.gs_program.specs.Names.{AreOfRows, ArePairs, has_required, look_up, takes};
-ghost use Rattle.gs_program.specs.Requests.{told_name};
+ghost use Rattle.gs_program.specs.Names.{HasNoPairs, HasPairs, OfPairs, has_required, look_up, takes};
+ghost use Rattle.gs_program.specs.Requests.{told_name, told_words};
 
 use crate::name::NameRow;
 
 /// The value of the first pair with the name, where the words are pairs.
 pub fn look_up<'a>(words: &'a [String], name: &str) -> Option<&'a str>
-    ensures { (pairs : List (List ℕ × List ℕ)) → ArePairs (map string_bytes words.now) pairs → told_name result ≡ look_up name.now pairs }
+    ensures { OfPairs (told_words words.now) (λ pairs. told_name result ≡ look_up name.now pairs) }
 {
     if words.len() < 2 {
         return None;
@@ -32,8 +32,8 @@ fn takes(rows: &[NameRow], name: &str, value: &str) -> bool
 
 /// Whether the words are pairs of names and values that the rows take, each name at most once.
 pub fn are_of_rows(words: &[String], rows: &[NameRow]) -> bool
-    ensures pairs { result ≡ true → (pairs : List (List ℕ × List ℕ)) × AreOfRows rows.now (map string_bytes words.now) pairs }
-    ensures none { result ≡ false → (pairs : List (List ℕ × List ℕ)) → AreOfRows rows.now (map string_bytes words.now) pairs → ⊥ }
+    ensures pairs { result ≡ true → HasPairs rows.now (told_words words.now) }
+    ensures none { result ≡ false → HasNoPairs rows.now (told_words words.now) }
 {
     if words.is_empty() {
         return true;
@@ -53,7 +53,7 @@ pub fn are_of_rows(words: &[String], rows: &[NameRow]) -> bool
 
 /// Whether each name that must be there is there, where the words are pairs.
 pub fn has_required(words: &[String], rows: &[NameRow]) -> bool
-    ensures { (pairs : List (List ℕ × List ℕ)) → ArePairs (map string_bytes words.now) pairs → result ≡ has_required rows.now pairs }
+    ensures { OfPairs (told_words words.now) (λ pairs. result ≡ has_required rows.now pairs) }
 {
     for row in rows {
         if row.required && look_up(words, row.name.word()).is_none() {

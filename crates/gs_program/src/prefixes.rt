@@ -1,6 +1,6 @@
-ghost use Rattle.std.specs.Prelude.{◌≡◌, ◌≤◌, [], ◌∷◌, ℕ, List, Option, Some, None, option_to_list};
+ghost use Rattle.std.specs.Prelude.{◌≡◌, ◌≤◌, [], ◌∷◌, Option, Some, None};
 ghost use Rattle.gs_port.specs.Files.{AddsNames};
-ghost use Rattle.gs_program.specs.Loads.{LoadedBy, PrefixesGive};
+ghost use Rattle.gs_program.specs.Loads.{LoadedBy, OpensIfNamed, PrefixesGive};
 ghost use Rattle.gs_program.specs.Reads.{PrefixesUnloadedAs};
 ghost use Rattle.gs_program.specs.Requests.{told_name};
 
@@ -28,7 +28,8 @@ fn list_of(answer: Result<PrefixList, PrefixFault>) -> Result<PrefixList, Unload
 
 /// The company prefix lengths of the named file.
 fn load_named<F: Files>(alloc: Global, name: &str, files: &mut F) -> Result<PrefixList, Unloaded>
-    ensures loaded { LoadedBy (PrefixesGive (F.files files.old) (Some name.now)) (F.faults files.old) (F.faults files.new) result }
+    ensures loaded { LoadedBy (PrefixesGive (F.files files.old) (Some name.now))
+        (F.faults files.old) (F.faults files.new) result }
     ensures opened { AddsNames (F.opened files.old) (name.now ∷ []) (F.opened files.new) }
     ensures told { F.files files.new ≡ F.files files.old }
     ensures counts { F.faults files.old ≤ F.faults files.new }
@@ -45,8 +46,9 @@ pub fn load_prefixes<F: Files>(
     name: Option<&str>,
     files: &mut F,
 ) -> Result<PrefixList, Unloaded>
-    ensures loaded { LoadedBy (PrefixesGive (F.files files.old) (told_name name.entry)) (F.faults files.old) (F.faults files.new) result }
-    ensures opened { AddsNames (F.opened files.old) (option_to_list (told_name name.entry)) (F.opened files.new) }
+    ensures loaded { LoadedBy (PrefixesGive (F.files files.old) (told_name name.entry))
+        (F.faults files.old) (F.faults files.new) result }
+    ensures opened { OpensIfNamed (told_name name.entry) (F.opened files.old) (F.opened files.new) }
     ensures unopened { told_name name.entry ≡ None → files.new ≡ files.old }
     ensures told { F.files files.new ≡ F.files files.old }
     ensures counts { F.faults files.old ≤ F.faults files.new }

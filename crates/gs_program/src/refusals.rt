@@ -1,5 +1,5 @@
-ghost use Rattle.std.specs.Prelude.{◌≡◌, ◌∷◌, ◌++◌, IfOk, OnOk, codes};
-ghost use Rattle.gs_program.specs.Refusals.{ai_text, ambiguous_text, fault_text, json_text, level_text, limit_text, numbered, numbered_twice, of_level, prefixes_text, refused_line, shown, shown_byte, tables_text};
+ghost use Rattle.std.specs.Prelude.{◌≡◌, ◌++◌, IfOk, OnOk, codes};
+ghost use Rattle.gs_program.specs.Refusals.{ai_text, ambiguous_text, fault_text, json_text, level_text, limit_text, mismatch_text, numbered, of_level, of_level_twice, prefixes_text, refused_line, shown, shown_byte, tables_text};
 
 use crate::link_refusals::append_store;
 use crate::numbered::{append_number, append_numbered, append_numbered_twice};
@@ -104,7 +104,7 @@ fn append_option(
     first: usize,
     second: usize,
 ) -> Result<(), Memory>
-    ensures { OnOk result (out.new.items ≡ out.old.items ++ numbered_twice (of_level word.now level) first second) }
+    ensures { OnOk result (out.new.items ≡ out.old.items ++ of_level_twice word.now level first second) }
 {
     append_of_level(out, word, level)?;
     append_number(alloc, out, first)?;
@@ -118,7 +118,7 @@ fn append_mismatch(
     level: LevelName,
     i: usize,
 ) -> Result<(), Memory>
-    ensures { OnOk result (out.new.items ≡ out.old.items ++ numbered (of_level (codes "mismatch") level) i) }
+    ensures { OnOk result (out.new.items ≡ out.old.items ++ mismatch_text level i) }
 {
     append_of_level(out, b"mismatch", level)?;
     append_number(alloc, out, i)

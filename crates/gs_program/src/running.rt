@@ -1,12 +1,11 @@
-ghost use Rattle.std.specs.Prelude.{◌≡◌, ◌⊎◌, ℕ, ◌+◌, ◌≤◌, List, [], false, map, string_bytes};
-ghost use Rattle.gs_lines.specs.Inputs.{IsAtEnd, TakesAtMost, TakesMoreThan};
+ghost use Rattle.std.specs.Prelude.{◌≡◌, ◌≤◌, false};
 ghost use Rattle.gs_lines.specs.Outputs.{Appends};
-ghost use Rattle.gs_lines.specs.Statuses.{OnAnswered, OnCutShort, OnInputLong, OnReadFault, OnRefused, OnUsage, OnWriteFault, OnWritten};
+ghost use Rattle.gs_lines.specs.Statuses.{OnCutShort, OnInputLong, OnReadFault, OnRefused, OnUsage, OnWriteFault, OnWritten};
 ghost use Rattle.gs_port.specs.Counts.{Rises};
 ghost use Rattle.gs_program.specs.Ran.{StaysOrRises};
-ghost use Rattle.gs_program.specs.Requests.{AsksForDoor, AsksForInput, AsksForLines, NamesFile, NotInOrder};
-ghost use Rattle.gs_program.specs.Runs.{BeginsRun, DefinedRun, EndedRun, FinishedRun, IsMissing, IsRefused, OpensAll, OpensNamed};
-ghost use Rattle.gs_program.specs.Works.{Leaves, doorway_of, input_limit};
+ghost use Rattle.gs_program.specs.Requests.{AsksForDoor, AsksForHeads, AsksForInput, NamesNoFile, NotInOrder, told_words};
+ghost use Rattle.gs_program.specs.Runs.{BeginsRun, DefinedRun, EndedRun, FinishedRun, InputFits, IsDoneOrMemory, IsRefused, LoadsAll, NoneRises, OpensAll, OpensNamed, ReadsToEnd, RunCause, ServesInput, TakesFew, WritesAfterFault, counts_of, world_of};
+ghost use Rattle.gs_program.specs.Works.{Leaves, PassesLimit};
 
 use crate::arguments::read_words;
 use crate::asking::run_request;
@@ -21,12 +20,17 @@ const USAGE: &[u8] =
 /// Runs the program: does what the words ask for, over these files, this input, this output and this door, of which no
 /// connection is open, and says how it ended.
 ///
+/// Of an input whose heads are answered, as those of one connection, at most 12,288 bytes are taken beyond the answered heads,
+/// and at most 1,000 replies are written; `Done` leaves nothing unread but behind a reply that ends the connection.
+///
 /// `Usage` comes exactly where the words are not in order; the usage line is written then, and nothing is read or opened.
 /// `Refused` comes where a file, or the built-in rows, are refused, after the one line that says why; the input is not read.
 /// `ReadFault` comes only where the input, the files or the door itself counted a fault, or where the files are told and a
 /// named one is not there. `InputLong` comes exactly where more than 4,294,967,296 bytes were taken from the lines of the
 /// input. `WriteFault` comes only where the output counted a fault. After `ReadFault`, `WriteFault` and `Memory` an initial
-/// part of the defined output was written, and of the waiting connections the first ones are finished.
+/// part of the defined output was written, and of the waiting connections the first ones are finished. Where the words are in
+/// order, all files load, the lines of the input are at most 4,294,967,296 bytes and no count rose of the files, the input, the
+/// output and the door itself, the status is `Done`, `SomeRefused` or `Memory`, whatever single connections did.
 pub fn run<F: Files, S: Source, K: Sink, D: Door>(
     alloc: Global,
     words: &[String],
@@ -38,43 +42,62 @@ pub fn run<F: Files, S: Source, K: Sink, D: Door>(
     requires none_open { D.is_open door.old ≡ false }
 
     // The headline: output, finished connections and status are the defined ones, whatever count rose on the way.
-    ensures defined { OnWritten result (Leaves (K.held output.old) (K.held output.new) (D.aside door.old).finished (D.aside door.new).finished result
-        (DefinedRun (map string_bytes words.now)
-        (record { files = F.files files.old; input = S.left input.old; door = doorway_of (D.aside door.old) (D.reads door.old) (D.writes door.old) }))) }
-    ensures read_to_end { AsksForLines (map string_bytes words.now) → OnAnswered result (IsAtEnd (S.left input.new)) }
+    ensures defined { OnWritten result (Leaves (K.held output.old) (K.held output.new)
+        (D.aside door.old).finished (D.aside door.new).finished result
+        (DefinedRun (told_words words.now)
+        (world_of (F.files files.old) (S.left input.old)
+        (D.aside door.old) (D.reads door.old) (D.writes door.old)))) }
+    ensures read_to_end { ReadsToEnd (told_words words.now) result (S.left input.new) }
 
     // The words decide whether it is the usage line, and the files whether one is refused.
-    ensures usage { OnUsage result (NotInOrder (map string_bytes words.now)) }
-    ensures not_in_order { NotInOrder (map string_bytes words.now) → OnWritten result (result ≡ Status.Usage) }
-    ensures refused { OnRefused result (IsRefused (map string_bytes words.now) (F.files files.old)) }
+    ensures usage { OnUsage result (NotInOrder (told_words words.now)) }
+    ensures not_in_order { NotInOrder (told_words words.now) → OnWritten result (result ≡ Status.Usage) }
+    ensures refused { OnRefused result (IsRefused (told_words words.now) (F.files files.old)) }
+
+    // An input whose heads are answered is served as one connection is.
+    ensures served { AsksForHeads (told_words words.now)
+        → ServesInput (input.new ≡ input.old) (told_words words.now) (F.files files.old) result
+        (S.left input.old) (S.left input.new) (K.held output.old) (K.held output.new) }
 
     // What a command does not use is as it was, and so are the input and the door where a file is refused.
-    ensures unread { (AsksForInput (map string_bytes words.now) → ⊥) → input.new ≡ input.old }
+    ensures unread { (AsksForInput (told_words words.now) → ⊥) → input.new ≡ input.old }
     ensures unread_refused { OnRefused result (input.new ≡ input.old) }
-    ensures few { AsksForLines (map string_bytes words.now) → TakesAtMost (input_limit + 1) (S.left input.old) (S.left input.new) }
-    ensures unserved { (AsksForDoor (map string_bytes words.now) → ⊥) → door.new ≡ door.old }
+    ensures few { TakesFew (told_words words.now) (S.left input.old) (S.left input.new) }
+    ensures unserved { (AsksForDoor (told_words words.now) → ⊥) → door.new ≡ door.old }
     ensures unserved_refused { OnRefused result (door.new ≡ door.old) }
-    ensures unopened { ((name : List ℕ) → NamesFile (map string_bytes words.now) name → ⊥) → files.new ≡ files.old }
-    ensures opened { OpensNamed (map string_bytes words.now) (F.opened files.old) (F.opened files.new) }
-    ensures all_opened { OnAnswered result (OpensAll (map string_bytes words.now) (F.opened files.old) (F.opened files.new)) }
+    ensures unopened { NamesNoFile (told_words words.now) → files.new ≡ files.old }
+    ensures opened { OpensNamed (told_words words.now) (F.opened files.old) (F.opened files.new) }
+    ensures all_opened { OpensAll result (told_words words.now) (F.opened files.old) (F.opened files.new) }
     ensures told { F.files files.new ≡ F.files files.old }
 
     // Each cause.
-    ensures read_fault { OnReadFault result ((Rises (S.faults input.old) (S.faults input.new)
-        ⊎ Rises (D.aside door.old).faults (D.aside door.new).faults)
-        ⊎ (Rises (F.faults files.old) (F.faults files.new) ⊎ IsMissing (map string_bytes words.now) (F.files files.old))) }
+    ensures read_fault { OnReadFault result (RunCause (told_words words.now) (F.files files.old)
+        (counts_of (F.faults files.old) (S.faults input.old) (K.faults output.old) (D.aside door.old))
+        (counts_of (F.faults files.new) (S.faults input.new) (K.faults output.new) (D.aside door.new))) }
     ensures write_fault { OnWriteFault result (Rises (K.faults output.old) (K.faults output.new)) }
-    ensures input_long { OnInputLong result (TakesMoreThan input_limit (S.left input.old) (S.left input.new)) }
+    ensures input_long { OnInputLong result (PassesLimit (S.left input.old) (S.left input.new)) }
+
+    // Completeness: where words, files, input and counts are in order, all that is defined was written, or memory ran out.
+    ensures complete { LoadsAll (told_words words.now) (F.files files.old)
+        → InputFits (told_words words.now) (S.left input.old)
+        → NoneRises
+        (counts_of (F.faults files.old) (S.faults input.old) (K.faults output.old) (D.aside door.old))
+        (counts_of (F.faults files.new) (S.faults input.new) (K.faults output.new) (D.aside door.new))
+        → IsDoneOrMemory result }
 
     // What was written then.
-    ensures ended { OnReadFault result ((input.new ≡ input.old × Appends (K.held output.old) (K.held output.new) (λ out. out ≡ []))
-        ⊎ (Rises (S.faults input.old) (S.faults input.new) × Appends (K.held output.old) (K.held output.new)
-        (EndedRun (map string_bytes words.now) (F.files files.old) (S.left input.old) (S.left input.new)))) }
+    ensures ended { OnReadFault result (WritesAfterFault (input.new ≡ input.old)
+        (Rises (S.faults input.old) (S.faults input.new)) (K.held output.old) (K.held output.new)
+        (EndedRun (told_words words.now) (F.files files.old) (S.left input.old) (S.left input.new))) }
     ensures begun { OnCutShort result (Appends (K.held output.old) (K.held output.new)
-        (BeginsRun (map string_bytes words.now) (record { files = F.files files.old; input = S.left input.old; door = doorway_of (D.aside door.old) (D.reads door.old) (D.writes door.old) }))) }
-    ensures finished { OnCutShort result (Leaves (K.held output.old) (K.held output.new) (D.aside door.old).finished (D.aside door.new).finished result
-        (FinishedRun (map string_bytes words.now)
-        (record { files = F.files files.old; input = S.left input.old; door = doorway_of (D.aside door.old) (D.reads door.old) (D.writes door.old) }))) }
+        (BeginsRun (told_words words.now)
+        (world_of (F.files files.old) (S.left input.old)
+        (D.aside door.old) (D.reads door.old) (D.writes door.old)))) }
+    ensures finished { OnCutShort result (Leaves (K.held output.old) (K.held output.new)
+        (D.aside door.old).finished (D.aside door.new).finished result
+        (FinishedRun (told_words words.now)
+        (world_of (F.files files.old) (S.left input.old)
+        (D.aside door.old) (D.reads door.old) (D.writes door.old)))) }
     ensures input_counts { StaysOrRises (S.faults input.old) (S.faults input.new) }
     ensures file_counts { F.faults files.old ≤ F.faults files.new }
     ensures output_counts { StaysOrRises (K.faults output.old) (K.faults output.new) }

@@ -1,6 +1,6 @@
-ghost use Rattle.std.specs.Prelude.{◌≡◌, ◌≤◌, ℕ, List, [], ◌∷◌, Option, Some, None, option_to_list};
+ghost use Rattle.std.specs.Prelude.{◌≡◌, ◌≤◌, [], ◌∷◌, Option, Some, None};
 ghost use Rattle.gs_port.specs.Files.{AddsNames};
-ghost use Rattle.gs_program.specs.Loads.{LoadedBy, TablesGive};
+ghost use Rattle.gs_program.specs.Loads.{IsOfBuiltIn, LoadedBy, OpensIfNamed, TablesGive};
 ghost use Rattle.gs_program.specs.Reads.{UnloadedAs};
 ghost use Rattle.gs_program.specs.Requests.{told_name};
 
@@ -28,7 +28,8 @@ fn tables_of(answer: Result<TableSet, LoadFault>) -> Result<TableSet, Unloaded>
 
 /// The tables of the named file.
 fn load_named<F: Files>(alloc: Global, name: &str, files: &mut F) -> Result<TableSet, Unloaded>
-    ensures loaded { LoadedBy (TablesGive (F.files files.old) (Some name.now)) (F.faults files.old) (F.faults files.new) result }
+    ensures loaded { LoadedBy (TablesGive (F.files files.old) (Some name.now))
+        (F.faults files.old) (F.faults files.new) result }
     ensures opened { AddsNames (F.opened files.old) (name.now ∷ []) (F.opened files.new) }
     ensures told { F.files files.new ≡ F.files files.old }
     ensures counts { F.faults files.old ≤ F.faults files.new }
@@ -41,7 +42,7 @@ fn load_named<F: Files>(alloc: Global, name: &str, files: &mut F) -> Result<Tabl
 
 /// The built-in tables.
 fn load_builtin(alloc: Global) -> Result<TableSet, Unloaded>
-    ensures { (files : Option (List (List ℕ × List ℕ))) (count : ℕ) → LoadedBy (TablesGive files None) count count result }
+    ensures { IsOfBuiltIn result }
 {
     tables_of(builtin(alloc))
 }
@@ -52,8 +53,9 @@ pub fn load_tables<F: Files>(
     name: Option<&str>,
     files: &mut F,
 ) -> Result<TableSet, Unloaded>
-    ensures loaded { LoadedBy (TablesGive (F.files files.old) (told_name name.entry)) (F.faults files.old) (F.faults files.new) result }
-    ensures opened { AddsNames (F.opened files.old) (option_to_list (told_name name.entry)) (F.opened files.new) }
+    ensures loaded { LoadedBy (TablesGive (F.files files.old) (told_name name.entry))
+        (F.faults files.old) (F.faults files.new) result }
+    ensures opened { OpensIfNamed (told_name name.entry) (F.opened files.old) (F.opened files.new) }
     ensures unopened { told_name name.entry ≡ None → files.new ≡ files.old }
     ensures told { F.files files.new ≡ F.files files.old }
     ensures counts { F.faults files.old ≤ F.faults files.new }

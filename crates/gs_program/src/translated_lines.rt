@@ -1,4 +1,5 @@
-ghost use Rattle.std.specs.Prelude.{◌≡◌, ◌≢◌, ◌∷◌, ◌++◌, [], Err, IfOk, OnOk, codes};
+ghost use Rattle.std.specs.Prelude.{◌≡◌, ◌≢◌, ◌++◌, Err, IfOk, OnOk};
+ghost use Rattle.gs_lines.specs.Outputs.{accepted, printed, refused};
 ghost use Rattle.gs_translate.specs.declared.reason.Reason.TheVariants.{Memory as WantOfMemory};
 ghost use Rattle.gs_translate.specs.Reasons.{reason_text};
 ghost use Rattle.gs_program.specs.LineAnswers.{AddsLine, long_translated};
@@ -85,7 +86,7 @@ fn append_line(
 
 /// Appends `ok TEXT` and a line feed.
 fn append_accepted(out: &mut Vec<u8>, text: &[u8]) -> Result<(), Memory>
-    ensures { OnOk result (out.new.items ≡ out.old.items ++ (codes "ok " ++ text.now ++ 10 ∷ [])) }
+    ensures { OnOk result (out.new.items ≡ out.old.items ++ printed (accepted text.now)) }
 {
     out.extend_from_slice(b"ok ")?;
     out.extend_from_slice(text)?;
@@ -94,7 +95,7 @@ fn append_accepted(out: &mut Vec<u8>, text: &[u8]) -> Result<(), Memory>
 
 /// Appends `no REASON` and a line feed.
 fn append_refused(alloc: Global, out: &mut Vec<u8>, reason: &Reason) -> Result<(), Memory>
-    ensures { OnOk result (out.new.items ≡ out.old.items ++ (codes "no " ++ reason_text reason.now ++ 10 ∷ [])) }
+    ensures { OnOk result (out.new.items ≡ out.old.items ++ printed (refused (reason_text reason.now))) }
 {
     out.extend_from_slice(b"no ")?;
     append_reason(alloc, out, reason)?;

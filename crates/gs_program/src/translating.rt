@@ -1,10 +1,9 @@
 ghost use Rattle.std.specs.Prelude.{◌≡◌, IfOk};
-ghost use Rattle.gs_lines.specs.Outputs.{Appends};
 ghost use Rattle.gs_tables.specs.Judged.{IsLoaded};
 ghost use Rattle.gs_translate.specs.Translations.{AreInOrder};
-ghost use Rattle.gs_program.specs.Ran.{TranslationRan};
+ghost use Rattle.gs_program.specs.Ran.{Translates, moment_of};
 ghost use Rattle.gs_program.specs.Requests.{options_of, told_values};
-ghost use Rattle.gs_program.specs.Works.{canonizing, outcome_of, told_translation, translating};
+ghost use Rattle.gs_program.specs.Works.{canonizing, told_translation, translating};
 
 use crate::loading::Loaded;
 use crate::naming::no_values;
@@ -58,10 +57,10 @@ fn translate_lines<S: Source, K: Sink>(
 ) -> Status
     requires loaded { IsLoaded translation.set.now }
     requires options { AreInOrder (options_of (told_values translation.values)) }
-    ensures { Appends (K.held output.old) (K.held output.new) (λ out. TranslationRan (told_translation translation.entry)
-        (record { input = S.left input.old; input_faults = S.faults input.old; output_faults = K.faults output.old })
-        (record { input = S.left input.new; input_faults = S.faults input.new; output_faults = K.faults output.new })
-        (outcome_of out result)) }
+    ensures { Translates (told_translation translation.entry) result
+        (K.held output.old) (K.held output.new)
+        (moment_of (S.left input.old) (S.faults input.old) (K.faults output.old))
+        (moment_of (S.left input.new) (S.faults input.new) (K.faults output.new)) }
 {
     match options_of(alloc, translation.values) {
         Ok(options) => {
@@ -87,10 +86,10 @@ pub fn canonize<S: Source, K: Sink>(
     output: &mut K,
 ) -> Status
     requires { IsLoaded loaded.now.tables }
-    ensures { Appends (K.held output.old) (K.held output.new) (λ out. TranslationRan (canonizing loaded.now form)
-        (record { input = S.left input.old; input_faults = S.faults input.old; output_faults = K.faults output.old })
-        (record { input = S.left input.new; input_faults = S.faults input.new; output_faults = K.faults output.new })
-        (outcome_of out result)) }
+    ensures { Translates (canonizing loaded.now form) result
+        (K.held output.old) (K.held output.new)
+        (moment_of (S.left input.old) (S.faults input.old) (K.faults output.old))
+        (moment_of (S.left input.new) (S.faults input.new) (K.faults output.new)) }
 {
     let prefixes = PrefixList::empty(alloc);
     let values = no_values();
@@ -117,10 +116,10 @@ pub fn translate_loaded<S: Source, K: Sink>(
 ) -> Status
     requires loaded { IsLoaded loaded.now.tables }
     requires options { AreInOrder (options_of (told_values values)) }
-    ensures { Appends (K.held output.old) (K.held output.new) (λ out. TranslationRan (translating loaded.now (told_values values.entry) from to)
-        (record { input = S.left input.old; input_faults = S.faults input.old; output_faults = K.faults output.old })
-        (record { input = S.left input.new; input_faults = S.faults input.new; output_faults = K.faults output.new })
-        (outcome_of out result)) }
+    ensures { Translates (translating loaded.now (told_values values.entry) from to) result
+        (K.held output.old) (K.held output.new)
+        (moment_of (S.left input.old) (S.faults input.old) (K.faults output.old))
+        (moment_of (S.left input.new) (S.faults input.new) (K.faults output.new)) }
 {
     let translation = Translation {
         set: &loaded.tables,

@@ -1,9 +1,10 @@
 use Rattle.std.proofs.Common.{[], refl, sym}
 use Rattle.gs_port.specs.Contents.{append_nothing}
 use Rattle.gs_program.specs.Requests.{told_request}
+use Rattle.gs_program.specs.Runs.{served, unserved}
 use Rattle.gs_lines.specs.Statuses.{is_answered}
 use Rattle.gs_lines.proofs.StatusLemmas.{when_always}
-use Rattle.gs_program.proofs.AskedLemmas.{asked_of_command, asked_of_fault, asked_of_memory, asked_of_refusal, ended_of_command, never_refused, refusal_answered}
+use Rattle.gs_program.proofs.AskedLemmas.{asked_of_command, asked_of_fault, asked_of_memory, asked_of_refusal, ended_of_command, never_refused, refusal_answered, refusal_unanswered}
 use Rattle.gs_program.proofs.RanLemmas.{none_more}
 use Rattle.gs_program.proofs.asking.run_request.Goals as goal
 
@@ -41,3 +42,16 @@ returns-in-Ok-clause-unread_refused g c = never_refused c.run_command.result _ c
 
 pub returns-in-Ok-clause-unserved_refused : goal.returns-in-Ok-clause-unserved_refused
 returns-in-Ok-clause-unserved_refused g c = never_refused c.run_command.result _ c.run_command.ensures.ran.2.2.no_refusal
+
+pub returns-in-Ok-clause-served : goal.returns-in-Ok-clause-served
+returns-in-Ok-clause-served g c = λ heads. served c.in-Ok.loaded c.in-Ok.ensures.loaded (c.run_command.ensures.served heads)
+
+pub returns-in-Err-Refused-clause-served : goal.returns-in-Err-Refused-clause-served
+returns-in-Err-Refused-clause-served g c =
+    λ heads. unserved refl (refusal_unanswered _ c.print_refusal.ensures.written.0 c.print_refusal.result c.print_refusal.ensures.written.2)
+
+pub returns-in-Err-ReadFault-clause-served : goal.returns-in-Err-ReadFault-clause-served
+returns-in-Err-ReadFault-clause-served g c = λ heads. unserved refl refl
+
+pub returns-in-Err-Memory-clause-served : goal.returns-in-Err-Memory-clause-served
+returns-in-Err-Memory-clause-served g c = λ heads. unserved refl refl

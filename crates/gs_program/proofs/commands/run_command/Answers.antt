@@ -33,3 +33,6 @@ returns-in-Gen-clause-ran g c =
     let e = c.generate.ensures in
     let w = e.written in
     rw c.in-Gen.is ([], none_more _, (w.0, w.1, gen_ran c.args.loaded.now (told_values c.args.values) c.in-Gen.lines (record { waiting = None; reads = 0; writes = 0 }) 0 0 _ _ w.0 c.generate.result w.2 e.fault e.counts refl refl))
+
+pub returns-in-Resolve-clause-served : goal.returns-in-Resolve-clause-served
+returns-in-Resolve-clause-served g c = λ heads. rw c.site_of.ensures at c.resolve.ensures.served

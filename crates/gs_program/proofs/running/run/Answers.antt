@@ -4,7 +4,8 @@ use Rattle.gs_lines.proofs.StatusLemmas.{when_map}
 use Rattle.gs_program.specs.Commands.{uses_door}
 use Rattle.gs_program.specs.Requests.{told_request}
 use Rattle.gs_program.specs.Runs.{named}
-use Rattle.gs_program.proofs.RunLemmas.{asks_not, begun_of, defined_of, few_of, finished_of, read_fault_of, refused_of, unopened_of, usage_begun, usage_defined, usage_finished}
+use Rattle.gs_program.proofs.CompleteLemmas.{complete_asked}
+use Rattle.gs_program.proofs.RunLemmas.{asks_not, begun_of, defined_of, few_of, finished_of, read_fault_of, refused_of, served_of, unopened_of, usage_begun, usage_defined, usage_finished}
 use Rattle.gs_program.proofs.ValueLemmas.{options_fit, vocabulary_fits}
 use Rattle.gs_program.proofs.running.run.Goals as goal
 
@@ -65,3 +66,17 @@ returns-in-Some-clause-finished g c =
 pub returns-in-None-clause-finished : goal.returns-in-None-clause-finished
 returns-in-None-clause-finished g c =
     usage_finished (map string_bytes c.args.words.now) _ _ _ _ c.print_line.result c.in-None.ensures.none c.print_line.ensures.written
+
+pub returns-in-Some-clause-complete : goal.returns-in-Some-clause-complete
+returns-in-Some-clause-complete g c =
+    λ loads fits none. complete_asked (map string_bytes c.args.words.now) (told_request c.in-Some.request) _ _ _ _ _ _ _ _ c.run_request.result c.in-Some.ensures.request c.run_request.ensures.ran loads fits none
+
+pub returns-in-None-clause-complete : goal.returns-in-None-clause-complete
+returns-in-None-clause-complete g c = λ loads fits none. absurd (c.in-None.ensures.none loads.asked loads.order)
+
+pub returns-in-Some-clause-served : goal.returns-in-Some-clause-served
+returns-in-Some-clause-served g c =
+    λ heads. served_of _ (map string_bytes c.args.words.now) (told_request c.in-Some.request) _ _ _ _ _ c.run_request.result c.in-Some.ensures.request c.run_request.ensures.served heads
+
+pub returns-in-None-clause-served : goal.returns-in-None-clause-served
+returns-in-None-clause-served g c = λ heads. absurd (c.in-None.ensures.none heads.asked heads.order)
