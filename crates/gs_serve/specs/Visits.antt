@@ -93,6 +93,10 @@ pub record DoorState : Type 0 where
   pub reads : ℕ
   pub writes : ℕ
 
+-- what is told of a door that sets this aside, at these counts
+abbrev pub state_of : Aside → ℕ → ℕ → DoorState
+state_of aside reads writes = record { aside = aside; reads = reads; writes = writes }
+
 -- Between two moments the first of the waiting connections were served, in their order, and stand behind those that were
 -- finished before.
 pub record Visited (site : SiteData) (before now : DoorState) (visits : List Visit) : Type 0 where

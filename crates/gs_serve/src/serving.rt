@@ -5,6 +5,7 @@ ghost use Rattle.gs_port.specs.Counts.{Rises};
 ghost use Rattle.gs_serve.specs.Doors.{CountsFaults, ServeRan};
 ghost use Rattle.gs_serve.specs.Resolved.{count_if};
 ghost use Rattle.gs_serve.specs.Turns.{SessionDid, fault_number, is_failed};
+ghost use Rattle.gs_serve.specs.Visits.{state_of};
 
 use crate::site::Site;
 use crate::tally::{Tally, print_tally};
@@ -37,8 +38,8 @@ fn serve_all<D: Door>(alloc: Global, site: &Site<'_>, count: u32, door: &mut D) 
     requires none_open { D.is_open door.old ≡ false }
     requires listening { (D.aside door.old).opened ≡ true }
     ensures did { SessionDid result site.now count
-        (record { aside = D.aside door.old; reads = D.reads door.old; writes = D.writes door.old })
-        (record { aside = D.aside door.new; reads = D.reads door.new; writes = D.writes door.new }) }
+        (state_of (D.aside door.old) (D.reads door.old) (D.writes door.old))
+        (state_of (D.aside door.new) (D.reads door.new) (D.writes door.new)) }
     ensures closed { D.is_open door.new ≡ false }
     ensures own_count { (D.aside door.new).faults ≡ count_if (is_failed result) (D.aside door.old).faults }
     ensures own_counts { (D.aside door.old).faults ≤ (D.aside door.new).faults }
@@ -75,8 +76,8 @@ pub fn serve<D: Door, K: Sink>(
 ) -> Status
     requires { D.is_open door.old ≡ false }
     ensures ran { Appends (K.held output.old) (K.held output.new) (λ out. ServeRan site.now count
-        (record { aside = D.aside door.old; reads = D.reads door.old; writes = D.writes door.old })
-        (record { aside = D.aside door.new; reads = D.reads door.new; writes = D.writes door.new }) out result) }
+        (state_of (D.aside door.old) (D.reads door.old) (D.writes door.old))
+        (state_of (D.aside door.new) (D.reads door.new) (D.writes door.new)) out result) }
     ensures closed { D.is_open door.new ≡ false }
     ensures read_fault { OnReadFault result (Rises (D.aside door.old).faults (D.aside door.new).faults) }
     ensures write_fault { OnWriteFault result (Rises (K.faults output.old) (K.faults output.new)) }

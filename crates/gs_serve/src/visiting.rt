@@ -1,6 +1,7 @@
 ghost use Rattle.std.specs.Prelude.{◌≡◌, ◌≤◌, false, true};
 ghost use Rattle.gs_serve.specs.Resolved.{count_if};
 ghost use Rattle.gs_serve.specs.Turns.{OpenServed, TurnDid, is_failure, turn_of};
+ghost use Rattle.gs_serve.specs.Visits.{state_of};
 
 use crate::site::Site;
 use gs_http::{Served, serve_one};
@@ -35,8 +36,8 @@ fn turn_of(served: Served) -> Turn
 fn serve_open<D: Door>(alloc: Global, site: &Site<'_>, door: &mut D) -> Turn
     requires { D.is_open door.old ≡ true }
     ensures served { OpenServed site.now result (D.left door.old) (D.taken door.old) (D.held door.old)
-        (record { aside = D.aside door.old; reads = D.reads door.old; writes = D.writes door.old })
-        (record { aside = D.aside door.new; reads = D.reads door.new; writes = D.writes door.new }) }
+        (state_of (D.aside door.old) (D.reads door.old) (D.writes door.old))
+        (state_of (D.aside door.new) (D.reads door.new) (D.writes door.new)) }
     ensures closed { D.is_open door.new ≡ false }
     ensures same_ends { D.ends door.new ≡ D.ends door.old }
 {
@@ -50,8 +51,8 @@ pub fn visit<D: Door>(alloc: Global, site: &Site<'_>, door: &mut D) -> Turn
     requires none_open { D.is_open door.old ≡ false }
     requires listening { (D.aside door.old).opened ≡ true }
     ensures did { TurnDid result site.now
-        (record { aside = D.aside door.old; reads = D.reads door.old; writes = D.writes door.old })
-        (record { aside = D.aside door.new; reads = D.reads door.new; writes = D.writes door.new }) }
+        (state_of (D.aside door.old) (D.reads door.old) (D.writes door.old))
+        (state_of (D.aside door.new) (D.reads door.new) (D.writes door.new)) }
     ensures closed { D.is_open door.new ≡ false }
     ensures listens { (D.aside door.new).opened ≡ true }
     ensures own_count { (D.aside door.new).faults ≡ count_if (is_failure result) (D.aside door.old).faults }
