@@ -13,6 +13,7 @@ use Rattle.gs_ai.proofs.RuleLemmas.{none_at}
 use Rattle.gs_ai.proofs.Searches.{cons_none, find_at_place, find_none, position-cons, position_some}
 use Rattle.gs_grammar.specs.Items.{is_bad, is_between, size_of_all}
 use Rattle.gs_grammar.specs.Levels.{KeepBounds, OptionForm}
+use Rattle.gs_grammar.specs.Limits.{most_symbols}
 use Rattle.gs_document.specs.declared.document.KindRow.{KindRow}
 use Rattle.gs_document.specs.declared.document.OptionRow.{OptionRow}
 use Rattle.gs_document.specs.declared.fault.LimitName.TheVariants.{Size}
@@ -145,7 +146,7 @@ row_kept : (ais : List AiRow) (kinds : List KindRow) (level : LevelName) (rows :
 unfolding option_refusals fits
 row_kept ais kinds level rows i row h =
     let bad = option_to_list (option_map (λ k. BadItem level i k) (position (is_bad_item (is_bits level)) row.items)) in
-    let long = refuse_if (nat_lt 512 (size_of_all (items_alone row))) (Limit Size) in
+    let long = refuse_if (nat_lt most_symbols (size_of_all (items_alone row))) (Limit Size) in
     let misfit = refuse_if (not (fits ais kinds level row)) (Mismatch level i) in
     let again = option_to_list (option_map (λ j. Duplicate level j i) (position (λ other. is_same other row) (take i rows))) in
     let first = nil_parts (bad ++ long ++ misfit) again h in
@@ -158,7 +159,7 @@ row_kept ais kinds level rows i row h =
       named = kind.1;
       bounds = record {
         none_bad = none_bad (is_bits level) row.items (none_listed (λ k. BadItem level i k) (position (is_bad_item (is_bits level)) row.items) third.0);
-        small = within_limit (size_of_all (items_alone row)) 512 (Limit Size) third.1;
+        small = within_limit (size_of_all (items_alone row)) most_symbols (Limit Size) third.1;
       };
       visible = kept.visible;
       of_level = kept.of_level;

@@ -15,6 +15,7 @@ use Rattle.gs_document.specs.declared.level_name.LevelName.{LevelName}
 use Rattle.gs_document.specs.declared.level_name.LevelName.TheVariants.{Binary, Tag, Pure}
 use Rattle.gs_document.specs.Documents.{is_bits}
 use Rattle.gs_grammar.specs.Items.{size_of_all}
+use Rattle.gs_grammar.specs.Limits.{most_symbols}
 use Rattle.gs_tables.specs.Tables.{fits, has_long, is_bad_item, is_same, items_alone, kind_refusals, kinds_refusals, level_refusals, limit_refusals, more_than, option_refusals, refusals, refuse_if, row_refusals}
 
 -- want of memory, or an ambiguous level
@@ -69,12 +70,12 @@ ruled_of_option : (ais : List AiRow) (kinds : List KindRow) (level : LevelName) 
 unfolding option_refusals
 ruled_of_option ais kinds level rows i row =
     let bad = option_to_list (option_map (λ k. BadItem level i k) (position (is_bad_item (is_bits level)) row.items)) in
-    let long = refuse_if (nat_lt 512 (size_of_all (items_alone row))) (Limit Size) in
+    let long = refuse_if (nat_lt most_symbols (size_of_all (items_alone row))) (Limit Size) in
     let misfit = refuse_if (not (fits ais kinds level row)) (Mismatch level i) in
     let again = option_to_list (option_map (λ j. Duplicate level j i) (position (λ other. is_same other row) (take i rows))) in
     ruled_of_both (bad ++ long ++ misfit) again
     (ruled_of_both (bad ++ long) misfit
-    (ruled_of_both bad long (ruled_where (λ k. BadItem level i k) (position (is_bad_item (is_bits level)) row.items) (λ k. refl)) (ruled_if (nat_lt 512 (size_of_all (items_alone row))) (Limit Size) refl))
+    (ruled_of_both bad long (ruled_where (λ k. BadItem level i k) (position (is_bad_item (is_bits level)) row.items) (λ k. refl)) (ruled_if (nat_lt most_symbols (size_of_all (items_alone row))) (Limit Size) refl))
     (ruled_if (not (fits ais kinds level row)) (Mismatch level i) refl))
     (ruled_where (λ j. Duplicate level j i) (position (λ other. is_same other row) (take i rows)) (λ j. refl))
 

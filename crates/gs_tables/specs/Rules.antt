@@ -4,6 +4,7 @@ use Rattle.std.specs.Prelude.{ℕ, ◌-◌, ◌%◌, Bool, true, false, not, ◌
 use Rattle.std.specs.List.{find, list_all, list_any}
 use Rattle.std.specs.Option.{option_map_or}
 use Rattle.std.specs.Str.{bytes_eq}
+use Rattle.gs_chars.specs.Characters.{is_visible}
 use Rattle.gs_ai.specs.declared.row.AiRow.{AiRow}
 use Rattle.gs_ai.specs.Tables.{is_empty, is_key}
 use Rattle.gs_ai.specs.Values.{has_code}
@@ -20,11 +21,15 @@ use Rattle.gs_document.specs.declared.kind.SerialAt.TheVariants.{Nowhere, Tail, 
 use Rattle.gs_document.specs.declared.level_name.LevelName.{LevelName}
 use Rattle.gs_document.specs.declared.level_name.LevelName.TheVariants.{Binary, Tag, Pure}
 use Rattle.gs_tables.specs.Forms.{key_form, form_at, tail_of, characters_of, serial_at, serial_room}
-use Rattle.gs_document.specs.Items.{FieldItem, alone}
+use Rattle.gs_document.specs.Items.{FieldItem, alone, present}
+
+-- the sizes of the items that are there, added up
+abbrev pub size_there : List (Option FieldItem) → ℕ
+size_there items = size_of_all (alone (present items))
 
 -- bytes that are visible characters of ISO 646
 abbrev pub are_visible : List ℕ → Bool
-are_visible text = list_all (is_between 33 126) text
+are_visible text = list_all is_visible text
 
 -- ---- kinds
 

@@ -41,3 +41,13 @@ HasMemory answer = answer ≢ Err Memory
 pub data AreAlike (one other : Result TableRows LoadFault) : Type 0 where
   same : one ≡ other → AreAlike one other
   but_text : (name : LevelName) (i j : ℕ) (text text' : List ℕ) → one ≡ Err (Ambiguous name i j text) → other ≡ Err (Ambiguous name i j text') → AreAlike one other
+
+-- two answers of `TableSet::load` to the same bytes, neither of them want of memory, are alike
+abbrev pub LoadAnswersAreAlike : Type 0
+LoadAnswersAreAlike =
+    (bytes : List ℕ) (one other : Result TableRows LoadFault) → LoadAnswer bytes one → LoadAnswer bytes other → HasMemory one → HasMemory other → AreAlike one other
+
+-- two answers of `builtin`, neither of them want of memory, are alike
+abbrev pub BuiltInAnswersAreAlike : Type 0
+BuiltInAnswersAreAlike =
+    (one other : Result TableRows LoadFault) → BuiltInAnswer one → BuiltInAnswer other → HasMemory one → HasMemory other → AreAlike one other

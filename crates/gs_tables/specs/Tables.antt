@@ -9,6 +9,7 @@ use Rattle.gs_ai.specs.Tables.{table_faults}
 use Rattle.gs_grammar.specs.declared.item.Item.{Item}
 use Rattle.gs_grammar.specs.Items.{is_bad, size_of_all}
 use Rattle.gs_grammar.specs.Levels.{OptionForm}
+use Rattle.gs_grammar.specs.Limits.{most_symbols}
 use Rattle.gs_document.specs.declared.document.Document.{Document}
 use Rattle.gs_document.specs.declared.document.KindRow.{KindRow}
 use Rattle.gs_document.specs.declared.document.OptionRow.{OptionRow}
@@ -22,6 +23,7 @@ use Rattle.gs_tables.specs.declared.level_table.LevelTable.{LevelTable}
 use Rattle.gs_document.specs.declared.opt_info.OptInfo.{OptInfo}
 use Rattle.gs_tables.specs.Forms.{serial_at}
 use Rattle.gs_document.specs.Documents.{is_bits}
+use Rattle.gs_document.specs.Limits.{most_items, most_kinds, most_rows}
 use Rattle.gs_document.specs.Items.{FieldItem, alone, fields_of, present}
 use Rattle.gs_tables.specs.Rules.{is_kind, fits_kind, has_name}
 
@@ -34,6 +36,10 @@ pub record TableRows : Type 0 where
   pub binary : LevelTable
   pub tag : LevelTable
   pub pure : LevelTable
+
+-- the set of these parts
+abbrev pub set_with : List AiRow → List Kind → LevelTable → LevelTable → LevelTable → TableRows
+set_with ais kinds binary tag pure = record { ais = ais; kinds = kinds; binary = binary; tag = tag; pure = pure }
 
 -- the level of a name
 abbrev pub level_rows : LevelName → TableRows → LevelTable
@@ -71,16 +77,16 @@ refuse_if test fault = if test then fault ∷ [] else []
 abbrev pub more_than : {X : Type 0} → ℕ → List X → Bool
 more_than limit rows = nat_lt limit (length rows)
 
--- some option of a level has more than 24 items
+-- some option of a level has more items than the limit
 abbrev pub has_long : List OptionRow → Bool
-has_long rows = list_any (λ (row : OptionRow). more_than 24 row.items) rows
+has_long rows = list_any (λ (row : OptionRow). more_than most_items row.items) rows
 
 -- the limits of the numbers of rows
 unfoldable pub limit_refusals : Document → List LoadFault
 limit_refusals document =
-    refuse_if (more_than 256 document.ais) (Limit Ais)
-    ++ refuse_if (more_than 64 document.kinds) (Limit Kinds)
-    ++ refuse_if (more_than 256 document.binary || more_than 256 document.tag || more_than 256 document.pure) (Limit Options)
+    refuse_if (more_than most_rows document.ais) (Limit Ais)
+    ++ refuse_if (more_than most_kinds document.kinds) (Limit Kinds)
+    ++ refuse_if (more_than most_rows document.binary || more_than most_rows document.tag || more_than most_rows document.pure) (Limit Options)
     ++ refuse_if (has_long document.binary || has_long document.tag || has_long document.pure) (Limit Items)
 
 -- kind i breaks a rule
@@ -106,7 +112,7 @@ is_same a b = bytes_eq a.kind b.kind && bytes_eq a.encoding b.encoding && (a.gcp
 unfoldable pub option_refusals : List AiRow → List KindRow → LevelName → List OptionRow → ℕ × OptionRow → List LoadFault
 option_refusals ais kinds level rows row =
     option_to_list (option_map (λ k. BadItem level row.0 k) (position (is_bad_item (is_bits level)) row.1.items))
-    ++ refuse_if (nat_lt 512 (size_of_all (items_alone row.1))) (Limit Size)
+    ++ refuse_if (nat_lt most_symbols (size_of_all (items_alone row.1))) (Limit Size)
     ++ refuse_if (not (fits ais kinds level row.1)) (Mismatch level row.0)
     ++ option_to_list (option_map (λ j. Duplicate level j row.0) (position (λ other. is_same other row.1) (take row.0 rows)))
 

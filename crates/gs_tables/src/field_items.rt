@@ -1,12 +1,12 @@
 ghost use Rattle.std.specs.Prelude.{◌≡◌, ◌≤◌, SomeIff};
-ghost use Rattle.gs_grammar.specs.Items.{size_of_all};
+ghost use Rattle.gs_grammar.specs.Limits.{most_symbols};
 ghost use Rattle.gs_tables.specs.Founds.{IsFound};
-ghost use Rattle.gs_document.specs.Items.{alone, present};
-ghost use Rattle.gs_tables.specs.Rules.{has_room, is_digits, is_filter, is_free, items_of_field, keeps_gcp, keeps_level, keeps_rest, keeps_serial, longest_of};
+ghost use Rattle.gs_document.specs.Items.{present};
+ghost use Rattle.gs_tables.specs.Rules.{has_room, is_digits, is_filter, is_free, items_of_field, keeps_gcp, keeps_level, keeps_rest, keeps_serial, longest_of, size_there};
 
 use crate::form::KeyForm;
 use gs_document::{Field, FieldItem, LevelName};
-use gs_grammar::Item;
+use gs_grammar::{Item, MOST_SYMBOLS};
 
 /// What is found of the items of a field.
 #[derive(Clone, Copy)]
@@ -139,15 +139,15 @@ pub(crate) fn keeps_serial(room: Option<u8>, items: &[Option<FieldItem>]) -> boo
     }
 }
 
-/// The sizes of the items added up, where they are at most 512.
+/// The sizes of the items added up, where they are at most `MOST_SYMBOLS`.
 pub(crate) fn size_within_limit(items: &[Option<FieldItem>]) -> Option<usize>
-    ensures { let size = size_of_all (alone (present items.now)) in SomeIff result (size ≤ 512) size }
+    ensures { SomeIff result (size_there items.now ≤ most_symbols) (size_there items.now) }
 {
     let mut size = 0;
     for entry in items {
         if let Some((_, item)) = entry {
             size += item.size();
-            if size > 512 {
+            if size > MOST_SYMBOLS {
                 return None;
             }
         }
@@ -164,7 +164,7 @@ pub(crate) fn keeps_level(
     size: usize,
     items: &[Option<FieldItem>],
 ) -> bool
-    requires { size ≡ size_of_all (alone (present items.now)) }
+    requires { size ≡ size_there items.now }
     ensures { result ≡ keeps_level level encoding.now (present items.now) }
 {
     let named = !encoding.is_empty();

@@ -6,13 +6,14 @@ ghost use Rattle.gs_tables.specs.Rules.{are_visible, fits_key, has_key, has_name
 use crate::form::KeyForm;
 use crate::forms::{are_characters, key_form, tail_of};
 use gs_ai::{AiRow, AiTable, Role};
+use gs_chars::CharSet;
 use gs_document::KindRow;
 
 /// Whether each byte is a visible character.
 pub(crate) fn are_visible(text: &[u8]) -> bool
     ensures { result ≡ are_visible text.now }
 {
-    text.iter().all(|c| 33 <= *c && *c <= 126)
+    text.iter().all(|c| CharSet::Visible.holds(*c))
 }
 
 /// Whether a kind has the name.

@@ -7,7 +7,10 @@ ghost use Rattle.gs_tables.specs.Tables.{IsFirst, has_long, kind_refusals, kinds
 use crate::kind_rules::is_kind;
 use crate::option_rules::check_option;
 use gs_ai::AiTable;
-use gs_document::{Document, KindRow, LevelName, LimitName, LoadFault, OptionRow};
+use gs_document::{
+    Document, KindRow, LevelName, LimitName, LoadFault, MOST_ITEMS, MOST_KINDS, MOST_ROWS,
+    OptionRow,
+};
 
 /// Refuses a document of another version.
 pub(crate) fn check_version(document: &Document) -> Result<(), LoadFault>
@@ -20,11 +23,11 @@ pub(crate) fn check_version(document: &Document) -> Result<(), LoadFault>
     }
 }
 
-/// Whether some option has more than 24 items.
+/// Whether some option has more than `MOST_ITEMS` items.
 fn has_long(rows: &[OptionRow]) -> bool
     ensures { result ≡ has_long rows.now }
 {
-    rows.iter().any(|row| row.items.items().len() > 24)
+    rows.iter().any(|row| row.items.items().len() > MOST_ITEMS)
 }
 
 /// The first of the limits of the numbers of rows that is passed.
@@ -35,13 +38,13 @@ pub(crate) fn check_limits(document: &Document) -> Result<(), LoadFault>
     let binary = document.binary.items();
     let tag = document.tag.items();
     let pure = document.pure.items();
-    if document.ais.items().len() > 256 {
+    if document.ais.items().len() > MOST_ROWS {
         return Err(LoadFault::Limit(LimitName::Ais));
     }
-    if document.kinds.items().len() > 64 {
+    if document.kinds.items().len() > MOST_KINDS {
         return Err(LoadFault::Limit(LimitName::Kinds));
     }
-    if binary.len() > 256 || tag.len() > 256 || pure.len() > 256 {
+    if binary.len() > MOST_ROWS || tag.len() > MOST_ROWS || pure.len() > MOST_ROWS {
         return Err(LoadFault::Limit(LimitName::Options));
     }
     if has_long(binary) || has_long(tag) || has_long(pure) {

@@ -40,13 +40,13 @@ impl Drop for TableSet {
 
 impl Model for TableSet {
     ghost use Rattle.gs_tables.specs.Judged.{IsLoaded};
-    ghost use Rattle.gs_tables.specs.Tables.{TableRows};
+    ghost use Rattle.gs_tables.specs.Tables.{TableRows, set_with};
 
     ghost Value = { TableRows };
 
-    ghost view = { λ a. record { ais = a.ais; kinds = a.kinds; binary = a.binary; tag = a.tag; pure = a.pure } };
+    ghost view = { λ a. set_with a.ais a.kinds a.binary a.tag a.pure };
 
-    ghost invariant = { λ a. IsLoaded (record { ais = a.ais; kinds = a.kinds; binary = a.binary; tag = a.tag; pure = a.pure }) };
+    ghost invariant = { λ a. IsLoaded (set_with a.ais a.kinds a.binary a.tag a.pure) };
 }
 
 impl TableSet {
