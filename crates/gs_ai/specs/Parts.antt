@@ -1,6 +1,6 @@
 -- The parts that the value of an application identifier is made of: GS1 General Specifications, section 3.2, whose
 -- formats these restate.
-use Rattle.std.specs.Prelude.{ℕ, ◌+◌, ◌/◌, ◌%◌, Bool, true, false, ◌==◌, ◌&&◌, nat_le, nat_lt, if◌then◌else◌, List, [], ◌∷◌, ◌++◌, codes}
+use Rattle.std.specs.Prelude.{◌≡◌, ◌≢◌, ℕ, ◌+◌, ◌/◌, ◌%◌, Bool, true, false, ◌==◌, ◌&&◌, nat_le, nat_lt, if◌then◌else◌, List, [], ◌∷◌, ◌++◌, codes}
 use Rattle.gs_chars.specs.Characters.{is_digit, is_in_set82}
 use Rattle.gs_ai.specs.declared.part.Part.{Part}
 use Rattle.gs_ai.specs.declared.part.Part.TheVariants.{Zero, Num, NumCheck, NumUpTo, Set, SetOpt, Date, Other}
@@ -79,3 +79,7 @@ role_text role.Key = codes "key"
 role_text role.Qualifier = codes "qualifier"
 role_text role.Attribute = codes "attribute"
 role_text role.Other = []
+
+-- the text writes no role
+abbrev pub WritesNoRole : List ℕ → Type 0
+WritesNoRole text = (r : Role) → r ≢ role.Other → role_text r ≡ text → ⊥

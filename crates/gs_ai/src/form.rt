@@ -87,7 +87,8 @@ pub fn is_row(row: &AiRow) -> bool
         && (none.is_empty() || parts_ok(parts, none).is_ok())
 }
 
-/// Whether code and value have the predefined length together, where the code's start has one.
+/// Whether code and value have the predefined length together, where the code's start has one. The row has the form that the
+/// table asks for.
 #[tactic(auto, unfolding(crate::specs::Tables::is_row, crate::specs::Tables::keeps_predefined))]
 pub fn keeps_predefined(predefined: &Predefined, row: &AiRow) -> bool
     requires { is_row row.now ≡ true }

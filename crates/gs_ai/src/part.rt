@@ -1,5 +1,5 @@
 ghost use Rattle.std.specs.Prelude.{◌≡◌, ◌≢◌, ◌<◌, ◌≤◌, ◌^◌, ◌++◌, ℕ, true, IfSome, IfNone};
-ghost use Rattle.gs_ai.specs.Parts.{number_text, is_part, part_text, role_text, least_length, greatest_length, is_of_part, is_open};
+ghost use Rattle.gs_ai.specs.Parts.{WritesNoRole, number_text, is_part, part_text, role_text, least_length, greatest_length, is_of_part, is_open};
 ghost use Rattle.gs_ai.specs.Tables.{is_key, is_qualifier};
 
 use gs_chars::CharSet;
@@ -166,7 +166,7 @@ impl Role {
     /// The role that is written so, and `Other` exactly where none is.
     pub fn read(text: &[u8]) -> Role
         ensures read { result ≢ Role.Other → role_text result ≡ text.now }
-        ensures other { result ≡ Role.Other → (r : Role) → r ≢ Role.Other → role_text r ≡ text.now → ⊥ }
+        ensures other { result ≡ Role.Other → WritesNoRole text.now }
     {
         if text == b"key".as_slice() {
             Role::Key

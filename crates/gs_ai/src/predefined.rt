@@ -41,7 +41,8 @@ impl Predefined {
         }
     }
 
-    /// The length of code and value together, where the code's first two digits are in the list.
+    /// The length of code and value together, where the code's first two digits are in the list. The code is two digits or
+    /// more. `None` comes exactly where they are not in the list.
     pub fn length_of(&self, code: &[u8]) -> Option<usize>
         requires long { 2 ≤ length code.now }
         requires digits { IsTrue (are_digits code.now) }

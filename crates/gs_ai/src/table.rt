@@ -64,7 +64,7 @@ impl AiTable {
         self.rows.items()
     }
 
-    /// The index of the row with this code.
+    /// The index of the row with this code. `None` comes exactly where no row has it.
     pub fn find(&self, code: &[u8]) -> Option<usize>
         ensures row { result ≡ position (has_code code.now) self.now }
         ensures within { IfSome result (λ row. row < length self.now) }
@@ -79,7 +79,7 @@ impl AiTable {
         }
     }
 
-    /// The row with this code.
+    /// The row with this code. `None` comes exactly where no row has it.
     pub fn row_with(&self, code: &[u8]) -> Option<&AiRow>
         ensures row { option_copied result ≡ find (has_code code.now) self.now }
         ensures kept { IfSome result (λ row. is_row row.now ≡ true) }
@@ -100,7 +100,8 @@ impl AiTable {
         }
     }
 
-    /// The index of the row whose code begins the text. At most one row's code does.
+    /// The index of the row whose code begins the text. At most one row's code does. `None` comes exactly where no row's code
+    /// does.
     pub fn begins(&self, text: &[u8]) -> Option<usize>
         ensures row { result ≡ row_at self.now text.now }
         ensures within { IfSome result (λ row. row < length self.now) }
@@ -117,7 +118,8 @@ impl AiTable {
     }
 
     /// The length of code and value together, where the first two digits of the row's code are in the list of predefined
-    /// lengths (GS1 General Specifications, figure 7.8.5-2).
+    /// lengths (GS1 General Specifications, figure 7.8.5-2). The row is one of the table. `None` comes exactly where they are
+    /// not in the list.
     pub fn predefined(&self, row: usize) -> Option<usize>
         requires { row < length self.now }
         ensures { result ≡ option_and_then (λ r. predefined_length r.code) (slice_get self.now row) }
@@ -127,7 +129,7 @@ impl AiTable {
     }
 
     /// Whether the value is one of the row's application identifier, and the first fault if it is not: `Length`, `Char`,
-    /// `Check`, `Date`, in this order.
+    /// `Check`, `Date`, in this order. The row is one of the table.
     pub fn row_value_ok(&self, row: usize, value: &[u8]) -> Result<(), ValueFault>
         requires { row < length self.now }
         ensures ok { OnOk result (row_fault self.now row value.now ≡ None) }

@@ -15,7 +15,7 @@ pub fn are_digits(text: &[u8]) -> bool
     text.iter().all(|c| c.is_ascii_digit())
 }
 
-/// The fewest characters of all parts together.
+/// The fewest characters of all parts together. There are at most three.
 pub fn least_length_of(parts: &[Part]) -> usize
     requires { length parts.now ≤ 3 }
     ensures { result ≡ least_of parts.now }
@@ -23,7 +23,7 @@ pub fn least_length_of(parts: &[Part]) -> usize
     parts.iter().map(|part| part.least()).sum()
 }
 
-/// The most characters of all parts together.
+/// The most characters of all parts together. There are at most three.
 pub fn greatest_length_of(parts: &[Part]) -> usize
     requires { length parts.now ≤ 3 }
     ensures { result ≡ greatest_of parts.now }
@@ -125,7 +125,7 @@ fn keep_dates(parts: &[Part], value: &[u8]) -> bool
     kept && keep_dates(others, rest)
 }
 
-/// The value is one of these parts, or the first fault that fits.
+/// The value is one of these parts, or the first fault that fits. There are at most three, each one of the list.
 pub fn parts_ok(parts: &[Part], value: &[u8]) -> Result<(), ValueFault>
     requires few { length parts.now ≤ 3 }
     requires listed { list_all is_part parts.now ≡ true }

@@ -1,5 +1,5 @@
 -- Sets of numbers as bits.
-use Rattle.std.specs.Prelude.{◌≡◌, ◌↔◌, ℕ, ◌/◌, ◌%◌, List, slice_index}
+use Rattle.std.specs.Prelude.{◌≡◌, ◌≢◌, ◌↔◌, ℕ, ◌/◌, ◌%◌, List, slice_index}
 use Rattle.std.specs.Int.{bit_at}
 use Rattle.std.specs.List.{Contains}
 
@@ -10,3 +10,11 @@ IsSet bits number = bit_at (slice_index bits (number / 64)) (number % 64) ≡ 1
 -- the bits that are set are those of these numbers
 pub record AreMarked (bits numbers : List ℕ) : Type 0 where
   pub marked : (number : ℕ) → IsSet bits number ↔ Contains numbers number
+
+-- Two states of one set of bits, the old and the new. The bit of each other number is as it was.
+abbrev pub SameBesides : ℕ → List ℕ → List ℕ → Type 0
+SameBesides number old new = (other : ℕ) → other ≢ number → (IsSet new other ↔ IsSet old other)
+
+-- a bit that is set was set, and stands in another word than that of the number
+abbrev pub WordIsCleared : ℕ → List ℕ → List ℕ → Type 0
+WordIsCleared number old new = (other : ℕ) → IsSet new other → (IsSet old other × (other / 64 ≢ number / 64))

@@ -1,9 +1,25 @@
 -- What the search over pairs of states finds. These definitions are the search's own.
-use Rattle.std.specs.Prelude.{◌≡◌, ℕ, ◌<◌, ◌≤◌, ◌/◌, ◌%◌, List, ◌∷◌}
+use Rattle.std.specs.Prelude.{◌≡◌, ℕ, ◌<◌, ◌≤◌, ◌/◌, ◌%◌, List, ◌∷◌, Option, Result, IfOk, IfSome, IfNone}
 use Rattle.std.specs.List.{Contains}
 use Rattle.gs_machine.specs.declared.edge.Edge.{Edge}
 use Rattle.gs_machine.specs.Walks.{Fits, edges_at, Walk}
-use Rattle.gs_machine.specs.Machines.{AutoForm, states_of, accept_of}
+use Rattle.gs_machine.specs.Machines.{AutoForm, states_of, start_of, accept_of}
+
+-- the search has found something, and it is so of that
+abbrev pub IfFound : {X E : Type 0} → Result (Option X) E → (X → Type 0) → Type 0
+IfFound answer is_so = IfOk answer (λ found. IfSome found is_so)
+
+-- the search has found nothing, and this is so
+abbrev pub IfNotFound : {X E : Type 0} → Result (Option X) E → Type 0 → Type 0
+IfNotFound answer is_so = IfOk answer (λ found. IfNone found is_so)
+
+-- both edges have the symbol
+abbrev pub BothHave : Edge → Edge → ℕ → Type 0
+BothHave edge other symbol = (edge.lo ≤ symbol) × (symbol ≤ edge.hi) × (other.lo ≤ symbol) × (symbol ≤ other.hi)
+
+-- the edges have no symbol in common
+abbrev pub HaveNoneInCommon : Edge → Edge → Type 0
+HaveNoneInCommon edge other = (symbol : ℕ) → edge.lo ≤ symbol → symbol ≤ edge.hi → other.lo ≤ symbol → symbol ≤ other.hi → ⊥
 
 -- the list of symbols leads both machines from these states to their accepting states
 pub record Leads (m n : AutoForm) (p q : ℕ) (symbols : List ℕ) : Type 0 where
@@ -15,6 +31,14 @@ pub record Leads (m n : AutoForm) (p q : ℕ) (symbols : List ℕ) : Type 0 wher
 -- no list of symbols does so
 abbrev pub IsDead : AutoForm → AutoForm → ℕ → ℕ → Type 0
 IsDead m n p q = (symbols : List ℕ) → Leads m n p q symbols → ⊥
+
+-- the list of symbols leads both machines from their starts to their accepting states
+abbrev pub BothAccept : AutoForm → AutoForm → List ℕ → Type 0
+BothAccept m n symbols = Leads m n (start_of m) (start_of n) symbols
+
+-- no list of symbols does so
+abbrev pub NoneInCommon : AutoForm → AutoForm → Type 0
+NoneInCommon m n = IsDead m n (start_of m) (start_of n)
 
 -- the list goes by this edge in the first machine, and in the second to a state that is not below the least, and from
 -- there leads both to their accepting states
@@ -52,6 +76,10 @@ IsSingle m p = (symbols : List ℕ) → Parts m p symbols → ⊥
 -- two edges with one symbol to different states lead on to no list
 abbrev pub HasNoFork : AutoForm → List Edge → List Edge → Type 0
 HasNoFork m edges others = (symbol next other : ℕ) → Fits edges symbol next → Fits others symbol other → next < other → IsDead m m next other
+
+-- no two edges of the state with one symbol to different states lead on to one list
+abbrev pub HasNoForkAt : AutoForm → ℕ → Type 0
+HasNoForkAt m p = HasNoFork m (edges_at m.table p) (edges_at m.table p)
 
 -- each number of the set is that of a state from which no list has two different walks
 abbrev pub MarksSingle : AutoForm → List ℕ → Type 0

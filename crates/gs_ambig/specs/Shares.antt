@@ -17,6 +17,10 @@ pub record Share (machines : List AutoForm) (i j : ℕ) (symbols : List ℕ) : T
   pub other_accepts : Accepts other other_run symbols
   pub differ : i ≡ j → run ≡ other_run → ⊥
 
+-- no list of symbols is shared by machine i and machine j
+abbrev pub ShareNothing : List AutoForm → ℕ → ℕ → Type 0
+ShareNothing machines i j = (symbols : List ℕ) → Share machines i j symbols → ⊥
+
 -- the pair k, l stands before the pair i, j
 abbrev pub IsBefore : ℕ → ℕ → ℕ → ℕ → Type 0
 IsBefore k l i j = (k < i) ⊎ ((k ≡ i) × (l < j))

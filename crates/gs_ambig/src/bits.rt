@@ -1,6 +1,6 @@
-ghost use Rattle.std.specs.Prelude.{◌≡◌, ◌≢◌, ◌↔◌, ◌/◌, ◌<◌, ℕ, IsTrue, OnOk, length, slice_index};
+ghost use Rattle.std.specs.Prelude.{◌≡◌, ◌↔◌, ◌/◌, ◌<◌, ℕ, IsTrue, OnOk, length, slice_index};
 ghost use Rattle.std.specs.List.{Contains};
-ghost use Rattle.gs_ambig.specs.Marks.{IsSet};
+ghost use Rattle.gs_ambig.specs.Marks.{IsSet, SameBesides, WordIsCleared};
 
 use gs_chars::Memory;
 
@@ -14,11 +14,11 @@ pub fn is_set(bits: &[u64], number: usize) -> bool
     }
 }
 
-/// Sets a bit.
+/// Sets a bit. There is room for it.
 pub fn set(bits: &mut Vec<u64>, number: usize)
     requires { number / 64 < length bits.old.items }
     ensures set { IsSet bits.new.items number }
-    ensures others { (other : ℕ) → other ≢ number → (IsSet bits.new.items other ↔ IsSet bits.old.items other) }
+    ensures others { SameBesides number bits.old.items bits.new.items }
 {
     bits[number / 64] |= 1 << (number % 64);
 }
@@ -37,14 +37,14 @@ pub fn make_room(bits: &mut Vec<u64>, number: usize) -> Result<(), Memory>
 
 /// Clears the word of a bit.
 fn clear_word(bits: &mut Vec<u64>, number: usize)
-    ensures { (other : ℕ) → IsSet bits.new.items other → (IsSet bits.old.items other × (other / 64 ≢ number / 64)) }
+    ensures { WordIsCleared number bits.old.items bits.new.items }
 {
     if number / 64 < bits.len() {
         bits[number / 64] = 0;
     }
 }
 
-/// Clears the bits of these numbers, which are all that are set.
+/// Clears the bits of these numbers, which are all that are set. No other bit is set.
 pub fn clear(bits: &mut Vec<u64>, numbers: &[usize])
     requires { (number : ℕ) → IsSet bits.old.items number → Contains numbers.now number }
     ensures { (number : ℕ) → IsSet bits.new.items number → ⊥ }

@@ -1,7 +1,7 @@
-ghost use Rattle.std.specs.Prelude.{◌≡◌, ◌<◌, ◌*◌, ◌^◌, ℕ, List, [], IfOk, IfSome, IfNone, OnOk, length};
+ghost use Rattle.std.specs.Prelude.{◌≡◌, ◌<◌, ◌*◌, ◌^◌, [], IfOk, OnOk, length};
 ghost use Rattle.gs_machine.specs.Machines.{start_of, states_of};
-ghost use Rattle.gs_ambig.specs.Searches.{Leads, IsDead, Parts, IsSingle};
-ghost use Rattle.gs_ambig.specs.Shares.{Share, SharesNone, IsFirstFrom, IsVerdict};
+ghost use Rattle.gs_ambig.specs.Searches.{BothAccept, IfFound, IfNotFound, IsSingle, NoneInCommon, Parts};
+ghost use Rattle.gs_ambig.specs.Shares.{IsFirstFrom, IsVerdict, Share, ShareNothing, SharesNone};
 
 use crate::forks::search_forks;
 use crate::marks::Marks;
@@ -37,8 +37,8 @@ fn word_of_two(
     n: &Auto,
     dead: &mut Marks,
 ) -> Result<Option<Vec<u8>>, Memory>
-    ensures found { IfOk result (λ found. IfSome found (λ word. Leads m.now n.now (start_of m.now) (start_of n.now) word.items)) }
-    ensures none { IfOk result (λ found. IfNone found (IsDead m.now n.now (start_of m.now) (start_of n.now))) }
+    ensures found { IfFound result (λ word. BothAccept m.now n.now word.items) }
+    ensures none { IfNotFound result (NoneInCommon m.now n.now) }
 {
     make_ready(dead, m, n)?;
     search(alloc, m, n, m.start(), n.start(), dead)
@@ -46,8 +46,8 @@ fn word_of_two(
 
 /// A list of symbols with two different accepting runs of one machine.
 fn word_of_one(alloc: Global, m: &Auto, sets: &mut Sets) -> Result<Option<Vec<u8>>, Memory>
-    ensures found { IfOk result (λ found. IfSome found (λ word. Parts m.now (start_of m.now) word.items)) }
-    ensures none { IfOk result (λ found. IfNone found (IsSingle m.now (start_of m.now))) }
+    ensures found { IfFound result (λ word. Parts m.now (start_of m.now) word.items) }
+    ensures none { IfNotFound result (IsSingle m.now (start_of m.now)) }
 {
     make_ready(&mut sets.dead, m, m)?;
     sets.single.clear();
@@ -64,8 +64,8 @@ fn shared_word(
 ) -> Result<Option<Vec<u8>>, Memory>
     requires first { i < length machines.now }
     requires second { j < length machines.now }
-    ensures found { IfOk result (λ found. IfSome found (λ word. Share machines.now i j word.items)) }
-    ensures none { IfOk result (λ found. IfNone found ((symbols : List ℕ) → Share machines.now i j symbols → ⊥)) }
+    ensures found { IfFound result (λ word. Share machines.now i j word.items) }
+    ensures none { IfNotFound result (ShareNothing machines.now i j) }
 {
     if i == j {
         return word_of_one(alloc, &machines[i], sets);
@@ -81,8 +81,8 @@ fn first_from(
     sets: &mut Sets,
 ) -> Result<Option<(usize, Vec<u8>)>, Memory>
     requires { i < length machines.now }
-    ensures found { IfOk result (λ found. IfSome found (λ double. IsFirstFrom machines.now i double.0 double.1.items)) }
-    ensures none { IfOk result (λ found. IfNone found (SharesNone machines.now i (length machines.now))) }
+    ensures found { IfFound result (λ double. IsFirstFrom machines.now i double.0 double.1.items) }
+    ensures none { IfNotFound result (SharesNone machines.now i (length machines.now)) }
 {
     for j in i..machines.len() {
         if let Some(word) = shared_word(alloc, machines, i, j, sets)? {

@@ -1,7 +1,6 @@
-ghost use Rattle.std.specs.Prelude.{◌≡◌, ◌*◌, ◌^◌, ◌<◌, IfOk, IfSome, IfNone};
+ghost use Rattle.std.specs.Prelude.{◌≡◌, ◌*◌, ◌^◌, ◌<◌};
 ghost use Rattle.gs_machine.specs.Machines.{states_of};
-ghost use Rattle.gs_machine.specs.Walks.{edges_at};
-ghost use Rattle.gs_ambig.specs.Searches.{Parts, IsSingle, HasNoFork, MarksDead, MarksSingle};
+ghost use Rattle.gs_ambig.specs.Searches.{HasNoForkAt, IfFound, IfNotFound, IsSingle, MarksDead, MarksSingle, Parts};
 
 use crate::marks::Marks;
 use crate::search::search_behind;
@@ -20,8 +19,8 @@ fn search_fork(
     requires state { p < states_of m.now }
     requires room { states_of m.now * states_of m.now < 2 ^ 64 }
     requires marked { MarksDead m.now m.now dead.old }
-    ensures found { IfOk result (λ found. IfSome found (λ word. Parts m.now p word.items)) }
-    ensures none { IfOk result (λ found. IfNone found (HasNoFork m.now (edges_at m.now.table p) (edges_at m.now.table p))) }
+    ensures found { IfFound result (λ word. Parts m.now p word.items) }
+    ensures none { IfNotFound result (HasNoForkAt m.now p) }
     ensures marks { MarksDead m.now m.now dead.new }
 {
     let edges = m.edges(p);
@@ -46,8 +45,8 @@ pub fn search_forks(
     requires room { states_of m.now * states_of m.now < 2 ^ 64 }
     requires marked_single { MarksSingle m.now single.old }
     requires marked { MarksDead m.now m.now dead.old }
-    ensures found { IfOk result (λ found. IfSome found (λ word. Parts m.now p word.items)) }
-    ensures none { IfOk result (λ found. IfNone found (IsSingle m.now p)) }
+    ensures found { IfFound result (λ word. Parts m.now p word.items) }
+    ensures none { IfNotFound result (IsSingle m.now p) }
     ensures marks_single { MarksSingle m.now single.new }
     ensures marks { MarksDead m.now m.now dead.new }
 {

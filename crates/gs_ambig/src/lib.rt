@@ -1,4 +1,21 @@
 //! The search for a list of symbols with two different accepting runs, in one machine or in two.
+//!
+//! - `check` answers `Clear` exactly where no list of symbols has two different accepting runs, and else the first pair of
+//!   machines with such a list, and the list.
+//!
+//! # Example
+//!
+//! The first machine reads `ab`, the second `ab` and `ac`, so they share `ab`. The gate runs this case, for which
+//! crates/vectors_values/src/machines.rt makes the calls.
+//!
+//! ```text
+//! gs_ambig::check 0,2/97-97>1/98-98>2/ 0,2/97-97>1/98-99>2/
+//! 0 1 ab
+//! ```
+//!
+//! # Where it differs from the standards
+//!
+//! - No standard has this search. It stands for the care of whoever writes tables for GS1 EPC Tag Data Translation.
 #![tactic(auto)]
 
 mod bits;

@@ -1,7 +1,7 @@
-ghost use Rattle.std.specs.Prelude.{◌≡◌, ◌+◌, ◌*◌, ◌^◌, ◌<◌, ◌≤◌, ℕ, IfOk, IfSome, IfNone, IsTrue, ◌↔◌};
+ghost use Rattle.std.specs.Prelude.{◌≡◌, ◌+◌, ◌*◌, ◌^◌, ◌<◌, IfSome, IfNone, IsTrue, ◌↔◌};
 ghost use Rattle.gs_machine.specs.Machines.{states_of, accept_of};
 ghost use Rattle.gs_machine.specs.Walks.{edges_at};
-ghost use Rattle.gs_ambig.specs.Searches.{Leads, LeadsBehind, IsDead, IsDeadBehind, MarksDead};
+ghost use Rattle.gs_ambig.specs.Searches.{BothHave, HaveNoneInCommon, IfFound, IfNotFound, Leads, LeadsBehind, IsDead, IsDeadBehind, MarksDead};
 
 use crate::marks::Marks;
 use gs_chars::Memory;
@@ -20,8 +20,8 @@ fn pair_number(p: usize, q: usize, states: usize, others: usize) -> usize
 
 /// The least symbol that both edges have.
 fn common_symbol(edge: &Edge, other: &Edge) -> Option<u8>
-    ensures some { IfSome result (λ symbol. (edge.now.lo ≤ symbol) × (symbol ≤ edge.now.hi) × (other.now.lo ≤ symbol) × (symbol ≤ other.now.hi)) }
-    ensures none { IfNone result ((symbol : ℕ) → edge.now.lo ≤ symbol → symbol ≤ edge.now.hi → other.now.lo ≤ symbol → symbol ≤ other.now.hi → ⊥) }
+    ensures some { IfSome result (λ symbol. BothHave edge.now other.now symbol) }
+    ensures none { IfNone result (HaveNoneInCommon edge.now other.now) }
 {
     let symbol = edge.lo.max(other.lo);
     if symbol <= edge.hi && symbol <= other.hi {
@@ -53,8 +53,8 @@ pub fn search(
     requires second { q < states_of n.now }
     requires room { states_of m.now * states_of n.now < 2 ^ 64 }
     requires marked { MarksDead m.now n.now dead.old }
-    ensures found { IfOk result (λ found. IfSome found (λ word. Leads m.now n.now p q word.items)) }
-    ensures none { IfOk result (λ found. IfNone found (IsDead m.now n.now p q)) }
+    ensures found { IfFound result (λ word. Leads m.now n.now p q word.items) }
+    ensures none { IfNotFound result (IsDead m.now n.now p q) }
     ensures marks { MarksDead m.now n.now dead.new }
 {
     if are_accepting(m, n, p, q) {
@@ -92,8 +92,8 @@ pub fn search_behind(
     requires second { q < states_of n.now }
     requires room { states_of m.now * states_of n.now < 2 ^ 64 }
     requires marked { MarksDead m.now n.now dead.old }
-    ensures found { IfOk result (λ found. IfSome found (λ word. LeadsBehind m.now n.now edge.now q least word.items)) }
-    ensures none { IfOk result (λ found. IfNone found (IsDeadBehind m.now n.now edge.now (edges_at n.now.table q) least)) }
+    ensures found { IfFound result (λ word. LeadsBehind m.now n.now edge.now q least word.items) }
+    ensures none { IfNotFound result (IsDeadBehind m.now n.now edge.now (edges_at n.now.table q) least) }
     ensures marks { MarksDead m.now n.now dead.new }
 {
     let edges = n.edges(q);

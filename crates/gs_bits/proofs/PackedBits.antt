@@ -1,7 +1,9 @@
 -- Bits in bytes: where a number of some of them stands, and what a write changes.
 use Rattle.std.proofs.Common.{◌≡◌, ℕ, zero, suc, ◌+◌, ◌-◌, ◌*◌, ◌/◌, ◌%◌, ◌^◌, ◌<◌, ◌≤◌, List, [], ◌∷◌, ◌++◌, length, take, drop, slice_index, slice_set, refl, sym, ap, ap₂, ◌∙◌, arith, length-append, length-take-le}
 use Rattle.std.proofs.Math.Seq.{take-append-add, drop-append-add, take-add}
-use Rattle.std.proofs.lemmas.List.{append_assoc, drop-drop, drop-take, drop_at, take_all, take_at, take-take}
+use Rattle.std.proofs.lemmas.List.{append_assoc, append-nil, drop-drop, drop-take, drop_at, length-drop, length-take, take_all, take_at, take_more, take-take}
+use Rattle.std.proofs.lemmas.Slice.{take-put_mid}
+use borrow.Rule.Slice.PartMut.{put_mid}
 use Rattle.std.proofs.lemmas.Nat.{shr-shr, shr_high, shr_below, shr_split, shl_below, shl_whole, pow-add, pow_pos, mod_below, mul-add-lt}
 use Rattle.std.proofs.lemmas.List.Elements.{All-append, All-nil, All-take}
 use Rattle.gs_bits.specs.Bits.{AreBits, bits_of, number_of}
@@ -207,3 +209,40 @@ unfolding bits_of_bytes
 bits_of_bytes-append [] ys = refl
 bits_of_bytes-append (x ∷ xs) ys =
     ap (λ w. bits_of 8 x ++ w) (bits_of_bytes-append xs ys) ∙ sym (append_assoc (bits_of 8 x) (bits_of_bytes xs) (bits_of_bytes ys))
+
+-- the bits of one byte more, written behind those before
+pub spread_step : (place : ℕ) (bytes symbols one new : List ℕ) → place < length bytes → 8 * length bytes ≤ length symbols
+    → take (8 * place) symbols ≡ bits_of_bytes (take place bytes) → one ≡ bits_of 8 (slice_index bytes place)
+    → new ≡ put_mid (8 * place) 8 symbols one
+    → (length new ≡ length symbols) × (take (8 * (place + 1)) new ≡ bits_of_bytes (take (place + 1) bytes))
+unfolding bits_of_bytes
+spread_step place bytes symbols one new l room before is e =
+    let size : length one ≡ 8 = ap length is ∙ length-bits_of 8 (slice_index bytes place) in
+    let front : take (8 * (place + 1)) (put_mid (8 * place) 8 symbols one) ≡ take (8 * place) symbols ++ one = take-put_mid (8 * place) 8 symbols one (8 * (place + 1)) (omega arith) (omega arith) in
+    let more : take (place + 1) bytes ≡ take place bytes ++ slice_index bytes place ∷ [] = take_more bytes place 0 l in
+    let last : bits_of_bytes (slice_index bytes place ∷ []) ≡ one = append-nil (bits_of 8 (slice_index bytes place)) ∙ sym is in
+    let back : bits_of_bytes (take (place + 1) bytes) ≡ bits_of_bytes (take place bytes) ++ one =
+    ap bits_of_bytes more ∙ bits_of_bytes-append (take place bytes) (slice_index bytes place ∷ []) ∙ ap (λ w. bits_of_bytes (take place bytes) ++ w) last in
+    let count : length (put_mid (8 * place) 8 symbols one) ≡ length symbols =
+    let all = length-append (take (8 * place) symbols) (one ++ drop 8 (drop (8 * place) symbols)) in
+    let rest = length-append one (drop 8 (drop (8 * place) symbols)) in
+    let first = length-take-le (8 * place) symbols (omega arith) in
+    let left = length-drop 8 (drop (8 * place) symbols) in
+    let behind = length-drop (8 * place) symbols in
+    omega arith in
+    rw e (
+      count,
+      front ∙ ap (λ w. w ++ one) before ∙ sym back,
+    )
+
+pub spread_none : [] ≡ bits_of_bytes []
+unfolding bits_of_bytes
+spread_none = refl
+
+-- the bits of a buffer stand in front of those of its bytes
+pub front_spread : (len q : ℕ) (bytes symbols : List ℕ) → len ≤ 8 * length bytes → len ≤ 8 * q → take (8 * length (take q bytes)) symbols ≡ bits_of_bytes (take q bytes)
+    → take len symbols ≡ packed_bits len bytes
+front_spread len q bytes symbols l m e =
+    let count = length-take q bytes in
+    let small : len ≤ 8 * length (take q bytes) = grind arith in
+    sym (take-take len (8 * length (take q bytes)) symbols small) ∙ ap (take len) (e ∙ bits_of_front q bytes) ∙ take-take len (8 * q) (bits_of_bytes bytes) m

@@ -1,5 +1,5 @@
 -- Hexadecimal texts, four bits to a digit.
-use Rattle.std.specs.Prelude.{◌≡◌, ℕ, ◌<◌, Bool, List, [], ◌∷◌, ◌++◌, length, take, slice_index, None, is_some, unwrap_or}
+use Rattle.std.specs.Prelude.{◌≡◌, ℕ, ◌*◌, ◌%◌, ◌<◌, ◌≤◌, Bool, List, [], ◌∷◌, ◌++◌, length, take, slice_index, None, is_some, unwrap_or}
 use Rattle.std.specs.List.{AllPass}
 use Rattle.gs_chars.specs.Escapes.{hex_value, hex_digit}
 use Rattle.gs_bits.specs.Bits.{bits_of, number_of}
@@ -27,3 +27,11 @@ pub record FirstBadDigit (text : List ℕ) (place : ℕ) : Type 0 where
   pub within : place < length text
   pub bad : hex_value (slice_index text place) ≡ None
   pub digits_before : AllPass is_hex_digit (take place text)
+
+-- the text is as long as that of whole bytes, of which there are more than so many
+abbrev pub NeedsMoreThan : ℕ → List ℕ → Type 0
+NeedsMoreThan most text = (length text % 2 ≡ 0) × (2 * most < length text)
+
+-- the text is as long as that of at most so many whole bytes, and its first byte that is no digit stands at this place
+abbrev pub HasBadDigitWithin : ℕ → List ℕ → ℕ → Type 0
+HasBadDigitWithin most text place = (length text % 2 ≡ 0) × (length text ≤ 2 * most) × FirstBadDigit text place

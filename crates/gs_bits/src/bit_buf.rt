@@ -1,12 +1,13 @@
 ghost use Rattle.std.specs.Prelude.{◌≡◌, ℕ, ◌+◌, ◌*◌, ◌%◌, ◌^◌, ◌≤◌, ◌<◌, ◌↔◌, List, [], ◌++◌, length, take, drop, slice_index, IsTrue, IsOk, IsErr, IfOk, OnOk, OnErr, Ok, Err};
 ghost use Rattle.std.specs.List.{AllPass};
 ghost use Rattle.gs_bits.specs.Bits.{AreBits, bits_of, number_of};
-ghost use Rattle.gs_bits.specs.HexText.{FirstBadDigit, bits_of_hex, hex_of_bits, is_hex_digit};
+ghost use Rattle.gs_bits.specs.HexText.{HasBadDigitWithin, NeedsMoreThan, bits_of_hex, hex_of_bits, is_hex_digit};
 
 use crate::cursor::Cursor;
 use crate::faults::{Full, HexFault};
 use crate::hex_text::{decode, encode};
 use crate::packed::{number_in, write_behind};
+use crate::spread::spread;
 use gs_chars::{Memory, Text};
 use std::alloc::Global;
 use std::marker::Model;
@@ -30,7 +31,7 @@ impl<const N: usize> Model for BitBuf<N> {
 }
 
 impl<const N: usize> BitBuf<N> {
-    /// A buffer of no bits.
+    /// A buffer of no bits. N is at most 64.
     pub fn new() -> BitBuf<N>
         requires { N ≤ 64 }
         ensures { result ≡ [] }
@@ -51,12 +52,23 @@ impl<const N: usize> BitBuf<N> {
         self.len
     }
 
-    /// Whether bit i, counted from 0, is 1.
+    /// Whether bit i, counted from 0, is 1. i is below the number of bits.
     pub fn get(&self, i: usize) -> bool
         requires { i < length self.now }
         ensures { IsTrue result ↔ (slice_index self.now i ≡ 1) }
     {
         self.number_at(i, 1) == 1
+    }
+
+    /// Writes the bits to the front of the symbols, one to a symbol, and gives their number.
+    pub fn unpack(&self, symbols: &mut [u8]) -> usize
+        requires { 8 * N ≤ length symbols.old }
+        ensures count { result ≡ length self.now }
+        ensures same { length symbols.new ≡ length symbols.old }
+        ensures written { take result symbols.new ≡ self.now }
+    {
+        spread(&self.bytes[..(self.len + 7) / 8], symbols);
+        self.len
     }
 
     /// The number of the n bits from a place on, the highest first.
@@ -68,8 +80,8 @@ impl<const N: usize> BitBuf<N> {
         number_in(&self.bytes, from, n)
     }
 
-    /// Appends the n bits of a number, the highest first. `Full` comes exactly where they have no room, and then nothing
-    /// is changed.
+    /// Appends the n bits of a number, the highest first. `Full` comes exactly where they have no room, and then nothing is
+    /// changed. n is at most 64, and the number is below 2^n.
     pub fn push_bits(&mut self, value: u64, n: u32) -> Result<(), Full>
         requires width { n ≤ 64 }
         requires fits { value < 2 ^ n }
@@ -93,12 +105,12 @@ impl<const N: usize> BitBuf<N> {
     }
 
     /// The bits of a text of hexadecimal digits of either case, four to a digit. The faults are tried in this order: an odd
-    /// number of bytes, more than 2N bytes, the first byte that is no digit.
+    /// number of bytes, more than 2N bytes, the first byte that is no digit. N is at most 64.
     pub fn from_hex(text: &[u8]) -> Result<BitBuf<N>, HexFault>
         requires { N ≤ 64 }
         ensures odd { (result ≡ Err (HexFault.OddDigits)) ↔ (length text.now % 2 ≡ 1) }
-        ensures full { (result ≡ Err (HexFault.Full)) ↔ ((length text.now % 2 ≡ 0) × (2 * N < length text.now)) }
-        ensures bad { (place : ℕ) → (result ≡ Err (HexFault.BadDigit place)) ↔ ((length text.now % 2 ≡ 0) × (length text.now ≤ 2 * N) × FirstBadDigit text.now place) }
+        ensures full { (result ≡ Err (HexFault.Full)) ↔ NeedsMoreThan N text.now }
+        ensures bad { (i : ℕ) → (result ≡ Err (HexFault.BadDigit i)) ↔ HasBadDigitWithin N text.now i }
         ensures digits { IsOk result → AllPass is_hex_digit text.now }
         ensures bits { IfOk result (λ buf. buf ≡ bits_of_hex text.now) }
     {
@@ -118,7 +130,8 @@ impl<const N: usize> BitBuf<N> {
         })
     }
 
-    /// The upper-case hexadecimal digits of the bits, four to a digit. The one refusal is want of memory.
+    /// The upper-case hexadecimal digits of the bits, four to a digit. The one refusal is want of memory. The bits make whole
+    /// bytes.
     pub fn to_hex(&self, alloc: Global) -> Result<Text, Memory>
         requires { length self.now % 8 ≡ 0 }
         ensures { IfOk result (λ text. text ≡ hex_of_bits self.now) }

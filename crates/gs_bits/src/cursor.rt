@@ -43,8 +43,8 @@ impl<'a, const N: usize> Cursor<'a, N> {
         self.len - self.at
     }
 
-    /// The number of the next n bits, the highest first. `Short` comes exactly where fewer are left, and then the cursor
-    /// stays where it is.
+    /// The number of the next n bits, the highest first. `Short` comes exactly where fewer are left, and then the cursor stays
+    /// where it is. n is at most 64.
     pub fn take(&mut self, n: u32) -> Result<u64, Short>
         requires { n ≤ 64 }
         ensures short { IsErr result ↔ (length self.old < n) }

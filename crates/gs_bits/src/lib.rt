@@ -1,4 +1,22 @@
 //! Lists of bits in a fixed array, read by a cursor, and their hexadecimal texts.
+//!
+//! - `BitBuf` takes bits at its end, and is made of and written as hexadecimal digits, the highest bit first.
+//! - `Cursor` takes numbers of so many bits from the front.
+//!
+//! # Example
+//!
+//! The header, filter value, partition value and further fields of an SGTIN-96 are taken, and then one bit more than it has.
+//! The gate runs this case, for which crates/vectors_values/src/bits.rt makes the calls.
+//!
+//! ```text
+//! gs_bits::take 12 3074257BF7194E4000001A85 8 3 3 24 20 38 1 0
+//! 48 3 5 614141 812345 6789 Short 0 left 0
+//! ```
+//!
+//! # Where it differs from the standard
+//!
+//! - GS1 EPC Tag Data Standard gives a tag's bits as hexadecimal digits; here they are an even number of digits, in either case
+//!   where they are read, and in upper case where they are written.
 #![tactic(auto)]
 
 mod bit_buf;
@@ -7,6 +25,7 @@ mod faults;
 mod hex_text;
 mod laws;
 mod packed;
+mod spread;
 
 pub use bit_buf::BitBuf;
 pub use cursor::Cursor;

@@ -1,6 +1,6 @@
 ghost use Rattle.std.specs.Prelude.{◌≡◌, ◌+◌, ◌-◌, ◌*◌, ◌/◌, ◌%◌, ◌^◌, ◌≤◌, ◌<◌, ◌++◌, length, take, drop};
 ghost use Rattle.gs_bits.specs.Bits.{bits_of, number_of};
-ghost use Rattle.gs_bits.specs.Packed.{bits_of_bytes};
+ghost use Rattle.gs_bits.specs.Packed.{bits_of_bytes, packed_bits};
 
 /// The number of the n bits from a place on in some bytes, taken a byte at a time.
 pub(crate) fn number_in(bytes: &[u8], from: usize, n: u32) -> u64
@@ -28,7 +28,7 @@ pub(crate) fn write_behind(bytes: &mut [u8], len: usize, value: u64, n: u32)
     requires width { n ≤ 64 }
     requires small { length bytes.old ≤ 64 }
     requires within { len + n ≤ 8 * length bytes.old }
-    ensures { take (len + n) (bits_of_bytes bytes.new) ≡ take len (bits_of_bytes bytes.old) ++ bits_of n value }
+    ensures { packed_bits (len + n) bytes.new ≡ packed_bits len bytes.old ++ bits_of n value }
 {
     let mut at = len;
     let mut left = n;

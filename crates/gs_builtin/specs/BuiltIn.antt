@@ -1,6 +1,6 @@
 -- The built-in rows. The application identifiers are those of GS1 General Specifications, section 3; kinds, encodings and
 -- the partition table those of TDS 2.0, sections 6.3, 14.2 and 14.6. The choice of rows is this project's own.
-use Rattle.std.specs.Prelude.{ℕ, ◌-◌, ◌^◌, ◌==◌, nat_le, Bool, true, false, if◌then◌else◌, List, [], ◌∷◌, ◌++◌, map, codes, replicate, Option, Some, None, option_map, option_to_list}
+use Rattle.std.specs.Prelude.{◌≡◌, ℕ, ◌-◌, ◌^◌, ◌==◌, nat_le, Bool, true, false, if◌then◌else◌, List, [], ◌∷◌, ◌++◌, map, codes, replicate, Option, Some, None, option_map, option_to_list}
 use Rattle.std.specs.List.{flat_map, list_all}
 use Rattle.gs_ai.specs.declared.part.Part.{Part}
 use Rattle.gs_ai.specs.declared.part.Part.TheVariants as part
@@ -20,6 +20,10 @@ use Rattle.gs_builtin.specs.declared.encoding.RestForm.TheVariants.{Digits, Numb
 use Rattle.gs_document.specs.declared.field.Field.{Field}
 use Rattle.gs_document.specs.declared.field.Field.TheVariants.{Filter, Gcp, Rest, Serial}
 use Rattle.gs_document.specs.Items.{FieldItem}
+
+-- the list, told by the old and the new one, has gained this row at its end
+abbrev pub Gains : {X : Type 0} → List X → List X → X → Type 0
+Gains old new row = new ≡ old ++ row ∷ []
 
 -- ---- application identifiers
 
@@ -255,9 +259,13 @@ pure_items k p =
     (None, Lit (codes "urn:epc:id:" ++ k.name ++ codes ":")) ∷ (Some Gcp, Pad p.digits)
     ∷ behind_prefix (in_text_too (rest_in_bits k.rest p.digits 0)) k.serial
 
+-- the row of an option of a partition, with its kind, its encoding, and its items as a document has them
+abbrev pub row_with : List ℕ → List ℕ → Partition → List (Option FieldItem) → OptionRow
+row_with kind encoding p items = record { kind = kind; encoding = encoding; gcp = p.digits; items = items }
+
 -- an option of a kind and an encoding for a length of the prefix
 abbrev pub option_row : List ℕ → List ℕ → Partition → List FieldItem → OptionRow
-option_row kind encoding p items = record { kind = kind; encoding = encoding; gcp = p.digits; items = map there items }
+option_row kind encoding p items = row_with kind encoding p (map there items)
 
 -- the option of tag bits of an encoding for a length of the prefix
 abbrev pub binary_row : Encoding → Partition → OptionRow

@@ -1,5 +1,5 @@
-ghost use Rattle.std.specs.Prelude.{◌≡◌, ◌∷◌, ◌++◌, [], IfOk, OnOk};
-ghost use Rattle.gs_builtin.specs.BuiltIn.{additional_ais, agreed_ais, asset_ais, attribute, builtin_ais, company_ais, date_ais, item_ais, key, location_ais, party_ais, qualifier, shipment_ais, variant_ais, weight_ais};
+ghost use Rattle.std.specs.Prelude.{◌≡◌, ◌++◌, IfOk, OnOk};
+ghost use Rattle.gs_builtin.specs.BuiltIn.{Gains, additional_ais, agreed_ais, asset_ais, attribute, builtin_ais, company_ais, date_ais, item_ais, key, location_ais, party_ais, qualifier, shipment_ais, variant_ais, weight_ais};
 
 use gs_ai::Part::{Date, Num, NumCheck, NumUpTo, Set, SetOpt, Zero};
 use gs_ai::{AiRow, Part, Role};
@@ -13,7 +13,7 @@ fn push_attribute(
     code: &[u8],
     part: Part,
 ) -> Result<(), Memory>
-    ensures { OnOk result (rows.new.items ≡ rows.old.items ++ attribute code.now part ∷ []) }
+    ensures { OnOk result (Gains rows.old.items rows.new.items (attribute code.now part)) }
 {
     let row = AiRow {
         code: Text::from_bytes(alloc, code)?,
@@ -35,7 +35,7 @@ fn push_qualifier(
     part: Part,
     none: &[u8],
 ) -> Result<(), Memory>
-    ensures { OnOk result (rows.new.items ≡ rows.old.items ++ qualifier code.now part none.now ∷ []) }
+    ensures { OnOk result (Gains rows.old.items rows.new.items (qualifier code.now part none.now)) }
 {
     let row = AiRow {
         code: Text::from_bytes(alloc, code)?,
@@ -58,7 +58,7 @@ fn push_key(
     qualifiers: List<Text>,
     short: bool,
 ) -> Result<(), Memory>
-    ensures { OnOk result (rows.new.items ≡ rows.old.items ++ key code.now parts.now qualifiers short ∷ []) }
+    ensures { OnOk result (Gains rows.old.items rows.new.items (key code.now parts.now qualifiers short)) }
 {
     let row = AiRow {
         code: Text::from_bytes(alloc, code)?,

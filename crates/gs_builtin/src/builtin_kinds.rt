@@ -1,5 +1,5 @@
-ghost use Rattle.std.specs.Prelude.{◌≡◌, ◌∷◌, ◌++◌, [], IfOk, OnOk};
-ghost use Rattle.gs_builtin.specs.BuiltIn.{builtin_kinds, kind};
+ghost use Rattle.std.specs.Prelude.{◌≡◌, IfOk, OnOk};
+ghost use Rattle.gs_builtin.specs.BuiltIn.{Gains, builtin_kinds, kind};
 
 use gs_chars::{List, Memory, Text};
 use gs_document::KindRow;
@@ -14,7 +14,7 @@ fn push(
     lead: u64,
     serial: &[u8],
 ) -> Result<(), Memory>
-    ensures { OnOk result (rows.new.items ≡ rows.old.items ++ kind name.now key.now lead serial.now ∷ []) }
+    ensures { OnOk result (Gains rows.old.items rows.new.items (kind name.now key.now lead serial.now)) }
 {
     let row = KindRow {
         name: Text::from_bytes(alloc, name)?,

@@ -1,6 +1,6 @@
 ghost use Rattle.std.specs.Prelude.{◌≡◌, ◌∷◌, ◌++◌, [], IfOk, IsTrue, OnOk, List, map};
 ghost use Rattle.std.specs.List.{flat_map, list_all};
-ghost use Rattle.gs_builtin.specs.BuiltIn.{binary_rows, rests_fit, option_row, pure_rows, tag_rows};
+ghost use Rattle.gs_builtin.specs.BuiltIn.{Gains, binary_rows, rests_fit, option_row, pure_rows, row_with, tag_rows};
 
 use crate::builtin_encodings::PARTITIONS;
 use crate::builtin_items::{binary_items, pure_items, tag_items};
@@ -18,8 +18,8 @@ fn push(
     partition: Partition,
     items: List<Option<FieldItem>>,
 ) -> Result<(), Memory>
-    ensures { OnOk result (rows.new.items ≡ rows.old.items
-        ++ (record { kind = kind.now; encoding = encoding.now; gcp = partition.digits; items = items }) ∷ []) }
+    ensures { OnOk result (Gains rows.old.items rows.new.items
+        (row_with kind.now encoding.now partition items)) }
 {
     let row = OptionRow {
         kind: Text::from_bytes(alloc, kind)?,

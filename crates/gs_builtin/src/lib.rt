@@ -1,4 +1,22 @@
 //! The built-in rows: the application identifiers, the kinds, and the options of each encoding.
+//!
+//! - `builtin_document` gives them as one document, as if it had been read.
+//!
+//! # Example
+//!
+//! The numbers of the application identifiers, kinds, and options of tag bits, of tag URIs and of pure identity URIs, when
+//! gs_tables has judged them. The gate runs this case, for which crates/vectors_texts/src/tables.rt makes the call.
+//!
+//! ```text
+//! gs_tables::builtin
+//! 55 7 84 84 49
+//! ```
+//!
+//! # Where it differs from the standard
+//!
+//! - Of GS1 EPC Tag Data Standard 2.0 it has the encodings of seven kinds for company prefixes of 6 to 12 digits, and none of
+//!   those that carry a whole element string.
+//! - Of the GS1 General Specifications it has the application identifiers that are met most; tables/gs1.json has more.
 #![tactic(auto)]
 
 mod builtin_ais;

@@ -15,6 +15,10 @@ set82 = codes "!\"%&'()*+,-./0123456789:;<=>?ABCDEFGHIJKLMNOPQRSTUVWXYZ_abcdefgh
 unfoldable pub is_in_set82 : ℕ → Bool
 is_in_set82 c = list_any (λ x. x == c) set82
 
+-- a visible character of ISO 646: a byte from 33 to 126
+abbrev pub is_visible : ℕ → Bool
+is_visible c = nat_le 33 c && nat_le c 126
+
 -- each byte is a digit
 abbrev pub are_digits : List ℕ → Bool
 are_digits text = list_all is_digit text

@@ -1,5 +1,6 @@
 -- Check digits: GS1 General Specifications, section 7.9.
-use Rattle.std.specs.Prelude.{◌≡◌, ℕ, ◌+◌, ◌-◌, ◌*◌, ◌%◌, ◌==◌, if◌then◌else◌, List, [], ◌∷◌, length}
+use Rattle.std.specs.Prelude.{◌≡◌, ℕ, ◌+◌, ◌-◌, ◌*◌, ◌%◌, ◌==◌, if◌then◌else◌, IsTrue, List, [], ◌∷◌, length}
+use Rattle.gs_chars.specs.Characters.{is_digit}
 
 -- the weight of a digit that has this many digits between it and the check digit
 abbrev pub weight_of : ℕ → ℕ
@@ -17,3 +18,7 @@ check_digit_of digits = 48 + (10 - weighted_sum digits % 10) % 10
 -- the weighted sum and the value of a check digit, which is a byte, are a multiple of 10
 abbrev pub IsCheckedBy : List ℕ → ℕ → Type 0
 IsCheckedBy digits check = (weighted_sum digits + (check - 48)) % 10 ≡ 0
+
+-- no digit but the check digit is one by which digits are checked
+abbrev pub NoOtherDigitChecks : Type 0
+NoOtherDigitChecks = (digits : List ℕ) (check : ℕ) → IsTrue (is_digit check) → IsCheckedBy digits check → check ≡ check_digit_of digits

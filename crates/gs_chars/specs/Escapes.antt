@@ -1,5 +1,5 @@
 -- How the 82 characters are spelled in EPC URIs: TDS 2.0, sections 6.3.1 and 7.1, and table A.
-use Rattle.std.specs.Prelude.{◌≡◌, ℕ, ◌+◌, ◌-◌, ◌/◌, ◌%◌, ◌≤◌, ◌==◌, ◌&&◌, ◌⊎◌, nat_lt, nat_le, not, Bool, true, if◌then◌else◌, List, [], ◌∷◌, Option, Some, None, codes, length, take}
+use Rattle.std.specs.Prelude.{◌≡◌, ℕ, ◌+◌, ◌-◌, ◌/◌, ◌%◌, ◌≤◌, ◌==◌, ◌&&◌, ◌⊎◌, nat_lt, nat_le, not, Bool, true, if◌then◌else◌, IsTrue, List, [], ◌∷◌, ◌++◌, Option, Some, None, codes, length, take}
 use Rattle.std.specs.List.{list_any}
 use Rattle.gs_chars.specs.Characters.{is_digit, is_in_set82}
 
@@ -44,3 +44,18 @@ written_spelling c = if is_escaped c then 37 ∷ hex_digit (c / 16) ∷ hex_digi
 pub record BeginsWithSpelling (text : List ℕ) (c len : ℕ) : Type 0 where
   pub within : len ≤ length text
   pub spelled : Spells c (take len text)
+
+-- ---- laws of spellings
+
+-- a text that goes on after the written spelling of a character of the 82 begins with this spelling of it
+abbrev pub WrittenSpellingIsRead : Type 0
+WrittenSpellingIsRead = (c : ℕ) (rest : List ℕ) → IsTrue (is_in_set82 c) → BeginsWithSpelling (written_spelling c ++ rest) c (length (written_spelling c))
+
+-- such a text begins with a spelling of no other character, and with none of another length
+abbrev pub NoOtherSpellingIsRead : Type 0
+NoOtherSpellingIsRead =
+    (c d len : ℕ) (rest : List ℕ) → IsTrue (is_in_set82 c) → BeginsWithSpelling (written_spelling c ++ rest) d len → (d ≡ c) × (len ≡ length (written_spelling c))
+
+-- two texts that begin with spellings, and are one text, begin with one spelling of one character
+abbrev pub NoSpellingBeginsAnother : Type 0
+NoSpellingBeginsAnother = (c d : ℕ) (w v x y : List ℕ) → Spells c w → Spells d v → w ++ x ≡ v ++ y → (c ≡ d) × (w ≡ v)

@@ -8,6 +8,8 @@ pub enum CharSet {
     Digits,
     /// The 82 characters of GS1 General Specifications, figure 7.11-1.
     Set82,
+    /// The visible characters of ISO 646.
+    Visible,
 }
 
 impl CharSet {
@@ -21,6 +23,7 @@ impl CharSet {
             CharSet::Set82 => {
                 matches!(c, b'!' | b'"' | b'%'..=b'?' | b'A'..=b'Z' | b'_' | b'a'..=b'z')
             }
+            CharSet::Visible => c.is_ascii_graphic(),
         }
     }
 }

@@ -1,6 +1,6 @@
 ghost use Rattle.std.specs.Prelude.{◌≡◌, ℕ, ◌<◌, ◌≤◌, IsTrue, List, length};
 ghost use Rattle.gs_chars.specs.Characters.{are_digits, is_digit};
-ghost use Rattle.gs_chars.specs.CheckDigits.{IsCheckedBy, check_digit_of};
+ghost use Rattle.gs_chars.specs.CheckDigits.{IsCheckedBy, NoOtherDigitChecks, check_digit_of};
 
 /// The byte of the check digit of 1 to 18 digits: it brings their sum, weighted by 3, 1, 3, 1 and so on from the last
 /// digit towards the first, to a multiple of 10 (GS1 General Specifications, section 7.9).
@@ -24,5 +24,5 @@ pub fn check_digit(digits: &[u8]) -> u8
 pub fn check_digit_completes_the_sum()
     ensures digit { (digits : List ℕ) → IsTrue (is_digit (check_digit_of digits)) }
     ensures completes { (digits : List ℕ) → IsCheckedBy digits (check_digit_of digits) }
-    ensures alone { (digits : List ℕ) (check : ℕ) → IsTrue (is_digit check) → IsCheckedBy digits check → check ≡ check_digit_of digits }
+    ensures alone { NoOtherDigitChecks }
 {}

@@ -1,5 +1,5 @@
-ghost use Rattle.std.specs.Prelude.{◌≡◌, ◌<◌, ℕ, ◌++◌, drop, length, IfSome, IfNone, IsTrue, List};
-ghost use Rattle.gs_chars.specs.Escapes.{is_escaped, is_plain, hex_digit, hex_value, written_spelling, BeginsWithSpelling, Spells};
+ghost use Rattle.std.specs.Prelude.{◌≡◌, ◌<◌, ℕ, ◌++◌, drop, length, IfSome, IfNone, IsTrue};
+ghost use Rattle.gs_chars.specs.Escapes.{is_escaped, is_plain, hex_digit, hex_value, written_spelling, BeginsWithSpelling, NoOtherSpellingIsRead, NoSpellingBeginsAnother, WrittenSpellingIsRead};
 ghost use Rattle.gs_chars.specs.Characters.{is_in_set82};
 
 use crate::char_set::CharSet;
@@ -63,8 +63,8 @@ fn upper_digit(n: u8) -> u8
     if n < 10 { b'0' + n } else { b'A' + (n - 10) }
 }
 
-/// Writes the one spelling of a character of the 82 with upper-case letters (TDS 2.0, sections 6.3.1 and 7.1), and
-/// answers its number of bytes. The bytes behind it stay as they were.
+/// Writes the one spelling of a character of the 82 with upper-case letters (TDS 2.0, sections 6.3.1 and 7.1), and answers its
+/// number of bytes. The bytes behind it stay as they were. The character is one of the 82.
 pub fn write_escape(c: u8, out: &mut [u8; 3]) -> usize
     requires { IsTrue (is_in_set82 c) }
     ensures len { result ≡ length (written_spelling c) }
@@ -82,11 +82,11 @@ pub fn write_escape(c: u8, out: &mut [u8; 3]) -> usize
 /// A text that goes on after the written spelling of a character is read as that character, with that many bytes, and
 /// as no other.
 pub fn written_spelling_is_read()
-    ensures read { (c : ℕ) (rest : List ℕ) → IsTrue (is_in_set82 c) → BeginsWithSpelling (written_spelling c ++ rest) c (length (written_spelling c)) }
-    ensures alone { (c d len : ℕ) (rest : List ℕ) → IsTrue (is_in_set82 c) → BeginsWithSpelling (written_spelling c ++ rest) d len → (d ≡ c) × (len ≡ length (written_spelling c)) }
+    ensures read { WrittenSpellingIsRead }
+    ensures alone { NoOtherSpellingIsRead }
 {}
 
 /// No spelling begins another: two texts that begin alike begin with one spelling of one character.
 pub fn no_spelling_begins_another()
-    ensures { (c d : ℕ) (w v x y : List ℕ) → Spells c w → Spells d v → w ++ x ≡ v ++ y → (c ≡ d) × (w ≡ v) }
+    ensures { NoSpellingBeginsAnother }
 {}

@@ -1,4 +1,22 @@
 //! Characters, texts, check digits and escapes: what every other crate stands on.
+//!
+//! - `CharSet` is the digits, or the 82 characters of GS1 General Specifications, figure 7.11-1.
+//! - `check_digit` gives the check digit of digits; `read_escape` and `write_escape` the escape of a character in a URI.
+//! - `Text` holds bytes, `List` holds values, and `Memory` says that memory ran out.
+//!
+//! # Example
+//!
+//! The check digit of a GTIN-13 without its last digit. The gate runs this case, for which
+//! crates/vectors_values/src/characters.rt makes the call.
+//!
+//! ```text
+//! gs_chars::check_digit 629104150021
+//! 3
+//! ```
+//!
+//! # Where it differs from the standards
+//!
+//! - The letters of an escape are read in either case and written in upper case (RFC 3986, 2.1).
 #![tactic(auto)]
 
 mod char_set;

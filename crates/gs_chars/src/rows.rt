@@ -21,7 +21,7 @@ impl<const N: usize> Model for Rows<N> {
 }
 
 impl<const N: usize> Rows<N> {
-    /// The rows of these keys, and `None` exactly where the keys do not ascend strictly.
+    /// The rows of these keys, and `None` exactly where the keys do not ascend strictly. There are at most 64.
     pub fn new(keys: [u32; N]) -> Option<Rows<N>>
         requires { N ≤ 64 }
         ensures ascending { IfSome result (λ rows. (rows ≡ keys.entry)

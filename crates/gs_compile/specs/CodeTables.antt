@@ -13,12 +13,17 @@ abbrev pub leaf_edges : ℕ → ℕ → List Edge
 leaf_edges front next =
     edge_where (is_in_set82 (front + front)) 0 next ++ edge_where (is_in_set82 (front + front + 1)) 1 next
 
+-- the edges of a bit of a code, where so many more bits follow this one: a zero leads to the next state, and a one to the state
+-- behind those of the zero
+abbrev pub bit_edges : ℕ → ℕ → List Edge
+bit_edges more base = edge 0 0 (base + 1) ∷ edge 1 1 (base + 2 ^ more) ∷ []
+
 -- the states of so many bits of a code, whose bits before them write this number
 abbrev pub trie_table : ℕ → ℕ → ℕ → ℕ → List (List Edge)
 trie_table zero front base next = []
 trie_table (suc zero) front base next = leaf_edges front next ∷ []
 trie_table (suc (suc n)) front base next =
-    (edge 0 0 (base + 1) ∷ edge 1 1 (base + 2 ^ suc n) ∷ []) ∷ (trie_table (suc n) (front + front) (base + 1) next ++ trie_table (suc n) (front + front + 1) (base + 2 ^ suc n) next)
+    bit_edges (suc n) base ∷ (trie_table (suc n) (front + front) (base + 1) next ++ trie_table (suc n) (front + front + 1) (base + 2 ^ suc n) next)
 
 -- the edges of the first bit of a character, where so many bits are left: to the rest of the code, and, where no more
 -- characters need come, to the zeros

@@ -29,8 +29,25 @@ last_or_next lo (suc more) ranges next end =
     if nat_le lo 1 then with_ranges ranges end ++ with_ranges ranges next
     else with_ranges ranges next
 
--- the states of at most so many characters, four to a character: its first symbol, the percent sign's first digit, and the second digits behind 2 and behind 3
+-- the edges in front of a character: with each that is spelled as itself, and with the percent sign to the state behind this one
+abbrev pub front_edges : ℕ → ℕ → ℕ → ℕ → ℕ → List Edge
+front_edges lo more base next end = last_or_next lo more plain_ranges next end ++ edge 37 37 (base + 1) ∷ []
+
+-- the edges behind the percent sign: with 2 and with 3, to the two states behind this one
+abbrev pub percent_edges : ℕ → List Edge
+percent_edges base = edge 50 50 (base + 2) ∷ edge 51 51 (base + 3) ∷ []
+
+-- four states, by the edges that leave each
+abbrev pub four_states : List Edge → List Edge → List Edge → List Edge → List (List Edge)
+four_states first second third fourth = first ∷ second ∷ third ∷ fourth ∷ []
+
+-- the states of a character: in front of it, behind the percent sign, and behind the digits 2 and 3
+abbrev pub character_states : ℕ → ℕ → ℕ → ℕ → List (List Edge)
+character_states lo more base end =
+    four_states (front_edges lo more base (base + 4) end) (percent_edges base) (last_or_next lo more two_ranges (base + 4) end) (last_or_next lo more three_ranges (base + 4) end)
+
+-- the states of at most so many characters, four to a character
 abbrev pub esc_table : ℕ → ℕ → ℕ → ℕ → List (List Edge)
 esc_table lo zero base end = []
 esc_table lo (suc more) base end =
-    (last_or_next lo more plain_ranges (base + 4) end ++ edge 37 37 (base + 1) ∷ []) ∷ (edge 50 50 (base + 2) ∷ edge 51 51 (base + 3) ∷ []) ∷ last_or_next lo more two_ranges (base + 4) end ∷ last_or_next lo more three_ranges (base + 4) end ∷ esc_table (lo - 1) more (base + 4) end
+    character_states lo more base end ++ esc_table (lo - 1) more (base + 4) end

@@ -1,6 +1,6 @@
 -- The states of decimal texts up to a greatest number, without leading zeros. So many digits may follow at most; at the states
 -- of the first kind the digits so far are those of the greatest, at those of the second any digits may follow.
-use Rattle.std.specs.Prelude.{ℕ, ◌+◌, ◌-◌, ◌/◌, ◌%◌, ◌^◌, List, [], ◌∷◌, ◌++◌, zero, suc}
+use Rattle.std.specs.Prelude.{◌≡◌, ℕ, ◌+◌, ◌-◌, ◌/◌, ◌%◌, ◌^◌, List, [], ◌∷◌, ◌++◌, decimal, length, zero, suc}
 use Rattle.gs_machine.specs.declared.edge.Edge.{Edge}
 use Rattle.gs_compile.specs.Tables.{edge}
 
@@ -26,12 +26,20 @@ tight_edges low zero digit next end = edge 48 (48 + digit) end ∷ []
 tight_edges low (suc n) digit next end =
     edge low (47 + digit) (end - suc n) ∷ edge (48 + digit) (48 + digit) next ∷ edge (above_digit n digit) 57 (end - n) ∷ edge 48 57 end ∷ []
 
+-- the edges of such a state, whose next state is the one behind it
+abbrev pub tight_state : ℕ → ℕ → ℕ → ℕ → ℕ → List Edge
+tight_state low n digit base end = tight_edges low n digit (base + 1) end
+
 -- the states with the digits of the greatest so far, one for each digit that is left
 abbrev pub tight_table : ℕ → ℕ → ℕ → ℕ → List (List Edge)
 tight_table zero rest base end = []
-tight_table (suc n) rest base end = tight_edges 48 n (rest / 10 ^ n) (base + 1) end ∷ tight_table n (rest % 10 ^ n) (base + 1) end
+tight_table (suc n) rest base end = tight_state 48 n (rest / 10 ^ n) base end ∷ tight_table n (rest % 10 ^ n) (base + 1) end
 
 -- a decimal text up to the greatest, whose first digit n digits follow
 abbrev pub numeral_table : ℕ → ℕ → ℕ → List (List Edge)
 numeral_table n greatest base =
-    tight_edges 49 n (greatest / 10 ^ n) (base + 1) (base + 1 + n + n) ∷ (tight_table n (greatest % 10 ^ n) (base + 1) (base + 1 + n + n) ++ free_table n (base + 1 + n))
+    tight_state 49 n (greatest / 10 ^ n) base (base + 1 + n + n) ∷ (tight_table n (greatest % 10 ^ n) (base + 1) (base + 1 + n + n) ++ free_table n (base + 1 + n))
+
+-- the second table is the first, and behind it the states of a decimal text up to the greatest
+abbrev pub AddsNumeral : ℕ → List (List Edge) → List (List Edge) → Type 0
+AddsNumeral greatest table new = (n : ℕ) → n + 1 ≡ length (decimal greatest) → new ≡ table ++ numeral_table n greatest (length table)

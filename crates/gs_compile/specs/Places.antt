@@ -3,7 +3,8 @@ use Rattle.std.specs.Prelude.{◌≡◌, ◌==◌, ℕ, ◌+◌, Bool, if◌then
 use Rattle.std.specs.List.{list_any}
 use Rattle.gs_grammar.specs.declared.item.Item.{Item}
 use Rattle.gs_grammar.specs.Derivations.{Derives}
-use Rattle.gs_machine.specs.Machines.{AutoForm, start_of, Accepts}
+use Rattle.gs_machine.specs.Machines.{AutoForm, IsMachine, start_of, Accepts}
+use Rattle.gs_compile.specs.Readers.{ReadsItems}
 
 -- a place, and the place after each of the words
 abbrev pub cuts_from : ℕ → List (List ℕ) → List ℕ
@@ -48,3 +49,7 @@ pub record CutsAreThoseOfDerivations (form : AutoForm) (items : List Item) : Typ
   pub run : (symbols : List ℕ) (values words : List (List ℕ)) → Derives items symbols values words → RunOf form symbols words
   pub only : (symbols run other : List ℕ) → Accepts form run symbols → Accepts form other symbols → run_cuts form run ≡ run_cuts form other → run ≡ other
   pub derivation : (symbols run : List ℕ) → Accepts form run symbols → DerivationOf form items symbols run
+
+-- of each machine that reads the items one by one, the cuts of its accepting runs are those of the derivations by the items
+abbrev pub RunsAreDerivations : Type 0
+RunsAreDerivations = (form : AutoForm) (items : List Item) → IsMachine form → ReadsItems form items → CutsAreThoseOfDerivations form items

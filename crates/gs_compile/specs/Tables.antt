@@ -16,11 +16,15 @@ abbrev pub run_table : ℕ → ℕ → ℕ → ℕ → List (List Edge)
 run_table lo hi zero base = []
 run_table lo hi (suc n) base = (edge lo hi (base + 1) ∷ []) ∷ run_table lo hi n (base + 1)
 
+-- the edges of a state from which a zero leads to the next state, or to the one so many further on
+abbrev pub fork_edges : ℕ → ℕ → List Edge
+fork_edges more base = edge 0 0 (base + 1) ∷ edge 0 0 (base + 1 + more) ∷ []
+
 -- a run of zeros of two lengths, the second longer by `more`: the last state of the first length has an edge to the end too
 abbrev pub fill_table : ℕ → ℕ → ℕ → List (List Edge)
 fill_table zero more base = run_table 0 0 more base
 fill_table (suc zero) zero base = (edge 0 0 (base + 1) ∷ []) ∷ []
-fill_table (suc zero) (suc more) base = (edge 0 0 (base + 1) ∷ edge 0 0 (base + 1 + suc more) ∷ []) ∷ run_table 0 0 (suc more) (base + 1)
+fill_table (suc zero) (suc more) base = fork_edges (suc more) base ∷ run_table 0 0 (suc more) (base + 1)
 fill_table (suc (suc n)) more base = (edge 0 0 (base + 1) ∷ []) ∷ fill_table (suc n) more (base + 1)
 
 -- Numbers of n bits up to a greatest: two states for each bit. At the first the bits so far are those of the greatest, at the
@@ -41,11 +45,15 @@ bound_edges n greatest next =
     if nat_le (2 ^ n) greatest then edge 1 1 next ∷ edge 0 0 (lower_state n next) ∷ []
     else edge 0 0 next ∷ []
 
+-- the edge of the second state, where n bits are left behind this one
+abbrev pub lower_edges : ℕ → ℕ → List Edge
+lower_edges n next = edge 0 1 (lower_state n next) ∷ []
+
 -- the states of a number of so many bits that is at most the greatest, two to a bit: with its bits so far, and below it
 abbrev pub bound_table : ℕ → ℕ → ℕ → List (List Edge)
 bound_table zero greatest base = []
 bound_table (suc n) greatest base =
-    bound_edges n greatest (base + 2) ∷ (edge 0 1 (lower_state n (base + 2)) ∷ []) ∷ bound_table n (bound_rest n greatest) (base + 2)
+    bound_edges n greatest (base + 2) ∷ lower_edges n (base + 2) ∷ bound_table n (bound_rest n greatest) (base + 2)
 
 -- the greatest number of at most n digits that has room in so many bits
 abbrev pub digits_greatest : ℕ → ℕ → ℕ

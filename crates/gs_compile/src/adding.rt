@@ -1,5 +1,5 @@
 ghost use Rattle.std.specs.Prelude.{◌≡◌, ◌+◌, ◌-◌, ◌^◌, ◌<◌, ◌≤◌, ◌++◌, ◌∷◌, [], IfOk, length};
-ghost use Rattle.gs_compile.specs.Tables.{edge, lit_table, run_table, fill_table, lower_state, bound_rest, bound_edges, bound_table};
+ghost use Rattle.gs_compile.specs.Tables.{edge, lit_table, run_table, fork_edges, fill_table, lower_edges, bound_rest, bound_edges, bound_table};
 
 use gs_chars::Memory;
 use gs_machine::{Edge, Table};
@@ -47,7 +47,7 @@ pub fn add_run(table: Table, lo: u8, hi: u8, count: usize) -> Result<Table, Memo
 /// Adds the last state of the shorter of two runs of zeros, the longer of which has so many more.
 fn add_fork(table: Table, more: usize) -> Result<Table, Memory>
     requires { 0 < more }
-    ensures { IfOk result (λ new. new ≡ table ++ (edge 0 0 (length table + 1) ∷ edge 0 0 (length table + 1 + more) ∷ []) ∷ []) }
+    ensures { IfOk result (λ new. new ≡ table ++ fork_edges more (length table) ∷ []) }
 {
     let next = state_ahead(&table, 1)?;
     let Some(end) = next.checked_add(more) else {
@@ -66,7 +66,7 @@ fn add_fork(table: Table, more: usize) -> Result<Table, Memory>
     table.with_state(&[forth, out])
 }
 
-/// Adds the states of a run of zeros of either of two lengths.
+/// Adds the states of a run of zeros of either of two lengths. The lengths ascend, and the least is not 0.
 pub fn add_fill(table: Table, least: usize, most: usize) -> Result<Table, Memory>
     requires some { 0 < least }
     requires order { least ≤ most }
@@ -109,7 +109,7 @@ fn add_first(table: Table, left: u8, greatest: u64) -> Result<Table, Memory>
 
 /// Adds the state at which the bits so far are lower than those of the greatest number.
 fn add_second(table: Table, left: u8) -> Result<Table, Memory>
-    ensures { IfOk result (λ new. new ≡ table ++ (edge 0 1 (lower_state left (length table + 1)) ∷ []) ∷ []) }
+    ensures { IfOk result (λ new. new ≡ table ++ lower_edges left (length table + 1) ∷ []) }
 {
     let to = state_ahead(&table, if left == 0 { 1 } else { 2 })?;
     table.with_state(&[Edge { lo: 0, hi: 1, to }])
@@ -127,7 +127,7 @@ fn rest_of(greatest: u64, left: u8) -> u64
     }
 }
 
-/// Adds the states of a number in so many bits, up to a greatest.
+/// Adds the states of a number in so many bits, up to a greatest. There are at most 64 bits.
 pub fn add_bound(table: Table, bits: u8, greatest: u64) -> Result<Table, Memory>
     requires { bits ≤ 64 }
     ensures { IfOk result (λ new. new ≡ table ++ bound_table bits greatest (length table)) }

@@ -1,6 +1,5 @@
-ghost use Rattle.std.specs.Prelude.{◌≡◌, ◌+◌, ◌-◌, ◌*◌, ◌++◌, ◌∷◌, [], ◌≤◌, IfOk, OnOk, length};
-ghost use Rattle.gs_compile.specs.Tables.{edge};
-ghost use Rattle.gs_compile.specs.EscapeTables.{with_ranges, plain_ranges, two_ranges, three_ranges, last_or_next, esc_table};
+ghost use Rattle.std.specs.Prelude.{◌≡◌, ◌+◌, ◌-◌, ◌*◌, ◌++◌, ◌≤◌, IfOk, OnOk, length};
+ghost use Rattle.gs_compile.specs.EscapeTables.{with_ranges, last_or_next, front_edges, four_states, character_states, esc_table};
 
 use crate::adding::state_ahead;
 use gs_chars::Memory;
@@ -57,7 +56,7 @@ fn first_row(
     end: usize,
 ) -> Result<Vec<Edge>, Memory>
     requires { base + 4 ≡ next }
-    ensures { IfOk result (λ row. row.items ≡ last_or_next lo more plain_ranges next end ++ edge 37 37 (base + 1) ∷ []) }
+    ensures { IfOk result (λ row. row.items ≡ front_edges lo more base next end) }
 {
     let plain = [
         (65, 90),
@@ -85,7 +84,7 @@ fn add_four(
     third: &[Edge],
     fourth: &[Edge],
 ) -> Result<Table, Memory>
-    ensures { IfOk result (λ new. new ≡ table ++ first.now ∷ second.now ∷ third.now ∷ fourth.now ∷ []) }
+    ensures { IfOk result (λ new. new ≡ table ++ four_states first.now second.now third.now fourth.now) }
 {
     table
         .with_state(first)?
@@ -102,7 +101,7 @@ fn add_character(
     more: usize,
     end: usize,
 ) -> Result<Table, Memory>
-    ensures { IfOk result (λ new. new ≡ table ++ (last_or_next lo more plain_ranges (length table + 4) end ++ edge 37 37 (length table + 1) ∷ []) ∷ (edge 50 50 (length table + 2) ∷ edge 51 51 (length table + 3) ∷ []) ∷ last_or_next lo more two_ranges (length table + 4) end ∷ last_or_next lo more three_ranges (length table + 4) end ∷ []) }
+    ensures { IfOk result (λ new. new ≡ table ++ character_states lo more (length table) end) }
 {
     let base = table.len();
     let next = state_ahead(&table, 4)?;

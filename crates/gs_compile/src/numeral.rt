@@ -1,5 +1,5 @@
-ghost use Rattle.std.specs.Prelude.{◌≡◌, ◌+◌, ◌^◌, ◌<◌, ◌≤◌, ◌++◌, ◌∷◌, [], ℕ, IfOk, length, decimal};
-ghost use Rattle.gs_compile.specs.NumeralTables.{free_edges, free_table, above_digit, tight_edges, tight_table, numeral_table};
+ghost use Rattle.std.specs.Prelude.{◌≡◌, ◌+◌, ◌^◌, ◌<◌, ◌≤◌, ◌++◌, ◌∷◌, [], IfOk, length, decimal};
+ghost use Rattle.gs_compile.specs.NumeralTables.{AddsNumeral, free_edges, free_table, above_digit, tight_state, tight_table};
 
 use crate::adding::state_ahead;
 use gs_chars::Memory;
@@ -68,7 +68,7 @@ fn add_tight_state(
 ) -> Result<Table, Memory>
     requires digit { digit ≤ 9 }
     requires room { left ≤ end }
-    ensures { IfOk result (λ new. new ≡ table ++ tight_edges low left digit (length table + 1) end ∷ []) }
+    ensures { IfOk result (λ new. new ≡ table ++ tight_state low left digit (length table) end ∷ []) }
 {
     if left == 0 {
         return table.with_state(&[digits(48, 48 + digit, end)]);
@@ -104,7 +104,7 @@ fn add_tight(table: Table, count: u32, rest: u64, end: usize) -> Result<Table, M
 
 /// Adds the states of decimal texts, without leading zeros, up to a greatest number.
 pub fn add_numeral(table: Table, greatest: u64) -> Result<Table, Memory>
-    ensures { IfOk result (λ new. (n : ℕ) → n + 1 ≡ length (decimal greatest) → new ≡ table ++ numeral_table n greatest (length table)) }
+    ensures { IfOk result (λ new. AddsNumeral greatest table new) }
 {
     let behind = digits_behind(greatest);
     let count = behind as usize;

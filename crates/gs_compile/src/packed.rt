@@ -1,6 +1,5 @@
 ghost use Rattle.std.specs.Prelude.{◌≡◌, ◌+◌, ◌-◌, ◌*◌, ◌^◌, ◌<◌, ◌≤◌, ◌++◌, ◌∷◌, [], IfOk, OnOk, length};
-ghost use Rattle.gs_compile.specs.CodeTables.{edge_where, leaf_edges, trie_table, root_edges, next_character, code_rows, characters_table, ascii_table};
-ghost use Rattle.gs_compile.specs.Tables.{edge};
+ghost use Rattle.gs_compile.specs.CodeTables.{edge_where, leaf_edges, bit_edges, trie_table, root_edges, next_character, code_rows, characters_table, ascii_table};
 
 use crate::adding::{add_run, state_ahead};
 use gs_chars::{CharSet, Memory};
@@ -43,7 +42,7 @@ fn add_leaf(alloc: Global, table: Table, front: u8, next: usize) -> Result<Table
 /// follow this one.
 fn add_bits(table: Table, more: u32) -> Result<Table, Memory>
     requires { more < 6 }
-    ensures { IfOk result (λ new. new ≡ table ++ (edge 0 0 (length table + 1) ∷ edge 1 1 (length table + 2 ^ more) ∷ []) ∷ []) }
+    ensures { IfOk result (λ new. new ≡ table ++ bit_edges more (length table) ∷ []) }
 {
     let zero = state_ahead(&table, 1)?;
     let one = state_ahead(&table, 1 << more)?;
@@ -140,7 +139,8 @@ fn add_codes(
     Ok(whole)
 }
 
-/// Adds the states of packed characters, at least `lo` and at most `hi`, and of zeros up to the width.
+/// Adds the states of packed characters, at least `lo` and at most `hi`, and of zeros up to the width. `lo` is at most `hi`,
+/// and `hi` characters have room in the width.
 pub fn add_packed(alloc: Global, table: Table, lo: u8, hi: u8, bits: u16) -> Result<Table, Memory>
     requires order { lo ≤ hi }
     requires room { 7 * hi ≤ bits }

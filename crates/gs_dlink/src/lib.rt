@@ -1,4 +1,23 @@
-//! GS1 Digital Links: the pairs that a link or the target of a request names, and the link of an identity.
+//! GS1 Digital Links: web addresses that hold an identity, read and written.
+//!
+//! - `read_link` reads a whole link; `read_target` the target of a request, without a host.
+//! - `stem_ok` says whether links may be written under an address, and `write_link` writes one.
+//!
+//! # Example
+//!
+//! A link of a shop with a path of its own before the key, an escape, a part of the query that is none of an identity, and a
+//! fragment. The gate runs this case, for which crates/vectors_texts/src/digital_links.rt makes the call.
+//!
+//! ```text
+//! gs_dlink::read_link https://shop.example/a/01/9506000134352/21/%41?linkType=x&17=261231#f
+//! 01 09506000134352 21 A 17 261231
+//! ```
+//!
+//! # Where it differs from the standard
+//!
+//! - Of GS1 Digital Link: URI Syntax it has uncompressed links with numeric codes; the names of codes, as `gtin`, and
+//!   compressed links are not read.
+//! - A GTIN may have 8, 12 or 13 digits, which are filled up with zeros in front; it is written with 14.
 #![tactic(auto)]
 
 mod cuts;

@@ -15,7 +15,7 @@ use Rattle.gs_ai.specs.declared.part.Part.TheVariants as part
 use Rattle.gs_ai.specs.declared.part.Role.{Role}
 use Rattle.gs_ai.specs.declared.part.Role.TheVariants as role
 use Rattle.gs_ai.specs.declared.row.AiRow.{AiRow}
-use Rattle.gs_ai.specs.Parts.{is_part, part_text, role_text}
+use Rattle.gs_ai.specs.Parts.{WritesNoRole, is_part, part_text, role_text}
 use Rattle.gs_document.specs.declared.document.Document.{Document}
 use Rattle.gs_document.specs.declared.document.KindRow.{KindRow}
 use Rattle.gs_document.specs.declared.document.OptionRow.{OptionRow}
@@ -126,7 +126,7 @@ pub record IsPart (text : List ℕ) (p : Part) : Type 0 where
 -- the role that a text writes, or the other one exactly where it writes none
 pub record IsRole (text : List ℕ) (r : Role) : Type 0 where
   pub written : r ≢ role.Other → role_text r ≡ text
-  pub other : r ≡ role.Other → (q : Role) → q ≢ role.Other → role_text q ≡ text → ⊥
+  pub other : r ≡ role.Other → WritesNoRole text
 
 -- the part is the one that the text here writes
 abbrev pub IsPartOf : Data → Part → Type 0

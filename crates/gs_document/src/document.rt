@@ -13,7 +13,7 @@ pub struct KindRow {
     pub name: Text,
     /// The code of the key.
     pub key: Text,
-    /// The digits of the key that stand in front of the prefix and go with the rest.
+    /// How many digits of the key stand in front of the prefix and go with the rest.
     pub lead: u64,
     /// Where the serial stands: the code of its element, `tail`, or empty for nowhere.
     pub serial: Text,
@@ -26,7 +26,7 @@ pub struct OptionRow {
     pub kind: Text,
     /// The name of the encoding, empty on the level of pure identities.
     pub encoding: Text,
-    /// The digits or characters of the GS1 Company Prefix.
+    /// How many digits or characters the GS1 Company Prefix has.
     pub gcp: u64,
     /// The items, each absent where the document has none of the level there.
     pub items: List<Option<FieldItem>>,

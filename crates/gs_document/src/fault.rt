@@ -6,15 +6,15 @@ use gs_json::JsonFault;
 /// What there may be only so many of.
 #[derive(Clone, Copy, Debug, PartialEq, Eq)]
 pub enum LimitName {
-    /// Rows of application identifiers, at most 256.
+    /// Rows of application identifiers, at most `MOST_ROWS`.
     Ais,
-    /// Kinds, at most 64.
+    /// Kinds, at most `MOST_KINDS`.
     Kinds,
-    /// Options of a level, at most 256.
+    /// Options of a level, at most `MOST_ROWS`.
     Options,
-    /// Items of an option, at most 24.
+    /// Items of an option, at most `MOST_ITEMS`.
     Items,
-    /// Symbols of an option, at most 512.
+    /// Symbols of an option, at most `MOST_SYMBOLS` of gs_grammar.
     Size,
 }
 

@@ -18,7 +18,7 @@ pub struct Kind {
     pub name: Text,
     /// The code of the key.
     pub key: Text,
-    /// The digits of the key, 0 or 1, that stand in front of the prefix and go with the rest.
+    /// How many digits of the key, 0 or 1, stand in front of the prefix and go with the rest.
     pub lead: u8,
     /// Where the serial stands.
     pub serial: SerialAt,

@@ -8,7 +8,7 @@ pub struct OptInfo {
     pub kind: usize,
     /// The name of the encoding, empty on the level of pure identities.
     pub encoding: Text,
-    /// The digits or characters of the GS1 Company Prefix, 1 to 12.
+    /// How many digits or characters the GS1 Company Prefix has, 1 to 12.
     pub gcp: u8,
     /// The field of each item, none for literals and fills.
     pub fields: List<Option<Field>>,

@@ -24,7 +24,8 @@ fn count_digits(text: &[u8]) -> usize
     text.iter().take_while(|c| c.is_ascii_digit()).count()
 }
 
-/// The code in brackets at the front of the text, one or more digits, and what follows it.
+/// The code in brackets at the front of the text, one or more digits, and what follows it. `None` comes exactly where no such
+/// code is in front.
 pub fn code_front(text: &[u8]) -> Option<(&[u8], &[u8])>
     ensures { option_map (λ front. (front.0.now, front.1.now)) result ≡ code_front text.now }
 {

@@ -1,4 +1,24 @@
-//! Element strings: as they stand in a symbol, and with their codes in brackets.
+//! Element strings: the texts of barcodes, as a scanner gives them and as people read them, and the pairs they hold.
+//!
+//! - `read_raw` reads a scanned element string, with its symbology identifier or without; `read_bracketed` one with application
+//!   identifiers in brackets.
+//! - `write_raw` and `write_bracketed` write an identity so.
+//!
+//! # Example
+//!
+//! A GTIN, an expiry date, a lot and a serial number from a GS1-128 symbol, the lot ended by a group separator. The gate runs
+//! this case, for which crates/vectors_texts/src/elements.rt makes the call.
+//!
+//! ```text
+//! gs_element::read_raw ]C101095060001343521726123110ABC\x1D21X1
+//! 01 09506000134352 17 261231 10 ABC 21 X1
+//! ```
+//!
+//! # Where it differs from the standard
+//!
+//! - A group separator may stand behind the last element, and behind one of predefined length (GS1 General Specifications, 7.8,
+//!   advise against writing it, and none is written there).
+//! - What is written has no symbology identifier.
 #![tactic(auto)]
 
 mod behind;

@@ -56,9 +56,9 @@ fn write_elements(
     Ok(last)
 }
 
-/// The element string of the identity, in the order of its pairs: code and value of each, and an FNC1 (the byte 29) behind
-/// one that has no predefined length and is not the last (GS1 General Specifications, section 7.8). Nothing stands in
-/// front. The one refusal is want of memory.
+/// The element string of the identity, in the order of its pairs: code and value of each, and an FNC1 (the byte 29) behind one
+/// that has no predefined length and is not the last (GS1 General Specifications, section 7.8). Nothing stands in front. The
+/// one refusal is want of memory. The identity is one that `make` of gs_ident gave by this table.
 pub fn write_raw(alloc: Global, table: &AiTable, identity: &Identity) -> Result<Text, Memory>
     requires { IsMadeWith table.now identity.now }
     ensures { IfOk result (λ text. text ≡ raw_text (pairs_of identity.now)) }

@@ -1,6 +1,6 @@
 -- What tags and EPC URIs say: the values of the fields of an option. TDT 2.0, section 3 (options and fields), and TDS 2.0,
 -- section 6.3 (the schemes).
-use Rattle.std.specs.Prelude.{◌≡◌, ℕ, List, [], Option, Some, option_map, slice_get, zip}
+use Rattle.std.specs.Prelude.{◌≡◌, ℕ, false, List, [], Option, Some, option_map, slice_get, zip}
 use Rattle.std.specs.List.{find}
 use Rattle.std.specs.Option.{option_map_or}
 use Rattle.gs_grammar.specs.declared.item.Item.{Item}
@@ -23,6 +23,10 @@ value_at field fields values =
 -- the value of a field, and the empty one where no item stands for it
 abbrev pub value_of : Field → List (Option Field) → List (List ℕ) → List ℕ
 value_of field fields values = option_map_or (λ value. value) (value_at field fields values) []
+
+-- between two moments the values of the fields other than one stayed as they were
+abbrev pub KeepsOthers : Field → List (Option Field) → List (List ℕ) → List (List ℕ) → Type 0
+KeepsOthers field fields before now = (other : Field) → is_field other (Some field) ≡ false → value_at other fields now ≡ value_at other fields before
 
 -- the filter value, where an item stands for it
 abbrev pub filter_of : List (Option Field) → List (List ℕ) → Option ℕ

@@ -5,6 +5,8 @@ use Rattle.gs_bits.specs.HexText.{FirstBadDigit, bits_of_hex, is_hex_digit}
 use Rattle.gs_bits.specs.declared.faults.HexFault.{HexFault}
 use Rattle.gs_bits.specs.declared.faults.HexFault.TheVariants.{OddDigits, Full, BadDigit}
 use Rattle.gs_grammar.specs.Derivations.{Derivation, OneDerivation}
+use Rattle.gs_level.specs.Readings.{Reads}
+use Rattle.gs_level.specs.declared.reading.Reading.{Reading}
 use Rattle.gs_document.specs.declared.level_name.LevelName.{LevelName}
 use Rattle.gs_document.specs.declared.level_name.LevelName.TheVariants.{Binary}
 use Rattle.gs_document.specs.declared.opt_info.OptInfo.{OptInfo}
@@ -30,6 +32,10 @@ ReadsAs set level symbols (Ok epc) = Says set level symbols epc
 ReadsAs set level symbols (Err NoReading) = Derivation (options_of level set) symbols → ⊥
 ReadsAs set level symbols (Err Memory) = Unit {0}
 ReadsAs set level symbols (Err (Hex fault)) = ⊥
+
+-- the answer to a reading in a level: whatever symbols have this reading, it is the answer to them
+abbrev pub AnswersReading : TableRows → LevelName → Reading → Result Epc EpcFault → Type 0
+AnswersReading set level reading result = (symbols : List ℕ) → Reads (options_of level set) symbols reading → ReadsAs set level symbols result
 
 -- why a text is no hexadecimal text of at most 128 digits: the first that fits
 abbrev pub IsHexFault : List ℕ → HexFault → Type 0

@@ -9,7 +9,7 @@ pub struct Epc {
     pub encoding: Text,
     /// The filter value, none for a pure identity.
     pub filter: Option<u8>,
-    /// The digits of the GS1 Company Prefix, 1 to 12.
+    /// How many digits the GS1 Company Prefix has, 1 to 12.
     pub gcp: u8,
     /// The GS1 Company Prefix.
     pub prefix: Text,

@@ -1,8 +1,8 @@
-ghost use Rattle.std.specs.Prelude.{◌≡◌, IfOk, IfSome, false, position};
+ghost use Rattle.std.specs.Prelude.{◌≡◌, IfOk, IfSome, position};
 ghost use Rattle.gs_grammar.specs.Words.{decimal_value};
 ghost use Rattle.gs_document.specs.declared.field.Field.{Field};
 ghost use Rattle.gs_tables.specs.Rules.{is_field};
-ghost use Rattle.gs_epc.specs.Epcs.{epc_of, filter_of, value_at, value_of};
+ghost use Rattle.gs_epc.specs.Epcs.{KeepsOthers, epc_of, filter_of, value_at, value_of};
 ghost use Rattle.gs_epc.specs.Filters.{IsFilter};
 
 use crate::epc::Epc;
@@ -38,7 +38,7 @@ fn filter_of(fields: &[Option<Field>], values: &[Text]) -> Option<u8>
 /// Moves the value of a field out, the empty one where no item stands for it, and leaves the other values as they are.
 fn take_value(alloc: Global, field: Field, fields: &[Option<Field>], values: &mut [Text]) -> Text
     ensures value { result ≡ value_of field fields.now values.old }
-    ensures others { (other : Field) → is_field other (Some field) ≡ false → value_at other fields.now values.new ≡ value_at other fields.now values.old }
+    ensures others { KeepsOthers field fields.now values.old values.new }
 {
     let empty = Text::from_vec(Vec::new(alloc));
     match place_of(field, fields) {

@@ -158,8 +158,8 @@ pub(crate) fn lay_out(
     }
 }
 
-/// The identity that an EPC of the set names (TDS 2.0, section 7): the key of its kind, laid out with its check digit, and
-/// its serial. The one refusal is want of memory.
+/// The identity that an EPC of the set names (TDS 2.0, section 7): the key of its kind, laid out with its check digit, and its
+/// serial. The one refusal is want of memory. The EPC is one that a reading by the set gave.
 pub fn identity_of(alloc: Global, set: &TableSet, epc: &Epc) -> Result<Identity, Memory>
     requires { IsOfSet set.now epc.now }
     ensures laid { IfOk result (IsLaidOut set.now epc.now) }

@@ -1,7 +1,7 @@
 ghost use Rattle.std.specs.Prelude.{IfOk, List, ℕ};
 ghost use Rattle.gs_level.specs.Readings.{Reads};
 ghost use Rattle.gs_epc.specs.Epcs.{IsOfSet, options_of};
-ghost use Rattle.gs_epc.specs.Readings.{ReadsAs, ReadsHex};
+ghost use Rattle.gs_epc.specs.Readings.{AnswersReading, ReadsAs, ReadsHex};
 
 use crate::epc::Epc;
 use crate::fault::EpcFault;
@@ -19,7 +19,7 @@ fn answer(
     reading: Reading,
 ) -> Result<Epc, EpcFault>
     requires { (symbols : List ℕ) × Reads (options_of level set.now) symbols reading }
-    ensures says { (symbols : List ℕ) → Reads (options_of level set.now) symbols reading → ReadsAs set.now level symbols result }
+    ensures says { AnswersReading set.now level reading result }
     ensures of_set { IfOk result (IsOfSet set.now) }
 {
     match reading {

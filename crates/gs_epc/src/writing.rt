@@ -124,11 +124,11 @@ fn write_level(
     Err(refusal)
 }
 
-/// The bits of an EPC in upper-case hexadecimal digits (TDS 2.0, section 14). The candidates are the options of bits of
-/// the EPC's kind and prefix length and, where its encoding is not empty, of that encoding, in their order. The first that
-/// holds every field writes. `NoOption` comes exactly where there is no candidate. `CannotHold` comes exactly where there
-/// are some and none holds every field, and names the first field, in the order of the items, that the last does not hold;
-/// a rest or serial that has no item comes after all items and has to be empty.
+/// The bits of an EPC in upper-case hexadecimal digits (TDS 2.0, section 14). The candidates are the options of bits of the
+/// EPC's kind and prefix length and, where its encoding is not empty, of that encoding, in their order. The first that holds
+/// every field writes. `NoOption` comes exactly where there is no candidate. `CannotHold` comes exactly where there are some
+/// and none holds every field, and names the first field, in the order of the items, that the last does not hold; a rest or
+/// serial that has no item comes after all items and has to be empty. The EPC has a filter value, which is at most 7.
 pub fn write_hex(alloc: Global, set: &TableSet, epc: &Epc) -> Result<Text, EpcWriteFault>
     requires { HasFilter epc.now.filter }
     ensures { WritesAs set.now LevelName.Binary epc.now result }
@@ -136,7 +136,8 @@ pub fn write_hex(alloc: Global, set: &TableSet, epc: &Epc) -> Result<Text, EpcWr
     write_level(alloc, set, LevelName::Binary, epc)
 }
 
-/// The EPC tag URI of an EPC (TDS 2.0, section 12), by the options of tag URIs as `write_hex` by those of bits.
+/// The EPC tag URI of an EPC (TDS 2.0, section 12), by the options of tag URIs as `write_hex` by those of bits. The EPC has a
+/// filter value, which is at most 7.
 pub fn write_tag(alloc: Global, set: &TableSet, epc: &Epc) -> Result<Text, EpcWriteFault>
     requires { HasFilter epc.now.filter }
     ensures { WritesAs set.now LevelName.Tag epc.now result }

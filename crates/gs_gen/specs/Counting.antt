@@ -1,5 +1,6 @@
 -- What counting has done at a moment, and what is written of the line of counts.
-use Rattle.std.specs.Prelude.{◌≡◌, ℕ, ◌+◌, List, [], ◌∷◌, Result, length}
+use Rattle.std.specs.Prelude.{◌≡◌, ℕ, ◌+◌, List, [], ◌∷◌, Option, Result, length}
+use Rattle.gs_lines.specs.Outputs.{Appends}
 use Rattle.gs_lines.specs.declared.status.Status.{Status}
 use Rattle.gs_lines.specs.declared.status.Status.TheVariants.{Done}
 use Rattle.gs_lines.specs.Printing.{PrintedAs}
@@ -23,3 +24,7 @@ pub record CountsOneMore (before : Counts) (answer : Result (List ℕ) Reason) (
 -- the line of counts was written whole and the status is `Done`, or an initial part of it was written
 abbrev pub PrintsGenerated : TableRows → ℕ → List ℕ → Status → Type 0
 PrintsGenerated set lines output status = (line : List ℕ) × Generated set lines line × PrintedAs Done line output status
+
+-- that was added to what a sink holds, where it tells that
+abbrev pub AppendsGenerated : TableRows → ℕ → Status → Option (List ℕ) → Option (List ℕ) → Type 0
+AppendsGenerated set lines status before now = Appends before now (λ output. PrintsGenerated set lines output status)

@@ -32,7 +32,8 @@ pub fn filter_one(alloc: Global) -> Result<Options, Memory>
     })
 }
 
-/// The answer to a line: the canonical link of its tag, or the first refusal.
+/// The answer to a line: the canonical link of its tag, or the first refusal. There is no list of prefix lengths, and the
+/// filter value is 1.
 pub fn answer_line(alloc: Global, by: Answering<'_>, line: &[u8]) -> Result<Text, Reason>
     requires prefixes { by.prefixes.now ≡ [] }
     requires options { by.options.now ≡ filter_one }

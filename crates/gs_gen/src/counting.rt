@@ -51,7 +51,8 @@ fn count_answer(
     }
 }
 
-/// The counts of the answers to the first lines of the generator. One line is held at a time.
+/// The counts of the answers to the first lines of the generator. One line is held at a time. There is no list of prefix
+/// lengths, and the filter value is 1.
 pub fn count_lines(alloc: Global, by: Answering<'_>, lines: u32) -> Result<Counts, Memory>
     requires prefixes { by.prefixes.now ≡ [] }
     requires options { by.options.now ≡ filter_one }

@@ -1,10 +1,9 @@
 ghost use Rattle.std.specs.Prelude.{◌≤◌, IfOk, string_bytes};
-ghost use Rattle.gs_lines.specs.Outputs.{Appends};
 ghost use Rattle.gs_lines.specs.Statuses.{OnWriteFault};
 ghost use Rattle.gs_port.specs.Counts.{Rises};
 ghost use Rattle.gs_tables.specs.Judged.{IsLoaded};
 ghost use Rattle.gs_gen.specs.Counts.{Generated};
-ghost use Rattle.gs_gen.specs.Counting.{PrintsGenerated};
+ghost use Rattle.gs_gen.specs.Counting.{AppendsGenerated};
 
 use crate::answering::{Answering, filter_one};
 use crate::counting::count_lines;
@@ -40,10 +39,11 @@ fn counts_line(alloc: Global, set: &TableSet, lines: u32) -> Result<String, Memo
 /// and no company prefix lengths, or the first refusal.
 ///
 /// `Done` comes where the line was written whole, and `WriteFault` only where the output's count rose. After it and after
-/// `Memory` an initial part of the line was written. No other status comes.
+/// `Memory` an initial part of the line was written. No other status comes. The tables are loaded, so that no text has two
+/// readings.
 pub fn generate<K: Sink>(alloc: Global, set: &TableSet, lines: u32, output: &mut K) -> Status
     requires loaded { IsLoaded set.now }
-    ensures written { Appends (K.held output.old) (K.held output.new) (λ out. PrintsGenerated set.now lines out result) }
+    ensures written { AppendsGenerated set.now lines result (K.held output.old) (K.held output.new) }
     ensures fault { OnWriteFault result (Rises (K.faults output.old) (K.faults output.new)) }
     ensures counts { K.faults output.old ≤ K.faults output.new }
 {

@@ -37,7 +37,7 @@ impl Generator {
         Generator { state: 0, next: 0 }
     }
 
-    /// The next line.
+    /// The next line. The state is below 2^32.
     pub fn next_line(&mut self, alloc: Global) -> Result<String, Memory>
         requires { self.old < 2 ^ 32 }
         ensures line { IfOk result (λ line. string_bytes line ≡ generated_line self.old) }

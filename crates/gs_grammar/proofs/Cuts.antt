@@ -9,7 +9,7 @@ use Rattle.gs_grammar.specs.declared.item.Item.{Item}
 use Rattle.gs_grammar.specs.Items.{IsItem, size_of, shortest_of}
 use Rattle.gs_grammar.specs.Words.{Word, IsWord, number_of_word}
 use Rattle.gs_grammar.proofs.WordLaws.{word_length}
-use Rattle.gs_grammar.specs.Derivations.{EachWord, no_item, one_item, Derives, IsDerived, HasValues, HasNumbers, numbers_of_words, OneWay, TwoWays}
+use Rattle.gs_grammar.specs.Derivations.{EachWord, no_item, one_item, Derives, IsDerived, HasNumbers, numbers_of_words, OneWay, TwoWays}
 use Rattle.gs_grammar.specs.Searches.{AtCut}
 use Rattle.gs_grammar.proofs.Ways.{Found, Never, Once, Twice, Finds, OneCut, TwoCuts, FindsBefore, joined_found}
 

@@ -163,6 +163,14 @@ pads_next n number place digits p h =
     let q : Pads n number (suc (place - 1)) digits = subst (λ (k : ℕ). Pads n number k digits) e p in
     pads_step n number (place - 1) (number / 10 ^ (place - 1) % 10) digits q refl
 
+-- a power of ten, and the next one below
+pub power_down : (power place : ℕ) → power ≡ 10 ^ place → 0 < place → power / 10 ≡ 10 ^ (place - 1)
+power_down power place e h =
+    let up : 10 ^ suc (place - 1) ≡ 10 * 10 ^ (place - 1) = pow-succ' 10 (place - 1) in
+    let at : place ≡ suc (place - 1) = omega arith in
+    let same : power ≡ 10 * 10 ^ (place - 1) = e ∙ ap (λ (k : ℕ). 10 ^ k) at ∙ up in
+    omega arith
+
 pub pads_end : (n number : ℕ) (digits : List ℕ) → Pads n number 0 digits → IsPadded n number digits
 pads_end n number digits p =
     record { count = let c = p.count in omega arith; all_digits = p.all_digits; value = let v = p.value in omega arith }
@@ -174,6 +182,18 @@ padded_from n number (suc place) digits p = padded_from n number place (digits +
 -- there are n digits of each number below 10 to the n
 pub some_padded : (n number : ℕ) → number < 10 ^ n → (digits : List ℕ) × IsPadded n number digits
 some_padded n number h = let r = padded_from n number n [] (pads_start n number h) in (r.0, pads_end n number r.0 r.1)
+
+-- the digits of a number, as many as its decimal text has, are that text
+
+pub below_count : (number : ℕ) → number < 2 ^ 64 → number < 10 ^ length (decimal number)
+below_count number small =
+    let value = value_decimal number small in
+    let below = digits_value_short own (decimal number) (length (decimal number)) (digits_of_decimal number small) (omega arith) in
+    omega arith
+
+pub padded_decimal : (number n : ℕ) (digits : List ℕ) → number < 2 ^ 64 → n ≡ length (decimal number) → IsPadded n number digits → digits ≡ decimal number
+padded_decimal number n digits small e p =
+    same_digits digits (decimal number) (p.count ∙ e) p.all_digits (digits_of_decimal number small) (p.value ∙ sym (value_decimal number small))
 
 pub no_digits : (symbols : List ℕ) → are_digits symbols ≡ false → (number : ℕ) → number < 2 ^ 64 → symbols ≡ decimal number → ⊥
 no_digits symbols d number small e = let x : true ≡ false = sym (digits_of_decimal number small) ∙ sym (ap are_digits e) ∙ d in cc

@@ -1,15 +1,10 @@
 -- Derivations in a level, one option after the other.
-use Rattle.std.proofs.Common.{◌≡◌, ℕ, ◌<◌, ◌+◌, ◌⊎◌, ◌↔◌, Bool, true, false, IsTrue, List, [], ◌∷◌, ◌++◌, length, take, get_or, zero, suc, Some, None, refl, sym, ◌∙◌, ap, inl, inr, arith}
+use Rattle.std.proofs.Common.{◌≡◌, ℕ, ◌<◌, ◌⊎◌, List, [], ◌∷◌, ◌++◌, length, zero, suc, Some, None, refl, sym, ◌∙◌, ap, inl, inr, arith}
 use Rattle.std.specs.List.{slice_get}
-use Rattle.std.specs.Option.{option_map}
-use Rattle.std.proofs.lemmas.List.{length-map, map-append, take_more}
-use Rattle.std.proofs.lemmas.Option.{slice_get_within, slice_get-map, slice_get-get_or}
+use Rattle.std.proofs.lemmas.Option.{slice_get_within}
 use Rattle.gs_chars.proofs.TruthsAndLists.{place_left}
 use Rattle.gs_grammar.specs.declared.item.Item.{Item}
-use Rattle.gs_grammar.specs.Derivations.{Derives, IsDerived, HasValues, Derivation, AreSame, OneDerivation, TwoDerivations}
-use Rattle.gs_grammar.specs.Ambiguity.{IsUnambiguous}
-use Rattle.gs_grammar.specs.Levels.{OptionForm, item_lists}
-use Rattle.gs_grammar.proofs.OneReading.{only_derivation}
+use Rattle.gs_grammar.specs.Derivations.{Derives, IsDerived, Derivation, AreSame, OneDerivation, TwoDerivations}
 use Rattle.gs_grammar.proofs.Ways.{Found, Never, Once, Twice, Finds, FoundOption, NoOption, OneOption, TwoReadings, FindsInLevel, joined_option}
 
 get_last : (xs : List (List Item)) (y : List Item) → slice_get (xs ++ y ∷ []) (length xs) ≡ Some y

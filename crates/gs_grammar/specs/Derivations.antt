@@ -1,5 +1,6 @@
 -- Derivations of a list of symbols: TDT 2.0, section 3 (levels and options).
-use Rattle.std.specs.Prelude.{◌≡◌, ℕ, List, [], ◌∷◌, Some}
+use Rattle.std.specs.Prelude.{◌≡◌, ℕ, Bool, List, [], ◌∷◌, Some}
+use Rattle.std.specs.Bool.{MatchBool}
 use Rattle.std.specs.List.{concat, slice_get}
 use Rattle.gs_grammar.specs.declared.item.Item.{Item}
 use Rattle.gs_grammar.specs.Words.{Word, number_of_word}
@@ -36,6 +37,10 @@ pub record HasNumbers (items : List Item) (w numbers : List ℕ) : Type 0 where
   pub words : List (List ℕ)
   pub derives : Derives items w values words
   pub numbers_are : numbers ≡ numbers_of_words items words
+
+-- the answer whether the items derive the list: where they do, by words of these numbers
+abbrev pub GivesNumbers : Bool → List Item → List ℕ → List ℕ → Type 0
+GivesNumbers answer items w numbers = MatchBool answer (HasNumbers items w numbers) (IsDerived items w → ⊥)
 
 -- the items derive the list in one way alone
 pub record OneWay (items : List Item) (w : List ℕ) : Type 0 where

@@ -1,13 +1,14 @@
 -- The bounds and sizes of items.
 use Rattle.std.specs.Prelude.{ℕ, ◌*◌, ◌^◌, ◌&&◌, ◌||◌, nat_le, nat_lt, not, Bool, true, false, IsTrue, List, [], ◌∷◌, ◌+◌, length, decimal}
 use Rattle.std.specs.List.{list_all}
+use Rattle.gs_chars.specs.Characters.{is_visible}
 use Rattle.gs_grammar.specs.declared.item.Item.{Item}
 use Rattle.gs_grammar.specs.declared.item.Item.TheVariants.{Lit, Pad, Int, Esc, NumPad, Num, Ascii7, Fill}
 
--- a symbol of a literal: a bit, 0 or 1, or a byte from 33 to 126, the visible characters of ISO 646
+-- a symbol of a literal: a bit, 0 or 1, or a visible character
 abbrev pub is_symbol : Bool → ℕ → Bool
 is_symbol true c = nat_lt c 2
-is_symbol false c = nat_le 33 c && nat_le c 126
+is_symbol false c = is_visible c
 
 -- a number is within two bounds
 abbrev pub is_between : ℕ → ℕ → ℕ → Bool

@@ -4,6 +4,7 @@ use Rattle.gs_grammar.specs.declared.item.Item.{Item}
 use Rattle.gs_grammar.specs.declared.fault.OptFault.{OptFault}
 use Rattle.gs_grammar.specs.declared.fault.OptFault.TheVariants.{BadItem, Size}
 use Rattle.gs_grammar.specs.Items.{is_bad, size_of_all}
+use Rattle.gs_grammar.specs.Limits.{most_symbols}
 
 -- an option: whether its symbols are bits, and its items in their order (TDT 2.0, section 3, 'option')
 pub record OptionForm : Type 0 where
@@ -23,15 +24,15 @@ AreOfKind bit_level options = All (λ (option : OptionForm). option.bit_level �
 abbrev pub item_lists : List OptionForm → List (List Item)
 item_lists options = map (λ (option : OptionForm). option.items) options
 
--- the items keep every bound: none is bad, and the sizes add up to at most 512 symbols
+-- the items keep every bound: none is bad, and their sizes add up to no more symbols than an option may have
 pub record KeepBounds (bit_level : Bool) (items : List Item) : Type 0 where
   pub none_bad : position (is_bad bit_level) items ≡ None
-  pub small : size_of_all items ≤ 512
+  pub small : size_of_all items ≤ most_symbols
 
--- the refusal of a list of items: its first bad item, or where none is bad a size above 512 symbols
+-- the refusal of a list of items: its first bad item, or where none is bad a size of more symbols than an option may have
 abbrev pub IsFaultOf : Bool → List Item → OptFault → Type 0
 IsFaultOf bit_level items (BadItem k) = position (is_bad bit_level) items ≡ Some k
-IsFaultOf bit_level items Size = (position (is_bad bit_level) items ≡ None) × (512 < size_of_all items)
+IsFaultOf bit_level items Size = (position (is_bad bit_level) items ≡ None) × (most_symbols < size_of_all items)
 
 -- an option's items keep every bound, and this is its size
 pub record IsOption (bit_level : Bool) (items : List Item) (size : ℕ) : Type 0 where

@@ -1,3 +1,4 @@
+pub mod Limits
 pub mod Items
 pub mod Words
 pub mod Languages
@@ -8,3 +9,4 @@ pub mod Ambiguity
 pub mod Counts
 pub mod Searches
 pub mod Writing
+pub mod Laws

@@ -1,5 +1,5 @@
 -- Which values an item holds, and what is written of the values of an option.
-use Rattle.std.specs.Prelude.{◌≡◌, ℕ, ◌^◌, ◌<◌, ◌==◌, ◌*◌, ◌&&◌, ◌||◌, nat_lt, nat_le, not, Bool, false, if◌then◌else◌, List, [], ◌∷◌, Option, Some, None, length, slice_index, slice_get}
+use Rattle.std.specs.Prelude.{◌≡◌, ℕ, ◌^◌, ◌<◌, ◌==◌, ◌*◌, ◌&&◌, ◌||◌, nat_lt, nat_le, not, Bool, false, if◌then◌else◌, List, [], ◌∷◌, Option, Some, None, Result, MatchResult, length, slice_index, slice_get}
 use Rattle.std.specs.List.{concat}
 use Rattle.gs_chars.specs.Characters.{are_digits, are_in_set82}
 use Rattle.gs_grammar.specs.declared.item.Item.{Item}
@@ -20,9 +20,17 @@ first_reason char size zero large =
     else if large then Some Large
     else None
 
+-- the answer is the reason, where there is one, and else Ok
+abbrev pub GivesReason : Result (Unit {0}) Why → Option Why → Type 0
+GivesReason answer reason = MatchResult answer (λ _. reason ≡ None) (λ why. reason ≡ Some why)
+
 -- digits begin with a zero that is not the whole of them
 abbrev pub has_leading_zero : List ℕ → Bool
 has_leading_zero value = nat_lt 1 (length value) && (slice_index value 0 == 48)
+
+-- the number that digits write is above the greatest, or has no room in so many bits
+abbrev pub is_too_large : ℕ → ℕ → List ℕ → Bool
+is_too_large bits greatest value = nat_lt greatest (decimal_value value) || nat_le (2 ^ bits) (decimal_value value)
 
 -- Why an item has no word for the value: the first reason that fits, or none. A number is large where it is above the
 -- greatest or has no room in the bits; characters that packed have no room are too many. The last case is that of items
@@ -32,7 +40,7 @@ why_not (Pad n) value = first_reason (not (are_digits value)) (not (length value
 why_not (Int greatest) value = first_reason (not (are_digits value)) (length value == 0) (has_leading_zero value) (nat_lt greatest (decimal_value value))
 why_not (Esc lo hi) value = first_reason (not (are_in_set82 value)) (not (is_between lo hi (length value))) false false
 why_not (NumPad bits n) value = first_reason (not (are_digits value)) (not (length value == n)) false (nat_le (2 ^ bits) (decimal_value value))
-why_not (Num bits greatest) value = first_reason (not (are_digits value)) (length value == 0) (has_leading_zero value) (nat_lt greatest (decimal_value value) || nat_le (2 ^ bits) (decimal_value value))
+why_not (Num bits greatest) value = first_reason (not (are_digits value)) (length value == 0) (has_leading_zero value) (is_too_large bits greatest value)
 why_not (Ascii7 lo hi bits) value = first_reason (not (are_in_set82 value)) (not (is_between lo hi (length value) && nat_le (7 * length value) bits)) false false
 why_not _ value = first_reason false (not (length value == 0)) false false
 

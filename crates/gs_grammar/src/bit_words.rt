@@ -13,7 +13,7 @@ pub fn are_zeros(symbols: &[u8], n: usize) -> bool
 }
 
 /// The number that the symbols are in this many bits, the highest first. `None` comes exactly where they are no number in so
-/// many bits.
+/// many bits. There are at most 64 bits.
 pub fn number_in_bits(symbols: &[u8], bits: usize) -> Option<u64>
     requires { bits ≤ 64 }
     ensures some { IfSome result (λ number. WritesNumber bits number symbols.now) }
@@ -70,7 +70,7 @@ pub fn packed_count(symbols: &[u8]) -> Option<usize>
     }
 }
 
-/// The characters that the symbols pack.
+/// The characters that the symbols pack. They are packed characters.
 pub fn unpacked(alloc: Global, symbols: &[u8]) -> Result<Vec<u8>, Memory>
     requires { (value : List ℕ) × IsPacked value symbols.now }
     ensures { IfOk result (λ value. IsPacked value.items symbols.now) }

@@ -101,9 +101,10 @@ fn push_words<const N: usize>(items: &[Item], values: &[Text], out: &mut BitBuf<
     }
 }
 
-/// Appends the written words of the values to the bits: one value for each item of an option of a bit level. `CannotHold`
-/// comes exactly where an item does not hold its value, and names the first; then the bits are as they were. It takes no
-/// memory, and never answers `Memory`.
+/// Appends the written words of the values to the bits: one value for each item of an option of a bit level. `CannotHold` comes
+/// exactly where an item does not hold its value, and names the first; then the bits are as they were. It takes no memory, and
+/// never answers `Memory`. The option is one of bits, there are as many values as items, and the buffer has room for the
+/// longest words.
 pub fn write_bits<const N: usize>(
     option: &Opt,
     values: &[Text],

@@ -20,13 +20,13 @@ pub fn spelled_count(symbols: &[u8]) -> Option<usize>
     Some(count)
 }
 
-/// The characters that the symbols spell.
+/// The characters that the symbols spell. They spell some characters.
 pub fn spelled(alloc: Global, symbols: &[u8]) -> Result<Vec<u8>, Memory>
     requires { (value : List ℕ) × SpellsEach value symbols.now }
     ensures { IfOk result (λ value. SpellsEach value.items symbols.now) }
 {
     let mut rest = symbols;
-    let mut value = Vec::new(alloc);
+    let mut value = Vec::with_capacity(alloc, symbols.len())?;
     while !rest.is_empty() {
         let Some((character, used)) = read_escape(rest) else {
             unreachable!()

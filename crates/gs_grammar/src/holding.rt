@@ -1,8 +1,8 @@
-ghost use Rattle.std.specs.Prelude.{◌≡◌, ◌↔◌, ◌*◌, ◌^◌, ◌&&◌, ◌||◌, ◌<◌, ℕ, List, Bool, nat_lt, nat_le, IsOk, MatchResult, Some, None};
+ghost use Rattle.std.specs.Prelude.{◌≡◌, ◌↔◌, ◌*◌, ◌^◌, ◌&&◌, ◌||◌, ◌<◌, ℕ, List, Bool, nat_lt, nat_le, IsOk, Some, None};
 ghost use Rattle.gs_chars.specs.Characters.{are_in_set82};
 ghost use Rattle.gs_grammar.specs.Items.{greatest_of, is_between};
 ghost use Rattle.gs_grammar.specs.Words.{Word, decimal_value};
-ghost use Rattle.gs_grammar.specs.Writing.{first_reason, why_not};
+ghost use Rattle.gs_grammar.specs.Writing.{GivesReason, first_reason, is_too_large, why_not};
 
 use crate::fault::Why;
 use crate::item::{Item, fits_bits, is_within};
@@ -12,7 +12,7 @@ use gs_chars::CharSet;
 
 /// The first reason that fits.
 fn judge(char: bool, size: bool, zero: bool, large: bool) -> Result<(), Why>
-    ensures { MatchResult result (λ _. first_reason char size zero large ≡ None) (λ why. first_reason char size zero large ≡ Some why) }
+    ensures { GivesReason result (first_reason char size zero large) }
 {
     if char {
         return Err(Why::Char);
@@ -57,7 +57,7 @@ fn exceeds(value: &[u8], bits: u8) -> bool
 
 /// Whether the number that the characters write is above the greatest, or has no room in this many bits.
 fn is_too_large(value: &[u8], greatest: u64, bits: u8) -> bool
-    ensures { result ≡ (nat_lt greatest (decimal_value value.now) || nat_le (2 ^ bits) (decimal_value value.now)) }
+    ensures { result ≡ is_too_large bits greatest value.now }
 {
     match decimal_number(value) {
         Some(number) => greatest < number || !fits_bits(number, bits),
@@ -75,7 +75,7 @@ fn is_packable(lo: u8, hi: u8, bits: u16, count: usize) -> bool
 /// The first reason why the item has no word for the value. The greatest number of an item is one of 64 bits.
 fn reason_against(item: &Item, value: &[u8]) -> Result<(), Why>
     ensures greatest { greatest_of item.now < 2 ^ 64 }
-    ensures reason { MatchResult result (λ _. why_not item.now value.now ≡ None) (λ why. why_not item.now value.now ≡ Some why) }
+    ensures reason { GivesReason result (why_not item.now value.now) }
 {
     let count = value.len();
     match item {
@@ -117,7 +117,7 @@ fn reason_against(item: &Item, value: &[u8]) -> Result<(), Why>
 /// Whether some word of the item has the value, also where the item breaks its bounds. The reasons against are tried in the
 /// order of `Why`. An item `Lit` or `Fill` holds the empty value alone.
 pub fn holds(item: &Item, value: &[u8]) -> Result<(), Why>
-    ensures reason { MatchResult result (λ _. why_not item.now value.now ≡ None) (λ why. why_not item.now value.now ≡ Some why) }
+    ensures reason { GivesReason result (why_not item.now value.now) }
     ensures word { IsOk result ↔ ((w : List ℕ) × Word item.now value.now w) }
 {
     reason_against(item, value)

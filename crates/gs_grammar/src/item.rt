@@ -3,12 +3,12 @@ ghost use Rattle.std.specs.List.{list_all};
 ghost use Rattle.gs_grammar.specs.Items.{is_in_bounds, is_symbol, is_between, size_of, shortest_of};
 
 use crate::numerals::digit_count;
-use gs_chars::Text;
+use gs_chars::{CharSet, Text};
 
 /// A part of an option.
 #[derive(Debug, Drop)]
 pub enum Item {
-    /// A literal of 1 to 64 symbols: bytes from 33 to 126, or on a bit level the bits 0 and 1. Its value is empty.
+    /// A literal of 1 to 64 symbols: visible characters, or on a bit level the bits 0 and 1. Its value is empty.
     Lit(Text),
     /// On a text level, exactly `n` digits, 1 to 18.
     Pad { n: u8 },
@@ -34,7 +34,7 @@ fn is_literal_symbol(bit_level: bool, symbol: u8) -> bool
     if bit_level {
         symbol < 2
     } else {
-        33 <= symbol && symbol <= 126
+        CharSet::Visible.holds(symbol)
     }
 }
 

@@ -1,4 +1,23 @@
-//! Items and options: the grammars of tags and EPC URIs, what their words are, and what is written of values.
+//! The grammar of options: items, the words of their values, and the texts and bits that options write.
+//!
+//! - `Item` is a literal, digits, a number, a text with escapes, or one of these in bits; `Opt` is a list of items.
+//! - `write_text` and `write_bits` write values by an option; `holds` says whether an item holds a value, or why not.
+//! - `read_option` says whether bits are written by an option, and gives its numbers.
+//!
+//! # Example
+//!
+//! The tag bits of an SGTIN-96: header, filter value, partition value, company prefix, item reference and serial number. The
+//! gate runs this case, for which crates/vectors_values/src/grammars.rt makes the call; `\e` is the empty value of a literal.
+//!
+//! ```text
+//! gs_grammar::write_bits bits:00110000 num:3:7 bits:101 numpad:24:7 numpad:20:6 num:38:274877906943 = \e 3 \e 0614141 812345 6789
+//! 3074257BF7194E4000001A85
+//! ```
+//!
+//! # Where it differs from the standards
+//!
+//! - GS1 EPC Tag Data Translation describes a form by a pattern and a grammar with functions. Here an option is a list of
+//!   items, each with the words of its values, so that reading and writing are one relation.
 #![tactic(auto)]
 
 mod bit_symbols;
@@ -27,7 +46,7 @@ pub use laws::{
     unambiguous_levels_read_alone, what_is_written_is_derived, what_is_written_is_read,
     word_fixes_its_value, word_writes_its_value, words_without_values,
 };
-pub use opt::Opt;
+pub use opt::{MOST_SYMBOLS, Opt};
 pub use tally::read_option;
-pub use words::value_of;
+pub use words::{read_word, value_of};
 pub use writing::write_text;

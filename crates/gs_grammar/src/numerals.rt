@@ -1,5 +1,5 @@
-ghost use Rattle.std.specs.Prelude.{◌≡◌, ◌↔◌, ◌^◌, ◌<◌, ◌≤◌, ℕ, List, IsTrue, IfSome, IfNone, IfOk, SomeIff, length, decimal, nat_lt};
-ghost use Rattle.gs_grammar.specs.Numerals.{IsPadded};
+ghost use Rattle.std.specs.Prelude.{◌≡◌, ◌↔◌, ◌^◌, ◌<◌, ◌≤◌, List, IsTrue, IfSome, IfNone, IfOk, SomeIff, length, decimal, nat_lt};
+ghost use Rattle.gs_grammar.specs.Numerals.{IsPadded, NoNumeral};
 ghost use Rattle.gs_grammar.specs.Words.{decimal_value};
 ghost use Rattle.gs_grammar.specs.Writing.{has_leading_zero};
 
@@ -19,7 +19,7 @@ pub fn digit_count(number: u64) -> usize
     }
 }
 
-/// Whether a number has at most n digits.
+/// Whether a number has at most n digits. n is at most 18.
 pub fn has_at_most_digits(number: u64, n: u8) -> bool
     requires { n ≤ 18 }
     ensures { IsTrue result ↔ (number < 10 ^ n) }
@@ -71,7 +71,7 @@ pub fn fits_wide_bits(digits: &[u8], bits: u8) -> bool
 /// number below 2 to the 64.
 pub fn numeral(symbols: &[u8]) -> Option<u64>
     ensures some { IfSome result (λ number. symbols.now ≡ decimal number) }
-    ensures none { IfNone result ((number : ℕ) → number < 2 ^ 64 → symbols.now ≡ decimal number → ⊥) }
+    ensures none { IfNone result (NoNumeral symbols.now) }
 {
     if symbols.is_empty() {
         return None;
@@ -85,17 +85,19 @@ pub fn numeral(symbols: &[u8]) -> Option<u64>
     decimal_number(symbols)
 }
 
-/// The n digits of a number, zeros in front.
+/// The n digits of a number, zeros in front. n is at most 18, and the number has no more digits.
 pub fn padded(alloc: Global, number: u64, n: u8) -> Result<Vec<u8>, Memory>
     requires few { n ≤ 18 }
     requires fits { number < 10 ^ n }
     ensures { IfOk result (λ digits. IsPadded n number digits.items) }
 {
-    let mut digits = Vec::new(alloc);
+    let mut digits = Vec::with_capacity(alloc, usize::from(n))?;
     let mut place = u32::from(n);
+    let mut power = 10u64.pow(place);
     while place > 0 {
         place -= 1;
-        let digit = number / 10u64.pow(place) % 10;
+        power /= 10;
+        let digit = number / power % 10;
         digits.push(b'0' + digit as u8)?;
     }
     Ok(digits)
@@ -105,6 +107,11 @@ pub fn padded(alloc: Global, number: u64, n: u8) -> Result<Vec<u8>, Memory>
 pub fn decimal_text(alloc: Global, number: u64) -> Result<Text, Memory>
     ensures { IfOk result (λ text. text ≡ decimal number) }
 {
-    let text = format!(in alloc; "{number}")?;
-    Ok(Text::from_vec(text.into_bytes()))
+    let count = digit_count(number);
+    if count > 18 {
+        let text = format!(in alloc; "{number}")?;
+        return Ok(Text::from_vec(text.into_bytes()));
+    }
+    let digits = padded(alloc, number, count as u8)?;
+    Ok(Text::from_vec(digits))
 }

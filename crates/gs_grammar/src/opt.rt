@@ -1,6 +1,7 @@
 ghost use Rattle.std.specs.Prelude.{◌≡◌, ◌≤◌, All, IfOk, IfErr, SomeIff, position};
 ghost use Rattle.gs_grammar.specs.Items.{IsItem, is_bad, size_of_all};
 ghost use Rattle.gs_grammar.specs.Levels.{KeepBounds, IsFaultOf};
+ghost use Rattle.gs_grammar.specs.Limits.{most_symbols};
 
 use crate::fault::OptFault;
 use crate::item::Item;
@@ -8,7 +9,10 @@ use gs_chars::List;
 use std::alloc::Global;
 use std::marker::Model;
 
-/// An option of a level: items that stand one after the other, of at most 512 symbols.
+/// The most symbols that the words of an option have together.
+pub const MOST_SYMBOLS: usize = 512;
+
+/// An option of a level: items that stand one after the other, of at most `MOST_SYMBOLS` symbols.
 #[derive(Debug, Drop)]
 pub struct Opt {
     bit_level: bool,
@@ -35,14 +39,14 @@ fn first_bad(bit_level: bool, items: &[Item]) -> Option<usize>
     items.iter().position(|item| !item.is_in_bounds(bit_level))
 }
 
-/// The sizes of the items added up, where they are at most 512.
+/// The sizes of the items added up, where they are at most `MOST_SYMBOLS`.
 fn size_within_limit(items: &[Item]) -> Option<usize>
-    ensures { SomeIff result (size_of_all items.now ≤ 512) (size_of_all items.now) }
+    ensures { SomeIff result (size_of_all items.now ≤ most_symbols) (size_of_all items.now) }
 {
     let mut size = 0;
     for item in items {
         size += item.size();
-        if size > 512 {
+        if size > MOST_SYMBOLS {
             return None;
         }
     }
@@ -51,7 +55,7 @@ fn size_within_limit(items: &[Item]) -> Option<usize>
 
 impl Opt {
     /// The option of these items. `BadItem(k)` comes exactly where item k is the first that is not of the level or breaks a
-    /// bound; `Size` exactly where no item does, and the sizes add up to more than 512.
+    /// bound; `Size` exactly where no item does, and the sizes add up to more than `MOST_SYMBOLS`.
     pub fn new(_alloc: Global, bit_level: bool, items: Vec<Item>) -> Result<Opt, OptFault>
         ensures bit_level { IfOk result (λ option. option.bit_level ≡ bit_level) }
         ensures items { IfOk result (λ option. option.items ≡ items.items) }

@@ -6,8 +6,8 @@ ghost use Rattle.gs_grammar.specs.Searches.{AtCut};
 use crate::item::Item;
 use crate::words::is_word;
 
-/// Whether the items derive the symbols. It tries each split into a word of the first item and the rest, and stops at the
-/// first derivation.
+/// Whether the items derive the symbols. It tries each split into a word of the first item and the rest, and stops at the first
+/// derivation. Each item keeps its bounds.
 pub fn is_derived(items: &[Item], symbols: &[u8]) -> bool
     requires { All IsItem items.now }
     ensures { IsTrue result ↔ IsDerived items.now symbols.now }
@@ -31,7 +31,8 @@ pub fn is_derived(items: &[Item], symbols: &[u8]) -> bool
     false
 }
 
-/// The length of a word of the item with which the items derive the symbols.
+/// The length of a word of the item with which the items derive the symbols. Each item keeps its bounds, and they derive the
+/// symbols.
 pub fn first_cut(item: &Item, others: &[Item], symbols: &[u8]) -> usize
     requires item { IsItem item.now }
     requires others { All IsItem others.now }

@@ -1,11 +1,11 @@
 ghost use Rattle.std.specs.Prelude.{◌≡◌, All, IsTrue, length};
 ghost use Rattle.std.specs.Bool.{MatchBool};
 ghost use Rattle.gs_grammar.specs.Items.{IsItem};
-ghost use Rattle.gs_grammar.specs.Derivations.{HasNumbers, IsDerived};
+ghost use Rattle.gs_grammar.specs.Derivations.{GivesNumbers, HasNumbers, IsDerived};
 
 use crate::bit_symbols::unpack;
 use crate::item::Item;
-use crate::opt::Opt;
+use crate::opt::{MOST_SYMBOLS, Opt};
 use crate::splits::{first_cut, is_derived};
 use crate::words::number_of_word;
 use gs_bits::BitBuf;
@@ -31,14 +31,15 @@ fn tally(items: &[Item], symbols: &[u8], out: &mut [u64])
 
 /// Reads the bits as one option of a bit level. Number k of `out` becomes the number that the whole word of item k writes: its
 /// bits, where the item is `NumPad` or `Num`, and 0 of any other item. `false` comes exactly where the bits have no derivation
-/// by the option, and then `out` is as it was. It takes no memory.
+/// by the option, and then `out` is as it was. It takes no memory. The option is one of bits, and `out` has as many numbers as
+/// it has items.
 pub fn read_option<const N: usize>(option: &Opt, bits: &BitBuf<N>, out: &mut [u64]) -> bool
     requires bit_level { IsTrue option.now.bit_level }
     requires room { length out.old ≡ length option.now.items }
-    ensures numbers { MatchBool result (HasNumbers option.now.items bits.now out.new) (IsDerived option.now.items bits.now → ⊥) }
+    ensures numbers { GivesNumbers result option.now.items bits.now out.new }
     ensures unchanged { MatchBool result (length out.new ≡ length out.old) (out.new ≡ out.old) }
 {
-    let mut symbols = [0; 512];
+    let mut symbols = [0; MOST_SYMBOLS];
     let count = unpack(bits, &mut symbols);
     let items = option.items();
     if !is_derived(items, &symbols[..count]) {

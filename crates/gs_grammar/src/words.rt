@@ -1,7 +1,8 @@
-ghost use Rattle.std.specs.Prelude.{◌≡◌, ◌↔◌, ◌==◌, ◌&&◌, ◌≤◌, length, ℕ, IsTrue, IfOk};
+ghost use Rattle.std.specs.Prelude.{◌≡◌, ◌↔◌, ◌==◌, ◌&&◌, ◌≤◌, length, ℕ, IsTrue, IfOk, IfSome, IfNone};
 ghost use Rattle.gs_chars.specs.Characters.{are_digits};
 ghost use Rattle.gs_grammar.specs.Items.{IsItem};
 ghost use Rattle.gs_grammar.specs.Words.{IsWord, Word, WritesNumber, number_of_word};
+ghost use Rattle.gs_grammar.specs.declared.item.Item.TheVariants.{Num, NumPad};
 
 use crate::bit_words::{are_zeros, number_in_bits, packed_count, unpacked};
 use crate::escaped::{spelled, spelled_count};
@@ -24,7 +25,7 @@ fn are_n_digits(symbols: &[u8], n: usize) -> bool
     symbols.len() == n && all_digits(symbols)
 }
 
-/// Whether the symbols are a word of the item.
+/// Whether the symbols are a word of the item. The item keeps its bounds.
 pub fn is_word(item: &Item, symbols: &[u8]) -> bool
     requires { IsItem item.now }
     ensures { IsTrue result ↔ IsWord item.now symbols.now }
@@ -75,7 +76,7 @@ fn number_of_bits(word: &[u8], bits: u8) -> u64
     }
 }
 
-/// The value of a word of the item.
+/// The value of a word of the item. The item keeps its bounds.
 pub fn value_of(alloc: Global, item: &Item, word: &[u8]) -> Result<Text, Memory>
     requires item { IsItem item.now }
     requires word { IsWord item.now word.now }
@@ -97,7 +98,68 @@ pub fn value_of(alloc: Global, item: &Item, word: &[u8]) -> Result<Text, Memory>
     }
 }
 
-/// The number that a whole word writes: its bits, where the item is a number in bits, and 0 of any other item.
+/// The digits of the number that the symbols are in bits, where they are a word of the item `NumPad`.
+fn read_padded(alloc: Global, symbols: &[u8], bits: u8, n: u8) -> Result<Option<Text>, Memory>
+    requires narrow { bits ≤ 64 }
+    requires few { n ≤ 18 }
+    ensures found { IfOk result (λ found. IfSome found (λ value. Word (NumPad bits n) value symbols.now)) }
+    ensures none { IfOk result (λ found. IfNone found (IsWord (NumPad bits n) symbols.now → ⊥)) }
+{
+    let Some(number) = number_in_bits(symbols, usize::from(bits)) else {
+        return Ok(None);
+    };
+    if !has_at_most_digits(number, n) {
+        return Ok(None);
+    }
+    let digits = padded(alloc, number, n)?;
+    Ok(Some(Text::from_vec(digits)))
+}
+
+/// The decimal text of the number that the symbols are in bits, where they are a word of the item `Num`.
+fn read_number(alloc: Global, symbols: &[u8], bits: u8, max: u64) -> Result<Option<Text>, Memory>
+    requires narrow { bits ≤ 64 }
+    ensures found { IfOk result (λ found. IfSome found (λ value. Word (Num bits max) value symbols.now)) }
+    ensures none { IfOk result (λ found. IfNone found (IsWord (Num bits max) symbols.now → ⊥)) }
+{
+    let Some(number) = number_in_bits(symbols, usize::from(bits)) else {
+        return Ok(None);
+    };
+    if number > max {
+        return Ok(None);
+    }
+    let text = decimal_text(alloc, number)?;
+    Ok(Some(text))
+}
+
+/// The value of the symbols, where they are a word of an item.
+fn read_any(alloc: Global, item: &Item, symbols: &[u8]) -> Result<Option<Text>, Memory>
+    requires { IsItem item.now }
+    ensures found { IfOk result (λ found. IfSome found (λ value. Word item.now value symbols.now)) }
+    ensures none { IfOk result (λ found. IfNone found (IsWord item.now symbols.now → ⊥)) }
+{
+    if !is_word(item, symbols) {
+        return Ok(None);
+    }
+    let value = value_of(alloc, item, symbols)?;
+    Ok(Some(value))
+}
+
+/// The value of the symbols, where they are a word of the item. `None` comes exactly where they are none. The item keeps its
+/// bounds. The bits of a number are gone through once.
+pub fn read_word(alloc: Global, item: &Item, symbols: &[u8]) -> Result<Option<Text>, Memory>
+    requires { IsItem item.now }
+    ensures found { IfOk result (λ found. IfSome found (λ value. Word item.now value symbols.now)) }
+    ensures none { IfOk result (λ found. IfNone found (IsWord item.now symbols.now → ⊥)) }
+{
+    match item {
+        Item::NumPad { bits, n } => read_padded(alloc, symbols, *bits, *n),
+        Item::Num { bits, max } => read_number(alloc, symbols, *bits, *max),
+        _ => read_any(alloc, item, symbols),
+    }
+}
+
+/// The number that a whole word writes: its bits, where the item is a number in bits, and 0 of any other item. The item keeps
+/// its bounds, and the symbols are a word of it.
 pub fn number_of_word(item: &Item, word: &[u8]) -> u64
     requires item { IsItem item.now }
     requires word { IsWord item.now word.now }

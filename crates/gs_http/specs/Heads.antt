@@ -29,10 +29,14 @@ asked_by r = record { method = r.method.now; target = r.target.now; minor = r.mi
 abbrev pub SaysHead : Request → List ℕ → List HeaderSpan → RequestSpans → Type 0
 SaysHead request head spans parts = (h : RequestHead) → IsRequestAt head spans parts h → asked_by request ≡ asked_of h
 
+-- the most fields of a head
+abbrev pub most_fields : ℕ
+most_fields = 64
+
 -- the bytes are this head and nothing else, with at most 64 fields
 pub record IsWhole (head : List ℕ) (h : RequestHead) : Type 0 where
   pub reads : ReadsRequest head h []
-  pub few : length h.fields ≤ 64
+  pub few : length h.fields ≤ most_fields
 
 -- a byte, with the one before it, is a line feed without a carriage return before it
 abbrev pub is_lone : ℕ × ℕ → Bool

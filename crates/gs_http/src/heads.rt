@@ -1,7 +1,7 @@
 ghost use Rattle.std.specs.Prelude.{◌≡◌, length, IfSome, MatchOption};
 ghost use Rattle.httparse.specs.Grammar.{RequestHead};
 ghost use Rattle.httparse.specs.Spans.{IsRequestAt, IsRequestWithin};
-ghost use Rattle.gs_http.specs.Heads.{IsWhole, SaysHead, asked_by, has_lone_feed, is_lone, is_refused};
+ghost use Rattle.gs_http.specs.Heads.{IsWhole, SaysHead, asked_by, has_lone_feed, is_lone, is_refused, most_fields};
 
 use crate::fields::is_shown;
 use crate::request::Request;
@@ -9,9 +9,12 @@ use crate::sign::Sign;
 use httparse::Status;
 use httparse::spans::{HeaderSpan, RequestSpans, parse_request};
 
+/// The most fields of a head.
+pub(crate) const MOST_FIELDS: usize = 64;
+
 /// Where the parts of a head lie, where the bytes are a head and nothing else, with as many fields at most as there are spans.
 pub(crate) fn whole_head(head: &[u8], spans: &mut [HeaderSpan]) -> Option<RequestSpans>
-    requires { length spans.old ≡ 64 }
+    requires { length spans.old ≡ most_fields }
     ensures within { IfSome result (IsRequestWithin head.now spans.new) }
     ensures whole { MatchOption result ((h : RequestHead) → ¬ (IsWhole head.now h))
         (λ parts. (h : RequestHead) × IsWhole head.now h × IsRequestAt head.now spans.new parts h) }

@@ -8,7 +8,7 @@ ghost use Rattle.gs_http.specs.Replies.{IsReply, closes, reply_of};
 use crate::answer::Answer;
 use crate::choosing::{answer_to, is_head};
 use crate::fields::is_shown;
-use crate::heads::{is_refused, request_at, whole_head};
+use crate::heads::{MOST_FIELDS, is_refused, request_at, whole_head};
 use crate::request::Request;
 use crate::settings::{Reply, Settings};
 use crate::sign::{Sign, Word};
@@ -72,7 +72,7 @@ pub(crate) fn reply_with(
     requires { length store.now ≤ length numbers.old }
     ensures { IfOk result (IsReply table.now store.now settings.now head.now last) }
 {
-    let mut spans = [EMPTY_HEADER_SPAN; 64];
+    let mut spans = [EMPTY_HEADER_SPAN; MOST_FIELDS];
     let Some(parts) = whole_head(head, &mut spans) else {
         return refusal(alloc);
     };

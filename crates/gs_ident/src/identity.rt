@@ -1,5 +1,5 @@
 ghost use Rattle.std.specs.Prelude.{◌≡◌, ◌≤◌, IfOk, filter, length, take};
-ghost use Rattle.gs_ident.specs.Elements.{first_qualifiers, is_coded, key_alone, with_qualifier};
+ghost use Rattle.gs_ident.specs.Elements.{elements_with, first_qualifiers, is_coded, key_alone, with_qualifier};
 
 use gs_ai::Pair;
 use gs_chars::{List, Memory, Text};
@@ -25,7 +25,7 @@ impl Model for Identity {
 impl Identity {
     /// The identity of these pairs.
     pub(crate) fn from_pairs(key: Pair, qualifiers: Vec<Pair>, attributes: Vec<Pair>) -> Identity
-        ensures { result ≡ record { key = key; qualifiers = qualifiers.items; attributes = attributes.items } }
+        ensures { result ≡ elements_with key qualifiers.items attributes.items }
     {
         Identity {
             key,
@@ -34,7 +34,8 @@ impl Identity {
         }
     }
 
-    /// The identity of the key and the first `k` qualifiers. The one refusal is want of memory.
+    /// The identity of the key and the first `k` qualifiers. The one refusal is want of memory. `k`, how many qualifiers are
+    /// kept, is at most their number.
     pub fn prefix(&self, alloc: Global, k: usize) -> Result<Identity, Memory>
         requires { k ≤ length self.now.qualifiers }
         ensures { IfOk result (λ identity. identity ≡ first_qualifiers k self.now) }

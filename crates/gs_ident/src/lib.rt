@@ -1,4 +1,23 @@
 //! Identities of things: a key, its qualifiers and the attributes, and the GS1 Digital Link that spells them.
+//!
+//! - `make` makes an identity of pairs of codes and values, in any order, or tells the first error.
+//! - `spell` writes its Digital Link under a stem; `canonical` the canonical link, under https://id.gs1.org.
+//!
+//! # Example
+//!
+//! A trade item with a lot, a serial number, a variant and an expiry date: the qualifiers stand in the order of the standard,
+//! the attribute in the query. The gate runs this case, for which crates/vectors_texts/src/identities.rt makes the calls.
+//!
+//! ```text
+//! gs_ident::spell https://r.example/g 01 09506000134352 10 ABC 21 X/1 22 2 17 261231
+//! https://r.example/g/01/09506000134352/22/2/10/ABC/21/X%2F1?17=261231
+//! ```
+//!
+//! # Where it differs from the standard
+//!
+//! - The attributes of a canonical link ascend by code, so that one identity has one link.
+//! - A code that stands twice with one value counts once; with two values it is an error.
+//! - A value that stands for none, as 0 of 254, is left out.
 #![tactic(auto)]
 
 mod choosing;

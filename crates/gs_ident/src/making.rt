@@ -65,9 +65,10 @@ fn make_counted(alloc: Global, table: &AiTable, pairs: Vec<Pair>) -> Result<Iden
     Ok(elements_of(alloc, table, pairs, own)?)
 }
 
-/// The identity of the pairs. Pairs whose value stands for none are dropped first; equal repeats count once. A refusal is
-/// the first that fits: `Repeat` with the code of the first pair whose code stood before with another value, `NoKey`,
-/// `TwoKeys` with the code of the second key. `Memory` is want of memory, and may come in place of any answer.
+/// The identity of the pairs. Pairs whose value stands for none are dropped first; equal repeats count once. A refusal is the
+/// first that fits: `Repeat` with the code of the first pair whose code stood before with another value, `NoKey`, `TwoKeys`
+/// with the code of the second key. `Memory` is want of memory, and may come in place of any answer. Each pair has a code of
+/// the table, and a value that its row allows.
 pub fn make(alloc: Global, table: &AiTable, pairs: Vec<Pair>) -> Result<Identity, IdentFault>
     requires { All (IsInOrder table.now) pairs.items }
     ensures made { IfOk result (λ identity. identity_of_pairs table.now pairs.items ≡ Ok identity) }

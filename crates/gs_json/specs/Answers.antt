@@ -1,12 +1,13 @@
 -- The answers of look-ups, by the words of `serde_json` for the tree that a text is. Want of memory may come in place of
 -- each of them.
-use Rattle.std.specs.Prelude.{◌≡◌, ℕ, List, [], ◌∷◌, Option, Some, None, option_map, unwrap_or, Result, Ok, Err}
+use Rattle.std.specs.Prelude.{◌≡◌, ◌⊎◌, ℕ, List, [], ◌∷◌, map, Option, Some, None, option_and_then, option_map, unwrap_or, Result, Ok, Err}
+use Rattle.std.specs.Borrow.{Bor}
 use Rattle.std.specs.Cmp.Lexicographic.{slice_cmp}
 use Rattle.std.specs.List.Sorted.{IsStrictlySortedBy}
 use Rattle.std.specs.Ordering.{nat_cmp}
 use Rattle.serde_json.specs.Data.{Data, Members, no_members, member}
 use Rattle.serde_json.specs.Events.{items_len}
-use Rattle.serde_json.specs.Find.{as_array, as_object, get_member}
+use Rattle.serde_json.specs.Find.{as_array, as_number, as_object, as_u64, get_member}
 use Rattle.serde_json.specs.View.{view}
 use Rattle.gs_json.specs.Parts.{Part}
 use Rattle.gs_json.specs.Places.{member_place}
@@ -21,6 +22,10 @@ OrMemory (Err Syntax) answer = Err Syntax ≡ answer
 OrMemory (Err (Lacks place)) answer = Err (Lacks place) ≡ answer
 OrMemory (Err (Kind place)) answer = Err (Kind place) ≡ answer
 OrMemory (Err (Unknown place)) answer = Err (Unknown place) ≡ answer
+
+-- this fault, or want of memory
+abbrev pub IsFault : JsonFault → JsonFault → Type 0
+IsFault fault wanted = (fault ≡ Memory) ⊎ (fault ≡ wanted)
 
 -- a result whose value is seen by a function
 abbrev pub result_map : {X Y : Type 0} → (X → Y) → Result X JsonFault → Result Y JsonFault
@@ -54,6 +59,10 @@ must_be place (Err fault) = Err fault
 abbrev pub member_of : Part → List ℕ → Result (Data × List ℕ) JsonFault
 member_of part name = must_be (member_place part.place name) (maybe_of part name)
 
+-- the number, where it is written in digits alone and is at most 2 ^ 64 - 1
+abbrev pub number_of : Data → Option ℕ
+number_of d = option_and_then as_u64 (as_number d)
+
 -- the number of items of an array
 abbrev pub count_of : Data → Option ℕ
 count_of d = option_map items_len (as_array d)
@@ -67,6 +76,10 @@ abbrev pub names_of_members : Members → List (List ℕ)
 names_of_members no_members = []
 names_of_members (member name d members) = name ∷ names_of_members members
 
+-- the names that are lent
+abbrev pub names_lent : List (Bor (List ℕ)) → List (List ℕ)
+names_lent names = map (λ name. name.now) names
+
 -- names ascend strictly by their bytes
 abbrev pub AscendByBytes : List (List ℕ) → Type 0
 AscendByBytes names = IsStrictlySortedBy (slice_cmp nat_cmp) names
@@ -74,3 +87,7 @@ AscendByBytes names = IsStrictlySortedBy (slice_cmp nat_cmp) names
 -- the names of an object's members
 abbrev pub names_of : Data → Option (List (List ℕ))
 names_of d = option_map names_of_members (as_object d)
+
+-- the names of the members of a part, which only an object has
+abbrev pub names_at : Part → Result (List (List ℕ)) JsonFault
+names_at part = asked part.place (names_of (view part.tree))

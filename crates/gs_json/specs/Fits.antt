@@ -1,16 +1,23 @@
 -- The answer to a member by how it fits. No contract of a public call names it.
-use Rattle.std.specs.Prelude.{ℕ, Bool, if◌then◌else◌, List, Option, Some, None, Result, Ok, Err}
+use Rattle.std.specs.Prelude.{◌≡◌, ℕ, Bool, if◌then◌else◌, List, Option, Some, None, Result, Ok, Err}
+use Rattle.serde_json.specs.Data.{Data}
 use Rattle.gs_json.specs.Places.{item_place}
+use Rattle.gs_json.specs.Shapes.{first_fault, sort_faults}
 use Rattle.gs_json.specs.declared.fault.JsonFault.{JsonFault}
 use Rattle.gs_json.specs.declared.fault.JsonFault.TheVariants.{Kind}
 use Rattle.gs_json.specs.declared.fit.Fit.{Fit}
 use Rattle.gs_json.specs.declared.fit.Fit.TheVariants as fit
+use Rattle.gs_json.specs.declared.plan.Sort.{Sort}
 
 -- the answer by how a member fits: it fits whole, not at all, or all but an item
 abbrev pub fit_answer : List ℕ → Fit → Result Unit JsonFault
 fit_answer place fit.Whole = Ok tt
 fit_answer place fit.Not = Err (Kind place)
 fit_answer place (fit.AllBut i) = Err (Kind (item_place place i))
+
+-- wherever a part stands, its first fault by the sort is the answer by how it fits
+abbrev pub FitsAs : Sort → Data → Fit → Type 0
+FitsAs sort d fits = (place : List ℕ) → first_fault (sort_faults place sort d) ≡ fit_answer place fits
 
 -- fits whole where the test holds, else not at all
 abbrev pub fit_if : Bool → Fit

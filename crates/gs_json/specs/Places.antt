@@ -1,7 +1,9 @@
 -- Places in a document: JSON Pointers (RFC 6901, sections 3 and 4).
-use Rattle.std.specs.Prelude.{ℕ, ◌==◌, List, [], ◌∷◌, ◌++◌, codes, if◌then◌else◌}
+use Rattle.std.specs.Prelude.{◌≡◌, ◌<◌, ◌^◌, ℕ, ◌==◌, Some, List, [], ◌∷◌, ◌++◌, codes, if◌then◌else◌}
 use Rattle.std.specs.List.{flat_map}
 use Rattle.std.specs.Fmt.{decimal}
+use Rattle.serde_json.specs.Data.{Data}
+use Rattle.serde_json.specs.Find.{at, get, pointer}
 
 -- `~` and `/` are written as `~0` and `~1`
 abbrev pub escaped_byte : ℕ → List ℕ
@@ -18,3 +20,11 @@ member_place place name = place ++ 47 ∷ escaped name
 -- the place of an item, in the array at a place
 abbrev pub item_place : List ℕ → ℕ → List ℕ
 item_place place i = place ++ 47 ∷ decimal i
+
+-- the place of a member leads from the whole document to it, where that of the object leads to the object
+abbrev pub LeadsToMembers : Type 0
+LeadsToMembers = (place name : List ℕ) (d part e : Data) → pointer place d ≡ Some part → get name part ≡ Some e → pointer (member_place place name) d ≡ Some e
+
+-- the place of an item leads from the whole document to it, where that of the array leads to the array
+abbrev pub LeadsToItems : Type 0
+LeadsToItems = (place : List ℕ) (i : ℕ) (d part e : Data) → i < 2 ^ 64 → pointer place d ≡ Some part → at i part ≡ Some e → pointer (item_place place i) d ≡ Some e

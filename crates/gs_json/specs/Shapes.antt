@@ -1,11 +1,11 @@
 -- What an object must be by a plan, and its faults in their order.
-use Rattle.std.specs.Prelude.{ℕ, Bool, not, if◌then◌else◌, List, [], ◌∷◌, ◌++◌, map, filter, Option, Some, None, is_some, option_and_then, Result, Ok, Err}
+use Rattle.std.specs.Prelude.{ℕ, Bool, not, if◌then◌else◌, List, [], ◌∷◌, ◌++◌, map, filter, Option, Some, None, is_some, Result, Ok, Err}
 use Rattle.std.specs.List.{enumerate_from, flat_map, list_any}
 use Rattle.std.specs.Str.{bytes_eq}
 use Rattle.serde_json.specs.Data.{Data, Items, no_items, item, Members}
-use Rattle.serde_json.specs.Find.{as_array, as_bool, as_number, as_object, as_str, as_u64, get_member}
+use Rattle.serde_json.specs.Find.{as_array, as_bool, as_object, as_str, get_member}
 use Rattle.serde_json.specs.View.{view}
-use Rattle.gs_json.specs.Answers.{names_of_members}
+use Rattle.gs_json.specs.Answers.{OrMemory, names_of_members, number_of}
 use Rattle.gs_json.specs.Parts.{Part}
 use Rattle.gs_json.specs.Places.{member_place, item_place}
 use Rattle.gs_json.specs.declared.fault.JsonFault.{JsonFault}
@@ -43,7 +43,7 @@ is_array d = is_some (as_array d)
 -- the faults of what stands at a place and must be of a sort
 abbrev pub sort_faults : List ℕ → Sort → Data → List JsonFault
 sort_faults place Text d = kind_faults place (is_text d)
-sort_faults place Number d = kind_faults place (is_some (option_and_then as_u64 (as_number d)))
+sort_faults place Number d = kind_faults place (is_some (number_of d))
 sort_faults place Truth d = kind_faults place (is_some (as_bool d))
 sort_faults place Array d = kind_faults place (is_array d)
 sort_faults place Texts d = items_faults place is_text (as_array d)
@@ -83,3 +83,7 @@ shape_faults part plan = members_faults part.place plan (as_object (view part.tr
 abbrev pub first_fault : List JsonFault → Result Unit JsonFault
 first_fault [] = Ok tt
 first_fault (fault ∷ faults) = Err fault
+
+-- the answer is the first of these faults, or want of memory
+abbrev pub IsFirst : Result Unit JsonFault → List JsonFault → Type 0
+IsFirst result faults = OrMemory result (first_fault faults)

@@ -1,7 +1,7 @@
-ghost use Rattle.std.specs.Prelude.{◌≡◌, ℕ, List, slice_get};
+ghost use Rattle.std.specs.Prelude.{◌≡◌, slice_get};
 ghost use Rattle.serde_json.specs.View.{view, items_view};
-ghost use Rattle.gs_json.specs.Fits.{fit_answer, fit_but, fit_if};
-ghost use Rattle.gs_json.specs.Shapes.{failing_from, first_fault, is_array, is_text, items_list, sort_faults};
+ghost use Rattle.gs_json.specs.Fits.{FitsAs, fit_but, fit_if};
+ghost use Rattle.gs_json.specs.Shapes.{failing_from, is_array, is_text, items_list};
 
 use crate::plan::Sort;
 use serde_json::Value;
@@ -19,7 +19,7 @@ pub(crate) enum Fit {
 
 /// How a part fits a sort.
 pub(crate) fn fit_of(value: &Value, sort: Sort) -> Fit
-    ensures { (place : List ℕ) → first_fault (sort_faults place sort (view value.now)) ≡ fit_answer place result }
+    ensures { FitsAs sort (view value.now) result }
 {
     match sort {
         Sort::Text => whole(value.is_string()),

@@ -1,4 +1,24 @@
-//! JSON documents, whose parts are looked up by name and place and judged by a plan.
+//! JSON documents (RFC 8259), whose parts are looked up by name and place and judged by a plan.
+//!
+//! - `Doc::parse` reads a document; `Node` is a part of it, looked up by `member` and `item`, with its value by `text`,
+//!   `number` and others.
+//! - `Node::shaped` judges an object by a plan: which members it must and may have, and of what sort they are.
+//!
+//! # Example
+//!
+//! The member `c` of the first item of the member `a` is not there: the error gives its place as a JSON Pointer (RFC 6901). The
+//! gate runs this case, for which crates/vectors_values/src/documents.rt makes the calls.
+//!
+//! ```text
+//! gs_json::text {"a":[{"b":"c"}]} .a #0 .c
+//! Lacks /a/0/c
+//! ```
+//!
+//! # Where it differs from the standard
+//!
+//! - Of equal names the last counts, and the members of an object come in ascending order of their names.
+//! - A number that is asked for has to be written in digits alone, and be at most 2^64 - 1.
+//! - A byte order mark in front is an error.
 #![tactic(auto)]
 
 mod doc;

@@ -1,8 +1,8 @@
-ghost use Rattle.std.specs.Prelude.{◌≡◌, ◌<◌, ◌⊎◌, ℕ, List, map, Some, None, Err, option_map, option_and_then, string_bytes, IfOk, IfErr};
-ghost use Rattle.serde_json.specs.Find.{as_array, as_bool, as_number, as_object, as_str, as_u64, at};
+ghost use Rattle.std.specs.Prelude.{◌≡◌, ◌<◌, map, Some, option_map, string_bytes, IfOk, IfErr};
+ghost use Rattle.serde_json.specs.Find.{as_array, as_bool, as_object, as_str, at};
 ghost use Rattle.serde_json.specs.View.{view};
 ghost use Rattle.std.specs.BTreeMap.{keys};
-ghost use Rattle.gs_json.specs.Answers.{AscendByBytes};
+ghost use Rattle.gs_json.specs.Answers.{AscendByBytes, names_lent};
 ghost use Rattle.gs_json.specs.Places.{item_place, member_place};
 
 use crate::fault::JsonFault;
@@ -32,8 +32,8 @@ impl<'a> Model for Node<'a> {
 }
 
 impl<'a> Node<'a> {
-    ghost use Rattle.gs_json.specs.Answers.{OrMemory, asked, count_of, items_count, maybe_of, member_of, names_of, result_map, seen};
-    ghost use Rattle.gs_json.specs.Shapes.{first_fault, shape_faults};
+    ghost use Rattle.gs_json.specs.Answers.{IsFault, OrMemory, asked, count_of, items_count, maybe_of, member_of, names_at, number_of, result_map, seen};
+    ghost use Rattle.gs_json.specs.Shapes.{IsFirst, shape_faults};
     ghost use Rattle.std.specs.Prelude.{[]};
 
     /// The whole of a tree.
@@ -87,7 +87,7 @@ impl<'a> Node<'a> {
 
     /// The number: `Kind` exactly where this is no number that is written in digits alone and is at most 2^64 - 1.
     pub fn number(&self, alloc: Global) -> Result<u64, JsonFault>
-        ensures { OrMemory result (asked self.now.place (option_and_then as_u64 (as_number (view self.now.tree)))) }
+        ensures { OrMemory result (asked self.now.place (number_of (view self.now.tree))) }
     {
         match self.value.as_u64() {
             Some(number) => Ok(number),
@@ -116,7 +116,8 @@ impl<'a> Node<'a> {
         }
     }
 
-    /// The item of an array at a number, counted from 0. The one refusal is want of memory.
+    /// The item of an array at a number, counted from 0. The one refusal is want of memory. This is an array, and the number is
+    /// below the number of its items.
     pub fn item(&self, alloc: Global, i: usize) -> Result<Node<'a>, JsonFault>
         requires { i < items_count (view self.now.tree) }
         ensures item { IfOk result (λ node. Some (view node.tree) ≡ at i (view self.now.tree)) }
@@ -136,8 +137,8 @@ impl<'a> Node<'a> {
     /// The names of an object's members, which ascend strictly by their bytes and are lent by the document: `Kind` exactly
     /// where this is no object.
     pub fn names(&self, alloc: Global) -> Result<List<&'a str>, JsonFault>
-        ensures answer { OrMemory (result_map (map (λ name. name.now)) result) (asked self.now.place (names_of (view self.now.tree))) }
-        ensures ascending { IfOk result (λ names. AscendByBytes (map (λ name. name.now) names)) }
+        ensures answer { OrMemory (result_map names_lent result) (names_at self.now) }
+        ensures ascending { IfOk result (λ names. AscendByBytes (names_lent names)) }
     {
         let value: &'a Value = self.value;
         let Some(map) = value.as_object() else {
@@ -152,14 +153,14 @@ impl<'a> Node<'a> {
     /// first item of another kind. Last `Unknown` with the place of the first member, in ascending order, that the plan
     /// does not name.
     pub fn shaped(&self, alloc: Global, plan: &[Entry]) -> Result<(), JsonFault>
-        ensures { OrMemory result (first_fault (shape_faults self.now plan.now)) }
+        ensures { IsFirst result (shape_faults self.now plan.now) }
     {
         judge(alloc, self.value, &self.place, plan)
     }
 
     /// The fault that this is of another kind.
     fn other_kind(&self, alloc: Global) -> JsonFault
-        ensures { (result ≡ JsonFault.Memory) ⊎ (result ≡ JsonFault.Kind self.now.place) }
+        ensures { IsFault result (JsonFault.Kind self.now.place) }
     {
         match self.place.text(alloc) {
             Ok(place) => JsonFault::Kind(place),
@@ -169,7 +170,7 @@ impl<'a> Node<'a> {
 
     /// The fault that there is no member of this name.
     fn no_member(&self, alloc: Global, name: &str) -> JsonFault
-        ensures { (result ≡ JsonFault.Memory) ⊎ (result ≡ JsonFault.Lacks (member_place self.now.place name.now)) }
+        ensures { IsFault result (JsonFault.Lacks (member_place self.now.place name.now)) }
     {
         match self.place.member_text(alloc, name.as_bytes()) {
             Ok(place) => JsonFault::Lacks(place),
@@ -180,8 +181,8 @@ impl<'a> Node<'a> {
 
 /// The keys of a map, in ascending order and lent by it.
 fn keys_of<'v>(alloc: Global, members: &'v Map<String, Value>) -> Result<Vec<&'v str>, Memory>
-    ensures names { IfOk result (λ names. map (λ name. name.now) names.items ≡ map string_bytes (keys members.now)) }
-    ensures ascending { IfOk result (λ names. AscendByBytes (map (λ name. name.now) names.items)) }
+    ensures names { IfOk result (λ names. names_lent names.items ≡ map string_bytes (keys members.now)) }
+    ensures ascending { IfOk result (λ names. AscendByBytes (names_lent names.items)) }
 {
     let mut names = Vec::new(alloc);
     for name in members.keys() {

@@ -1,8 +1,7 @@
-ghost use Rattle.std.specs.Prelude.{◌≡◌, ℕ, List, option_map, slice_get};
+ghost use Rattle.std.specs.Prelude.{◌≡◌, option_map};
 ghost use Rattle.serde_json.specs.Find.{as_object, get_member};
-ghost use Rattle.serde_json.specs.View.{view, items_view, members_view};
-ghost use Rattle.gs_json.specs.Answers.{OrMemory, names_of_members};
-ghost use Rattle.gs_json.specs.Shapes.{entry_faults, failing_from, first_fault, is_array, is_named, is_text, members_faults, sort_faults, unknown_faults};
+ghost use Rattle.serde_json.specs.View.{view, members_view};
+ghost use Rattle.gs_json.specs.Shapes.{IsFirst, entry_faults, is_named, members_faults, unknown_faults};
 
 use crate::fault::JsonFault;
 use crate::fit::{Fit, fit_of};
@@ -18,7 +17,7 @@ pub(crate) fn judge(
     place: &Place<'_>,
     plan: &[Entry],
 ) -> Result<(), JsonFault>
-    ensures { OrMemory result (first_fault (members_faults place.now plan.now (as_object (view value.now)))) }
+    ensures { IsFirst result (members_faults place.now plan.now (as_object (view value.now))) }
 {
     let Some(map) = value.as_object() else {
         return Err(JsonFault::Kind(place.text(alloc)?));
@@ -36,7 +35,7 @@ fn judge_member(
     place: &Place<'_>,
     entry: &Entry,
 ) -> Result<(), JsonFault>
-    ensures { OrMemory result (first_fault (entry_faults place.now (members_view map.now.entries) entry.now)) }
+    ensures { IsFirst result (entry_faults place.now (members_view map.now.entries) entry.now) }
 {
     let name = entry.name.as_bytes();
     match member_named(map, name) {
@@ -67,7 +66,7 @@ fn judge_names(
     place: &Place<'_>,
     plan: &[Entry],
 ) -> Result<(), JsonFault>
-    ensures { OrMemory result (first_fault (unknown_faults place.now plan.now (members_view map.now.entries))) }
+    ensures { IsFirst result (unknown_faults place.now plan.now (members_view map.now.entries)) }
 {
     for name in map.keys() {
         if !names(plan, name.as_bytes()) {

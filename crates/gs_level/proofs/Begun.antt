@@ -19,7 +19,7 @@ use Rattle.gs_compile.proofs.Joining.{last_of, last_is, uncrossed_at}
 use Rattle.gs_level.specs.Guides.{StandsAt}
 use Rattle.gs_level.specs.Alone.{IsFront, Begins, at_start, behind_literal}
 use Rattle.gs_level.proofs.Literals.{stands_test}
-use Rattle.gs_level.proofs.AloneRuns.{Followed, Parted, parted, started, below_next, rises_from, all_uncrossed}
+use Rattle.gs_level.proofs.AloneRuns.{Followed, parted, started, below_next, rises_from, all_uncrossed}
 
 last_high : (border : ℕ) (borders : List ℕ) → Rises border borders → border ≤ last_of border borders
 last_high border [] h = omega arith
@@ -45,17 +45,17 @@ front_within literal symbols s =
 behind : (form : AutoForm) (items : List Item) (symbols literal : List ℕ) (first second : ℕ) (rest : List ℕ) → IsMachine form → ReadsItems form items → IsFront items symbols literal → form.borders ≡ first ∷ second ∷ rest → Followed form symbols (length literal) second (0 ∷ length literal ∷ []) rest
 behind form items symbols literal first second rest m r f b =
     let all_rise : Rises first (second ∷ rest) = rises_from first (second ∷ rest) (λ k l.
-        let low : k + 1 < length form.borders = rw b (omega arith) in
-        let step = rw (b, add-one) at (m.ascend k low) in
-        step) in
+    let low : k + 1 < length form.borders = rw b (omega arith) in
+    let step = rw (b, add-one) at (m.ascend k low) in
+    step) in
     let less : first < second = all_rise.0 in
     let rises : Rises second rest = all_rise.1 in
     let from : From form.borders first (second ∷ rest) = λ state l. ap (λ (bs : List ℕ). is_border bs state) b in
     let many : 1 < length form.borders = rw b (omega arith) in
     let free : Uncrossed form.table second = rw b at (uncrossed_at form 1 m many) in
     let frees = all_uncrossed form rest 0 m (λ i l.
-        let inside : suc (suc i) < length form.borders = rw b (omega arith) in
-        rw b at (uncrossed_at form (suc (suc i)) m inside)) in
+    let inside : suc (suc i) < length form.borders = rw b (omega arith) in
+    rw b at (uncrossed_at form (suc (suc i)) m inside)) in
     let ascends : Ascends form.table = λ state symbol next g. (goes_on form state symbol next m g).0 in
     let reads : Reads form.table first second (IsWord (Lit literal)) = rw b at (r.reads 0 (Lit literal) (rw f.first refl)) in
     let way = reads.some literal ([], (refl, refl)) in

@@ -5,7 +5,7 @@ use Rattle.gs_machine.specs.Walks.{Fits, edges_at, Walk}
 use Rattle.gs_machine.specs.Machines.{AutoForm, start_of, accept_of}
 use Rattle.gs_compile.specs.Places.{is_border, stands_from}
 use Rattle.gs_level.specs.declared.trail.Entry.{Entry}
-use Rattle.gs_level.specs.Trails.{entry_at, Came, IsTrail, AreCuts}
+use Rattle.gs_level.specs.Trails.{entry_at, Came, IsTrail, with_cut, AreCuts}
 use Rattle.gs_level.proofs.Following.{came_within}
 
 -- the cuts from a place on, at which the run stands at this state
@@ -29,9 +29,6 @@ trail_within form trail symbols number t = came_within form trail symbols (lengt
 drop_all : (symbols : List ℕ) → drop (length symbols) symbols ≡ []
 drop_all [] = refl
 drop_all (s ∷ symbols) = drop_all symbols
-
-abbrev with_cut : List ℕ → ℕ → ℕ → List ℕ → List ℕ
-with_cut borders state place cuts = if is_border borders state then place ∷ cuts else cuts
 
 pub back_start : (form : AutoForm) (trail : List Entry) (symbols : List ℕ) (number place : ℕ) (borders before cuts : List ℕ) → IsTrail form trail symbols number → place ≡ length symbols → borders ≡ form.borders → before ≡ [] → cuts ≡ (if is_border borders (entry_at trail number).state then place ∷ before else before) → Back form trail symbols place number cuts
 back_start form trail symbols number place borders before cuts t e b n is =

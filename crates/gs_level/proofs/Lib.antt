@@ -11,3 +11,4 @@ mod Readers
 mod OneNext
 mod AloneRuns
 mod Begun
+mod Measures

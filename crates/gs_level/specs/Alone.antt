@@ -9,6 +9,7 @@ use Rattle.gs_level.specs.declared.alone.Next.{Next}
 use Rattle.gs_level.specs.declared.alone.Next.TheVariants.{One, Nowhere, Many}
 use Rattle.gs_level.specs.declared.alone.Alone.{Alone}
 use Rattle.gs_level.specs.declared.alone.Alone.TheVariants.{Accepted, Refused, Unsure}
+use Rattle.gs_level.specs.declared.standing.Stand.{Stand}
 use Rattle.gs_level.specs.Guides.{StandsAt}
 use Rattle.gs_level.specs.Trails.{AreCuts, HasNoRun}
 
@@ -59,6 +60,11 @@ pub record IsFront (items : List Item) (symbols literal : List ℕ) : Type 0 whe
 pub data Begins (form : AutoForm) (items : List Item) (symbols : List ℕ) (state place : ℕ) (cuts above : List ℕ) : Type 0 where
   at_start : state ≡ start_of form → place ≡ 0 → cuts ≡ 0 ∷ [] → above ≡ drop 1 form.borders → Begins form items symbols state place cuts above
   behind_literal : (literal : List ℕ) → IsFront items symbols literal → state ≡ slice_index form.borders 1 → place ≡ length literal → cuts ≡ 0 ∷ length literal ∷ [] → above ≡ drop 2 form.borders → Begins form items symbols state place cuts above
+
+-- a run begins where it stands, with these cuts
+abbrev pub IsStand : AutoForm → List Item → List ℕ → List ℕ → Stand → Type 0
+IsStand form items symbols cuts stand =
+    Begins form items symbols stand.state stand.place cuts stand.above.now
 
 -- what one run alone says of the symbols
 abbrev pub IsAlone : AutoForm → List ℕ → List ℕ → Alone → Type 0

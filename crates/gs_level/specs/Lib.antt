@@ -5,3 +5,4 @@ pub mod OptionMachines
 pub mod Guides
 pub mod Whole
 pub mod Finding
+pub mod Widths

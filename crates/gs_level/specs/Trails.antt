@@ -1,11 +1,11 @@
 -- Trails: the states that a machine can stand at after each symbol of a list, each with the one that it was reached from.
-use Rattle.std.specs.Prelude.{◌≡◌, ℕ, ◌+◌, ◌<◌, ◌&&◌, nat_le, Bool, if◌then◌else◌, List, [], ◌∷◌, ◌++◌, length, slice_index, slice_index_or, zero, suc}
+use Rattle.std.specs.Prelude.{◌≡◌, ℕ, ◌+◌, ◌<◌, ◌&&◌, ◌≤◌, nat_le, Bool, if◌then◌else◌, List, [], ◌∷◌, ◌++◌, length, drop, slice_index, slice_index_or, zero, suc}
 use Rattle.gs_grammar.specs.declared.item.Item.{Item}
 use Rattle.gs_grammar.specs.Derivations.{Derives}
 use Rattle.gs_machine.specs.declared.edge.Edge.{Edge}
 use Rattle.gs_machine.specs.Walks.{Fits, edges_at}
-use Rattle.gs_machine.specs.Machines.{AutoForm, start_of, accept_of, Accepts}
-use Rattle.gs_compile.specs.Places.{run_cuts, word_cuts}
+use Rattle.gs_machine.specs.Machines.{AutoForm, states_of, start_of, accept_of, Accepts}
+use Rattle.gs_compile.specs.Places.{is_border, run_cuts, word_cuts}
 use Rattle.gs_level.specs.declared.trail.Entry.{Entry}
 
 -- the edge leads with this symbol
@@ -25,9 +25,27 @@ layer table symbol number [] = []
 layer table symbol number (entry ∷ entries) =
     successors (edges_at table entry.state) symbol number ++ layer table symbol (number + 1) entries
 
+-- the entries, and behind them those that the symbol leads to from the entries of the number `from` on
+abbrev pub with_layer : AutoForm → ℕ → ℕ → List Entry → List Entry
+with_layer form symbol from trail = trail ++ layer form.table symbol from (drop from trail)
+
 -- the entry of a number
 abbrev pub entry_at : List Entry → ℕ → Entry
 entry_at trail number = slice_index_or trail number (record { state = 0; back = 0 })
+
+-- the state of each entry is one of the machine
+abbrev pub AreInside : AutoForm → List Entry → Type 0
+AreInside form trail = (number : ℕ) → number < length trail → (entry_at trail number).state < states_of form
+
+-- the entry of this number, which is `from` or more, has this state
+abbrev pub IsEntryOf : List Entry → ℕ → ℕ → ℕ → Type 0
+IsEntryOf trail from state number =
+    (from ≤ number) × (number < length trail) × ((entry_at trail number).state ≡ state)
+
+-- no entry of the number `from` or more has this state
+abbrev pub HasNoEntryOf : List Entry → ℕ → ℕ → Type 0
+HasNoEntryOf trail from state =
+    (number : ℕ) → from ≤ number → number < length trail → (entry_at trail number).state ≡ state → ⊥
 
 -- the entry of this number was reached from the start over the first n symbols
 abbrev pub Came : AutoForm → List Entry → List ℕ → ℕ → ℕ → Type 0
@@ -39,6 +57,10 @@ Came form trail symbols (suc n) number =
 pub record IsTrail (form : AutoForm) (trail : List Entry) (symbols : List ℕ) (number : ℕ) : Type 0 where
   pub came : Came form trail symbols (length symbols) number
   pub accepting : (entry_at trail number).state ≡ accept_of form
+
+-- the cuts, with the place in front of them where the state is a border
+abbrev pub with_cut : List ℕ → ℕ → ℕ → List ℕ → List ℕ
+with_cut borders state place cuts = if is_border borders state then place ∷ cuts else cuts
 
 -- these are the cuts of an accepting run on the symbols
 pub record AreCuts (form : AutoForm) (symbols cuts : List ℕ) : Type 0 where

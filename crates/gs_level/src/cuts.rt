@@ -1,6 +1,6 @@
-ghost use Rattle.std.specs.Prelude.{◌≡◌, ◌∷◌, OnOk, IfOk, if◌then◌else◌};
+ghost use Rattle.std.specs.Prelude.{◌≡◌, OnOk, IfOk};
 ghost use Rattle.gs_compile.specs.Places.{is_border};
-ghost use Rattle.gs_level.specs.Trails.{IsTrail, AreCuts};
+ghost use Rattle.gs_level.specs.Trails.{IsTrail, AreCuts, with_cut};
 
 use crate::trail::Entry;
 use gs_chars::Memory;
@@ -21,7 +21,7 @@ fn push_cut(
     state: usize,
     place: usize,
 ) -> Result<(), Memory>
-    ensures { OnOk result (cuts.new.items ≡ (if is_border borders.now state then place ∷ cuts.old.items else cuts.old.items)) }
+    ensures { OnOk result (cuts.new.items ≡ with_cut borders.now state place cuts.old.items) }
 {
     if is_border(borders, state) {
         cuts.insert(0, place)?;

@@ -1,6 +1,6 @@
-ghost use Rattle.std.specs.Prelude.{◌↔◌, ◌≤◌, ◌<◌, ◌+◌, IsTrue, IfOk, IfSome, IfNone, length};
+ghost use Rattle.std.specs.Prelude.{◌↔◌, ◌≤◌, ◌<◌, ◌+◌, IsTrue, IfOk, length};
 ghost use Rattle.gs_level.specs.Guides.{StandsAt, BeginAll};
-ghost use Rattle.gs_level.specs.Finding.{ReadBy, NoneReads};
+ghost use Rattle.gs_level.specs.Finding.{IsFound, NoneFound, NothingFound};
 
 use crate::guides::{Group, Probe};
 use crate::level::Level;
@@ -34,8 +34,8 @@ fn read_option(
     scratch: &mut Scratch,
 ) -> Result<Option<Found>, Memory>
     requires { option < length level.now.options }
-    ensures found { IfOk result (λ found. IfSome found (λ read. ReadBy level.now.options symbols.now read.option read.values)) }
-    ensures none { IfOk result (λ found. IfNone found (NoneReads level.now.options option (option + 1) symbols.now)) }
+    ensures found { IfOk result (λ found. IsFound level.now.options symbols.now found) }
+    ensures none { IfOk result (λ found. NoneFound level.now.options option (option + 1) symbols.now found) }
 {
     let probe = &level.probes()[option];
     if !stands_at(symbols, probe.place, probe.literal.as_bytes()) {
@@ -60,8 +60,8 @@ fn read_group(
 ) -> Result<Option<Found>, Memory>
     requires within { group.now.end ≤ length level.now.options }
     requires begin { BeginAll level.now.options from group.now.end group.now.literal }
-    ensures found { IfOk result (λ found. IfSome found (λ read. ReadBy level.now.options symbols.now read.option read.values)) }
-    ensures none { IfOk result (λ found. IfNone found (NoneReads level.now.options from group.now.end symbols.now)) }
+    ensures found { IfOk result (λ found. IsFound level.now.options symbols.now found) }
+    ensures none { IfOk result (λ found. NoneFound level.now.options from group.now.end symbols.now found) }
 {
     if !stands_at(symbols, 0, group.literal.as_bytes()) {
         return Ok(None);
@@ -76,8 +76,8 @@ fn read_group(
 
 /// What the first option of the level reads of the symbols that reads them.
 pub fn find(alloc: Global, level: &Level, symbols: &[u8]) -> Result<Option<Found>, Memory>
-    ensures found { IfOk result (λ found. IfSome found (λ read. ReadBy level.now.options symbols.now read.option read.values)) }
-    ensures none { IfOk result (λ found. IfNone found (NoneReads level.now.options 0 (length level.now.options) symbols.now)) }
+    ensures found { IfOk result (λ found. IsFound level.now.options symbols.now found) }
+    ensures none { IfOk result (λ found. NothingFound level.now.options symbols.now found) }
 {
     let mut scratch = Scratch::new(alloc);
     let mut from = 0;

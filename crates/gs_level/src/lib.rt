@@ -1,9 +1,10 @@
-//! Levels: options with their machines, and the readings of a text or of bits by one pass over these.
+//! Levels: options with their machines, and the readings of a text or of bits by one pass.
 //!
 //! A level is what Tag Data Translation calls one: the options in which one form of an EPC, as its tag bits, may be written.
 //!
 //! - `Level::new` compiles the machine of each option, once; `Level::machines` lends them.
-//! - `read_text` and `read_bits` find the option that reads a text or bits, and the value of each of its items.
+//! - `read_text` and `read_bits` find the option that reads a text or bits, and the value of each of its items. Where each item before
+//!   the last has words of one length, these lie where the widths say; else the option's machine is followed.
 //!
 //! # Example
 //!
@@ -28,6 +29,7 @@ mod finding;
 mod guides;
 mod level;
 mod machines;
+mod measured;
 mod one;
 mod probing;
 mod read;
@@ -35,6 +37,7 @@ mod reading;
 mod standing;
 mod trail;
 mod values;
+mod widths;
 
 pub use level::Level;
 pub use read::{read_bits, read_text};

@@ -6,8 +6,10 @@ ghost use Rattle.gs_compile.specs.Readers.{ReadsItems};
 
 use crate::alone::{Alone, follow_alone};
 use crate::cuts::cuts_of;
+use crate::measured::Measured;
 use crate::trail::{Entry, follow};
 use crate::values::values_of;
+use crate::widths::measure;
 use gs_chars::{List, Memory, Text};
 use gs_grammar::Item;
 use gs_machine::Auto;
@@ -52,8 +54,8 @@ fn read_by_trail(
     Ok(Some(values))
 }
 
-/// The values of a derivation of the symbols by the items, whose machine this is. `None` comes exactly where there is none.
-pub fn read_items(
+/// The values of a derivation of the symbols by the items, whose machine this is, by its runs.
+fn read_by_machine(
     alloc: Global,
     machine: &Auto,
     items: &[Item],
@@ -73,5 +75,26 @@ pub fn read_items(
         }
         Alone::Refused => Ok(None),
         Alone::Unsure => read_by_trail(alloc, machine, items, symbols, &mut scratch.trail),
+    }
+}
+
+/// The values of a derivation of the symbols by the items, whose machine this is. `None` comes exactly where there is none.
+pub fn read_items(
+    alloc: Global,
+    machine: &Auto,
+    items: &[Item],
+    symbols: &[u8],
+    scratch: &mut Scratch,
+) -> Result<Option<List<Text>>, Memory>
+    requires rules { IsMachine machine.now }
+    requires reads { ReadsItems machine.now items.now }
+    requires each { All IsItem items.now }
+    ensures found { IfOk result (λ found. IfSome found (λ values. HasValues items.now symbols.now values)) }
+    ensures none { IfOk result (λ found. IfNone found (IsDerived items.now symbols.now → ⊥)) }
+{
+    match measure(alloc, items, symbols)? {
+        Measured::Values(values) => Ok(Some(values)),
+        Measured::Refused => Ok(None),
+        Measured::Unsure => read_by_machine(alloc, machine, items, symbols, scratch),
     }
 }

@@ -1,6 +1,6 @@
 ghost use Rattle.std.specs.Prelude.{IfOk, IfSome};
 ghost use Rattle.gs_compile.specs.Readers.{ReadsItems};
-ghost use Rattle.gs_level.specs.Alone.{Begins, IsFront};
+ghost use Rattle.gs_level.specs.Alone.{IsStand, IsFront};
 ghost use Rattle.gs_machine.specs.Machines.{IsMachine};
 
 use gs_chars::Memory;
@@ -37,7 +37,7 @@ pub fn begin<'a>(
 ) -> Result<Stand<'a>, Memory>
     requires rules { IsMachine machine.now }
     requires reads { ReadsItems machine.now items.now }
-    ensures { IfOk result (λ stand. Begins machine.now items.now symbols.now stand.state stand.place cuts.new.items stand.above.now) }
+    ensures { IfOk result (λ stand. IsStand machine.now items.now symbols.now cuts.new.items stand) }
 {
     cuts.clear();
     cuts.push(0)?;

@@ -1,6 +1,6 @@
-ghost use Rattle.std.specs.Prelude.{◌≡◌, ◌≤◌, ◌<◌, ◌++◌, ℕ, OnOk, IfOk, IfSome, IfNone, length, drop};
-ghost use Rattle.gs_machine.specs.Machines.{IsMachine, states_of};
-ghost use Rattle.gs_level.specs.Trails.{leads_with, successors, layer, entry_at, IsTrail, HasNoRun};
+ghost use Rattle.std.specs.Prelude.{◌≡◌, ◌++◌, OnOk, IfOk, IfSome, IfNone};
+ghost use Rattle.gs_machine.specs.Machines.{IsMachine};
+ghost use Rattle.gs_level.specs.Trails.{leads_with, successors, with_layer, AreInside, IsEntryOf, HasNoEntryOf, IsTrail, HasNoRun};
 
 use gs_chars::Memory;
 use gs_machine::{Auto, Edge};
@@ -42,8 +42,8 @@ fn push_successors(
 
 /// Puts the entries that the symbol leads to, from those of the number `from` on, behind the others.
 fn push_layer(machine: &Auto, trail: &mut Vec<Entry>, from: usize, symbol: u8) -> Result<(), Memory>
-    requires { (number : ℕ) → number < length trail.old.items → (entry_at trail.old.items number).state < states_of machine.now }
-    ensures { OnOk result (trail.new.items ≡ trail.old.items ++ layer machine.now.table symbol from (drop from trail.old.items)) }
+    requires { AreInside machine.now trail.old.items }
+    ensures { OnOk result (trail.new.items ≡ with_layer machine.now symbol from trail.old.items) }
 {
     for number in from..trail.len() {
         let entry = trail[number];
@@ -54,8 +54,8 @@ fn push_layer(machine: &Auto, trail: &mut Vec<Entry>, from: usize, symbol: u8) -
 
 /// The number of an entry, from the number `from` on, of this state.
 fn entry_of(trail: &[Entry], from: usize, state: usize) -> Option<usize>
-    ensures some { IfSome result (λ number. (from ≤ number) × (number < length trail.now) × ((entry_at trail.now number).state ≡ state)) }
-    ensures none { IfNone result ((number : ℕ) → from ≤ number → number < length trail.now → (entry_at trail.now number).state ≡ state → ⊥) }
+    ensures some { IfSome result (IsEntryOf trail.now from state) }
+    ensures none { IfNone result (HasNoEntryOf trail.now from state) }
 {
     for number in from..trail.len() {
         if trail[number].state == state {
@@ -73,7 +73,7 @@ pub fn follow(
     trail: &mut Vec<Entry>,
 ) -> Result<Option<usize>, Memory>
     requires { IsMachine machine.now }
-    ensures found { IfOk result (λ found. IfSome found (λ number. IsTrail machine.now trail.new.items symbols.now number)) }
+    ensures found { IfOk result (λ found. IfSome found (IsTrail machine.now trail.new.items symbols.now)) }
     ensures none { IfOk result (λ found. IfNone found (HasNoRun machine.now symbols.now)) }
 {
     trail.clear();

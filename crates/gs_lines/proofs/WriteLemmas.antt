@@ -3,8 +3,8 @@ use Rattle.std.proofs.Common.{◌≡◌, ℕ, ◌+◌, ◌||◌, Bool, false, Li
 use Rattle.std.proofs.lemmas.List.{take_all}
 use Rattle.std.proofs.Math.Seq.{take-append-add}
 use Rattle.gs_port.specs.Contents.{append_known, append_nothing, append_twice}
-use Rattle.gs_lines.specs.Outputs.{AnswersAll, AnswersFront, Appends, BeginsAnswers, LineAnswer}
-use Rattle.gs_lines.proofs.OutputLemmas.{front_start, front_join, front_all, front_begins}
+use Rattle.gs_lines.specs.Outputs.{AnswersFront, Appends, BeginsAnswers, LineAnswer}
+use Rattle.gs_lines.proofs.OutputLemmas.{front_start, front_join, front_begins}
 
 -- what was done of bytes, behind what was written before
 front_after : {Is : List ℕ → LineAnswer → Type 0} (bytes rest output before : List ℕ) (refused : Bool) → AnswersFront Is bytes rest [] output refused → AnswersFront Is bytes rest before (before ++ output) refused

@@ -1,10 +1,15 @@
 -- How the answering of lines ends.
 use Rattle.std.specs.Prelude.{ℕ, Bool, true, false, List}
+use Rattle.gs_lines.specs.declared.answering.Answered.{Answered}
 use Rattle.gs_lines.specs.declared.answering.Answering.{Answering}
 use Rattle.gs_lines.specs.declared.answering.Answering.TheVariants.{Whole, SinkFault, Memory}
 use Rattle.gs_lines.specs.declared.status.Status.{Status}
 use Rattle.gs_lines.specs.declared.status.Status.TheVariants as status
-use Rattle.gs_lines.specs.Outputs.{AnswersAll, BeginsAnswers, LineAnswer}
+use Rattle.gs_lines.specs.Outputs.{AnswersAll, AnswersFront, BeginsAnswers, LineAnswer}
+
+-- the answers to the first lines of the bytes were added, up to what is left
+abbrev pub AddsBlock : (List ℕ → LineAnswer → Type 0) → List ℕ → List ℕ → List ℕ → Answered → Type 0
+AddsBlock Is bytes before now block = AnswersFront Is bytes block.rest.now before now block.refused
 
 -- what is written for the lines of the bytes: all answers, or an initial part of them
 abbrev pub OfLines : (List ℕ → LineAnswer → Type 0) → List ℕ → List ℕ → Answering → Type 0

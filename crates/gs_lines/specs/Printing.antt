@@ -1,5 +1,6 @@
 -- One line that is written, with a status.
-use Rattle.std.specs.Prelude.{◌≡◌, ℕ, List, take}
+use Rattle.std.specs.Prelude.{◌≡◌, ℕ, List, Option, take}
+use Rattle.gs_lines.specs.Outputs.{Appends}
 use Rattle.gs_lines.specs.declared.status.Status.{Status}
 use Rattle.gs_lines.specs.declared.status.Status.TheVariants.{WriteFault, Memory}
 
@@ -12,3 +13,7 @@ abbrev pub PrintedAs : Status → List ℕ → List ℕ → Status → Type 0
 PrintedAs status line output WriteFault = IsInitialPart output line
 PrintedAs status line output Memory = IsInitialPart output line
 PrintedAs status line output ended = (ended ≡ status) × (output ≡ line)
+
+-- The line was added to what a sink holds, where it tells that, and this is the status; or an initial part of the line was added.
+abbrev pub AppendsLine : Status → List ℕ → Status → Option (List ℕ) → Option (List ℕ) → Type 0
+AppendsLine status line ended before now = Appends before now (λ output. PrintedAs status line output ended)

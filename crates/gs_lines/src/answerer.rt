@@ -12,7 +12,7 @@ pub trait Answerer {
     /// Appends the line of the answer to a text, `ok TEXT` or `no REASON` with a line feed, and answers whether it is a
     /// refusal. After want of memory `out` may have a part of a line more.
     fn append_answer(&self, alloc: Global, text: &[u8], out: &mut Vec<u8>) -> Result<bool, Memory>
-        ensures { IfOk result (λ refused. AddsAnswer (is_answer self.now) text.now out.old.items out.new.items refused) };
+        ensures { IfOk result (AddsAnswer (is_answer self.now) text.now out.old.items out.new.items) };
 
     /// A text of more than 2,048 bytes is answered as any other of more, so its first bytes are enough for the answer.
     ghost long_alike: { (s : Self) → AnswersLongAlike (is_answer s) };

@@ -1,9 +1,9 @@
 ghost use Rattle.std.specs.Prelude.{◌≡◌, ◌≢◌, ◌+◌, ◌<◌, ◌≤◌, ◌^◌, ◌||◌, IfOk, length, take};
 ghost use Rattle.gs_port.specs.Counts.{Rises};
-ghost use Rattle.gs_lines.specs.Answering.{OnSinkFault, OfLines, status_at_end};
+ghost use Rattle.gs_lines.specs.Answering.{AddsBlock, OnSinkFault, OfLines, status_at_end};
 ghost use Rattle.gs_lines.specs.Inputs.{IsAtEnd, TakesAtMost, TakesMoreThan};
 ghost use Rattle.gs_lines.specs.Lines.{begun_line, ended_lines, most_held};
-ghost use Rattle.gs_lines.specs.Outputs.{AnswersFront, Appends, WritesAnswers};
+ghost use Rattle.gs_lines.specs.Outputs.{Appends, WritesAnswers};
 ghost use Rattle.gs_lines.specs.Statuses.{OnAnswered, OnInputLong, OnReadFault, OnWriteFault};
 
 use crate::answerer::Answerer;
@@ -39,7 +39,7 @@ fn answer_block<'a, A: Answerer>(
     out: &mut Vec<u8>,
 ) -> Result<Answered<'a>, Memory>
     requires some { 0 < length bytes.now }
-    ensures front { IfOk result (λ a. AnswersFront (A.is_answer answerer.now) bytes.now a.rest.now out.old.items out.new.items a.refused) }
+    ensures front { IfOk result (AddsBlock (A.is_answer answerer.now) bytes.now out.old.items out.new.items) }
     ensures shorter { IfOk result (λ a. length a.rest.now < length bytes.now) }
 {
     let mut rest = bytes;
@@ -74,7 +74,8 @@ fn write_answers<A: Answerer, K: Sink>(
     out: &mut Vec<u8>,
     output: &mut K,
 ) -> Answering
-    ensures written { Appends (K.held output.old) (K.held output.new) (λ o. OfLines (A.is_answer answerer.now) bytes.now o result) }
+    ensures written { Appends (K.held output.old) (K.held output.new) (λ out.
+        OfLines (A.is_answer answerer.now) bytes.now out result) }
     ensures fault { OnSinkFault result (Rises (K.faults output.old) (K.faults output.new)) }
     ensures counts { K.faults output.old ≤ K.faults output.new }
 {
@@ -104,7 +105,8 @@ fn answer_ended<A: Answerer, K: Sink>(
     out: &mut Vec<u8>,
     output: &mut K,
 ) -> Answering
-    ensures written { Appends (K.held output.old) (K.held output.new) (λ o. OfLines (A.is_answer answerer.now) (ended_lines buffer.old) o result) }
+    ensures written { Appends (K.held output.old) (K.held output.new) (λ out.
+        OfLines (A.is_answer answerer.now) (ended_lines buffer.old) out result) }
     ensures held { buffer.new ≡ take most_held (begun_line buffer.old) }
     ensures fault { OnSinkFault result (Rises (K.faults output.old) (K.faults output.new)) }
     ensures counts { K.faults output.old ≤ K.faults output.new }
@@ -135,8 +137,8 @@ fn status_after(earlier: bool, last: Answering) -> Status
 /// at most one byte more is taken.
 ///
 /// `ReadFault` comes only where the input's count of faults rose in this call; the lines that had ended are answered then.
-/// `WriteFault` comes only where the output's count rose. `InputLong` comes exactly where more than `limit` bytes were
-/// taken. After each of these and after `Memory`, what was written is an initial part of the answer lines.
+/// `WriteFault` comes only where the output's count rose. `InputLong` comes exactly where more than `limit` bytes were taken.
+/// After each of these and after `Memory`, what was written is an initial part of the answer lines. `limit` is below 2^63.
 pub fn answer_lines<A: Answerer, S: Source, K: Sink>(
     alloc: Global,
     answerer: &A,

@@ -50,12 +50,12 @@ impl LineBuffer {
         &self.room[..self.len]
     }
 
-    /// Reads behind the bytes, at most `most` of the input.
+    /// Reads behind the bytes, at most `most` of the input. At most the bytes of one line are held, and `most` is not 0.
     pub fn read<S: Source>(&mut self, input: &mut S, most: u64) -> ReadAnswer
         requires held { length self.old ≤ most_held }
         requires some { 0 < most }
         ensures within { IfGot result (λ n. n ≤ most) }
-        ensures moved { IfGot result (λ n. ReadsMore self.old self.new (S.left input.old) (S.left input.new) n) }
+        ensures moved { IfGot result (ReadsMore self.old self.new (S.left input.old) (S.left input.new)) }
         ensures end { IfGot result (λ n. n ≡ 0 → IsAtEnd (S.left input.new)) }
         ensures unmoved { OnReadFailed result (S.left input.new ≡ S.left input.old) }
         ensures failed { OnReadFailed result (Rises (S.faults input.old) (S.faults input.new)) }
@@ -72,7 +72,7 @@ impl LineBuffer {
         }
     }
 
-    /// Drops the bytes before a place, and holds the first of those behind it.
+    /// Drops the bytes before a place, and holds the first of those behind it. The place is not behind the bytes.
     pub fn hold_from(&mut self, start: usize)
         requires { start ≤ length self.old }
         ensures { self.new ≡ take most_held (drop start self.old) }

@@ -3,7 +3,7 @@ ghost use Rattle.gs_lines.specs.Lines.{ended_lines, lines_of, text_of};
 
 use memchr::{memchr, memrchr};
 
-/// The first line of bytes that are not empty, and the bytes behind it and its line feed.
+/// The first line of bytes that are not empty, and the bytes behind it and its line feed. There are some.
 pub fn first_line(bytes: &[u8]) -> (&[u8], &[u8])
     requires { 0 < length bytes.now }
     ensures lines { lines_of bytes.now ≡ result.0.now ∷ lines_of result.1.now }

@@ -1,18 +1,17 @@
 ghost use Rattle.std.specs.Prelude.{◌≡◌, ◌≢◌, ◌≤◌};
 ghost use Rattle.gs_port.specs.Counts.{Rises};
-ghost use Rattle.gs_lines.specs.Outputs.{Appends};
-ghost use Rattle.gs_lines.specs.Printing.{PrintedAs};
+ghost use Rattle.gs_lines.specs.Printing.{AppendsLine};
 ghost use Rattle.gs_lines.specs.Statuses.{OnWriteFault};
 
 use crate::status::Status;
 use gs_port::{Sink, Whole, write_whole};
 
-/// Writes a line, and answers this status where it was written whole. `WriteFault` comes only where the output's count
-/// rose; after it and after `Memory` an initial part of the line was written.
+/// Writes a line, and answers this status where it was written whole. `WriteFault` comes only where the output's count rose;
+/// after it and after `Memory` an initial part of the line was written. The status that is asked for is neither of these two.
 pub fn print_line<K: Sink>(output: &mut K, line: &[u8], status: Status) -> Status
     requires ends { status ≢ Status.WriteFault }
     requires written { status ≢ Status.Memory }
-    ensures written { Appends (K.held output.old) (K.held output.new) (λ out. PrintedAs status line.now out result) }
+    ensures written { AppendsLine status line.now result (K.held output.old) (K.held output.new) }
     ensures fault { OnWriteFault result (Rises (K.faults output.old) (K.faults output.new)) }
     ensures counts { K.faults output.old ≤ K.faults output.new }
 {

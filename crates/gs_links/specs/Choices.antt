@@ -59,9 +59,13 @@ is_chosen identity want depth link = is_candidate identity want link && (depth_o
 abbrev pub numbers_from : ℕ → (Link → Bool) → List Link → List ℕ
 numbers_from n test links = map (λ row. row.0) (filter (λ row. test row.1) (enumerate_from n links))
 
+-- the numbers of the candidates with so many qualifiers, ascending
+abbrev pub chosen_at : List Link → Elements → Want → ℕ → List ℕ
+chosen_at links identity want depth = numbers_from 0 (is_chosen identity want depth) links
+
 -- the numbers of the candidates with the most qualifiers, ascending
 abbrev pub chosen : List Link → Elements → Want → List ℕ
-chosen links identity want = numbers_from 0 (is_chosen identity want (chosen_depth links identity want)) links
+chosen links identity want = chosen_at links identity want (chosen_depth links identity want)
 
 -- a number is one of the numbers
 abbrev pub IsAmong : List ℕ → ℕ → Type 0

@@ -5,9 +5,10 @@ use Rattle.std.specs.Option.{option_map_or}
 use Rattle.gs_ai.specs.declared.pair.Pair.{Pair}
 use Rattle.gs_ident.specs.Elements.{Elements}
 use Rattle.indexmap.specs.IndexMap.{get}
-use Rattle.gs_links.specs.Choices.{numbers_from}
+use Rattle.gs_links.specs.Choices.{is_chosen, numbers_from}
 use Rattle.gs_links.specs.declared.index.Index.{Index}
 use Rattle.gs_links.specs.declared.link.Link.{Link}
+use Rattle.gs_links.specs.declared.link.Want.{Want}
 
 -- the hash of bytes behind others, which have the hash h
 abbrev pub hash_with : ℕ → List ℕ → ℕ
@@ -40,3 +41,7 @@ with_last numbers m i n = if m == n then numbers ++ i ∷ [] else numbers
 -- of numbers those of links that pass a test
 abbrev pub passing : List Link → (Link → Bool) → List ℕ → List ℕ
 passing links test numbers = filter (λ i. option_map_or test (slice_get links i) false) numbers
+
+-- of numbers those of candidates with so many qualifiers
+abbrev pub chosen_among : List Link → Elements → Want → ℕ → List ℕ → List ℕ
+chosen_among links identity want depth numbers = passing links (is_chosen identity want depth) numbers

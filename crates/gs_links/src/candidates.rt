@@ -1,6 +1,6 @@
 ghost use Rattle.std.specs.Prelude.{◌≡◌, ◌≤◌, ◌<◌, All, length, take};
 ghost use Rattle.gs_links.specs.Choices.{are_first, is_candidate, is_chosen, is_prefix, is_same_pair, is_wanted};
-ghost use Rattle.gs_links.specs.Index.{passing};
+ghost use Rattle.gs_links.specs.Index.{chosen_among};
 
 use crate::link::{Link, Want};
 use gs_ai::Pair;
@@ -75,8 +75,8 @@ pub(crate) fn put_chosen(
 ) -> usize
     requires known { All (λ i. i < length links.now) numbers.now }
     requires room { length numbers.now ≤ length out.now }
-    ensures count { result ≡ length (passing links.now (is_chosen identity.now want.entry depth) numbers.now) }
-    ensures numbers { take result out.new ≡ passing links.now (is_chosen identity.now want.entry depth) numbers.now }
+    ensures count { result ≡ length (chosen_among links.now identity.now want.entry depth numbers.now) }
+    ensures numbers { take result out.new ≡ chosen_among links.now identity.now want.entry depth numbers.now }
 {
     let mut count = 0;
     for k in 0..numbers.len() {

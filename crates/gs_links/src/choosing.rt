@@ -1,6 +1,6 @@
 ghost use Rattle.std.specs.Prelude.{◌≡◌, ◌≤◌, ◌<◌, ◌⊎◌, length, take};
 ghost use Rattle.gs_ident.specs.Elements.{first_qualifiers};
-ghost use Rattle.gs_links.specs.Choices.{chosen_depth, is_chosen, numbers_from};
+ghost use Rattle.gs_links.specs.Choices.{chosen_at, chosen_depth};
 ghost use Rattle.gs_links.specs.Index.{IsIndexOf, anchor_number};
 
 use crate::candidates::put_chosen;
@@ -23,8 +23,8 @@ fn choose_at(
     requires index { IsIndexOf index.now links.now }
     requires room { length links.now ≤ length out.now }
     ensures depth { result.depth ≡ depth }
-    ensures count { result.count ≡ length (numbers_from 0 (is_chosen identity.now want.entry depth) links.now) }
-    ensures numbers { take result.count out.new ≡ numbers_from 0 (is_chosen identity.now want.entry depth) links.now }
+    ensures count { result.count ≡ length (chosen_at links.now identity.now want.entry depth) }
+    ensures numbers { take result.count out.new ≡ chosen_at links.now identity.now want.entry depth }
 {
     let count = put_chosen(links, index.list(number), identity, want, depth, out);
     Chosen { depth, count }
@@ -48,9 +48,8 @@ pub(crate) fn choose_from(
     requires room { length links.now ≤ length out.now }
     ensures most { chosen_depth links.now identity.now want.entry ≤ result.depth }
     ensures some { (result.depth ≡ depth) ⊎ (0 < result.count) }
-    ensures count { result.count ≡ length (numbers_from 0 (is_chosen identity.now want.entry result.depth) links.now) }
-    ensures numbers { take result.count out.new
-        ≡ numbers_from 0 (is_chosen identity.now want.entry result.depth) links.now }
+    ensures count { result.count ≡ length (chosen_at links.now identity.now want.entry result.depth) }
+    ensures numbers { take result.count out.new ≡ chosen_at links.now identity.now want.entry result.depth }
 {
     let Some(pair) = identity.qualifiers().get(depth) else {
         return choose_at(links, index, identity, want, depth, number, out);

@@ -13,7 +13,8 @@ pub fn prefixes_of()
 /// The choice depends on the identity's key and qualifiers alone.
 pub fn by_key_and_qualifiers()
     ensures { (links : List Link) (a b : Elements) (want : Want) → a.key ≡ b.key → a.qualifiers ≡ b.qualifiers
-        → (chosen links a want ≡ chosen links b want) × (chosen_depth links a want ≡ chosen_depth links b want) }
+        → (chosen links a want ≡ chosen links b want)
+        × (chosen_depth links a want ≡ chosen_depth links b want) }
 {}
 
 /// A candidate hides every candidate with fewer qualifiers, and nothing else: the link of a number is chosen exactly where it

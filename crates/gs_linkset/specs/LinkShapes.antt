@@ -51,11 +51,15 @@ is_target target = is_utf8 target.href && (ascend (map (λ attr. attr.name) targ
 unfoldable pub is_relation : Relation → Bool
 is_relation relation = not (bytes_eq relation.name (codes "anchor")) && (is_utf8 relation.name && list_all is_target relation.targets)
 
+-- the names of relations
+abbrev pub relation_names : List Relation → List (List ℕ)
+relation_names relations = map (λ relation. relation.name) relations
+
 -- a context: the names of its relations ascend, and they have their shape
 unfoldable pub is_context : Context → Bool
 is_context context =
     is_utf8 context.anchor
-    && (ascend (map (λ relation. relation.name) context.relations) && list_all is_relation context.relations)
+    && (ascend (relation_names context.relations) && list_all is_relation context.relations)
 
 -- the document of the contexts, or the number of the first that breaks the shape
 unfoldable pub new_answer : List Context → Result (List Context) DocFault

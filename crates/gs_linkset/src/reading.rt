@@ -5,7 +5,7 @@ ghost use Rattle.serde_json.specs.View.{view};
 ghost use Rattle.gs_json.specs.Answers.{count_of};
 ghost use Rattle.gs_linkset.specs.Answers.{OrMemory, context_answer, contexts_answer, document_answer, read_answer};
 ghost use Rattle.gs_linkset.specs.Answers.{relation_answer, relations_answer, target_answer, targets_answer};
-ghost use Rattle.gs_linkset.specs.LinkShapes.{ascend, is_context, is_relation, is_target};
+ghost use Rattle.gs_linkset.specs.LinkShapes.{ascend, is_context, is_relation, is_target, relation_names};
 
 use crate::doc::LinkDoc;
 use crate::link_types::{Context, Relation, Target};
@@ -87,7 +87,7 @@ fn read_relation(
 fn read_relations(alloc: Global, context: &Node<'_>) -> Result<List<Relation>, JsonFault>
     ensures answer { OrMemory result (relations_answer context.now.place (view context.now.tree)) }
     ensures shape { IfOk result (λ relations. list_all is_relation relations ≡ true) }
-    ensures ascending { IfOk result (λ relations. ascend (map (λ relation. relation.name) relations) ≡ true) }
+    ensures ascending { IfOk result (λ relations. ascend (relation_names relations) ≡ true) }
 {
     let Some(names) = names_of(alloc, context)? else {
         return Ok(List::from_vec(Vec::new(alloc)));

@@ -9,6 +9,10 @@ pub record AutoForm : Type 0 where
   pub table : List (List Edge)
   pub borders : List ℕ
 
+-- the machine of a table and borders
+abbrev pub auto_form : List (List Edge) → List ℕ → AutoForm
+auto_form table borders = record { table = table; borders = borders }
+
 -- the number of states
 abbrev pub states_of : AutoForm → ℕ
 states_of form = length form.table
@@ -25,6 +29,10 @@ accept_of form = slice_index form.borders (length form.borders - 1)
 abbrev pub is_onward : ℕ → List ℕ → ℕ → Edge → Bool
 is_onward states borders state edge = nat_lt state edge.to && nat_lt edge.to states && list_all (λ border. nat_le border state || nat_le edge.to border) borders
 
+-- each edge of each state leads to a higher state, which is there, and over no border
+abbrev pub AreOnward : List ℕ → List (List Edge) → Type 0
+AreOnward borders table = (state : ℕ) → AllPass (is_onward (length table) borders state) (edges_at table state)
+
 -- the numbers ascend strictly, as far as the first n
 abbrev pub AscendBefore : List ℕ → ℕ → Type 0
 AscendBefore numbers n = (k : ℕ) → k + 1 < n → slice_index numbers k < slice_index numbers (k + 1)
@@ -32,10 +40,14 @@ AscendBefore numbers n = (k : ℕ) → k + 1 < n → slice_index numbers k < sli
 -- The rules of a machine: each edge leads to a higher state, which is there, and over no border; there is a border, and the
 -- borders are states and ascend strictly.
 pub record IsMachine (form : AutoForm) : Type 0 where
-  pub onward : (state : ℕ) → AllPass (is_onward (length form.table) form.borders state) (edges_at form.table state)
+  pub onward : AreOnward form.borders form.table
   pub bordered : 0 < length form.borders
   pub ascend : AscendBefore form.borders (length form.borders)
   pub inside : accept_of form < length form.table
+
+-- a table and borders that break one of these rules
+abbrev pub IsNoMachine : AutoForm → Type 0
+IsNoMachine form = IsMachine form → ⊥
 
 -- a run on the list of symbols, told by the states after the start, that ends in the accepting state
 abbrev pub Accepts : AutoForm → List ℕ → List ℕ → Type 0

@@ -1,5 +1,5 @@
 ghost use Rattle.std.specs.Prelude.{◌≡◌, ◌↔◌, ◌<◌, IsTrue, IfOk, IfSome, IfNone};
-ghost use Rattle.gs_machine.specs.Machines.{IsMachine, states_of, start_of, accept_of};
+ghost use Rattle.gs_machine.specs.Machines.{IsMachine, IsNoMachine, auto_form, states_of, start_of, accept_of};
 ghost use Rattle.gs_machine.specs.Walks.{edges_at};
 
 use crate::edge::Edge;
@@ -40,7 +40,7 @@ fn table_of(alloc: Global, rows: &[List<Edge>]) -> Result<Table, Memory>
 
 /// Whether the rows and borders keep the rules of a machine.
 fn is_machine(rows: &[List<Edge>], borders: &[usize]) -> bool
-    ensures { IsTrue result ↔ IsMachine (record { table = rows.now; borders = borders.now }) }
+    ensures { IsTrue result ↔ IsMachine (auto_form rows.now borders.now) }
 {
     match borders.last() {
         Some(last) => *last < rows.len() && ascend(borders) && are_onward(borders, rows),
@@ -57,9 +57,9 @@ impl Auto {
         rows: &[List<Edge>],
         borders: Vec<usize>,
     ) -> Result<Option<Auto>, Memory>
-        ensures made { IfOk result (λ made. IfSome made (λ auto. auto ≡ record { table = rows.now; borders = borders.items })) }
+        ensures made { IfOk result (λ made. IfSome made (λ auto. auto ≡ auto_form rows.now borders.items)) }
         ensures rules { IfOk result (λ made. IfSome made (λ auto. IsMachine auto)) }
-        ensures broken { IfOk result (λ made. IfNone made (IsMachine (record { table = rows.now; borders = borders.items }) → ⊥)) }
+        ensures broken { IfOk result (λ made. IfNone made (IsNoMachine (auto_form rows.now borders.items))) }
     {
         if !is_machine(rows, borders.as_slice()) {
             return Ok(None);
@@ -70,8 +70,8 @@ impl Auto {
 
     /// The machine of a table and borders that keep the rules. It takes no memory.
     pub fn of_table(table: Table, borders: Vec<usize>) -> Auto
-        requires { IsMachine (record { table = table; borders = borders.items }) }
-        ensures { result ≡ record { table = table; borders = borders.items } }
+        requires { IsMachine (auto_form table borders.items) }
+        ensures { result ≡ auto_form table borders.items }
     {
         Auto { table, borders }
     }
@@ -100,7 +100,8 @@ impl Auto {
         self.borders[self.borders.len() - 1]
     }
 
-    /// The edges that leave a state. Each leads to a higher state, which is there, and over no border.
+    /// The edges that leave a state. Each leads to a higher state, which is there, and over no border. The state is one of the
+    /// machine.
     pub fn edges(&self, state: usize) -> &[Edge]
         requires { state < states_of self.now }
         ensures edges { result.now ≡ edges_at self.now.table state }

@@ -1,7 +1,6 @@
-ghost use Rattle.std.specs.Prelude.{◌≡◌, ◌↔◌, ◌||◌, ℕ, nat_le, IsTrue, length};
-ghost use Rattle.std.specs.List.{AllPass, list_all};
-ghost use Rattle.gs_machine.specs.Machines.{is_onward, AscendBefore};
-ghost use Rattle.gs_machine.specs.Walks.{edges_at};
+ghost use Rattle.std.specs.Prelude.{◌≡◌, ◌↔◌, ◌||◌, nat_le, IsTrue, length};
+ghost use Rattle.std.specs.List.{list_all};
+ghost use Rattle.gs_machine.specs.Machines.{AreOnward, AscendBefore, is_onward};
 
 use crate::edge::Edge;
 use gs_chars::List;
@@ -32,7 +31,7 @@ fn is_row_onward(states: usize, borders: &[usize], state: usize, row: &[Edge]) -
 
 /// Whether all edges of all states do so.
 pub fn are_onward(borders: &[usize], rows: &[List<Edge>]) -> bool
-    ensures { IsTrue result ↔ ((state : ℕ) → AllPass (is_onward (length rows.now) borders.now state) (edges_at rows.now state)) }
+    ensures { IsTrue result ↔ AreOnward borders.now rows.now }
 {
     for (state, row) in rows.iter().enumerate() {
         if !is_row_onward(rows.len(), borders, state, row.items()) {

@@ -73,7 +73,7 @@ impl Table {
         self.ends.len()
     }
 
-    /// The edges that leave a state.
+    /// The edges that leave a state. The state is one of the table.
     pub fn edges(&self, state: usize) -> &[Edge]
         requires { state < length self.now }
         ensures { result.now ≡ edges_at self.now state }

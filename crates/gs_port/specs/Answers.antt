@@ -1,7 +1,8 @@
 -- What an answer of the outside says, by its variant.
-use Rattle.std.specs.Prelude.{ℕ, List, Option, Result, Ok, Err}
-use Rattle.gs_port.specs.Counts.{counted}
-use Rattle.gs_port.specs.Files.{counted_if_there}
+use Rattle.std.specs.Prelude.{◌≡◌, ◌↔◌, ◌⊎◌, ℕ, List, [], Option, Result, Ok, Err, IfSome, min, take, length}
+use Rattle.gs_port.specs.Contents.{append_known, prepend_known}
+use Rattle.gs_port.specs.Counts.{Rises, counted}
+use Rattle.gs_port.specs.Files.{FilesHeld, IsAbsent, counted_if_there}
 use Rattle.gs_port.specs.declared.source.ReadAnswer.{ReadAnswer}
 use Rattle.gs_port.specs.declared.source.ReadAnswer.TheVariants as read
 use Rattle.gs_port.specs.declared.sink.WriteAnswer.{WriteAnswer}
@@ -20,6 +21,22 @@ abbrev pub IfGot : ReadAnswer → (ℕ → Type 0) → Type 0
 IfGot (read.Got n) fact = fact n
 IfGot read.Failed fact = Unit {0}
 
+-- what a read moved to the front of the buffer was the front of what was left, and the rest is left now
+abbrev pub MovesFront : ReadAnswer → List ℕ → Option (List ℕ) → Option (List ℕ) → Type 0
+MovesFront answer buffer before now = IfGot answer (λ n. before ≡ prepend_known (take n buffer) now)
+
+-- what a read moved to the front of the buffer was added to what was read before
+abbrev pub AddsMoved : ReadAnswer → List ℕ → Option (List ℕ) → Option (List ℕ) → Type 0
+AddsMoved answer buffer before now = IfGot answer (λ n. now ≡ append_known before (take n buffer))
+
+-- a read moved 0 bytes exactly where nothing was left, where that is told
+abbrev pub IsZeroAtEnd : ReadAnswer → Option (List ℕ) → Type 0
+IsZeroAtEnd answer left = IfGot answer (λ n. IfSome left (λ bytes. (n ≡ 0) ↔ (bytes ≡ [])))
+
+-- a read moved so many bytes, or all that were left where they were fewer, where that is told
+abbrev pub MovesMost : ReadAnswer → ℕ → Option (List ℕ) → Type 0
+MovesMost answer most left = IfGot answer (λ n. IfSome left (λ bytes. n ≡ min most (length bytes)))
+
 -- a fact for a read that failed
 abbrev pub OnReadFailed : ReadAnswer → Type 0 → Type 0
 OnReadFailed (read.Got n) fact = Unit {0}
@@ -35,6 +52,10 @@ abbrev pub IfTook : WriteAnswer → (ℕ → Type 0) → Type 0
 IfTook (write.Took n) fact = fact n
 IfTook write.Failed fact = Unit {0}
 IfTook write.Memory fact = Unit {0}
+
+-- what a write took from the front of the piece was added to what was held
+abbrev pub AppendsFront : WriteAnswer → List ℕ → Option (List ℕ) → Option (List ℕ) → Type 0
+AppendsFront answer piece before now = IfTook answer (λ n. now ≡ append_known before (take n piece))
 
 -- a fact for a write that took nothing, be it for a fault or for want of memory
 abbrev pub OnNothingTaken : WriteAnswer → Type 0 → Type 0
@@ -103,10 +124,18 @@ count_after_open opening.Failed count = counted count
 count_after_open opening.Memory count = count
 
 -- the same, where a file that is not among those that are told is no fault
-abbrev pub count_after_named : OpenAnswer → Option (List (List ℕ × List ℕ)) → List ℕ → ℕ → ℕ
+abbrev pub count_after_named : OpenAnswer → Option FilesHeld → List ℕ → ℕ → ℕ
 count_after_named opening.Opened files name count = count
 count_after_named opening.Failed files name count = counted_if_there files name count
 count_after_named opening.Memory files name count = count
+
+-- an open of the named file fails only where a fault was counted, or where the files are told and it is not among them
+abbrev pub OpenFails : OpenAnswer → Option FilesHeld → List ℕ → ℕ → ℕ → Type 0
+OpenFails answer files name before now = OnOpenFailed answer (Rises before now ⊎ IsAbsent files name)
+
+-- the count of faults between two moments with an open of the named file: one more where the file is there and it failed
+abbrev pub CountsOpen : OpenAnswer → Option FilesHeld → List ℕ → ℕ → ℕ → Type 0
+CountsOpen answer files name before now = now ≡ count_after_named answer files name before
 
 -- a fact for a connection that was accepted
 abbrev pub OnAccepted : AcceptAnswer → Type 0 → Type 0
@@ -153,11 +182,19 @@ OnFileFailed (Err file.Failed) fact = fact
 OnFileFailed (Err file.Memory) fact = Unit {0}
 
 -- the count of faults after the reading of a file: one more where it failed, but where it is not among files that are told
-abbrev pub count_after_file : Result (List ℕ) FileFault → Option (List (List ℕ × List ℕ)) → List ℕ → ℕ → ℕ
+abbrev pub count_after_file : Result (List ℕ) FileFault → Option FilesHeld → List ℕ → ℕ → ℕ
 count_after_file (Ok text) files name count = count
 count_after_file (Err (file.Over text)) files name count = count
 count_after_file (Err file.Failed) files name count = counted_if_there files name count
 count_after_file (Err file.Memory) files name count = count
+
+-- the reading of the named file fails only where a fault was counted, or where the files are told and it is not among them
+abbrev pub FileFails : Result (List ℕ) FileFault → Option FilesHeld → List ℕ → ℕ → ℕ → Type 0
+FileFails answer files name before now = OnFileFailed answer (Rises before now ⊎ IsAbsent files name)
+
+-- the count of faults between two moments with the reading of the named file: one more where it is there and it failed
+abbrev pub CountsFile : Result (List ℕ) FileFault → Option FilesHeld → List ℕ → ℕ → ℕ → Type 0
+CountsFile answer files name before now = now ≡ count_after_file answer files name before
 
 -- the count of faults after the reading of the current file
 abbrev pub count_after_rest : Result (List ℕ) FileFault → ℕ → ℕ

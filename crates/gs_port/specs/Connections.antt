@@ -1,6 +1,6 @@
 -- Connections, and the doors at which they come.
-use Rattle.std.specs.Prelude.{ℕ, ◌-◌, Bool, true, false, List, [], ◌∷◌, ◌++◌, Option, Some, None, option_map}
-use Rattle.gs_port.specs.Counts.{counted}
+use Rattle.std.specs.Prelude.{◌≡◌, ℕ, ◌-◌, Bool, true, false, List, [], ◌∷◌, ◌++◌, Option, Some, None, option_map}
+use Rattle.gs_port.specs.Counts.{Rises, counted}
 use Rattle.gs_port.specs.declared.files.OpenAnswer.{OpenAnswer}
 use Rattle.gs_port.specs.declared.files.OpenAnswer.TheVariants as opening
 use Rattle.gs_port.specs.declared.door.AcceptAnswer.{AcceptAnswer}
@@ -25,6 +25,14 @@ pub record Aside : Type 0 where
   pub reads_then : ℕ
   pub writes_then : ℕ
 
+-- a fault of a door itself was counted between two moments
+abbrev pub FaultRises : Aside → Aside → Type 0
+FaultRises before now = Rises before.faults now.faults
+
+-- between two moments it did not change whether a door was opened
+abbrev pub SameOpened : Aside → Aside → Type 0
+SameOpened before now = now.opened ≡ before.opened
+
 -- of what is no door
 abbrev pub no_aside : Aside
 no_aside = record { faults = 0; opened = false; waiting = None; finished = None; reads_then = 0; writes_then = 0 }
@@ -38,6 +46,10 @@ first_input (Some (input ∷ rest)) = Some input
 -- nothing was read of the first waiting connection yet, and nothing written to it
 abbrev pub first_begun : Option (List (List ℕ)) → Option (List ℕ)
 first_begun waiting = option_map (λ _. []) (first_input waiting)
+
+-- nothing was read of the first connection that waits at a door, and nothing written to it
+abbrev pub begun_next : Aside → Option (List ℕ)
+begun_next aside = first_begun aside.waiting
 
 -- the waiting connections behind the first
 abbrev pub behind_first : Option (List (List ℕ)) → Option (List (List ℕ))
@@ -64,3 +76,7 @@ finished_now read written reads writes aside = record { read = read; written = w
 -- what a finish leaves: one more connection is finished
 abbrev pub after_finish : Finished → Aside → Aside
 after_finish last aside = record aside { finished = option_map (λ before. before ++ last ∷ []) aside.finished }
+
+-- what the finish of a connection leaves, of which these bytes were read and to which these were written, at these counts
+abbrev pub after_finish_of : Option (List ℕ) → Option (List ℕ) → ℕ → ℕ → Aside → Aside
+after_finish_of read written reads writes aside = after_finish (finished_now read written reads writes aside) aside

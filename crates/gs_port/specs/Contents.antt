@@ -1,5 +1,5 @@
 -- What an object has left or holds, where it tells that: `Some` of the bytes, or `None`.
-use Rattle.std.specs.Prelude.{◌≡◌, ℕ, List, [], ◌++◌, Option, Some, None, refl}
+use Rattle.std.specs.Prelude.{◌≡◌, ℕ, ◌≤◌, List, [], ◌++◌, Option, Some, None, length, refl, take}
 use Rattle.std.proofs.Common.{sym, ap, append_assoc, append-nil}
 
 -- the bytes and then what is told
@@ -11,6 +11,14 @@ prepend_known bytes (Some rest) = Some (bytes ++ rest)
 abbrev pub append_known : Option (List ℕ) → List ℕ → Option (List ℕ)
 append_known None bytes = None
 append_known (Some held) bytes = Some (held ++ bytes)
+
+-- at most so many bytes were taken between two moments
+abbrev pub TakesAtMost : ℕ → Option (List ℕ) → Option (List ℕ) → Type 0
+TakesAtMost most before now = (taken : List ℕ) × (length taken ≤ most) × (before ≡ prepend_known taken now)
+
+-- of the bytes, some from the front were added between two moments
+abbrev pub AddsFrontOf : List ℕ → Option (List ℕ) → Option (List ℕ) → Type 0
+AddsFrontOf bytes before now = (n : ℕ) × (n ≤ length bytes) × (now ≡ append_known before (take n bytes))
 
 -- no bytes in front change nothing
 pub prepend_nothing : (known : Option (List ℕ)) → prepend_known [] known ≡ known

@@ -1,11 +1,17 @@
 -- What a door in memory tells.
-use Rattle.std.specs.Prelude.{ℕ, false, List, [], Option, Some, None, option_map, slice_index_or}
-use Rattle.gs_port.specs.Connections.{Aside, Finished}
-use Rattle.gs_port.specs.Memory.{MemConnection, MemGate}
+use Rattle.std.specs.Prelude.{ℕ, false, List, [], Option, Some, None, Vec, map, option_map, slice_index_or}
+use Rattle.std.specs.declared.alloc.Global.{Global}
+use Rattle.gs_port.specs.Connections.{Aside, Finished, after_accept, after_finish_of}
+use Rattle.gs_port.specs.Memory.{MemConnection, MemGate, uncalled}
+use Rattle.gs_port.specs.declared.door.AcceptAnswer.{AcceptAnswer}
+
+-- the bytes of each input
+abbrev pub told_inputs : List (Vec ℕ Global) → List (List ℕ)
+told_inputs inputs = map (λ input. input.items) inputs
 
 -- a door with these inputs that was not opened yet
 abbrev pub shut_gate : List (List ℕ) → ℕ → List ℕ → MemGate
-shut_gate inputs most fails = record { opened = false; waiting = inputs; current = None; finished = []; most = most; plan = record { fails = fails; next = 0 }; faults = 0; reads = 0; writes = 0; reads_then = 0; writes_then = 0 }
+shut_gate inputs most fails = record { opened = false; waiting = inputs; current = None; finished = []; most = most; plan = uncalled fails; faults = 0; reads = 0; writes = 0; reads_then = 0; writes_then = 0 }
 
 -- how many connections are open
 abbrev pub number_open : Option MemConnection → ℕ
@@ -27,6 +33,14 @@ held_of gate = option_map (λ stream. stream.kept) gate.current
 -- what reads and writes leave as it was
 abbrev pub aside_of : MemGate → Aside
 aside_of gate = record { faults = gate.faults; opened = gate.opened; waiting = Some gate.waiting; finished = Some gate.finished; reads_then = gate.reads_then; writes_then = gate.writes_then }
+
+-- the same after an accept
+abbrev pub aside_after_accept : AcceptAnswer → MemGate → Aside
+aside_after_accept answer gate = after_accept answer gate.reads gate.writes (aside_of gate)
+
+-- the same after the open connection was finished
+abbrev pub aside_after_finish : MemGate → Aside
+aside_after_finish gate = after_finish_of (taken_of gate) (held_of gate) gate.reads gate.writes (aside_of gate)
 
 -- what was written to the finished connection with the number
 abbrev pub written_at : List Finished → ℕ → Option (List ℕ)

@@ -1,9 +1,9 @@
-ghost use Rattle.std.specs.Prelude.{◌≡◌, ℕ, ◌<◌, ◌≤◌, ◌↔◌, Bool, true, List, [], Option, IfSome, length, take};
+ghost use Rattle.std.specs.Prelude.{◌≡◌, ℕ, ◌<◌, ◌≤◌, Bool, true, List, Option, length};
 ghost use Rattle.std.specs.Borrow.{GName};
 ghost use Rattle.gs_port.specs.Connections.{Aside};
-ghost use Rattle.gs_port.specs.Contents.{append_known, prepend_known};
 ghost use Rattle.gs_port.specs.Counts.{Rises};
-ghost use Rattle.gs_port.specs.Answers.{IfGot, IfTook, OnNothingTaken, OnReadFailed, OnWriteFailed, count_after_read, count_after_write};
+ghost use Rattle.gs_port.specs.Answers.{AddsMoved, AppendsFront, IfGot, IfTook, IsZeroAtEnd, MovesFront, OnNothingTaken, OnReadFailed};
+ghost use Rattle.gs_port.specs.Answers.{OnWriteFailed, count_after_read, count_after_write};
 
 use crate::sink::WriteAnswer;
 use crate::source::ReadAnswer;
@@ -40,9 +40,9 @@ pub trait Conn {
         requires room { 0 < length buf.old }
         requires current { is_open self.old ≡ true }
         ensures within { IfGot result (λ n. n ≤ length buf.new) }
-        ensures moved { IfGot result (λ n. left self.old ≡ prepend_known (take n buf.new) (left self.new)) }
-        ensures taken { IfGot result (λ n. taken self.new ≡ append_known (taken self.old) (take n buf.new)) }
-        ensures end { IfGot result (λ n. IfSome (left self.old) (λ bytes. (n ≡ 0) ↔ (bytes ≡ []))) }
+        ensures moved { MovesFront result buf.new (left self.old) (left self.new) }
+        ensures taken { AddsMoved result buf.new (taken self.old) (taken self.new) }
+        ensures end { IsZeroAtEnd result (left self.old) }
         ensures unmoved { OnReadFailed result (left self.new ≡ left self.old) }
         ensures none_taken { OnReadFailed result (taken self.new ≡ taken self.old) }
         ensures failed { OnReadFailed result (Rises (reads self.old) (reads self.new)) }
@@ -60,7 +60,7 @@ pub trait Conn {
         requires current { is_open self.old ≡ true }
         ensures within { IfTook result (λ n. n ≤ length piece.now) }
         ensures some { IfTook result (λ n. 0 < length piece.now → 0 < n) }
-        ensures appended { IfTook result (λ n. held self.new ≡ append_known (held self.old) (take n piece.now)) }
+        ensures appended { AppendsFront result piece.now (held self.old) (held self.new) }
         ensures unchanged { OnNothingTaken result (held self.new ≡ held self.old) }
         ensures failed { OnWriteFailed result (Rises (writes self.old) (writes self.new)) }
         ensures counts { writes self.old ≤ writes self.new }

@@ -1,6 +1,6 @@
 ghost use Rattle.std.specs.Prelude.{◌≡◌, ◌≢◌, ◌≤◌, [], true, false, IfSome, Some};
-ghost use Rattle.gs_port.specs.Connections.{after_accept, after_finish, after_open, finished_now, first_begun, first_input};
-ghost use Rattle.gs_port.specs.Counts.{Rises};
+ghost use Rattle.gs_port.specs.Connections.{FaultRises, SameOpened, after_accept, after_finish_of, after_open, begun_next};
+ghost use Rattle.gs_port.specs.Connections.{first_input};
 ghost use Rattle.gs_port.specs.Answers.{OnAcceptFailed, OnAccepted, OnClosed, OnNotAccepted, OnNotOpened, OnOpenFailed, OnOpened};
 
 use crate::conn::Conn;
@@ -25,8 +25,8 @@ pub trait Door: Conn {
     /// `Memory`. What was opened stays so, and the connections stay as they are.
     fn open(&mut self, address: &str) -> OpenAnswer
         ensures opened { OnOpened result ((Self.aside self.new).opened ≡ true) }
-        ensures not_opened { OnNotOpened result ((Self.aside self.new).opened ≡ (Self.aside self.old).opened) }
-        ensures failed { OnOpenFailed result (Rises (Self.aside self.old).faults (Self.aside self.new).faults) }
+        ensures not_opened { OnNotOpened result (SameOpened (Self.aside self.old) (Self.aside self.new)) }
+        ensures failed { OnOpenFailed result (FaultRises (Self.aside self.old) (Self.aside self.new)) }
         ensures counts { (Self.aside self.old).faults ≤ (Self.aside self.new).faults }
         ensures aside { Self.aside self.new ≡ after_open result (Self.aside self.old) }
         ensures same_current { Self.is_open self.new ≡ Self.is_open self.old }
@@ -45,11 +45,11 @@ pub trait Door: Conn {
         ensures accepted { OnAccepted result (Self.is_open self.new ≡ true) }
         ensures waited { OnAccepted result ((Self.aside self.old).waiting ≢ Some []) }
         ensures whole { OnAccepted result (Self.left self.new ≡ first_input (Self.aside self.old).waiting) }
-        ensures unread { OnAccepted result (Self.taken self.new ≡ first_begun (Self.aside self.old).waiting) }
-        ensures unwritten { OnAccepted result (Self.held self.new ≡ first_begun (Self.aside self.old).waiting) }
+        ensures unread { OnAccepted result (Self.taken self.new ≡ begun_next (Self.aside self.old)) }
+        ensures unwritten { OnAccepted result (Self.held self.new ≡ begun_next (Self.aside self.old)) }
         ensures not_accepted { OnNotAccepted result (Self.is_open self.new ≡ false) }
         ensures closed { OnClosed result (IfSome (Self.aside self.old).waiting (λ waiting. waiting ≡ [])) }
-        ensures failed { OnAcceptFailed result (Rises (Self.aside self.old).faults (Self.aside self.new).faults) }
+        ensures failed { OnAcceptFailed result (FaultRises (Self.aside self.old) (Self.aside self.new)) }
         ensures counts { (Self.aside self.old).faults ≤ (Self.aside self.new).faults }
         ensures aside { Self.aside self.new ≡ after_accept result (Self.reads self.old) (Self.writes self.old)
             (Self.aside self.old) }
@@ -62,8 +62,8 @@ pub trait Door: Conn {
     fn finish(&mut self)
         requires current { Self.is_open self.old ≡ true }
         ensures ended { Self.is_open self.new ≡ false }
-        ensures aside { Self.aside self.new ≡ after_finish (finished_now (Self.taken self.old) (Self.held self.old)
-            (Self.reads self.old) (Self.writes self.old) (Self.aside self.old)) (Self.aside self.old) }
+        ensures aside { Self.aside self.new ≡ after_finish_of (Self.taken self.old) (Self.held self.old)
+            (Self.reads self.old) (Self.writes self.old) (Self.aside self.old) }
         ensures same_reads { Self.reads self.new ≡ Self.reads self.old }
         ensures same_writes { Self.writes self.new ≡ Self.writes self.old }
         ensures same_ends { Self.ends self.new ≡ Self.ends self.old };

@@ -1,8 +1,8 @@
-ghost use Rattle.std.specs.Prelude.{◌≡◌, ◌<◌, ◌≤◌, ◌↔◌, ◌⊎◌, ℕ, Bool, true, false, List, [], ◌∷◌, Option, IfSome, length, take};
-ghost use Rattle.gs_port.specs.Contents.{prepend_known};
+ghost use Rattle.std.specs.Prelude.{◌≡◌, ◌<◌, ◌≤◌, ℕ, Bool, true, false, List, [], ◌∷◌, Option, length};
 ghost use Rattle.gs_port.specs.Counts.{Rises};
-ghost use Rattle.gs_port.specs.Files.{AddsNames, IsAbsent, told_file};
-ghost use Rattle.gs_port.specs.Answers.{IfGot, OnNotOpened, OnOpenFailed, OnOpened, OnReadFailed, count_after_named, count_after_read};
+ghost use Rattle.gs_port.specs.Files.{AddsNames, FilesHeld, IsAbsent, told_file};
+ghost use Rattle.gs_port.specs.Answers.{CountsOpen, IfGot, IsZeroAtEnd, MovesFront, OnNotOpened, OnOpened, OnReadFailed, OpenFails};
+ghost use Rattle.gs_port.specs.Answers.{count_after_read};
 
 use crate::source::ReadAnswer;
 
@@ -20,7 +20,7 @@ pub enum OpenAnswer {
 /// Files, which are opened by their names and read one at a time.
 pub trait Files {
     /// The files, each a name and its bytes, where they are told. The first file with a name is the one that is opened.
-    ghost files: { Self → Option (List (List ℕ × List ℕ)) };
+    ghost files: { Self → Option FilesHeld };
 
     /// Whether a file is current.
     ghost is_open: { Self → Bool };
@@ -44,11 +44,11 @@ pub trait Files {
         ensures whole { OnOpened result (left self.new ≡ told_file (files self.old) name.now) }
         ensures there { OnOpened result (¬ IsAbsent (files self.old) name.now) }
         ensures not_opened { OnNotOpened result (is_open self.new ≡ false) }
-        ensures failed { OnOpenFailed result (Rises (faults self.old) (faults self.new) ⊎ IsAbsent (files self.old) name.now) }
+        ensures failed { OpenFails result (files self.old) name.now (faults self.old) (faults self.new) }
         ensures absent { IsAbsent (files self.old) name.now → faults self.new ≡ faults self.old }
         ensures files { files self.new ≡ files self.old }
         ensures counts { faults self.old ≤ faults self.new }
-        ensures count { faults self.new ≡ count_after_named result (files self.old) name.now (faults self.old) }
+        ensures count { CountsOpen result (files self.old) name.now (faults self.old) (faults self.new) }
         ensures named { AddsNames (opened self.old) (name.now ∷ []) (opened self.new) };
 
     /// Moves the next bytes of what is left of the current file into the front of `buf`, at most as many as `buf` is
@@ -57,8 +57,8 @@ pub trait Files {
         requires room { 0 < length buf.old }
         requires current { is_open self.old ≡ true }
         ensures within { IfGot result (λ n. n ≤ length buf.new) }
-        ensures moved { IfGot result (λ n. left self.old ≡ prepend_known (take n buf.new) (left self.new)) }
-        ensures end { IfGot result (λ n. IfSome (left self.old) (λ bytes. (n ≡ 0) ↔ (bytes ≡ []))) }
+        ensures moved { MovesFront result buf.new (left self.old) (left self.new) }
+        ensures end { IsZeroAtEnd result (left self.old) }
         ensures unmoved { OnReadFailed result (left self.new ≡ left self.old) }
         ensures failed { OnReadFailed result (Rises (faults self.old) (faults self.new)) }
         ensures files { files self.new ≡ files self.old }

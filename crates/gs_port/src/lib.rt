@@ -1,4 +1,26 @@
 //! The outside: sources, sinks, files, connections and doors, with what they tell of their content and their counts of faults.
+//!
+//! - `Source`, `Sink`, `Files`, `Conn` and `Door` are the traits that every other crate reads and writes through. Each has a
+//!   count of faults, which rises by one at each call that fails and at nothing else.
+//! - `MemSource`, `MemSink`, `MemFiles` and `MemDoor` are objects in memory, of which calls fail by a plan; `Pair` makes one
+//!   connection of a source and a sink.
+//! - `StdinSource`, `StdoutSink`, `HostFiles` and `TcpDoor` are the system's. `read_file` and `write_whole` read and write
+//!   whole things.
+//!
+//! # Example
+//!
+//! Files in memory are read up to so many bytes each: the last name is none of them. The gate runs this case, for which
+//! crates/vectors_runs/src/outside.rt makes the calls.
+//!
+//! ```text
+//! gs_port::read_file - long abcdefgh empty \e / long 8 long 7 long 0 empty 0 other 8
+//! Ok abcdefgh Over abcdefgh Over a Ok \e Failed
+//! ```
+//!
+//! # Where it differs from the system
+//!
+//! - One connection is open at a time, and a connection that is finished is closed at once.
+//! - Counts of faults stand still at 2^64 - 1.
 #![tactic(auto)]
 
 mod conn;

@@ -1,10 +1,12 @@
-ghost use Rattle.std.specs.Prelude.{◌≡◌, ◌≢◌, ◌<◌, ◌≤◌, ◌↔◌, [], ◌∷◌, true, false, IfOk, IfSome, None, Some, is_some, length, map, min, take};
-ghost use Rattle.gs_port.specs.Connections.{after_accept, after_finish, after_open, finished_now, first_begun, first_input};
-ghost use Rattle.gs_port.specs.Contents.{append_known, prepend_known};
+ghost use Rattle.std.specs.Prelude.{◌≡◌, ◌≢◌, ◌<◌, ◌≤◌, [], true, false, IfOk, None, Some, is_some, length, min};
+ghost use Rattle.gs_port.specs.Connections.{FaultRises, SameOpened, after_open, begun_next, first_input};
 ghost use Rattle.gs_port.specs.Counts.{Rises};
 ghost use Rattle.gs_port.specs.Memory.{FailsNow, after_call};
-ghost use Rattle.gs_port.specs.Gate.{aside_of, held_of, left_of, shut_gate, taken_of, written_at};
-ghost use Rattle.gs_port.specs.Answers.{IfGot, IfTook, OnAcceptFailed, OnAccepted, OnClosed, OnNotAccepted, OnNotOpened, OnNothingTaken, OnOpenFailed, OnOpened, OnReadFailed, OnWriteFailed, count_after_read, count_after_write};
+ghost use Rattle.gs_port.specs.Gate.{aside_after_accept, aside_after_finish, aside_of, held_of, left_of, shut_gate, taken_of, told_inputs};
+ghost use Rattle.gs_port.specs.Gate.{written_at};
+ghost use Rattle.gs_port.specs.Answers.{AddsMoved, AppendsFront, IfGot, IfTook, IsZeroAtEnd, MovesFront, MovesMost, OnAcceptFailed};
+ghost use Rattle.gs_port.specs.Answers.{OnAccepted, OnClosed, OnNotAccepted, OnNotOpened, OnNothingTaken, OnOpenFailed, OnOpened};
+ghost use Rattle.gs_port.specs.Answers.{OnReadFailed, OnWriteFailed, count_after_read, count_after_write};
 
 use crate::conn::Conn;
 use crate::door::{AcceptAnswer, Door};
@@ -66,9 +68,9 @@ impl Model for MemDoor {
 }
 
 impl MemDoor {
-    /// A door that was not opened yet, with the inputs of the connections that come at it, in order. A read or a write moves
-    /// at most `cut` bytes. The calls but `finish` whose numbers, from 0, are in `fails` fail. The memory for the list of
-    /// finished connections is taken here.
+    /// A door that was not opened yet, with the inputs of the connections that come at it, in order. A read or a write moves at
+    /// most `cut` bytes. The calls but `finish` whose numbers, from 0, are in `fails` fail. The memory for the list of finished
+    /// connections is taken here. `cut` is not 0.
     pub fn new(
         alloc: Global,
         inputs: Vec<Vec<u8>>,
@@ -76,7 +78,7 @@ impl MemDoor {
         fails: Vec<u64>,
     ) -> Result<MemDoor, Memory>
         requires some { 0 < cut }
-        ensures { IfOk result (λ door. door ≡ shut_gate (map (λ input. input.items) inputs.items) cut fails.items) }
+        ensures { IfOk result (λ door. door ≡ shut_gate (told_inputs inputs.items) cut fails.items) }
     {
         let finished = Vec::with_capacity(alloc, inputs.len())?;
         Ok(MemDoor {
@@ -102,7 +104,7 @@ impl MemDoor {
         self.finished.len()
     }
 
-    /// What was written to the finished connection with the number.
+    /// What was written to the finished connection with the number. The number, from 0, is below the number of these.
     pub fn written(&self, i: usize) -> &[u8]
         requires { i < length self.now.finished }
         ensures { Some result.now ≡ written_at self.now.finished i }
@@ -132,9 +134,9 @@ impl Conn for MemDoor {
         requires room { 0 < length buf.old }
         requires current { is_some self.old.current ≡ true }
         ensures within { IfGot result (λ n. n ≤ length buf.new) }
-        ensures moved { IfGot result (λ n. left_of self.old ≡ prepend_known (take n buf.new) (left_of self.new)) }
-        ensures taken { IfGot result (λ n. taken_of self.new ≡ append_known (taken_of self.old) (take n buf.new)) }
-        ensures end { IfGot result (λ n. IfSome (left_of self.old) (λ bytes. (n ≡ 0) ↔ (bytes ≡ []))) }
+        ensures moved { MovesFront result buf.new (left_of self.old) (left_of self.new) }
+        ensures taken { AddsMoved result buf.new (taken_of self.old) (taken_of self.new) }
+        ensures end { IsZeroAtEnd result (left_of self.old) }
         ensures unmoved { OnReadFailed result (left_of self.new ≡ left_of self.old) }
         ensures none_taken { OnReadFailed result (taken_of self.new ≡ taken_of self.old) }
         ensures failed { OnReadFailed result (Rises self.old.reads self.new.reads) }
@@ -144,8 +146,7 @@ impl Conn for MemDoor {
         ensures same_writes { self.new.writes ≡ self.old.writes }
         ensures stays_open { is_some self.new.current ≡ true }
         ensures same_aside { aside_of self.new ≡ aside_of self.old }
-        ensures most { IfGot result (λ n. IfSome (left_of self.old)
-            (λ bytes. n ≡ min (min self.old.most (length buf.new)) (length bytes))) }
+        ensures most { MovesMost result (min self.old.most (length buf.new)) (left_of self.old) }
         ensures planned { OnReadFailed result (FailsNow self.old.plan) }
         ensures unplanned { IfGot result (λ _. ¬ FailsNow self.old.plan) }
         ensures same_most { self.new.most ≡ self.old.most }
@@ -167,7 +168,7 @@ impl Conn for MemDoor {
         requires current { is_some self.old.current ≡ true }
         ensures within { IfTook result (λ n. n ≤ length piece.now) }
         ensures some { IfTook result (λ n. 0 < length piece.now → 0 < n) }
-        ensures appended { IfTook result (λ n. held_of self.new ≡ append_known (held_of self.old) (take n piece.now)) }
+        ensures appended { AppendsFront result piece.now (held_of self.old) (held_of self.new) }
         ensures unchanged { OnNothingTaken result (held_of self.new ≡ held_of self.old) }
         ensures failed { OnWriteFailed result (Rises self.old.writes self.new.writes) }
         ensures counts { self.old.writes ≤ self.new.writes }
@@ -202,8 +203,8 @@ impl Conn for MemDoor {
 impl Door for MemDoor {
     fn open(&mut self, _address: &str) -> OpenAnswer
         ensures opened { OnOpened result (self.new.opened ≡ true) }
-        ensures not_opened { OnNotOpened result (self.new.opened ≡ self.old.opened) }
-        ensures failed { OnOpenFailed result (Rises self.old.faults self.new.faults) }
+        ensures not_opened { OnNotOpened result (SameOpened (aside_of self.old) (aside_of self.new)) }
+        ensures failed { OnOpenFailed result (FaultRises (aside_of self.old) (aside_of self.new)) }
         ensures counts { self.old.faults ≤ self.new.faults }
         ensures aside { aside_of self.new ≡ after_open result (aside_of self.old) }
         ensures same_current { is_some self.new.current ≡ is_some self.old.current }
@@ -232,13 +233,13 @@ impl Door for MemDoor {
         ensures accepted { OnAccepted result (is_some self.new.current ≡ true) }
         ensures waited { OnAccepted result (Some self.old.waiting ≢ Some []) }
         ensures whole { OnAccepted result (left_of self.new ≡ first_input (Some self.old.waiting)) }
-        ensures unread { OnAccepted result (taken_of self.new ≡ first_begun (Some self.old.waiting)) }
-        ensures unwritten { OnAccepted result (held_of self.new ≡ first_begun (Some self.old.waiting)) }
+        ensures unread { OnAccepted result (taken_of self.new ≡ begun_next (aside_of self.old)) }
+        ensures unwritten { OnAccepted result (held_of self.new ≡ begun_next (aside_of self.old)) }
         ensures not_accepted { OnNotAccepted result (is_some self.new.current ≡ false) }
         ensures closed { OnClosed result (self.old.waiting ≡ []) }
-        ensures failed { OnAcceptFailed result (Rises self.old.faults self.new.faults) }
+        ensures failed { OnAcceptFailed result (FaultRises (aside_of self.old) (aside_of self.new)) }
         ensures counts { self.old.faults ≤ self.new.faults }
-        ensures aside { aside_of self.new ≡ after_accept result self.old.reads self.old.writes (aside_of self.old) }
+        ensures aside { aside_of self.new ≡ aside_after_accept result self.old }
         ensures same_reads { self.new.reads ≡ self.old.reads }
         ensures same_writes { self.new.writes ≡ self.old.writes }
         ensures planned { OnAcceptFailed result (FailsNow self.old.plan) }
@@ -265,8 +266,7 @@ impl Door for MemDoor {
     fn finish(&mut self)
         requires current { is_some self.old.current ≡ true }
         ensures ended { is_some self.new.current ≡ false }
-        ensures aside { aside_of self.new ≡ after_finish (finished_now (taken_of self.old) (held_of self.old)
-            self.old.reads self.old.writes (aside_of self.old)) (aside_of self.old) }
+        ensures aside { aside_of self.new ≡ aside_after_finish self.old }
         ensures same_reads { self.new.reads ≡ self.old.reads }
         ensures same_writes { self.new.writes ≡ self.old.writes }
         ensures same_most { self.new.most ≡ self.old.most }

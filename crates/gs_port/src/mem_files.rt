@@ -1,10 +1,10 @@
-ghost use Rattle.std.specs.Prelude.{◌≡◌, ◌<◌, ◌≤◌, ◌↔◌, ◌⊎◌, false, true, [], ◌∷◌, IfSome, MatchOption, None, Some, is_some, length, min, take};
-ghost use Rattle.gs_port.specs.Contents.{prepend_known};
+ghost use Rattle.std.specs.Prelude.{◌≡◌, ◌<◌, ◌≤◌, false, true, [], ◌∷◌, Some, is_some, length};
 ghost use Rattle.gs_port.specs.Counts.{Rises};
-ghost use Rattle.gs_port.specs.Files.{AddsNames, IsAbsent, file_of, told_file};
-ghost use Rattle.gs_port.specs.Memory.{FailsNow, after_call};
-ghost use Rattle.gs_port.specs.Folder.{bytes_at, told_files};
-ghost use Rattle.gs_port.specs.Answers.{IfGot, OnNotOpened, OnOpenFailed, OnOpened, OnReadFailed, count_after_named, count_after_read};
+ghost use Rattle.gs_port.specs.Files.{AddsNames, IsAbsent, told_file};
+ghost use Rattle.gs_port.specs.Memory.{FailsNow, after_call, unopened_folder};
+ghost use Rattle.gs_port.specs.Folder.{IsPlaceOf, OpenFailsPlanned, bytes_at, told_files};
+ghost use Rattle.gs_port.specs.Answers.{CountsOpen, IfGot, IsZeroAtEnd, MovesFront, MovesMost, OnNotOpened, OnOpened, OnReadFailed};
+ghost use Rattle.gs_port.specs.Answers.{OpenFails, count_after_read};
 
 use crate::files::{Files, OpenAnswer};
 use crate::opened_names::OpenedNames;
@@ -44,7 +44,7 @@ impl Model for MemFiles {
 
 /// The number of the first file with the name.
 fn place_of(files: &[(String, Vec<u8>)], name: &str) -> Option<usize>
-    ensures { MatchOption result (file_of (told_files files.now) name.now ≡ None) (λ i. (i < length files.now) × (file_of (told_files files.now) name.now ≡ Some (bytes_at (told_files files.now) i))) }
+    ensures { IsPlaceOf files.now name.now result }
 {
     for (i, file) in files.iter().enumerate() {
         if file.0.as_str() == name {
@@ -67,7 +67,7 @@ impl MemFiles {
     /// the names that were opened are told no more. The calls of either method whose numbers, from 0, are in
     /// `fails` fail, but for an open of a name that is not there.
     pub fn new(alloc: Global, files: Vec<(String, Vec<u8>)>, fails: Vec<u64>) -> MemFiles
-        ensures { result ≡ record { files = told_files files.items; current = None; plan = record { fails = fails.items; next = 0 }; count = 0; opened = Some [] } }
+        ensures { result ≡ unopened_folder (told_files files.items) fails.items }
     {
         MemFiles {
             files,
@@ -95,14 +95,14 @@ impl Files for MemFiles {
         ensures whole { OnOpened result (self.new.current ≡ told_file (Some self.old.files) name.now) }
         ensures there { OnOpened result (¬ IsAbsent (Some self.old.files) name.now) }
         ensures not_opened { OnNotOpened result (is_some self.new.current ≡ false) }
-        ensures failed { OnOpenFailed result (Rises self.old.count self.new.count ⊎ IsAbsent (Some self.old.files) name.now) }
+        ensures failed { OpenFails result (Some self.old.files) name.now self.old.count self.new.count }
         ensures absent { IsAbsent (Some self.old.files) name.now → self.new.count ≡ self.old.count }
         ensures files { Some self.new.files ≡ Some self.old.files }
         ensures counts { self.old.count ≤ self.new.count }
-        ensures count { self.new.count ≡ count_after_named result (Some self.old.files) name.now self.old.count }
+        ensures count { CountsOpen result (Some self.old.files) name.now self.old.count self.new.count }
         ensures named { AddsNames self.old.opened (name.now ∷ []) self.new.opened }
         ensures enough { result ≡ OpenAnswer.Memory → ⊥ }
-        ensures planned { OnOpenFailed result (FailsNow self.old.plan ⊎ IsAbsent (Some self.old.files) name.now) }
+        ensures planned { OpenFailsPlanned result self.old.plan (Some self.old.files) name.now }
         ensures unplanned { OnOpened result (¬ FailsNow self.old.plan) }
         ensures plan { self.new.plan ≡ after_call self.old.plan }
     {
@@ -127,8 +127,8 @@ impl Files for MemFiles {
         requires room { 0 < length buf.old }
         requires current { is_some self.old.current ≡ true }
         ensures within { IfGot result (λ n. n ≤ length buf.new) }
-        ensures moved { IfGot result (λ n. self.old.current ≡ prepend_known (take n buf.new) self.new.current) }
-        ensures end { IfGot result (λ n. IfSome self.old.current (λ bytes. (n ≡ 0) ↔ (bytes ≡ []))) }
+        ensures moved { MovesFront result buf.new self.old.current self.new.current }
+        ensures end { IsZeroAtEnd result self.old.current }
         ensures unmoved { OnReadFailed result (self.new.current ≡ self.old.current) }
         ensures failed { OnReadFailed result (Rises self.old.count self.new.count) }
         ensures files { Some self.new.files ≡ Some self.old.files }
@@ -136,7 +136,7 @@ impl Files for MemFiles {
         ensures same_names { self.new.opened ≡ self.old.opened }
         ensures counts { self.old.count ≤ self.new.count }
         ensures count { self.new.count ≡ count_after_read result self.old.count }
-        ensures most { IfGot result (λ n. IfSome self.old.current (λ bytes. n ≡ min (length buf.new) (length bytes))) }
+        ensures most { MovesMost result (length buf.new) self.old.current }
         ensures planned { OnReadFailed result (FailsNow self.old.plan) }
         ensures unplanned { IfGot result (λ _. ¬ FailsNow self.old.plan) }
         ensures plan { self.new.plan ≡ after_call self.old.plan }

@@ -1,8 +1,7 @@
-ghost use Rattle.std.specs.Prelude.{◌≡◌, ◌<◌, ◌≤◌, [], Some, length, min, take};
-ghost use Rattle.gs_port.specs.Contents.{append_known};
+ghost use Rattle.std.specs.Prelude.{◌≡◌, ◌<◌, ◌≤◌, Some, length, min};
 ghost use Rattle.gs_port.specs.Counts.{Rises};
-ghost use Rattle.gs_port.specs.Memory.{FailsNow, after_call};
-ghost use Rattle.gs_port.specs.Answers.{IfTook, OnNothingTaken, OnWriteFailed, count_after_write};
+ghost use Rattle.gs_port.specs.Memory.{FailsNow, after_call, empty_output};
+ghost use Rattle.gs_port.specs.Answers.{AppendsFront, IfTook, OnNothingTaken, OnWriteFailed, count_after_write};
 
 use crate::plan::CallPlan;
 use crate::sink::{Sink, WriteAnswer};
@@ -30,10 +29,10 @@ impl Model for MemSink {
 }
 
 impl MemSink {
-    /// An empty sink. A write takes at most `cut` bytes. The calls whose numbers, from 0, are in `fails` fail.
+    /// An empty sink. A write takes at most `cut` bytes. The calls whose numbers, from 0, are in `fails` fail. `cut` is not 0.
     pub fn new(alloc: Global, cut: usize, fails: Vec<u64>) -> MemSink
         requires some { 0 < cut }
-        ensures { result ≡ record { kept = []; most = cut; plan = record { fails = fails.items; next = 0 }; count = 0 } }
+        ensures { result ≡ empty_output cut fails.items }
     {
         MemSink {
             bytes: Vec::new(alloc),
@@ -59,7 +58,7 @@ impl Sink for MemSink {
     fn write(&mut self, piece: &[u8]) -> WriteAnswer
         ensures within { IfTook result (λ n. n ≤ length piece.now) }
         ensures some { IfTook result (λ n. 0 < length piece.now → 0 < n) }
-        ensures appended { IfTook result (λ n. Some self.new.kept ≡ append_known (Some self.old.kept) (take n piece.now)) }
+        ensures appended { AppendsFront result piece.now (Some self.old.kept) (Some self.new.kept) }
         ensures unchanged { OnNothingTaken result (Some self.new.kept ≡ Some self.old.kept) }
         ensures failed { OnWriteFailed result (Rises self.old.count self.new.count) }
         ensures counts { self.old.count ≤ self.new.count }

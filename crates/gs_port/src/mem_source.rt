@@ -1,8 +1,7 @@
-ghost use Rattle.std.specs.Prelude.{◌≡◌, ◌<◌, ◌≤◌, ◌↔◌, [], IfSome, Some, length, min, take};
-ghost use Rattle.gs_port.specs.Contents.{prepend_known};
+ghost use Rattle.std.specs.Prelude.{◌≡◌, ◌<◌, ◌≤◌, Some, length, min};
 ghost use Rattle.gs_port.specs.Counts.{Rises};
-ghost use Rattle.gs_port.specs.Memory.{FailsNow, after_call};
-ghost use Rattle.gs_port.specs.Answers.{IfGot, OnReadFailed, count_after_read};
+ghost use Rattle.gs_port.specs.Memory.{FailsNow, after_call, unread_input};
+ghost use Rattle.gs_port.specs.Answers.{IfGot, IsZeroAtEnd, MovesFront, MovesMost, OnReadFailed, count_after_read};
 
 use crate::plan::CallPlan;
 use crate::source::{ReadAnswer, Source};
@@ -32,10 +31,11 @@ impl Model for MemSource {
 }
 
 impl MemSource {
-    /// A source of the bytes. A read moves at most `cut` of them. The calls whose numbers, from 0, are in `fails` fail.
+    /// A source of the bytes. A read moves at most `cut` of them. The calls whose numbers, from 0, are in `fails` fail. `cut`
+    /// is not 0.
     pub fn new(_alloc: Global, bytes: Vec<u8>, cut: usize, fails: Vec<u64>) -> MemSource
         requires some { 0 < cut }
-        ensures { result ≡ record { rest = bytes.items; most = cut; plan = record { fails = fails.items; next = 0 }; count = 0 } }
+        ensures { result ≡ unread_input bytes.items cut fails.items }
     {
         MemSource {
             bytes,
@@ -55,13 +55,13 @@ impl Source for MemSource {
     fn read(&mut self, buf: &mut [u8]) -> ReadAnswer
         requires room { 0 < length buf.old }
         ensures within { IfGot result (λ n. n ≤ length buf.new) }
-        ensures moved { IfGot result (λ n. Some self.old.rest ≡ prepend_known (take n buf.new) (Some self.new.rest)) }
-        ensures end { IfGot result (λ n. IfSome (Some self.old.rest) (λ bytes. (n ≡ 0) ↔ (bytes ≡ []))) }
+        ensures moved { MovesFront result buf.new (Some self.old.rest) (Some self.new.rest) }
+        ensures end { IsZeroAtEnd result (Some self.old.rest) }
         ensures unmoved { OnReadFailed result (Some self.new.rest ≡ Some self.old.rest) }
         ensures failed { OnReadFailed result (Rises self.old.count self.new.count) }
         ensures counts { self.old.count ≤ self.new.count }
         ensures count { self.new.count ≡ count_after_read result self.old.count }
-        ensures most { IfGot result (λ n. n ≡ min (min self.old.most (length buf.new)) (length self.old.rest)) }
+        ensures most { MovesMost result (min self.old.most (length buf.new)) (Some self.old.rest) }
         ensures planned { OnReadFailed result (FailsNow self.old.plan) }
         ensures unplanned { IfGot result (λ _. ¬ FailsNow self.old.plan) }
         ensures same_most { self.new.most ≡ self.old.most }

@@ -1,5 +1,5 @@
 ghost use Rattle.std.specs.Prelude.{◌≡◌, ◌↔◌, IsTrue};
-ghost use Rattle.gs_port.specs.Memory.{FailsNow, after_call};
+ghost use Rattle.gs_port.specs.Memory.{FailsNow, after_call, uncalled};
 
 use std::marker::Model;
 
@@ -21,7 +21,7 @@ impl Model for CallPlan {
 impl CallPlan {
     /// The plan before the first call.
     pub(crate) fn new(fails: Vec<u64>) -> CallPlan
-        ensures { result ≡ record { fails = fails.items; next = 0 } }
+        ensures { result ≡ uncalled fails.items }
     {
         CallPlan { fails, next: 0 }
     }

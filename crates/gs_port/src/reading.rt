@@ -1,8 +1,8 @@
-ghost use Rattle.std.specs.Prelude.{◌≡◌, ◌≤◌, ◌+◌, ◌++◌, ◌⊎◌, ℕ, true, List, [], ◌∷◌, IfOk, IfSome, length, vec_len};
-ghost use Rattle.gs_port.specs.Contents.{prepend_known};
+ghost use Rattle.std.specs.Prelude.{◌≡◌, ◌≤◌, ◌+◌, true, [], ◌∷◌, IfOk, IfSome, length, vec_len};
+ghost use Rattle.gs_port.specs.Contents.{TakesAtMost, prepend_known};
 ghost use Rattle.gs_port.specs.Counts.{Rises};
-ghost use Rattle.gs_port.specs.Files.{AddsNames, IsAbsent, IsFile, told_file};
-ghost use Rattle.gs_port.specs.Answers.{IfOver, OnFileFailed, count_after_file, count_after_rest};
+ghost use Rattle.gs_port.specs.Files.{AddsNames, BeginsFile, IsAbsent, IsFile, ReadsOf};
+ghost use Rattle.gs_port.specs.Answers.{CountsFile, FileFails, IfOver, OnFileFailed, count_after_rest};
 
 use crate::files::{Files, OpenAnswer};
 use crate::source::ReadAnswer;
@@ -33,9 +33,10 @@ impl From<AllocError> for FileFault {
 /// The most bytes that one read asks for.
 const BLOCK: usize = 65_536;
 
-/// Reads the named file whole, if it has at most `max` bytes. `Over` comes exactly where `max + 1` bytes could be read,
-/// and carries them. `Failed` comes only where the files counted a fault, or where they are told and the named one is
-/// not among them. After any answer the name is the last of those that were opened, where they are still told.
+/// Reads the named file whole, if it has at most `max` bytes. `Over` comes exactly where `max + 1` bytes could be read, and
+/// carries them. `Failed` comes only where the files counted a fault, or where they are told and the named one is not among
+/// them. After any answer the name is the last of those that were opened, where they are still told. `max` is at most
+/// 16,777,216.
 pub fn read_file<F: Files>(
     alloc: Global,
     files: &mut F,
@@ -45,14 +46,14 @@ pub fn read_file<F: Files>(
     requires small { max ≤ 16777216 }
     ensures whole { IfOk result (λ text. IsFile (F.files files.old) name.now text) }
     ensures within { IfOk result (λ text. length text ≤ max) }
-    ensures over { IfOver result (λ text. (rest : List ℕ) × IsFile (F.files files.old) name.now (text ++ rest)) }
+    ensures over { IfOver result (BeginsFile (F.files files.old) name.now) }
     ensures over_length { IfOver result (λ text. length text ≡ max + 1) }
-    ensures failed { OnFileFailed result (Rises (F.faults files.old) (F.faults files.new) ⊎ IsAbsent (F.files files.old) name.now) }
+    ensures failed { FileFails result (F.files files.old) name.now (F.faults files.old) (F.faults files.new) }
     ensures absent { IsAbsent (F.files files.old) name.now → F.faults files.new ≡ F.faults files.old }
-    ensures taken { F.is_open files.new ≡ true → (bytes : List ℕ) × (length bytes ≤ max + 1) × (told_file (F.files files.old) name.now ≡ prepend_known bytes (F.left files.new)) }
+    ensures taken { F.is_open files.new ≡ true → ReadsOf (F.files files.old) name.now max (F.left files.new) }
     ensures files { F.files files.new ≡ F.files files.old }
     ensures counts { F.faults files.old ≤ F.faults files.new }
-    ensures count { F.faults files.new ≡ count_after_file result (F.files files.old) name.now (F.faults files.old) }
+    ensures count { CountsFile result (F.files files.old) name.now (F.faults files.old) (F.faults files.new) }
     ensures named { AddsNames (F.opened files.old) (name.now ∷ []) (F.opened files.new) }
 {
     match files.open(name) {
@@ -78,7 +79,7 @@ fn read_current<F: Files>(alloc: Global, files: &mut F, max: usize) -> Result<Te
     ensures over { IfOver result (λ text. F.left files.old ≡ prepend_known text (F.left files.new)) }
     ensures over_length { IfOver result (λ text. length text ≡ max + 1) }
     ensures failed { OnFileFailed result (Rises (F.faults files.old) (F.faults files.new)) }
-    ensures taken { (bytes : List ℕ) × (length bytes ≤ max + 1) × (F.left files.old ≡ prepend_known bytes (F.left files.new)) }
+    ensures taken { TakesAtMost (max + 1) (F.left files.old) (F.left files.new) }
     ensures files { F.files files.new ≡ F.files files.old }
     ensures counts { F.faults files.old ≤ F.faults files.new }
     ensures count { F.faults files.new ≡ count_after_rest result (F.faults files.old) }

@@ -1,7 +1,6 @@
-ghost use Rattle.std.specs.Prelude.{◌≡◌, ℕ, ◌<◌, ◌≤◌, List, Option, length, take};
-ghost use Rattle.gs_port.specs.Contents.{append_known};
+ghost use Rattle.std.specs.Prelude.{◌≡◌, ℕ, ◌<◌, ◌≤◌, List, Option, length};
 ghost use Rattle.gs_port.specs.Counts.{Rises};
-ghost use Rattle.gs_port.specs.Answers.{IfTook, OnNothingTaken, OnWriteFailed, count_after_write};
+ghost use Rattle.gs_port.specs.Answers.{AppendsFront, IfTook, OnNothingTaken, OnWriteFailed, count_after_write};
 
 /// What a write answers.
 #[derive(Clone, Copy, Debug, PartialEq, Eq)]
@@ -27,7 +26,7 @@ pub trait Sink {
     fn write(&mut self, piece: &[u8]) -> WriteAnswer
         ensures within { IfTook result (λ n. n ≤ length piece.now) }
         ensures some { IfTook result (λ n. 0 < length piece.now → 0 < n) }
-        ensures appended { IfTook result (λ n. held self.new ≡ append_known (held self.old) (take n piece.now)) }
+        ensures appended { AppendsFront result piece.now (held self.old) (held self.new) }
         ensures unchanged { OnNothingTaken result (held self.new ≡ held self.old) }
         ensures failed { OnWriteFailed result (Rises (faults self.old) (faults self.new)) }
         ensures counts { faults self.old ≤ faults self.new }

@@ -1,7 +1,6 @@
-ghost use Rattle.std.specs.Prelude.{◌≡◌, ℕ, ◌<◌, ◌≤◌, ◌↔◌, List, [], Option, IfSome, length, take};
-ghost use Rattle.gs_port.specs.Contents.{prepend_known};
+ghost use Rattle.std.specs.Prelude.{◌≡◌, ℕ, ◌<◌, ◌≤◌, List, Option, length};
 ghost use Rattle.gs_port.specs.Counts.{Rises};
-ghost use Rattle.gs_port.specs.Answers.{IfGot, OnReadFailed, count_after_read};
+ghost use Rattle.gs_port.specs.Answers.{IfGot, IsZeroAtEnd, MovesFront, OnReadFailed, count_after_read};
 
 /// What a read answers.
 #[derive(Clone, Copy, Debug, PartialEq, Eq)]
@@ -25,8 +24,8 @@ pub trait Source {
     fn read(&mut self, buf: &mut [u8]) -> ReadAnswer
         requires room { 0 < length buf.old }
         ensures within { IfGot result (λ n. n ≤ length buf.new) }
-        ensures moved { IfGot result (λ n. left self.old ≡ prepend_known (take n buf.new) (left self.new)) }
-        ensures end { IfGot result (λ n. IfSome (left self.old) (λ bytes. (n ≡ 0) ↔ (bytes ≡ []))) }
+        ensures moved { MovesFront result buf.new (left self.old) (left self.new) }
+        ensures end { IsZeroAtEnd result (left self.old) }
         ensures unmoved { OnReadFailed result (left self.new ≡ left self.old) }
         ensures failed { OnReadFailed result (Rises (faults self.old) (faults self.new)) }
         ensures counts { faults self.old ≤ faults self.new }

@@ -1,5 +1,5 @@
-ghost use Rattle.std.specs.Prelude.{◌≡◌, ℕ, ◌≤◌, length, take};
-ghost use Rattle.gs_port.specs.Contents.{append_known};
+ghost use Rattle.std.specs.Prelude.{◌≡◌, ◌≤◌};
+ghost use Rattle.gs_port.specs.Contents.{AddsFrontOf, append_known};
 ghost use Rattle.gs_port.specs.Counts.{Rises};
 ghost use Rattle.gs_port.specs.Answers.{OnDone, OnShort, OnSinkFault, count_after_whole};
 
@@ -19,7 +19,7 @@ pub enum Whole {
 /// Writes all the bytes, in as many pieces as the sink takes. `SinkFault` comes only where the sink's count rose.
 pub fn write_whole<K: Sink>(sink: &mut K, bytes: &[u8]) -> Whole
     ensures done { OnDone result (K.held sink.new ≡ append_known (K.held sink.old) bytes.now) }
-    ensures short { OnShort result ((n : ℕ) × (n ≤ length bytes.now) × (K.held sink.new ≡ append_known (K.held sink.old) (take n bytes.now))) }
+    ensures short { OnShort result (AddsFrontOf bytes.now (K.held sink.old) (K.held sink.new)) }
     ensures fault { OnSinkFault result (Rises (K.faults sink.old) (K.faults sink.new)) }
     ensures counts { K.faults sink.old ≤ K.faults sink.new }
     ensures count { K.faults sink.new ≡ count_after_whole result (K.faults sink.old) }

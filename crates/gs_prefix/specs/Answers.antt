@@ -23,6 +23,10 @@ first_or (fault ∷ _) made = Err fault
 abbrev pub OrMemory : {X : Type 0} → Result X PrefixFault → Result X PrefixFault → Type 0
 OrMemory result answer = (result ≡ Err Memory) ⊎ (result ≡ answer)
 
+-- the answer is the first of these faults of JSON, or want of memory
+abbrev pub IsFirst : Result Unit PrefixFault → List JsonFault → Type 0
+IsFirst result faults = OrMemory result (first_or (map Json faults) tt)
+
 -- a fault of JSON, with want of memory as its own
 abbrev pub of_json : JsonFault → PrefixFault
 of_json json.Memory = Memory

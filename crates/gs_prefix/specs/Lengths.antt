@@ -1,6 +1,6 @@
 -- The length of a company prefix by the first digits of a key: GS1 General Specifications, section 1.4.4. That the longest
 -- entry decides is this project's own rule, after GS1's list of company prefix lengths.
-use Rattle.std.specs.Prelude.{ℕ, Bool, ◌==◌, ◌&&◌, nat_le, if◌then◌else◌, List, length, take, filter, find, Option, Some, None, option_map, option_and_then}
+use Rattle.std.specs.Prelude.{ℕ, Bool, ◌==◌, ◌&&◌, nat_le, if◌then◌else◌, List, [], ◌∷◌, ◌++◌, length, take, filter, find, Option, Some, None, option_map, option_and_then}
 use Rattle.std.specs.List.{list_all}
 use Rattle.std.specs.Str.{bytes_eq}
 use Rattle.gs_chars.specs.Characters.{are_digits}
@@ -17,6 +17,10 @@ is_entry entry = is_prefix entry.prefix && nat_le entry.length 12
 -- the entry is that of this prefix
 abbrev pub has_prefix : List ℕ → PrefixEntry → Bool
 has_prefix prefix entry = bytes_eq prefix entry.prefix
+
+-- the entries, and then one of this prefix and length
+abbrev pub with_entry : List PrefixEntry → List ℕ → ℕ → List PrefixEntry
+with_entry entries prefix length = entries ++ (record { prefix = prefix; length = length }) ∷ []
 
 -- the digits begin with the entry's prefix
 abbrev pub begins : List ℕ → PrefixEntry → Bool

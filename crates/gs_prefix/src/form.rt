@@ -1,9 +1,8 @@
-ghost use Rattle.std.specs.Prelude.{◌≡◌, [], map, IfOk};
+ghost use Rattle.std.specs.Prelude.{◌≡◌, [], IfOk};
 ghost use Rattle.serde_json.specs.View.{view};
 ghost use Rattle.gs_json.specs.Shapes.{shape_faults};
-ghost use Rattle.gs_prefix.specs.Answers.{OrMemory, first_or, of_json};
+ghost use Rattle.gs_prefix.specs.Answers.{IsFirst, of_json};
 ghost use Rattle.gs_prefix.specs.Documents.{array_faults, entries_faults, entry_plan, form_faults, items_in, list_plan, must, version_faults};
-ghost use Rattle.gs_prefix.specs.declared.fault.PrefixFault.TheVariants.{Json};
 
 use crate::fault::PrefixFault;
 use crate::members::{count_of, member_of, number_in};
@@ -55,7 +54,7 @@ pub(crate) fn of_json(fault: JsonFault) -> PrefixFault
 
 /// The first fault of an object by its plan.
 fn judge_object(alloc: Global, object: &Node<'_>, plan: &[Entry]) -> Result<(), PrefixFault>
-    ensures { OrMemory result (first_or (map Json (shape_faults object.now plan.now)) tt) }
+    ensures { IsFirst result (shape_faults object.now plan.now) }
 {
     match object.shaped(alloc, plan) {
         Ok(()) => Ok(()),
@@ -65,7 +64,7 @@ fn judge_object(alloc: Global, object: &Node<'_>, plan: &[Entry]) -> Result<(), 
 
 /// Refuses a document of another version.
 fn judge_version(alloc: Global, root: &Node<'_>) -> Result<(), PrefixFault>
-    ensures { OrMemory result (first_or (map Json (version_faults (view root.now.tree))) tt) }
+    ensures { IsFirst result (version_faults (view root.now.tree)) }
 {
     if number_in(alloc, root, "version")? == 1 {
         return Ok(());
@@ -77,7 +76,7 @@ fn judge_version(alloc: Global, root: &Node<'_>) -> Result<(), PrefixFault>
 /// The first fault of the entries of an array, entry by entry.
 #[tactic(auto, unfolding(crate::specs::Documents::array_faults))]
 fn judge_items(alloc: Global, array: &Node<'_>) -> Result<(), PrefixFault>
-    ensures { OrMemory result (first_or (map Json (array_faults array.now.place (items_in (view array.now.tree)))) tt) }
+    ensures { IsFirst result (array_faults array.now.place (items_in (view array.now.tree))) }
 {
     let plan = entry_plan(alloc)?;
     let count = count_of(alloc, array)?;
@@ -94,7 +93,7 @@ fn judge_items(alloc: Global, array: &Node<'_>) -> Result<(), PrefixFault>
 #[tactic(auto, unfolding(crate::specs::Documents::array_faults, crate::specs::Documents::entries_faults))]
 fn judge_entries(alloc: Global, root: &Node<'_>) -> Result<(), PrefixFault>
     requires { root.now.place ≡ [] }
-    ensures { OrMemory result (first_or (map Json (entries_faults (view root.now.tree))) tt) }
+    ensures { IsFirst result (entries_faults (view root.now.tree)) }
 {
     match member_of(alloc, root, "prefixes")? {
         Some(array) => judge_items(alloc, &array),
@@ -105,7 +104,7 @@ fn judge_entries(alloc: Global, root: &Node<'_>) -> Result<(), PrefixFault>
 /// The first fault of the form of a document: of its object, then of its version, then of its entries.
 pub(crate) fn judge_form(alloc: Global, root: &Node<'_>) -> Result<(), PrefixFault>
     requires { root.now.place ≡ [] }
-    ensures { OrMemory result (first_or (map Json (form_faults (view root.now.tree))) tt) }
+    ensures { IsFirst result (form_faults (view root.now.tree)) }
 {
     let plan = list_plan(alloc)?;
     judge_object(alloc, root, plan.as_slice())?;

@@ -1,7 +1,7 @@
-ghost use Rattle.std.specs.Prelude.{◌≡◌, false, [], ◌∷◌, ◌++◌, IfOk, length, find};
+ghost use Rattle.std.specs.Prelude.{◌≡◌, false, [], IfOk, length, find};
 ghost use Rattle.std.specs.List.{list_any};
 ghost use Rattle.std.specs.Option.{option_map};
-ghost use Rattle.gs_prefix.specs.Lengths.{has_prefix};
+ghost use Rattle.gs_prefix.specs.Lengths.{has_prefix, with_entry};
 
 use gs_chars::Memory;
 use indexmap::IndexMap;
@@ -43,14 +43,14 @@ impl Index {
     /// Adds an entry, whose prefix is not there yet.
     pub fn push(&mut self, alloc: Global, prefix: &[u8], length: u8) -> Result<(), Memory>
         requires { list_any (has_prefix prefix.now) self.old ≡ false }
-        ensures { IfOk result (λ _. self.new ≡ self.old ++ (record { prefix = prefix.now; length = length }) ∷ []) }
+        ensures { IfOk result (λ _. self.new ≡ with_entry self.old prefix.now length) }
     {
         self.lengths
             .insert(Vec::from_slice(alloc, prefix)?, length)?;
         Ok(())
     }
 
-    /// The length of the entry of a prefix.
+    /// The length of the entry of a prefix. `None` comes exactly where there is no such entry.
     pub fn length_of(&self, prefix: &[u8]) -> Option<u8>
         ensures { result ≡ option_map (λ entry. entry.length) (find (has_prefix prefix.now) self.now) }
     {

@@ -1,4 +1,22 @@
 //! Lists of company prefix lengths: which digits begin with a company prefix, and how many of them it has.
+//!
+//! - `PrefixList::load` reads a list, or tells its first error; `length_of` gives the number of digits of the company prefix
+//!   that digits begin with, by the longest row that fits.
+//!
+//! # Example
+//!
+//! A GTIN whose company prefix has 7 digits. The gate runs this case, for which crates/vectors_values/src/prefixes.rt makes the
+//! calls.
+//!
+//! ```text
+//! gs_prefix::length_of {"version":1,"prefixes":[{"prefix":"0614141","length":7}]} 06141411234578
+//! Some(7)
+//! ```
+//!
+//! # Where it differs from the standard
+//!
+//! - GS1 publishes its list as GCPPrefixFormatList, in XML and JSON; this form has the same rows under names of its own.
+//! - A length of 0 says that the digits belong to no company prefix. The longest row that begins the digits decides.
 #![tactic(auto)]
 
 mod entry;

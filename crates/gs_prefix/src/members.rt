@@ -1,9 +1,7 @@
-ghost use Rattle.std.specs.Prelude.{◌≡◌, IfOk, IfSome, option_map};
-ghost use Rattle.serde_json.specs.Find.{get};
+ghost use Rattle.std.specs.Prelude.{◌≡◌, IfOk};
 ghost use Rattle.serde_json.specs.View.{view};
 ghost use Rattle.gs_json.specs.Answers.{items_count};
-ghost use Rattle.gs_json.specs.Places.{member_place};
-ghost use Rattle.gs_prefix.specs.Documents.{number_in, text_in};
+ghost use Rattle.gs_prefix.specs.Documents.{IsAtMember, IsMember, number_in, text_in};
 
 use gs_chars::{Memory, Text};
 use gs_json::{JsonFault, Node};
@@ -16,8 +14,8 @@ pub(crate) fn member_of<'a>(
     node: &Node<'a>,
     name: &str,
 ) -> Result<Option<Node<'a>>, Memory>
-    ensures part { IfOk result (λ member. option_map (λ part. view part.tree) member ≡ get name.now (view node.now.tree)) }
-    ensures place { IfOk result (λ member. IfSome member (λ part. part.place ≡ member_place node.now.place name.now)) }
+    ensures part { IfOk result (IsMember node.now name.now) }
+    ensures place { IfOk result (IsAtMember node.now name.now) }
 {
     match node.maybe(alloc, name) {
         Ok(member) => Ok(member),

@@ -88,7 +88,8 @@ fn numbers_of_kinds(
 }
 
 impl IndexedInfo {
-    /// What is said of the options of a level, each of one of so many kinds. The one refusal is want of memory.
+    /// What is said of the options of a level, each of one of so many kinds. The one refusal is want of memory. Each names a
+    /// kind below that number.
     pub fn new(alloc: Global, count: usize, info: Vec<OptInfo>) -> Result<IndexedInfo, Memory>
         requires { AreWithin info.items count }
         ensures { IfOk result (λ made. made ≡ info.items) }

@@ -6,7 +6,7 @@ use gs_ident::Identity;
 pub struct Meaning {
     /// The identity that it names.
     pub identity: Identity,
-    /// The digits of the GS1 Company Prefix, where the form tells them.
+    /// How many digits the GS1 Company Prefix has, where the form tells it.
     pub gcp: Option<u8>,
     /// The filter value, where the form tells it.
     pub filter: Option<u8>,

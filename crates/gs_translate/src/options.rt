@@ -5,7 +5,7 @@ use gs_chars::Text;
 pub struct Options {
     /// The filter value of a tag, 0 to 7, where the text tells none.
     pub filter: Option<u8>,
-    /// The digits of the GS1 Company Prefix, 1 to 12, where the text does not tell them.
+    /// How many digits the GS1 Company Prefix has, 1 to 12, where the text does not tell it.
     pub gcp: Option<u8>,
     /// The name of the encoding of a tag, empty where it is that of the text, and any where the text has none.
     pub encoding: Text,

@@ -16,16 +16,18 @@ ghost use Rattle.gs_translate.specs.Translations.{AreInOrder, IsOfPairs, IsTrans
 
 /// A text has at most one translation, and one, by tables that keep what its form asks for.
 pub fn each_text_has_one_translation()
-    ensures at_most_one { (set : TableRows) (prefixes : List PrefixEntry) (options : Options) (from : Form) (to : Target) (text : List ℕ)
-        → AsksForOne from set → HasOne (IsTranslation set prefixes options from to text) }
-    ensures some { (set : TableRows) (prefixes : List PrefixEntry) (options : Options) (from : Form) (to : Target) (text : List ℕ)
-        → AsksForSome from set → HasSome (IsTranslation set prefixes options from to text) }
+    ensures at_most_one { (set : TableRows) (prefixes : List PrefixEntry) (options : Options) (from : Form)
+        (to : Target) (text : List ℕ) → AsksForOne from set
+        → HasOne (IsTranslation set prefixes options from to text) }
+    ensures some { (set : TableRows) (prefixes : List PrefixEntry) (options : Options) (from : Form)
+        (to : Target) (text : List ℕ) → AsksForSome from set
+        → HasSome (IsTranslation set prefixes options from to text) }
 {}
 
 /// The canonical link that answers a text is its translation to the canonical link, where more than keys is kept.
 pub fn canonical_links_are_translations()
-    ensures { (set : TableRows) (prefixes : List PrefixEntry) (options : Options) (form : Form) (text : List ℕ)
-        (answer : Result (List ℕ) Reason) → options.keys_only ≡ false
+    ensures { (set : TableRows) (prefixes : List PrefixEntry) (options : Options) (form : Form)
+        (text : List ℕ) (answer : Result (List ℕ) Reason) → options.keys_only ≡ false
         → IsTranslation set prefixes options form Target.Canon text answer ↔ IsAnswer set form text answer }
 {}
 

@@ -1,5 +1,5 @@
 use Rattle.gs_level.proofs.Readers.{not_derived, cuts_derived}
-use Rattle.gs_level.proofs.one.read_items.Goals as goal
+use Rattle.gs_level.proofs.one.read_by_machine.Goals as goal
 
 pub values_of-requires-clause-derived : goal.values_of-requires-clause-derived
 values_of-requires-clause-derived c = cuts_derived _ _ _ _ _ c.requires.rules c.requires.reads (rw c.in-Accepted.is at c.in_ok-follow_alone.ensures) c.as_slice.ensures.value

@@ -1,0 +1,32 @@
+ghost use Rattle.std.specs.Prelude.{◌≡◌, ◌*◌, ◌≤◌, length, take};
+ghost use Rattle.gs_bits.specs.Bits.{bits_of};
+ghost use Rattle.gs_bits.specs.Packed.{bits_of_bytes};
+
+/// The bits of a byte, one after the other.
+#[tactic(auto, unfolding(crate::specs::Bits::bits_of))]
+fn bits_of_byte(byte: u8) -> [u8; 8]
+    ensures { result ≡ bits_of 8 byte }
+{
+    [
+        byte / 128 % 2,
+        byte / 64 % 2,
+        byte / 32 % 2,
+        byte / 16 % 2,
+        byte / 8 % 2,
+        byte / 4 % 2,
+        byte / 2 % 2,
+        byte % 2,
+    ]
+}
+
+/// Writes the bits of some bytes to the front of the symbols, one after the other.
+pub(crate) fn spread(bytes: &[u8], symbols: &mut [u8])
+    requires small { length bytes.now ≤ 64 }
+    requires room { 8 * length bytes.now ≤ length symbols.old }
+    ensures count { length symbols.new ≡ length symbols.old }
+    ensures written { take (8 * length bytes.now) symbols.new ≡ bits_of_bytes bytes.now }
+{
+    for place in 0..bytes.len() {
+        symbols[8 * place..8 * place + 8].copy_from_slice(&bits_of_byte(bytes[place]));
+    }
+}

@@ -1,0 +1,13 @@
+use Rattle.std.proofs.Common.{arith, ◌<◌, ◌^◌, ◌∙◌}
+use Rattle.gs_grammar.proofs.Numbers.{below_count, padded_decimal}
+use Rattle.gs_grammar.proofs.numerals.decimal_text.Goals as goal
+
+pub padded-requires-clause-fits : goal.padded-requires-clause-fits
+padded-requires-clause-fits c =
+    let small : c.args.number < 2 ^ 64 = omega arith in
+    rw c.digit_count-count.ensures.count (below_count c.args.number small)
+
+pub returns : goal.returns
+returns c =
+    let small : c.args.number < 2 ^ 64 = omega arith in
+    c.from_vec-2.ensures ∙ padded_decimal c.args.number _ _ small c.digit_count-count.ensures.count c.in_ok-digits.ensures
