@@ -28,7 +28,7 @@ use Rattle.gs_program.specs.Runs.{AskedEnded, AskedRun, Counts, World, none_fini
 use Rattle.gs_program.specs.Works.{CommandEnded, CommandRun, Doorway, Leaves, LeavesOutput, Outcome, canonizing, counts_line, input_limit, outcome_of, site_of, translating}
 use Rattle.gs_program.proofs.LineLemmas.{translated_some}
 use Rattle.gs_program.proofs.LoadLemmas.{files_some}
-use Rattle.gs_program.proofs.RanLemmas.{PrintedCase, fault, no_memory, printed_case, stays_or_rises, takes_nothing, whole}
+use Rattle.gs_program.proofs.RanLemmas.{PrintedCase, fault, no_memory, printed_case, same_count, takes_nothing, whole}
 use Rattle.gs_program.proofs.ReadLemmas.{loaded_of}
 use Rattle.gs_program.proofs.ServeLemmas.{serves_some}
 use Rattle.gs_program.proofs.SiteLemmas.{some_resolved}
@@ -141,10 +141,10 @@ asked_by asked world before now output status.Done written begun read write refu
 asked_by asked world before now output status.SomeRefused written begun read write refusal done some long usage files inputs outputs = absurd (some refl)
 asked_by asked world before now output status.InputLong written begun read write refusal done some long usage files inputs outputs = absurd (long refl)
 asked_by asked world before now output status.Usage written begun read write refusal done some long usage files inputs outputs = absurd (usage refl)
-asked_by asked world before now output status.Refused written begun read write refusal done some long usage files inputs outputs = record { written = written; begun = tt; finished = tt; read_fault = tt; write_fault = tt; refusal = refusal; to_end = tt; long = tt; few = λ lines. takes_nothing (input_limit + 1) world.input; file_counts = files; input_counts = inl inputs; output_counts = stays_or_rises _ _ outputs; no_usage = usage }
-asked_by asked world before now output status.ReadFault written begun read write refusal done some long usage files inputs outputs = record { written = tt; begun = begun; finished = none_finished refl; read_fault = inr read; write_fault = tt; refusal = tt; to_end = tt; long = tt; few = λ lines. takes_nothing (input_limit + 1) world.input; file_counts = files; input_counts = inl inputs; output_counts = stays_or_rises _ _ outputs; no_usage = usage }
-asked_by asked world before now output status.WriteFault written begun read write refusal done some long usage files inputs outputs = record { written = tt; begun = begun; finished = none_finished refl; read_fault = tt; write_fault = write; refusal = tt; to_end = tt; long = tt; few = λ lines. takes_nothing (input_limit + 1) world.input; file_counts = files; input_counts = inl inputs; output_counts = stays_or_rises _ _ outputs; no_usage = usage }
-asked_by asked world before now output status.Memory written begun read write refusal done some long usage files inputs outputs = record { written = tt; begun = begun; finished = none_finished refl; read_fault = tt; write_fault = tt; refusal = tt; to_end = tt; long = tt; few = λ lines. takes_nothing (input_limit + 1) world.input; file_counts = files; input_counts = inl inputs; output_counts = stays_or_rises _ _ outputs; no_usage = usage }
+asked_by asked world before now output status.Refused written begun read write refusal done some long usage files inputs outputs = record { written = written; begun = tt; finished = tt; read_fault = tt; write_fault = tt; refusal = refusal; to_end = tt; long = tt; few = λ lines. takes_nothing (input_limit + 1) world.input; file_counts = files; input_counts = same_count _ _ inputs; output_counts = outputs; no_usage = usage }
+asked_by asked world before now output status.ReadFault written begun read write refusal done some long usage files inputs outputs = record { written = tt; begun = begun; finished = none_finished refl; read_fault = inr read; write_fault = tt; refusal = tt; to_end = tt; long = tt; few = λ lines. takes_nothing (input_limit + 1) world.input; file_counts = files; input_counts = same_count _ _ inputs; output_counts = outputs; no_usage = usage }
+asked_by asked world before now output status.WriteFault written begun read write refusal done some long usage files inputs outputs = record { written = tt; begun = begun; finished = none_finished refl; read_fault = tt; write_fault = write; refusal = tt; to_end = tt; long = tt; few = λ lines. takes_nothing (input_limit + 1) world.input; file_counts = files; input_counts = same_count _ _ inputs; output_counts = outputs; no_usage = usage }
+asked_by asked world before now output status.Memory written begun read write refusal done some long usage files inputs outputs = record { written = tt; begun = begun; finished = none_finished refl; read_fault = tt; write_fault = tt; refusal = tt; to_end = tt; long = tt; few = λ lines. takes_nothing (input_limit + 1) world.input; file_counts = files; input_counts = same_count _ _ inputs; output_counts = outputs; no_usage = usage }
 
 pub asked_of_refusal : (asked : Asked) (world : World) (before now : Counts) (refusal : Refusal) (output : List ℕ) (s : Status) → FilesGive world.files asked (Err (refused refusal)) → PrintedAs status.Refused (refused_line refusal) output s → OnWriteFault s (Rises before.output_faults now.output_faults) → before.file_faults ≤ now.file_faults → before.input_faults ≡ now.input_faults → before.output_faults ≤ now.output_faults → AskedRan asked world before now world.input (outcome_of output s)
 asked_of_refusal asked world before now refusal output s gives printed write files inputs outputs = by (printed_case status.Refused (refused_line refusal) output s printed)

@@ -1,6 +1,6 @@
 -- What is loaded of links where none are named.
 use Rattle.std.proofs.Common.{◌≡◌, ℕ, List, [], refl, sym, ◌∙◌}
-use Rattle.std.specs.Prelude.{Result, Ok, Err}
+use Rattle.std.specs.Prelude.{Result, Ok}
 use Rattle.gs_ai.specs.declared.row.AiRow.{AiRow}
 use Rattle.gs_links.specs.declared.link.Link.{Link}
 use Rattle.gs_links.specs.Loading.{links_of, load_answer, store_faults}

@@ -1,10 +1,9 @@
 -- Words that write numbers within bounds are the decimal texts of these.
-use Rattle.std.proofs.Common.{◌≡◌, ℕ, ◌≤◌, ◌<◌, ◌^◌, ◌&&◌, Bool, true, false, not, List, Option, None, Some, length, refl, sym, ◌∙◌, ap, arith, eqb, inl, inr}
+use Rattle.std.proofs.Common.{◌≡◌, ℕ, ◌≤◌, ◌<◌, ◌^◌, ◌&&◌, true, false, List, None, Some, length, refl, sym, arith, eqb, inl, inr}
 use Rattle.std.specs.Prelude.{decimal, nat_le, nat_lt}
 use Rattle.std.proofs.lemmas.Bool.{leb-true}
 use Rattle.std.proofs.lemmas.Bool.Decides.{nat_tests}
 use Rattle.std.proofs.lemmas.Fmt.{decimal_nonempty}
-use Rattle.gs_chars.specs.Characters.{are_digits}
 use Rattle.gs_chars.proofs.TruthsAndLists.{and_parts, and_true, false_from, false_from_not, not_false, true_or_false}
 use Rattle.gs_grammar.specs.Words.{decimal_value}
 use Rattle.gs_grammar.specs.Writing.{has_leading_zero}

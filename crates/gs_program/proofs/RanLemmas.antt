@@ -1,8 +1,6 @@
 -- What commands did, by the lines that they answered or the line that they printed.
-use Rattle.std.proofs.Common.{◌≡◌, ◌≢◌, inl, inr, ℕ, ◌+◌, ◌++◌, ◌≤◌, Bool, true, false, List, [], Option, None, Some, append-nil, ap, refl, sym, ◌∙◌, arith}
+use Rattle.std.proofs.Common.{◌≡◌, ◌≢◌, ℕ, ◌+◌, ◌++◌, ◌≤◌, Bool, true, false, List, [], Option, None, Some, append-nil, ap, refl, sym, ◌∙◌, arith}
 use Rattle.std.specs.Prelude.{option_map}
-use Rattle.std.proofs.lemmas.Bool.Decides.{leb_tells}
-use Rattle.std.proofs.lemmas.Grind.{common_steps}
 use Rattle.gs_lines.specs.declared.status.Status.{Status}
 use Rattle.gs_lines.specs.declared.status.Status.TheVariants as status
 use Rattle.gs_lines.specs.Inputs.{IsAtEnd, TakesAtMost, TakesMoreThan}
@@ -13,23 +11,16 @@ use Rattle.gs_lines.proofs.OneOutcome.{whole_of_part}
 use Rattle.gs_lines.proofs.StatusLemmas.{when_always, when_map}
 use Rattle.gs_port.specs.Connections.{Finished}
 use Rattle.gs_port.specs.Contents.{prepend_nothing}
-use Rattle.gs_port.specs.Counts.{Rises, counted}
-use Rattle.gs_serve.specs.Resolved.{count_if}
+use Rattle.gs_port.specs.Counts.{Rises}
 use Rattle.gs_translate.specs.Steps.{HasSome}
-use Rattle.gs_program.specs.Ran.{BeginsOne, Moment, Ran, StaysOrRises}
+use Rattle.gs_program.specs.Ran.{BeginsOne, Moment, Ran}
 use Rattle.gs_program.specs.Works.{Leaves, Outcome, input_limit, outcome_of}
 
 -- ---- counts
 
-pub stays_or_rises : (before now : ℕ) → before ≤ now → StaysOrRises before now
-stays_or_rises before now less = elim (leb_tells now before) as (λ _. StaysOrRises before now) [
-  | inl e ↦ let l = e.1 in inl (omega arith)
-  | inr e ↦ let l = e.1 in inr (grind (arith, common_steps))
-]
-
-pub stays_or_counted : (rises : Bool) (before now : ℕ) → now ≡ count_if rises before → StaysOrRises before now
-stays_or_counted true before now e = let f : now ≡ counted before = e in inr (rw f (omega arith))
-stays_or_counted false before now e = inl (sym e)
+-- a count that is as it was does not fall
+pub same_count : (before now : ℕ) → before ≡ now → before ≤ now
+same_count before now e = omega arith
 
 -- ---- lines
 
@@ -50,8 +41,8 @@ ran_of_lines Is before now output s some writes end long few read write inputs o
   to_end = when_map (is_answered s) (λ e lines. e) end;
   long = long;
   few = λ lines. few;
-  input_counts = stays_or_rises _ _ inputs;
-  output_counts = stays_or_rises _ _ outputs;
+  input_counts = inputs;
+  output_counts = outputs;
   no_usage = usage;
   no_refusal = refusal;
 }
@@ -91,8 +82,8 @@ module _ (Is : Outcome → Type 0) (Ended : List ℕ → Type 0) (Cause : Type 0
     to_end = end;
     long = long;
     few = λ lines. rw same (takes_nothing (input_limit + 1) now.input);
-    input_counts = inl inputs;
-    output_counts = stays_or_rises _ _ outputs;
+    input_counts = same_count _ _ inputs;
+    output_counts = outputs;
     no_usage = usage;
     no_refusal = refusal;
   }

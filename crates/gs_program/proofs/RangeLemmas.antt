@@ -1,11 +1,10 @@
 -- Numbers that words write.
-use Rattle.std.proofs.Common.{◌≡◌, ℕ, ◌≤◌, ◌<◌, ◌^◌, ◌&&◌, Bool, true, List, None, Some, length, refl, sym, arith, inl, inr}
+use Rattle.std.proofs.Common.{◌≡◌, ℕ, ◌≤◌, ◌<◌, ◌^◌, ◌&&◌, true, List, None, Some, length, refl, arith, inl, inr}
 use Rattle.std.specs.Prelude.{OkIff, Result, Ok, Err, nat_le}
 use Rattle.std.specs.Str.Parse.{ParsesUnsigned}
 use Rattle.std.proofs.lemmas.Bool.{leb-true}
 use Rattle.std.proofs.lemmas.Bool.Decides.{nat_tests}
 use Rattle.std.proofs.lemmas.Str.Parse.{parse_digits}
-use Rattle.gs_chars.specs.Characters.{are_digits}
 use Rattle.gs_chars.proofs.TruthsAndLists.{and_parts, true_or_false}
 use Rattle.gs_grammar.specs.Words.{decimal_value}
 use Rattle.gs_grammar.proofs.Numbers.{own}

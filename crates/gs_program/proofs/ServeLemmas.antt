@@ -1,6 +1,6 @@
 -- What serving connections did.
-use Rattle.std.proofs.Common.{◌≡◌, ◌≢◌, ◌⊎◌, inl, inr, ℕ, ◌+◌, ◌-◌, ◌≤◌, zero, suc, Bool, true, false, List, [], ◌∷◌, ◌++◌, length, take, Option, None, Some, append-nil, refl, sym, ◌∙◌, ap, arith}
-use Rattle.std.specs.Prelude.{IfSome, is_some, map, option_map}
+use Rattle.std.proofs.Common.{◌≡◌, ◌≢◌, ◌⊎◌, inl, inr, ℕ, ◌≤◌, zero, suc, true, false, List, [], ◌∷◌, ◌++◌, length, take, Option, None, Some, append-nil, refl, sym, ◌∙◌, ap, arith}
+use Rattle.std.specs.Prelude.{IfSome, option_map}
 use Rattle.std.proofs.lemmas.List.{take_all, length-map}
 use Rattle.std.proofs.Math.Seq.{take-append_seam}
 use Rattle.gs_http.specs.Serving.{reads_when, writes_when}
@@ -10,18 +10,18 @@ use Rattle.gs_lines.specs.Outputs.{Appends}
 use Rattle.gs_lines.specs.Printing.{IsInitialPart}
 use Rattle.gs_lines.specs.Statuses.{OnReadFault, OnWriteFault}
 use Rattle.gs_port.specs.Counts.{Rises}
-use Rattle.gs_serve.specs.Doors.{IsOver, ServePrints, ServeRan, line_of}
+use Rattle.gs_serve.specs.Doors.{IsOver, ServeRan, line_of}
 use Rattle.gs_serve.specs.Sites.{AreSiteReplies, Replied, SiteData}
 use Rattle.gs_serve.specs.Visits.{AreVisits, DoorState, IsVisit, Visit, Visited, entries_of, inputs_of, is_done, no_visit, one_visit, wants_memory}
 use Rattle.gs_serve.proofs.DoneVisits.{done_visit, is_done_visit}
 use Rattle.gs_translate.specs.Steps.{HasSome}
 use Rattle.gs_program.specs.declared.command.Command.TheVariants.{Serve}
 use Rattle.gs_program.specs.declared.loading.Loaded.{Loaded}
-use Rattle.gs_program.specs.Ran.{BeginsOne, CommandRan, Moment, StaysOrRises}
+use Rattle.gs_program.specs.Ran.{BeginsOne, CommandRan, Moment}
 use Rattle.gs_program.specs.Requests.{Values}
 use Rattle.gs_program.specs.Runs.{AlikeServed, AlikeVisits, more_visits, no_visits}
 use Rattle.gs_program.specs.Works.{Doorway, Leaves, Outcome, Serves, ServesFirst, doorway_of, served_outcome, site_of}
-use Rattle.gs_program.proofs.RanLemmas.{stays_or_rises, takes_nothing}
+use Rattle.gs_program.proofs.RanLemmas.{same_count}
 use Rattle.gs_program.proofs.SiteLemmas.{no_lines, one_replies_of_site}
 
 -- ---- some connections are served
@@ -167,16 +167,16 @@ module _ (loaded : Loaded) (values : Values) (faults faults' : ℕ) (before now 
   served_as : (output : List ℕ) (s : Status) (r : ServeRan (site_of loaded) values.count door door' output s) → before.input ≡ now.input → before.input_faults ≡ now.input_faults → OnReadFault s (Rises faults faults') → OnWriteFault s (Rises before.output_faults now.output_faults) → before.output_faults ≤ now.output_faults → CommandRan Serve values loaded Way faults faults' before now (record { output = output; finished = entries_of r.visits; status = s })
   served_as output status.Done r same inputs read write outputs =
       let p = r.prints in
-      record { written = rw p.1 (serves_of (site_of loaded) values.count door door' r.visits r.visited r.few p.0); begun = tt; finished = tt; read_fault = tt; ended = tt; write_fault = tt; to_end = λ e. no_lines e; long = tt; few = λ e. no_lines e; input_counts = inl inputs; output_counts = stays_or_rises _ _ outputs; no_usage = λ e. cc; no_refusal = λ e. cc }
+      record { written = rw p.1 (serves_of (site_of loaded) values.count door door' r.visits r.visited r.few p.0); begun = tt; finished = tt; read_fault = tt; ended = tt; write_fault = tt; to_end = λ e. no_lines e; long = tt; few = λ e. no_lines e; input_counts = same_count _ _ inputs; output_counts = outputs; no_usage = λ e. cc; no_refusal = λ e. cc }
   served_as output status.ReadFault r same inputs read write outputs =
       let p = r.prints in
-      record { written = tt; begun = begins_nothing output p.1; finished = first_served output status.ReadFault r (λ e. p.0); read_fault = read; ended = p.1; write_fault = tt; to_end = tt; long = tt; few = λ e. no_lines e; input_counts = inl inputs; output_counts = stays_or_rises _ _ outputs; no_usage = λ e. cc; no_refusal = λ e. cc }
+      record { written = tt; begun = begins_nothing output p.1; finished = first_served output status.ReadFault r (λ e. p.0); read_fault = read; ended = p.1; write_fault = tt; to_end = tt; long = tt; few = λ e. no_lines e; input_counts = same_count _ _ inputs; output_counts = outputs; no_usage = λ e. cc; no_refusal = λ e. cc }
   served_as output status.WriteFault r same inputs read write outputs =
       let p = r.prints in
       let over = p.0 in
-      record { written = tt; begun = begins_line r.visits output r.visited r.few p.0 p.1; finished = first_served output status.WriteFault r (λ e. over.served); read_fault = tt; ended = tt; write_fault = write; to_end = tt; long = tt; few = λ e. no_lines e; input_counts = inl inputs; output_counts = stays_or_rises _ _ outputs; no_usage = λ e. cc; no_refusal = λ e. cc }
+      record { written = tt; begun = begins_line r.visits output r.visited r.few p.0 p.1; finished = first_served output status.WriteFault r (λ e. over.served); read_fault = tt; ended = tt; write_fault = write; to_end = tt; long = tt; few = λ e. no_lines e; input_counts = same_count _ _ inputs; output_counts = outputs; no_usage = λ e. cc; no_refusal = λ e. cc }
   served_as output status.Memory r same inputs read write outputs =
-      record { written = tt; begun = begins_either output r r.prints; finished = first_served output status.Memory r (λ e. absurd (e refl)); read_fault = tt; ended = tt; write_fault = tt; to_end = tt; long = tt; few = λ e. no_lines e; input_counts = inl inputs; output_counts = stays_or_rises _ _ outputs; no_usage = λ e. cc; no_refusal = λ e. cc }
+      record { written = tt; begun = begins_either output r r.prints; finished = first_served output status.Memory r (λ e. absurd (e refl)); read_fault = tt; ended = tt; write_fault = tt; to_end = tt; long = tt; few = λ e. no_lines e; input_counts = same_count _ _ inputs; output_counts = outputs; no_usage = λ e. cc; no_refusal = λ e. cc }
   served_as output status.SomeRefused r same inputs read write outputs = absurd r.prints
   served_as output status.Usage r same inputs read write outputs = absurd r.prints
   served_as output status.Refused r same inputs read write outputs = absurd r.prints

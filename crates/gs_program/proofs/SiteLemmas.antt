@@ -1,5 +1,5 @@
 -- The replies to a stream, and what resolving it did.
-use Rattle.std.proofs.Common.{◌≡◌, ℕ, true, false, List, [], Option, None, Some, refl, sym, ◌∙◌, ap}
+use Rattle.std.proofs.Common.{◌≡◌, ℕ, ◌≤◌, true, false, List, [], Option, None, Some, refl, sym, ◌∙◌, ap}
 use Rattle.gs_http.specs.Streams.{heads_of, replies_of}
 use Rattle.gs_http.proofs.StreamLaws.{one_replies, some_replies}
 use Rattle.gs_lines.specs.declared.status.Status.{Status}
@@ -12,7 +12,7 @@ use Rattle.gs_serve.specs.Sites.{AreSiteReplies, SiteData}
 use Rattle.gs_translate.specs.Steps.{HasOne, HasSome}
 use Rattle.gs_program.specs.declared.command.Command.TheVariants.{Resolve}
 use Rattle.gs_program.specs.declared.loading.Loaded.{Loaded}
-use Rattle.gs_program.specs.Ran.{BeginsOne, CommandRan, Moment, StaysOrRises}
+use Rattle.gs_program.specs.Ran.{BeginsOne, CommandRan, Moment}
 use Rattle.gs_program.specs.Requests.{Values}
 use Rattle.gs_program.specs.Works.{Doorway, LeavesOutput, outcome_of, site_of}
 
@@ -69,7 +69,7 @@ pub no_lines : {fact : Type 0} → false ≡ true → fact
 no_lines e = absurd (let f : false ≡ true = e in cc)
 
 module _ (loaded : Loaded) (values : Values) (door : Doorway) (faults faults' : ℕ) (before now : Moment) (output : List ℕ) where
-  pub resolve_ran : (s : Status) → Resolved (site_of loaded) before.input output s → OnReadFault s (Rises before.input_faults now.input_faults) → OnWriteFault s (Rises before.output_faults now.output_faults) → StaysOrRises before.input_faults now.input_faults → StaysOrRises before.output_faults now.output_faults → CommandRan Resolve values loaded door faults faults' before now (outcome_of output s)
+  pub resolve_ran : (s : Status) → Resolved (site_of loaded) before.input output s → OnReadFault s (Rises before.input_faults now.input_faults) → OnWriteFault s (Rises before.output_faults now.output_faults) → before.input_faults ≤ now.input_faults → before.output_faults ≤ now.output_faults → CommandRan Resolve values loaded door faults faults' before now (outcome_of output s)
   resolve_ran status.Done r read write inputs outputs = record { written = replies_whole (site_of loaded) before.input output r; begun = tt; finished = tt; read_fault = tt; ended = tt; write_fault = tt; to_end = λ e. no_lines e; long = tt; few = λ e. no_lines e; input_counts = inputs; output_counts = outputs; no_usage = λ e. cc; no_refusal = λ e. cc }
   resolve_ran status.ReadFault r read write inputs outputs = record { written = tt; begun = replies_begin (site_of loaded) before.input output status.ReadFault r; finished = refl; read_fault = read; ended = r; write_fault = tt; to_end = tt; long = tt; few = λ e. no_lines e; input_counts = inputs; output_counts = outputs; no_usage = λ e. cc; no_refusal = λ e. cc }
   resolve_ran status.WriteFault r read write inputs outputs = record { written = tt; begun = replies_begin (site_of loaded) before.input output status.WriteFault r; finished = refl; read_fault = tt; ended = tt; write_fault = write; to_end = tt; long = tt; few = λ e. no_lines e; input_counts = inputs; output_counts = outputs; no_usage = λ e. cc; no_refusal = λ e. cc }

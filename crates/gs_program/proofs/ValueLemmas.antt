@@ -2,7 +2,6 @@
 use Rattle.std.proofs.Common.{◌≡◌, ℕ, ◌≤◌, ◌&&◌, Bool, true, false, List, [], ◌∷◌, Option, None, Some, refl, sym, ◌∙◌, ap, inl, inr}
 use Rattle.std.specs.Prelude.{IfSome, bytes_eq, find, if◌then◌else◌, nat_le, option_and_then, unwrap_or}
 use Rattle.std.proofs.lemmas.Bool.{leb-true}
-use Rattle.gs_chars.specs.Characters.{are_digits}
 use Rattle.gs_chars.proofs.TruthsAndLists.{and_parts, equal_bytes, true_or_false}
 use Rattle.gs_dlink.specs.Stems.{stem_ok}
 use Rattle.gs_grammar.specs.Words.{decimal_value}
@@ -13,7 +12,7 @@ use Rattle.gs_program.specs.declared.name.Name.{Name}
 use Rattle.gs_program.specs.declared.name.Name.TheVariants.{Tables, Prefixes, Links, Describe, Voc, Listen, Count, Filter, Gcp, Encoding, KeysOnly, Stem}
 use Rattle.gs_program.specs.declared.name.NameRow.{NameRow}
 use Rattle.gs_program.specs.Names.{AreTaken, in_range, look_up, name_word, none_taken, one_taken, takes}
-use Rattle.gs_program.specs.Ranges.{filter_of, is_numeral, is_vocabulary, number_within}
+use Rattle.gs_program.specs.Ranges.{filter_of, is_numeral, is_vocabulary}
 use Rattle.gs_program.specs.Requests.{Asked, WordsInOrder, default_voc, options_of}
 use Rattle.gs_program.specs.Works.{no_options}
 

@@ -7,7 +7,7 @@ use Rattle.gs_port.specs.Counts.{Rises}
 use Rattle.gs_program.specs.declared.refusal.Refusal.{Refusal}
 use Rattle.gs_program.specs.Commands.{answers_lines}
 use Rattle.gs_program.specs.Loads.{FilesGive, missing, refused}
-use Rattle.gs_program.specs.Ran.{BeginsOne, StaysOrRises}
+use Rattle.gs_program.specs.Ran.{BeginsOne}
 use Rattle.gs_program.specs.Requests.{Asked}
 use Rattle.gs_program.specs.Runs.{AskedFinished, AskedRun, Counts, World}
 use Rattle.gs_program.specs.Works.{Outcome, input_limit}
@@ -30,6 +30,6 @@ pub record AskedRan (asked : Asked) (world : World) (before now : Counts) (left 
   pub long : OnInputLong outcome.status (TakesMoreThan input_limit world.input left)
   pub few : answers_lines asked.command ≡ true → TakesAtMost (input_limit + 1) world.input left
   pub file_counts : before.file_faults ≤ now.file_faults
-  pub input_counts : StaysOrRises before.input_faults now.input_faults
-  pub output_counts : StaysOrRises before.output_faults now.output_faults
+  pub input_counts : before.input_faults ≤ now.input_faults
+  pub output_counts : before.output_faults ≤ now.output_faults
   pub no_usage : outcome.status ≢ Usage

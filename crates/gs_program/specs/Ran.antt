@@ -1,5 +1,5 @@
 -- What a command did.
-use Rattle.std.specs.Prelude.{◌≡◌, ◌≢◌, ◌⊎◌, ℕ, ◌+◌, Bool, true, List, [], Option}
+use Rattle.std.specs.Prelude.{◌≡◌, ◌≢◌, ℕ, ◌+◌, ◌≤◌, Bool, true, List, [], Option}
 use Rattle.gs_lines.specs.declared.status.Status.{Status}
 use Rattle.gs_lines.specs.declared.status.Status.TheVariants.{Usage, Refused}
 use Rattle.gs_lines.specs.Inputs.{IsAtEnd, TakesAtMost, TakesMoreThan}
@@ -26,10 +26,6 @@ pub record Moment : Type 0 where
 abbrev pub moment_of : Option (List ℕ) → ℕ → ℕ → Moment
 moment_of input input_faults output_faults = record { input = input; input_faults = input_faults; output_faults = output_faults }
 
--- a count of faults is as it was, or a fault was counted
-abbrev pub StaysOrRises : ℕ → ℕ → Type 0
-StaysOrRises before now = (before ≡ now) ⊎ Rises before now
-
 -- an initial part of the output of some outcome
 pub record BeginsOne (IsOutcome : Outcome → Type 0) (output : List ℕ) : Type 0 where
   pub outcome : Outcome
@@ -49,8 +45,8 @@ pub record Ran (IsOutcome : Outcome → Type 0) (IsEnded : List ℕ → Type 0) 
   pub to_end : OnAnswered outcome.status (lines ≡ true → IsAtEnd now.input)
   pub long : OnInputLong outcome.status (TakesMoreThan input_limit before.input now.input)
   pub few : lines ≡ true → TakesAtMost (input_limit + 1) before.input now.input
-  pub input_counts : StaysOrRises before.input_faults now.input_faults
-  pub output_counts : StaysOrRises before.output_faults now.output_faults
+  pub input_counts : before.input_faults ≤ now.input_faults
+  pub output_counts : before.output_faults ≤ now.output_faults
   pub no_usage : outcome.status ≢ Usage
   pub no_refusal : outcome.status ≢ Refused
 

@@ -5,7 +5,6 @@ ghost use Rattle.gs_translate.specs.Translations.{AreInOrder};
 ghost use Rattle.gs_program.specs.Asking.{AskedRan};
 ghost use Rattle.gs_program.specs.Commands.{answers_heads, reads_input, uses_door};
 ghost use Rattle.gs_program.specs.Loads.{OpensFirst};
-ghost use Rattle.gs_program.specs.Ran.{StaysOrRises};
 ghost use Rattle.gs_program.specs.Ranges.{is_vocabulary};
 ghost use Rattle.gs_program.specs.Refusals.{PrintsRefusal, refused_line};
 ghost use Rattle.gs_program.specs.Requests.{all_named, options_of, told_request};
@@ -65,7 +64,7 @@ pub fn run_request<F: Files, S: Source, K: Sink, D: Door>(
     ensures unread_refused { OnRefused result (input.new ≡ input.old) }
     ensures unserved { uses_door (told_request request.entry).command ≡ false → door.new ≡ door.old }
     ensures unserved_refused { OnRefused result (door.new ≡ door.old) }
-    ensures door_counts { StaysOrRises (D.aside door.old).faults (D.aside door.new).faults }
+    ensures door_counts { (D.aside door.old).faults ≤ (D.aside door.new).faults }
     ensures opened { OpensFirst (all_named request.entry) (F.opened files.old) (F.opened files.new) }
     ensures all_opened { OpensAsked result request.entry (F.opened files.old) (F.opened files.new) }
     ensures unopened { all_named request.entry ≡ [] → files.new ≡ files.old }

@@ -1,9 +1,9 @@
-ghost use Rattle.std.specs.Prelude.{◌≡◌, None, false, true};
+ghost use Rattle.std.specs.Prelude.{◌≡◌, ◌≤◌, None, false, true};
 ghost use Rattle.gs_serve.specs.Resolved.{StreamServed};
 ghost use Rattle.gs_tables.specs.Judged.{IsLoaded};
 ghost use Rattle.gs_translate.specs.Translations.{AreInOrder};
 ghost use Rattle.gs_program.specs.Commands.{answers_heads, reads_input, uses_door};
-ghost use Rattle.gs_program.specs.Ran.{CommandRan, StaysOrRises, moment_of};
+ghost use Rattle.gs_program.specs.Ran.{CommandRan, moment_of};
 ghost use Rattle.gs_program.specs.Requests.{options_of, told_values};
 ghost use Rattle.gs_program.specs.Works.{Leaves, doorway_of, site_of};
 
@@ -53,7 +53,7 @@ pub fn run_command<S: Source, K: Sink, D: Door>(
         (S.left input.old) (S.left input.new) None None (K.held output.old) (K.held output.new) }
     ensures unread { reads_input command ≡ false → input.new ≡ input.old }
     ensures unserved { uses_door command ≡ false → door.new ≡ door.old }
-    ensures door_counts { StaysOrRises (D.aside door.old).faults (D.aside door.new).faults }
+    ensures door_counts { (D.aside door.old).faults ≤ (D.aside door.new).faults }
 {
     match command {
         Command::Canon(form) => canonize(alloc, form, loaded, input, output),

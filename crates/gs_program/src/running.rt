@@ -2,7 +2,6 @@ ghost use Rattle.std.specs.Prelude.{◌≡◌, ◌≤◌, false};
 ghost use Rattle.gs_lines.specs.Outputs.{Appends};
 ghost use Rattle.gs_lines.specs.Statuses.{OnCutShort, OnInputLong, OnReadFault, OnRefused, OnUsage, OnWriteFault, OnWritten};
 ghost use Rattle.gs_port.specs.Counts.{Rises};
-ghost use Rattle.gs_program.specs.Ran.{StaysOrRises};
 ghost use Rattle.gs_program.specs.Requests.{AsksForDoor, AsksForHeads, AsksForInput, NamesNoFile, NotInOrder, told_words};
 ghost use Rattle.gs_program.specs.Runs.{BeginsRun, DefinedRun, EndedRun, FinishedRun, InputFits, IsDoneOrMemory, IsRefused, LoadsAll, NoneRises, OpensAll, OpensNamed, ReadsToEnd, RunCause, ServesInput, TakesFew, WritesAfterFault, counts_of, world_of};
 ghost use Rattle.gs_program.specs.Works.{Leaves, PassesLimit};
@@ -98,10 +97,10 @@ pub fn run<F: Files, S: Source, K: Sink, D: Door>(
         (FinishedRun (told_words words.now)
         (world_of (F.files files.old) (S.left input.old)
         (D.aside door.old) (D.reads door.old) (D.writes door.old)))) }
-    ensures input_counts { StaysOrRises (S.faults input.old) (S.faults input.new) }
+    ensures input_counts { S.faults input.old ≤ S.faults input.new }
     ensures file_counts { F.faults files.old ≤ F.faults files.new }
-    ensures output_counts { StaysOrRises (K.faults output.old) (K.faults output.new) }
-    ensures door_counts { StaysOrRises (D.aside door.old).faults (D.aside door.new).faults }
+    ensures output_counts { K.faults output.old ≤ K.faults output.new }
+    ensures door_counts { (D.aside door.old).faults ≤ (D.aside door.new).faults }
 {
     match read_words(words) {
         Some(request) => run_request(alloc, request, files, input, output, door),

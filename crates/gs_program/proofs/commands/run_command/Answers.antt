@@ -1,6 +1,6 @@
 use Rattle.std.proofs.Common.{[], None, refl}
 use Rattle.gs_program.specs.Requests.{told_values}
-use Rattle.gs_program.proofs.RanLemmas.{none_more, ran_of_line, stays_or_counted}
+use Rattle.gs_program.proofs.RanLemmas.{none_more, ran_of_line}
 use Rattle.gs_program.proofs.GenLemmas.{gen_ran}
 use Rattle.gs_program.proofs.ServeLemmas.{serve_ran}
 use Rattle.gs_program.proofs.SiteLemmas.{resolve_ran}
@@ -21,7 +21,7 @@ pub returns-in-Resolve-clause-ran : goal.returns-in-Resolve-clause-ran
 returns-in-Resolve-clause-ran g c =
     let e = c.resolve.ensures in
     let w = e.written in
-    rw c.in-Resolve.is ([], none_more _, (w.0, w.1, resolve_ran c.args.loaded.now (told_values c.args.values) (record { waiting = None; reads = 0; writes = 0 }) 0 0 _ _ w.0 c.resolve.result (rw c.site_of.ensures at w.2) e.read_fault e.write_fault (stays_or_counted _ _ _ e.input_count) (stays_or_counted _ _ _ e.output_count)))
+    rw c.in-Resolve.is ([], none_more _, (w.0, w.1, resolve_ran c.args.loaded.now (told_values c.args.values) (record { waiting = None; reads = 0; writes = 0 }) 0 0 _ _ w.0 c.resolve.result (rw c.site_of.ensures at w.2) e.read_fault e.write_fault e.input_counts e.output_counts))
 
 pub returns-in-Serve-clause-ran : goal.returns-in-Serve-clause-ran
 returns-in-Serve-clause-ran g c =
