@@ -1,5 +1,6 @@
 ghost use Rattle.std.specs.Prelude.{◌≡◌, ◌≤◌, ◌<◌, ◌+◌, All, IfOk, [], length};
 ghost use Rattle.gs_grammar.specs.Items.{IsItem, size_of_all};
+ghost use Rattle.gs_grammar.specs.Limits.{most_symbols};
 ghost use Rattle.gs_level.specs.Guides.{HasLiteral, BeginAll, AreGroupsFrom, AreProbesOf};
 
 use crate::guides::{Group, Probe};
@@ -21,7 +22,7 @@ fn first_literal(items: &[Item]) -> &[u8]
 /// a single symbol, such as a filter value, tells no options of one encoding apart.
 fn probe_of(alloc: Global, items: &[Item]) -> Result<Probe, Memory>
     requires each { All IsItem items.now }
-    requires small { size_of_all items.now ≤ 512 }
+    requires small { size_of_all items.now ≤ most_symbols }
     ensures { IfOk result (λ probe. HasLiteral items.now probe.place probe.literal) }
 {
     let mut left = items;

@@ -6,7 +6,7 @@ use crate::finding::find;
 use crate::level::Level;
 use crate::reading::Reading;
 use gs_bits::BitBuf;
-use gs_grammar::unpack;
+use gs_grammar::{MOST_SYMBOLS, unpack};
 use std::alloc::Global;
 
 /// The reading of the symbols by the options.
@@ -38,7 +38,7 @@ pub fn read_bits<const N: usize>(alloc: Global, level: &Level, bits: &BitBuf<N>)
     requires { IsUnambiguous (item_lists level.now.options) }
     ensures { Reads (item_lists level.now.options) bits.now result }
 {
-    let mut symbols = [0; 512];
+    let mut symbols = [0; MOST_SYMBOLS];
     let count = unpack(bits, &mut symbols);
     read_symbols(alloc, level, &symbols[..count])
 }

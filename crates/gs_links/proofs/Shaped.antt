@@ -20,12 +20,13 @@ use Rattle.gs_ident.specs.Elements.{Elements, pairs_of}
 use Rattle.gs_ident.specs.Identities.{IsInOrder, IsMadeWith}
 use Rattle.gs_ident.specs.Links.{canonical_link, canonical_stem, escaped_byte, is_unescaped, path_step, percent_encoded}
 use Rattle.gs_ident.proofs.ValueEscapes.{IsByte}
+use Rattle.gs_chars.specs.Characters.{is_visible}
 use Rattle.gs_linkset.proofs.WrittenLemmas.{context_parts, relation_parts}
 use Rattle.gs_linkset.specs.LinkShapes.{is_context, is_relation, is_target}
 use Rattle.gs_linkset.specs.declared.link_types.Context.{Context}
 use Rattle.gs_linkset.specs.declared.link_types.Relation.{Relation}
 use Rattle.gs_linkset.specs.declared.link_types.Target.{Target}
-use Rattle.gs_links.specs.Loading.{anchor_answer, context_links, expanded, is_visible, link_with, relation_links}
+use Rattle.gs_links.specs.Loading.{anchor_answer, context_links, expanded, link_with, relation_links}
 use Rattle.gs_links.specs.Shapes.{is_link}
 use Rattle.gs_links.specs.declared.link.Link.{Link}
 use Rattle.gs_links.proofs.LoadLemmas.{links_are}

@@ -4,6 +4,7 @@ use Rattle.std.specs.Prelude.{◌≡◌, ◌⊎◌, ℕ, Bool, not, ◌&&◌, �
 use Rattle.std.specs.List.{enumerate_from, flat_map, list_all, starts_with}
 use Rattle.std.specs.Option.{option_map_or}
 use Rattle.gs_ai.specs.Tables.{is_empty}
+use Rattle.gs_chars.specs.Characters.{is_visible}
 use Rattle.gs_ai.specs.declared.pair.Pair.{Pair}
 use Rattle.gs_ai.specs.declared.row.AiRow.{AiRow}
 use Rattle.gs_dlink.specs.Answers.{link_answer, target_answer}
@@ -50,11 +51,7 @@ anchor_answer table text = by_pairs table (pairs_answer table text)
 
 -- ---- refusals
 
--- a reference is 1 to 2,048 bytes from 33 to 126
-abbrev pub is_visible : ℕ → Bool
-is_visible c = nat_le 33 c && nat_le c 126
-
--- a reference is 1 to 2,048 bytes from 33 to 126
+-- a reference is 1 to 2,048 visible characters
 unfoldable pub is_reference : List ℕ → Bool
 is_reference text = nat_le 1 (length text) && (nat_le (length text) 2048 && list_all is_visible text)
 

@@ -3,32 +3,26 @@ ghost use Rattle.gs_linkset.specs.LinkShapes.{is_context};
 ghost use Rattle.gs_links.specs.Shapes.{is_link};
 ghost use Rattle.std.specs.List.{flat_map, list_all};
 ghost use Rattle.gs_links.specs.Loading.{OrMemory, context_faults, context_links, expanded, first_or};
-ghost use Rattle.gs_links.specs.Loading.{is_reference, is_visible, link_with, relation_links, relations_faults};
+ghost use Rattle.gs_chars.specs.Characters.{is_visible};
+ghost use Rattle.gs_links.specs.Loading.{is_reference, link_with, relation_links, relations_faults};
 
 use crate::anchors::read_anchor;
 use crate::fault::StoreFault;
 use crate::link::Link;
 use gs_ai::AiTable;
-use gs_chars::{List, Memory, Text};
+use gs_chars::{CharSet, List, Memory, Text};
 use gs_ident::Identity;
 use gs_linkset::{Context, Relation, Target};
 use std::alloc::Global;
 
-/// Whether all bytes are from 33 to 126.
+/// Whether all bytes are visible characters.
 fn are_visible(text: &[u8]) -> bool
     ensures { result ≡ list_all is_visible text.now }
 {
-    text.iter().all(|c| is_visible(*c))
+    text.iter().all(|c| CharSet::Visible.holds(*c))
 }
 
-/// Whether a byte is from 33 to 126.
-fn is_visible(c: u8) -> bool
-    ensures { result ≡ is_visible c }
-{
-    33 <= c && c <= 126
-}
-
-/// Whether a text is 1 to 2,048 bytes from 33 to 126.
+/// Whether a text is 1 to 2,048 visible characters.
 #[tactic(auto, unfolding(crate::specs::Loading::is_reference))]
 fn is_reference(text: &[u8]) -> bool
     ensures { result ≡ is_reference text.now }

@@ -1,7 +1,8 @@
 -- Refusals of files, as they are printed.
-use Rattle.std.specs.Prelude.{ℕ, ◌&&◌, nat_le, if◌then◌else◌, List, [], ◌∷◌, ◌++◌, map, codes, decimal, Option}
+use Rattle.std.specs.Prelude.{ℕ, if◌then◌else◌, List, [], ◌∷◌, ◌++◌, map, codes, decimal, Option}
 use Rattle.gs_ai.specs.declared.faults.AiFault.{AiFault}
 use Rattle.gs_ai.specs.declared.faults.AiFault.TheVariants as ai
+use Rattle.gs_chars.specs.Characters.{is_visible}
 use Rattle.gs_document.specs.declared.fault.LimitName.{LimitName}
 use Rattle.gs_document.specs.declared.fault.LimitName.TheVariants.{Ais, Kinds, Options, Items, Size}
 use Rattle.gs_document.specs.declared.fault.LoadFault.{LoadFault}
@@ -43,9 +44,9 @@ file_limit kind.Prefixes = 4194304
 file_limit kind.Links = 16777216
 file_limit kind.Describe = 1048576
 
--- a place as it is printed: a question mark for each byte that is no visible character of ISO 646
+-- a byte as it is printed: a question mark where it is no visible character
 abbrev pub shown_byte : ℕ → ℕ
-shown_byte c = if nat_le 33 c && nat_le c 126 then c else 63
+shown_byte c = if is_visible c then c else 63
 
 -- a place as it is printed
 abbrev pub shown : List ℕ → List ℕ

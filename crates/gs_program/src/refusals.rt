@@ -5,7 +5,7 @@ use crate::link_refusals::append_store;
 use crate::numbered::{append_number, append_numbered, append_numbered_twice};
 use crate::refusal::{FileFault, Refusal};
 use gs_ai::AiFault;
-use gs_chars::Memory;
+use gs_chars::{CharSet, Memory};
 use gs_json::JsonFault;
 use gs_prefix::PrefixFault;
 use gs_tables::{LevelName, LimitName, LoadFault};
@@ -15,7 +15,11 @@ use std::alloc::Global;
 fn shown_byte(c: u8) -> u8
     ensures { result ≡ shown_byte c }
 {
-    if c >= 33 && c <= 126 { c } else { b'?' }
+    if CharSet::Visible.holds(c) {
+        c
+    } else {
+        b'?'
+    }
 }
 
 /// Appends a place as it is printed.
