@@ -7,11 +7,13 @@
 
 ghost use Rattle.std.specs.Prelude.{◌≡◌, false, true, is_some};
 
-use crate::outside::{read_word, write_word};
+use crate::outside::{add_answer, read_word, write_word};
 use gs_chars::Text;
-use gs_port::{AcceptAnswer, Conn, Door, MemDoor, OpenAnswer, Pair, ReadAnswer};
+use gs_port::{
+    AcceptAnswer, Conn, Door, MemDoor, MemSink, MemSource, OpenAnswer, Pair, ReadAnswer,
+};
 use std::alloc::Global;
-use vector_cases::{Answer, Refusal, add, door_of, section, shown, sink_of, source_of};
+use vector_cases::{Answer, Refusal, add_shown, door_of, section, sink_of, source_of};
 
 /// The answer to a call of gs_port over connections.
 pub fn answer(alloc: Global, call: &str, args: &[Text]) -> Answer {
@@ -33,7 +35,7 @@ fn turn<C: Conn>(alloc: Global, conn: &mut C) -> Answer
     let mut answer = read_word(alloc, moved, &block)?;
     if let ReadAnswer::Got(n) = moved {
         let taken = conn.write(&block[..n]);
-        add(&mut answer, write_word(alloc, taken)?.as_str())?;
+        add_answer(&mut answer, write_word(alloc, taken))?;
     }
     Ok(answer)
 }
@@ -45,17 +47,28 @@ fn turns<C: Conn>(alloc: Global, conn: &mut C) -> Answer
     ensures aside { C.aside conn.new ≡ C.aside conn.old }
 {
     let mut answer = turn(alloc, conn)?;
-    add(&mut answer, turn(alloc, conn)?.as_str())?;
-    add(&mut answer, turn(alloc, conn)?.as_str())?;
+    add_answer(&mut answer, turn(alloc, conn))?;
+    add_answer(&mut answer, turn(alloc, conn))?;
+    Ok(answer)
+}
+
+/// What three turns over a source and a sink answer.
+fn paired(alloc: Global, source: &mut MemSource, sink: &mut MemSink) -> Answer {
+    turns(alloc, &mut Pair::new(source, sink))
+}
+
+/// What three turns over a source and a sink answer, then what the sink holds.
+fn pair_words(alloc: Global, source: &mut MemSource, sink: &mut MemSink) -> Answer {
+    let mut answer = paired(alloc, source, sink)?;
+    add_shown(alloc, &mut answer, sink.bytes())?;
     Ok(answer)
 }
 
 fn pair(alloc: Global, args: &[Text]) -> Answer {
+    let to = section(args, 1)?;
     let mut source = source_of(alloc, section(args, 0)?)?;
-    let mut sink = sink_of(alloc, section(args, 1)?)?;
-    let mut answer = turns(alloc, &mut Pair::new(&mut source, &mut sink))?;
-    add(&mut answer, shown(alloc, sink.bytes())?.as_str())?;
-    Ok(answer)
+    let mut sink = sink_of(alloc, to)?;
+    pair_words(alloc, &mut source, &mut sink)
 }
 
 /// What an accept answers, or the turns of the connection, which is finished then.
@@ -82,29 +95,48 @@ fn visits(alloc: Global, door: &mut MemDoor) -> Answer
     requires listening { door.old.opened ≡ true }
 {
     let mut answer = visit(alloc, door)?;
-    add(&mut answer, visit(alloc, door)?.as_str())?;
-    add(&mut answer, visit(alloc, door)?.as_str())?;
+    add_answer(&mut answer, visit(alloc, door))?;
+    add_answer(&mut answer, visit(alloc, door))?;
     Ok(answer)
+}
+
+/// Appends what each finished connection was written.
+fn add_written(alloc: Global, answer: &mut String, door: &MemDoor) -> Result<(), Refusal> {
+    for i in 0..door.finished() {
+        add_shown(alloc, answer, door.written(i))?;
+    }
+    Ok(())
 }
 
 /// The number of finished connections, and what each was written.
 pub fn finished(alloc: Global, door: &MemDoor) -> Answer {
     let mut answer = format!(in alloc; "{}", door.finished())?;
-    for i in 0..door.finished() {
-        add(&mut answer, shown(alloc, door.written(i))?.as_str())?;
-    }
+    add_written(alloc, &mut answer, door)?;
     Ok(answer)
+}
+
+/// What three visits at an open door answer, and what became of it.
+fn visits_told(alloc: Global, door: &mut MemDoor) -> Answer
+    requires none_open { is_some door.old.current ≡ false }
+    requires listening { door.old.opened ≡ true }
+{
+    let mut answer = visits(alloc, door)?;
+    add_answer(&mut answer, finished(alloc, door))?;
+    Ok(answer)
+}
+
+/// What an open answers, or what the visits do behind it.
+fn open_word(alloc: Global, door: &mut MemDoor) -> Answer
+    requires { is_some door.old.current ≡ false }
+{
+    match door.open("memory") {
+        OpenAnswer::Opened => visits_told(alloc, door),
+        OpenAnswer::Failed => Ok(String::from_str(alloc, "Failed")?),
+        OpenAnswer::Memory => Err(Refusal::Memory),
+    }
 }
 
 fn door(alloc: Global, args: &[Text]) -> Answer {
     let mut door = door_of(alloc, args)?;
-    match door.open("memory") {
-        OpenAnswer::Opened => {
-            let mut answer = visits(alloc, &mut door)?;
-            add(&mut answer, finished(alloc, &door)?.as_str())?;
-            Ok(answer)
-        }
-        OpenAnswer::Failed => Ok(String::from_str(alloc, "Failed")?),
-        OpenAnswer::Memory => Err(Refusal::Memory),
-    }
+    open_word(alloc, &mut door)
 }

@@ -5,6 +5,7 @@
 mod connections;
 mod lines;
 mod outside;
+mod run_objects;
 mod runs;
 
 use gs_chars::Text;

@@ -6,6 +6,8 @@
 //! - `open FAILS NAME BYTES .. / NAME..`: what an open of each name answers, and what a read of 4 bytes moves then.
 //! - `read_file FAILS NAME BYTES .. / NAME MAX ..`: what reading each file whole answers.
 
+ghost use Rattle.std.specs.Prelude.{◌<◌};
+
 use crate::connections;
 use gs_chars::Text;
 use gs_port::{
@@ -14,8 +16,8 @@ use gs_port::{
 };
 use std::alloc::Global;
 use vector_cases::{
-    Answer, Refusal, add, arg, behind, cut_of, files_of, number, numbers_of, section, shown,
-    sink_of, text_of,
+    Answer, Refusal, add, add_shown, arg, behind, cut_of, files_of, number, numbers_of, section,
+    shown, sink_of, text_of,
 };
 
 /// The answer to a call of gs_port.
@@ -30,6 +32,11 @@ pub fn answer(alloc: Global, call: &str, args: &[Text]) -> Answer {
     }
 }
 
+/// Appends an answer, behind a space where it is not the first.
+pub fn add_answer(answer: &mut String, more: Answer) -> Result<(), Refusal> {
+    Ok(add(answer, more?.as_str())?)
+}
+
 /// What a read answers: the bytes that it moved to the front of the block, or that it failed.
 pub fn read_word(alloc: Global, moved: ReadAnswer, block: &[u8]) -> Answer {
     match moved {
@@ -38,22 +45,30 @@ pub fn read_word(alloc: Global, moved: ReadAnswer, block: &[u8]) -> Answer {
     }
 }
 
-fn read(alloc: Global, args: &[Text]) -> Answer {
-    let bytes = arg(args, 0)?.to_vec(alloc)?;
-    let fails = numbers_of(alloc, arg(args, 2)?)?;
-    let mut source = MemSource::new(alloc, bytes, cut_of(args, 1)?, fails);
-    let size = cut_of(args, 3)?.min(16);
+/// What reads of so many bytes move or answer, up to the end.
+fn reads(alloc: Global, source: &mut MemSource, size: usize) -> Answer
+    requires { 0 < size }
+{
     let mut answer = String::new(alloc);
     for _ in 0..1000 {
         let mut block = [0; 16];
-        let moved = source.read(&mut block[..size]);
+        let moved = source.read(&mut block[..size.min(16)]);
         if moved == ReadAnswer::Got(0) {
             break;
         }
-        add(&mut answer, read_word(alloc, moved, &block)?.as_str())?;
+        add_answer(&mut answer, read_word(alloc, moved, &block))?;
     }
     add(&mut answer, "end")?;
     Ok(answer)
+}
+
+fn read(alloc: Global, args: &[Text]) -> Answer {
+    let size = cut_of(args, 3)?;
+    let cut = cut_of(args, 1)?;
+    let fails = numbers_of(alloc, arg(args, 2)?)?;
+    let bytes = arg(args, 0)?.to_vec(alloc)?;
+    let mut source = MemSource::new(alloc, bytes, cut, fails);
+    reads(alloc, &mut source, size)
 }
 
 /// What a write answers: the number of bytes that it took, or that it failed.
@@ -65,26 +80,41 @@ pub fn write_word(alloc: Global, taken: WriteAnswer) -> Answer {
     }
 }
 
+/// What a write of each piece answers, then what the sink holds.
+fn writes(alloc: Global, sink: &mut MemSink, pieces: &[Text]) -> Answer {
+    let mut answer = String::new(alloc);
+    for piece in pieces {
+        let taken = sink.write(piece.as_bytes());
+        add_answer(&mut answer, write_word(alloc, taken))?;
+    }
+    add_shown(alloc, &mut answer, sink.bytes())?;
+    Ok(answer)
+}
+
 fn write(alloc: Global, args: &[Text]) -> Answer {
     let mut sink = sink_of(alloc, args)?;
+    writes(alloc, &mut sink, behind(args, 2))
+}
+
+/// What a piece that is written whole answers.
+fn whole_word(alloc: Global, sink: &mut MemSink, piece: &[u8]) -> Answer {
+    let whole = write_whole(sink, piece);
+    Ok(format!(in alloc; "{whole:?}")?)
+}
+
+/// What each piece that is written whole answers, then what the sink holds.
+fn whole_writes(alloc: Global, sink: &mut MemSink, pieces: &[Text]) -> Answer {
     let mut answer = String::new(alloc);
-    for piece in behind(args, 2) {
-        let taken = sink.write(piece.as_bytes());
-        add(&mut answer, write_word(alloc, taken)?.as_str())?;
+    for piece in pieces {
+        add_answer(&mut answer, whole_word(alloc, sink, piece.as_bytes()))?;
     }
-    add(&mut answer, shown(alloc, sink.bytes())?.as_str())?;
+    add_shown(alloc, &mut answer, sink.bytes())?;
     Ok(answer)
 }
 
 fn written_whole(alloc: Global, args: &[Text]) -> Answer {
     let mut sink = sink_of(alloc, args)?;
-    let mut answer = String::new(alloc);
-    for piece in behind(args, 2) {
-        let whole = write_whole(&mut sink, piece.as_bytes());
-        add(&mut answer, format!(in alloc; "{whole:?}")?.as_str())?;
-    }
-    add(&mut answer, shown(alloc, sink.bytes())?.as_str())?;
-    Ok(answer)
+    whole_writes(alloc, &mut sink, behind(args, 2))
 }
 
 /// What an open answers, and what a read moves then.
@@ -101,18 +131,26 @@ fn opened(alloc: Global, files: &mut MemFiles, name: &str) -> Answer {
     }
 }
 
-fn open(alloc: Global, args: &[Text]) -> Answer {
-    let mut files = files_of(alloc, section(args, 0)?)?;
+/// What opens of these names answer.
+fn opens(alloc: Global, files: &mut MemFiles, names: &[Text]) -> Answer {
     let mut answer = String::new(alloc);
-    for name in section(args, 1)? {
-        let words = opened(alloc, &mut files, text_of(name.as_bytes())?)?;
-        add(&mut answer, words.as_str())?;
+    for name in names {
+        let name = text_of(name.as_bytes())?;
+        add_answer(&mut answer, opened(alloc, files, name))?;
     }
     Ok(answer)
 }
 
-/// What reading a file answers.
-fn file_read(alloc: Global, files: &mut MemFiles, name: &str, max: u64) -> Answer {
+fn open(alloc: Global, args: &[Text]) -> Answer {
+    let names = section(args, 1)?;
+    let mut files = files_of(alloc, section(args, 0)?)?;
+    opens(alloc, &mut files, names)
+}
+
+/// What reading a file, whose name and most bytes are told, answers.
+fn file_read(alloc: Global, files: &mut MemFiles, told: &[Text]) -> Answer {
+    let name = text_of(arg(told, 0)?)?;
+    let max = number(told, 1)?;
     if max > 16_777_216 {
         return Err(Refusal::NoCase);
     }
@@ -135,13 +173,17 @@ fn behind_word(alloc: Global, word: &str, bytes: &[u8]) -> Answer {
     Ok(format!(in alloc; "{word} {bytes}")?)
 }
 
-fn files_read(alloc: Global, args: &[Text]) -> Answer {
-    let mut files = files_of(alloc, section(args, 0)?)?;
+/// What reading these files answers.
+fn file_reads(alloc: Global, files: &mut MemFiles, told: &[Text]) -> Answer {
     let mut answer = String::new(alloc);
-    for read in section(args, 1)?.chunks(2) {
-        let name = text_of(arg(read, 0)?)?;
-        let words = file_read(alloc, &mut files, name, number(read, 1)?)?;
-        add(&mut answer, words.as_str())?;
+    for one in told.chunks(2) {
+        add_answer(&mut answer, file_read(alloc, files, one))?;
     }
     Ok(answer)
+}
+
+fn files_read(alloc: Global, args: &[Text]) -> Answer {
+    let told = section(args, 1)?;
+    let mut files = files_of(alloc, section(args, 0)?)?;
+    file_reads(alloc, &mut files, told)
 }

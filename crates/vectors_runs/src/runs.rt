@@ -10,14 +10,13 @@
 ghost use Rattle.std.specs.Prelude.{◌≡◌, IfOk, false, is_some};
 
 use crate::connections::finished;
+use crate::outside::add_answer;
+use crate::run_objects::{RunObjects, no_door, objects_of, objects_over};
 use gs_chars::Text;
-use gs_port::{MemDoor, MemFiles, MemSink, MemSource, ReadAnswer, Source};
-use gs_program::{Status, run};
+use gs_port::{MemSink, MemSource, ReadAnswer, Source};
+use gs_program::Status;
 use std::alloc::Global;
-use vector_cases::{
-    Answer, Refusal, add, arg, cut_of, door_of, files_of, number, section, shown, sink_of,
-    source_of, text_of,
-};
+use vector_cases::{Answer, Refusal, add_shown, arg, cut_of, number, section, text_of};
 
 /// The answer to a call of gs_program.
 pub fn answer(alloc: Global, call: &str, args: &[Text]) -> Answer {
@@ -54,65 +53,34 @@ fn left_of(alloc: Global, input: &mut MemSource) -> Result<Vec<u8>, Refusal> {
     Ok(left)
 }
 
-/// How a run ends. Apart from what becomes of it, since a run promises much.
-fn status_of(
-    alloc: Global,
-    words: &[String],
-    files: &mut MemFiles,
-    input: &mut MemSource,
-    output: &mut MemSink,
-    door: &mut MemDoor,
-) -> Status
-    requires { is_some door.old.current ≡ false }
-{
-    run(alloc, words, files, input, output, door)
+/// Appends what is left of an input.
+fn add_left(alloc: Global, answer: &mut String, input: &mut MemSource) -> Result<(), Refusal> {
+    let left = left_of(alloc, input)?;
+    Ok(add_shown(alloc, answer, left.as_slice())?)
 }
 
 /// The status, what an output holds, and what is left of an input.
 pub fn outcome(alloc: Global, status: Status, input: &mut MemSource, output: &MemSink) -> Answer {
     let mut answer = format!(in alloc; "{status:?}")?;
-    add(&mut answer, shown(alloc, output.bytes())?.as_str())?;
-    let left = left_of(alloc, input)?;
-    add(&mut answer, shown(alloc, left.as_slice())?.as_str())?;
+    add_shown(alloc, &mut answer, output.bytes())?;
+    add_left(alloc, &mut answer, input)?;
     Ok(answer)
 }
 
-/// A door at which no connection waits.
-fn no_door(alloc: Global) -> Result<MemDoor, Refusal>
-    ensures { IfOk result (λ door. is_some door.current ≡ false) }
-{
-    Ok(MemDoor::new(alloc, Vec::new(alloc), 1, Vec::new(alloc))?)
-}
-
-/// The door of a run, at which no connection waits where none is told.
-fn door_behind(alloc: Global, args: &[Text]) -> Result<MemDoor, Refusal>
-    ensures { IfOk result (λ door. is_some door.current ≡ false) }
-{
-    match section(args, 4) {
-        Ok(words) => door_of(alloc, words),
-        Err(_) => no_door(alloc),
+/// What became of a run: its outcome and, where a door is told, its finished connections.
+fn told(alloc: Global, args: &[Text], status: Status, objects: &mut RunObjects) -> Answer {
+    let mut answer = outcome(alloc, status, &mut objects.input, &objects.output)?;
+    if section(args, 4).is_ok() {
+        add_answer(&mut answer, finished(alloc, &objects.door))?;
     }
+    Ok(answer)
 }
 
 fn ran(alloc: Global, args: &[Text]) -> Answer {
     let words = strings_of(alloc, section(args, 0)?)?;
-    let mut files = files_of(alloc, section(args, 1)?)?;
-    let mut input = source_of(alloc, section(args, 2)?)?;
-    let mut output = sink_of(alloc, section(args, 3)?)?;
-    let mut door = door_behind(alloc, args)?;
-    let status = status_of(
-        alloc,
-        &words,
-        &mut files,
-        &mut input,
-        &mut output,
-        &mut door,
-    );
-    let mut answer = outcome(alloc, status, &mut input, &output)?;
-    if section(args, 4).is_ok() {
-        add(&mut answer, finished(alloc, &door)?.as_str())?;
-    }
-    Ok(answer)
+    let mut objects = objects_of(alloc, args)?;
+    let status = objects.run(alloc, &words);
+    told(alloc, args, status, &mut objects)
 }
 
 /// So many copies of a line, each with a line feed.
@@ -141,25 +109,30 @@ fn counted(alloc: Global, status: Status, output: &[u8]) -> Answer {
     let first = output.split(|c| *c == b'\n').next().unwrap_or_default();
     let count = lines_equal(output, first);
     let mut answer = format!(in alloc; "{status:?} {} {count}", output.len())?;
-    add(&mut answer, shown(alloc, first)?.as_str())?;
+    add_shown(alloc, &mut answer, first)?;
     Ok(answer)
+}
+
+/// The input of copies of a line.
+fn input_of_copies(alloc: Global, args: &[Text]) -> Result<MemSource, Refusal> {
+    let lines = section(args, 2)?;
+    let cut = cut_of(lines, 0)?;
+    let bytes = copies(alloc, arg(lines, 1)?, number(lines, 2)?)?;
+    Ok(MemSource::new(alloc, bytes, cut, Vec::new(alloc)))
+}
+
+/// The objects of a run over copies of a line.
+fn objects_of_copies(alloc: Global, args: &[Text]) -> Result<RunObjects, Refusal>
+    ensures { IfOk result (λ objects. is_some objects.door.current ≡ false) }
+{
+    let input = input_of_copies(alloc, args)?;
+    let door = no_door(alloc)?;
+    objects_over(alloc, args, input, door)
 }
 
 fn repeated(alloc: Global, args: &[Text]) -> Answer {
     let words = strings_of(alloc, section(args, 0)?)?;
-    let mut files = files_of(alloc, section(args, 1)?)?;
-    let lines = section(args, 2)?;
-    let bytes = copies(alloc, arg(lines, 1)?, number(lines, 2)?)?;
-    let mut input = MemSource::new(alloc, bytes, cut_of(lines, 0)?, Vec::new(alloc));
-    let mut output = sink_of(alloc, section(args, 3)?)?;
-    let mut door = no_door(alloc)?;
-    let status = status_of(
-        alloc,
-        &words,
-        &mut files,
-        &mut input,
-        &mut output,
-        &mut door,
-    );
-    counted(alloc, status, output.bytes())
+    let mut objects = objects_of_copies(alloc, args)?;
+    let status = objects.run(alloc, &words);
+    counted(alloc, status, objects.output.bytes())
 }

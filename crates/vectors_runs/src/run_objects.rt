@@ -1,0 +1,103 @@
+//! The objects in memory that a whole run is over.
+
+ghost use Rattle.std.specs.Prelude.{◌≡◌, IfOk, false, is_some};
+
+use gs_chars::Text;
+use gs_port::{MemDoor, MemFiles, MemSink, MemSource};
+use gs_program::{Status, run};
+use std::alloc::Global;
+use vector_cases::{Refusal, door_of, files_of, section, sink_of, source_of};
+
+/// What a run is over.
+pub struct RunObjects {
+    pub files: MemFiles,
+    pub input: MemSource,
+    pub output: MemSink,
+    pub door: MemDoor,
+}
+
+// by hand, so that a function that drops the objects calls this one: a derived drop is written out at each of its exits
+impl Drop for RunObjects {
+    fn drop(self) {
+        let RunObjects {
+            files: _,
+            input: _,
+            output: _,
+            door: _,
+        } = self;
+    }
+}
+
+impl RunObjects {
+    /// How a run with these words ends. Apart from what becomes of it, since a run promises much.
+    pub fn run(&mut self, alloc: Global, words: &[String]) -> Status
+        requires { is_some self.old.door.current ≡ false }
+    {
+        run(
+            alloc,
+            words,
+            &mut self.files,
+            &mut self.input,
+            &mut self.output,
+            &mut self.door,
+        )
+    }
+}
+
+/// A door at which no connection waits.
+pub fn no_door(alloc: Global) -> Result<MemDoor, Refusal>
+    ensures { IfOk result (λ door. is_some door.current ≡ false) }
+{
+    Ok(MemDoor::new(alloc, Vec::new(alloc), 1, Vec::new(alloc))?)
+}
+
+/// The door of a run, at which no connection waits where none is told.
+fn door_behind(alloc: Global, args: &[Text]) -> Result<MemDoor, Refusal>
+    ensures { IfOk result (λ door. is_some door.current ≡ false) }
+{
+    match section(args, 4) {
+        Ok(words) => door_of(alloc, words),
+        Err(_) => no_door(alloc),
+    }
+}
+
+fn files_at(alloc: Global, args: &[Text]) -> Result<MemFiles, Refusal> {
+    files_of(alloc, section(args, 1)?)
+}
+
+fn input_at(alloc: Global, args: &[Text]) -> Result<MemSource, Refusal> {
+    source_of(alloc, section(args, 2)?)
+}
+
+fn output_at(alloc: Global, args: &[Text]) -> Result<MemSink, Refusal> {
+    sink_of(alloc, section(args, 3)?)
+}
+
+/// The objects of a run over this input and at this door.
+pub fn objects_over(
+    alloc: Global,
+    args: &[Text],
+    input: MemSource,
+    door: MemDoor,
+) -> Result<RunObjects, Refusal>
+    requires { is_some door.current ≡ false }
+    ensures { IfOk result (λ objects. is_some objects.door.current ≡ false) }
+{
+    let output = output_at(alloc, args)?;
+    let files = files_at(alloc, args)?;
+    Ok(RunObjects {
+        files,
+        input,
+        output,
+        door,
+    })
+}
+
+/// The objects of a run.
+pub fn objects_of(alloc: Global, args: &[Text]) -> Result<RunObjects, Refusal>
+    ensures { IfOk result (λ objects. is_some objects.door.current ≡ false) }
+{
+    let input = input_at(alloc, args)?;
+    let door = door_behind(alloc, args)?;
+    objects_over(alloc, args, input, door)
+}
