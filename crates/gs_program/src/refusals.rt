@@ -15,11 +15,7 @@ use std::alloc::Global;
 fn shown_byte(c: u8) -> u8
     ensures { result ≡ shown_byte c }
 {
-    if CharSet::Visible.holds(c) {
-        c
-    } else {
-        b'?'
-    }
+    if CharSet::Visible.holds(c) { c } else { b'?' }
 }
 
 /// Appends a place as it is printed.
