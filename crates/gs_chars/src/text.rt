@@ -1,18 +1,26 @@
-ghost use Rattle.std.specs.Prelude.{◌≡◌, IfOk};
+ghost use Rattle.std.specs.Prelude.{◌≡◌, ◌++◌, ◌∷◌, [], IfOk};
 ghost use Rattle.std.specs.Prelude.{Some, bytes_eq, refl};
 ghost use Rattle.std.specs.Cmp.{partial_equiv_from_equiv};
 ghost use Rattle.std.specs.Cmp.Lexicographic.{slice_cmp, nat_list_eq_equiv, nat_list_cmp_total, texts_ties, texts_po};
 ghost use Rattle.std.specs.Ordering.{nat_cmp};
 
 use crate::memory::Memory;
+use smallvec::SmallVec;
 use std::alloc::Global;
 use std::cmp::Ordering;
 use std::marker::Model;
 
-/// A list of bytes, of whatever characters. Two texts are ordered by their bytes.
-#[derive(Debug, Drop)]
+/// A list of bytes, of whatever characters. Two texts are ordered by their bytes. At most 24 bytes take no memory.
+#[derive(Debug)]
 pub struct Text {
-    bytes: Vec<u8>,
+    bytes: SmallVec<u8, 24>,
+}
+
+// by hand, so that a function that drops one calls this one: a derived drop is written out at each of its exits
+impl Drop for Text {
+    fn drop(self) {
+        let Text { bytes: _ } = self;
+    }
 }
 
 impl Model for Text {
@@ -24,11 +32,20 @@ impl Model for Text {
 }
 
 impl Text {
+    /// The text without bytes. It takes no memory.
+    pub fn new(alloc: Global) -> Text
+        ensures { result ≡ [] }
+    {
+        Text {
+            bytes: SmallVec::new(alloc),
+        }
+    }
+
     /// A copy of the bytes. The one refusal is want of memory.
     pub fn from_bytes(alloc: Global, bytes: &[u8]) -> Result<Text, Memory>
         ensures { IfOk result (λ text. text ≡ bytes.now) }
     {
-        let bytes = Vec::from_slice(alloc, bytes)?;
+        let bytes = SmallVec::from_slice(alloc, bytes)?;
         Ok(Text { bytes })
     }
 
@@ -36,7 +53,23 @@ impl Text {
     pub fn from_vec(bytes: Vec<u8>) -> Text
         ensures { result ≡ bytes.items }
     {
-        Text { bytes }
+        Text {
+            bytes: SmallVec::from_vec(bytes),
+        }
+    }
+
+    /// Appends the byte. The one refusal is want of memory.
+    pub fn push(&mut self, byte: u8) -> Result<(), Memory>
+        ensures { IfOk result (λ _. self.new ≡ self.old ++ byte ∷ []) }
+    {
+        Ok(self.bytes.push(byte)?)
+    }
+
+    /// Appends the bytes. The one refusal is want of memory.
+    pub fn extend_from_slice(&mut self, bytes: &[u8]) -> Result<(), Memory>
+        ensures { IfOk result (λ _. self.new ≡ self.old ++ bytes.now) }
+    {
+        Ok(self.bytes.extend_from_slice(bytes)?)
     }
 
     /// A text of the same bytes. The one refusal is want of memory.

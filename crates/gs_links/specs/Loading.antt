@@ -15,6 +15,7 @@ use Rattle.gs_ident.specs.declared.faults.IdentFault.{IdentFault}
 use Rattle.gs_linkset.specs.declared.link_types.Context.{Context}
 use Rattle.gs_linkset.specs.declared.link_types.Relation.{Relation}
 use Rattle.gs_linkset.specs.declared.link_types.Target.{Target}
+use Rattle.gs_links.specs.Shapes.{most_links}
 use Rattle.gs_links.specs.declared.fault.AnchorWhy.{AnchorWhy}
 use Rattle.gs_links.specs.declared.fault.AnchorWhy.TheVariants.{Link as NoLink, Ident, Attributes}
 use Rattle.gs_links.specs.declared.fault.StoreFault.{StoreFault}
@@ -86,7 +87,7 @@ targets_count contexts = length (flat_map (λ context. flat_map (λ relation. re
 
 -- too many targets are a fault
 abbrev pub count_faults : List Context → List StoreFault
-count_faults contexts = if nat_lt 65536 (targets_count contexts) then TooMany ∷ [] else []
+count_faults contexts = if nat_lt most_links (targets_count contexts) then TooMany ∷ [] else []
 
 -- all refusals in the order of the reports
 unfoldable pub store_faults : List AiRow → List Context → List StoreFault

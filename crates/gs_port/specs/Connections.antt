@@ -37,6 +37,11 @@ SameOpened before now = now.opened ≡ before.opened
 abbrev pub no_aside : Aside
 no_aside = record { faults = 0; opened = false; waiting = None; finished = None; reads_then = 0; writes_then = 0 }
 
+-- of a door that tells of no connection
+abbrev pub untold_aside : ℕ → Bool → ℕ → ℕ → Aside
+untold_aside faults opened reads_then writes_then =
+    record { faults = faults; opened = opened; waiting = None; finished = None; reads_then = reads_then; writes_then = writes_then }
+
 -- the input of the first waiting connection, where it is told and one waits
 abbrev pub first_input : Option (List (List ℕ)) → Option (List ℕ)
 first_input None = None

@@ -1,5 +1,5 @@
 -- What a door in memory tells.
-use Rattle.std.specs.Prelude.{ℕ, false, List, [], Option, Some, None, Vec, map, option_map, slice_index_or}
+use Rattle.std.specs.Prelude.{ℕ, ◌+◌, ◌≤◌, false, List, [], Option, Some, None, Vec, length, map, option_map, slice_index_or, vec_capacity}
 use Rattle.std.specs.declared.alloc.Global.{Global}
 use Rattle.gs_port.specs.Connections.{Aside, Finished, after_accept, after_finish_of}
 use Rattle.gs_port.specs.Memory.{MemConnection, MemGate, uncalled}
@@ -17,6 +17,15 @@ shut_gate inputs most fails = record { opened = false; waiting = inputs; current
 abbrev pub number_open : Option MemConnection → ℕ
 number_open None = 0
 number_open (Some stream) = 1
+
+-- a finished connection: what was read of this one and written to it, and how far the counts rose
+abbrev pub ended_with : MemConnection → ℕ → ℕ → Finished
+ended_with stream reads writes =
+    record { read = Some stream.taken; written = Some stream.kept; reads = reads; writes = writes }
+
+-- a list of so many places has room for the connections that are finished, that are open and that wait
+abbrev pub HasRoom : {A B : Type 0} → List A → Option MemConnection → List B → ℕ → Type 0
+HasRoom finished current waiting places = length finished + number_open current + length waiting ≤ places
 
 -- what is left of the open connection
 abbrev pub left_of : MemGate → Option (List ℕ)

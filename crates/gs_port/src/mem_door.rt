@@ -29,12 +29,12 @@ struct Ended {
 }
 
 impl Model for Ended {
-    ghost use Rattle.std.specs.Prelude.{Some};
     ghost use Rattle.gs_port.specs.Connections.{Finished};
+    ghost use Rattle.gs_port.specs.Gate.{ended_with};
 
     ghost Value = { Finished };
 
-    ghost view = { λ a. record { read = Some a.stream.taken; written = Some a.stream.kept; reads = a.reads; writes = a.writes } };
+    ghost view = { λ a. ended_with a.stream a.reads a.writes };
 }
 
 /// A door in memory, with one connection for each input, which moves at most so many bytes at a time, and fails at the calls
@@ -56,15 +56,27 @@ pub struct MemDoor {
 }
 
 impl Model for MemDoor {
-    ghost use Rattle.std.specs.Prelude.{◌<◌, ◌≤◌, ◌+◌, length, map, vec_capacity};
-    ghost use Rattle.gs_port.specs.Gate.{number_open};
+    ghost use Rattle.std.specs.Prelude.{◌<◌, vec_capacity};
+    ghost use Rattle.gs_port.specs.Gate.{HasRoom, told_inputs};
     ghost use Rattle.gs_port.specs.Memory.{MemGate};
 
     ghost Value = { MemGate };
 
-    ghost view = { λ a. record { opened = a.opened; waiting = map (λ input. input.items) a.waiting.items; current = a.current; finished = a.finished.items; most = a.cut; plan = a.plan; faults = a.faults; reads = a.reads; writes = a.writes; reads_then = a.reads_then; writes_then = a.writes_then } };
+    ghost view = { λ a. record {
+      opened = a.opened;
+      waiting = told_inputs a.waiting.items;
+      current = a.current;
+      finished = a.finished.items;
+      most = a.cut;
+      plan = a.plan;
+      faults = a.faults;
+      reads = a.reads;
+      writes = a.writes;
+      reads_then = a.reads_then;
+      writes_then = a.writes_then;
+    } };
 
-    ghost invariant = { λ a. (0 < a.cut) × (length a.finished.items + number_open a.current + length a.waiting.items ≤ vec_capacity a.finished) };
+    ghost invariant = { λ a. (0 < a.cut) × HasRoom a.finished.items a.current a.waiting.items (vec_capacity a.finished) };
 }
 
 impl MemDoor {

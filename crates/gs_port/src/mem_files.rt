@@ -37,7 +37,13 @@ impl Model for MemFiles {
 
     ghost Value = { MemFolder };
 
-    ghost view = { λ a. record { files = told_files a.files.items; current = rest_of (told_files a.files.items) a.current; plan = a.plan; count = a.faults; opened = a.opened } };
+    ghost view = { λ a. record {
+      files = told_files a.files.items;
+      current = rest_of (told_files a.files.items) a.current;
+      plan = a.plan;
+      count = a.faults;
+      opened = a.opened;
+    } };
 
     ghost invariant = { λ a. IsWithin (told_files a.files.items) a.current };
 }

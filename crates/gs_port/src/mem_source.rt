@@ -25,7 +25,12 @@ impl Model for MemSource {
 
     ghost Value = { MemInput };
 
-    ghost view = { λ a. record { rest = drop a.at a.bytes.items; most = a.cut; plan = a.plan; count = a.faults } };
+    ghost view = { λ a. record {
+      rest = drop a.at a.bytes.items;
+      most = a.cut;
+      plan = a.plan;
+      count = a.faults;
+    } };
 
     ghost invariant = { λ a. (0 < a.cut) × (a.at ≤ vec_len a.bytes) };
 }

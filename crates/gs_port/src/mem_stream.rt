@@ -18,7 +18,11 @@ impl Model for MemStream {
 
     ghost Value = { MemConnection };
 
-    ghost view = { λ a. record { rest = drop a.at a.input.items; taken = take a.at a.input.items; kept = a.output.items } };
+    ghost view = { λ a. record {
+      rest = drop a.at a.input.items;
+      taken = take a.at a.input.items;
+      kept = a.output.items;
+    } };
 
     ghost invariant = { λ a. a.at ≤ vec_len a.input };
 }

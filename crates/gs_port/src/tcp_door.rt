@@ -1,6 +1,6 @@
 ghost use Rattle.std.specs.Prelude.{◌≡◌, false, IfErr, None, is_some};
 ghost use Rattle.std.specs.IoError.{error_kind};
-ghost use Rattle.gs_port.specs.Connections.{no_aside};
+ghost use Rattle.gs_port.specs.Connections.{no_aside, untold_aside};
 ghost use Rattle.gs_port.specs.System.{IsTriedAgain};
 
 use crate::conn::Conn;
@@ -96,7 +96,7 @@ impl Conn for TcpDoor {
 
     ghost writes = { λ s. s.writes };
 
-    ghost aside = { λ s. record { faults = s.faults; opened = is_some s.listener; waiting = None; finished = None; reads_then = s.reads_then; writes_then = s.writes_then } };
+    ghost aside = { λ s. untold_aside s.faults (is_some s.listener) s.reads_then s.writes_then };
 
     fn read(&mut self, buf: &mut [u8]) -> ReadAnswer {
         let Some(stream) = &mut self.current else {

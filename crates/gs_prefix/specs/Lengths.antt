@@ -1,10 +1,15 @@
 -- The length of a company prefix by the first digits of a key: GS1 General Specifications, section 1.4.4. That the longest
 -- entry decides is this project's own rule, after GS1's list of company prefix lengths.
-use Rattle.std.specs.Prelude.{ℕ, Bool, ◌==◌, ◌&&◌, nat_le, if◌then◌else◌, List, [], ◌∷◌, ◌++◌, length, take, filter, find, Option, Some, None, option_map, option_and_then}
+use Rattle.std.specs.Prelude.{ℕ, Bool, ◌==◌, ◌&&◌, nat_le, if◌then◌else◌, List, [], ◌∷◌, ◌++◌, length, take, filter, find, map, Vec, Option, Some, None, option_map, option_and_then}
 use Rattle.std.specs.List.{list_all}
 use Rattle.std.specs.Str.{bytes_eq}
+use Rattle.std.specs.declared.alloc.Global.{Global}
 use Rattle.gs_chars.specs.Characters.{are_digits}
 use Rattle.gs_prefix.specs.declared.entry.PrefixEntry.{PrefixEntry}
+
+-- the entries of prefixes and their lengths
+abbrev pub entries_of : List (Vec ℕ Global × ℕ) → List PrefixEntry
+entries_of pairs = map (λ pair. record { prefix = pair.0.items; length = pair.1 }) pairs
 
 -- one to twelve digits
 abbrev pub is_prefix : List ℕ → Bool

@@ -6,6 +6,10 @@ use Rattle.gs_prefix.specs.declared.fault.PrefixFault.{PrefixFault}
 use Rattle.gs_prefix.specs.declared.fault.PrefixFault.TheVariants.{BadPrefix, BadLength, Twice, Limit}
 use Rattle.gs_prefix.specs.Lengths.{has_prefix, is_prefix}
 
+-- the most entries that a list has
+abbrev pub most_entries : ℕ
+most_entries = 65536
+
 -- the refusal alone where the test holds, else none
 abbrev pub refuse_if : Bool → PrefixFault → List PrefixFault
 refuse_if test fault = if test then fault ∷ [] else []
@@ -24,5 +28,5 @@ refusals_at entries row = entry_refusals (take row.0 entries) row.0 row.1
 -- all refusals of the entries, in the order in which they are reported
 unfoldable pub refusals : List PrefixEntry → List PrefixFault
 refusals entries =
-    refuse_if (nat_lt 65536 (length entries)) Limit
+    refuse_if (nat_lt most_entries (length entries)) Limit
     ++ flat_map (refusals_at entries) (enumerate_from 0 entries)

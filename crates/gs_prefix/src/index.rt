@@ -15,12 +15,13 @@ pub struct Index {
 }
 
 impl Model for Index {
-    ghost use Rattle.std.specs.Prelude.{List, map};
+    ghost use Rattle.std.specs.Prelude.{List};
+    ghost use Rattle.gs_prefix.specs.Lengths.{entries_of};
     ghost use Rattle.gs_prefix.specs.declared.entry.PrefixEntry.{PrefixEntry};
 
     ghost Value = { List PrefixEntry };
 
-    ghost view = { λ a. map (λ entry. record { prefix = entry.0.items; length = entry.1 }) a.lengths.entries };
+    ghost view = { λ a. entries_of a.lengths.entries };
 }
 
 impl Index {

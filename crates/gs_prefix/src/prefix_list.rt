@@ -14,7 +14,7 @@ use std::alloc::Global;
 use std::marker::Model;
 
 /// The most entries that a list has.
-const LIMIT: usize = 65_536;
+const MOST_ENTRIES: usize = 65_536;
 
 /// A list of company prefix lengths, which contracts see as its entries in the order of the document. Each prefix is 1 to 12
 /// digits, each length is at most 12.
@@ -67,7 +67,7 @@ impl PrefixList {
     fn of_entries(alloc: Global, entries: &[PrefixEntry]) -> Result<PrefixList, PrefixFault>
         ensures { OrMemory result (first_or (refusals entries.now) entries.now) }
     {
-        if entries.len() > LIMIT {
+        if entries.len() > MOST_ENTRIES {
             return Err(PrefixFault::Limit);
         }
         let mut index = Index::new(alloc);

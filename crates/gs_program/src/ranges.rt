@@ -28,7 +28,7 @@ fn is_numeral(word: &str) -> bool
     are_digits(digits) && !digits.is_empty() && !has_leading_zero(digits)
 }
 
-/// The number that digits write.
+/// The number that digits write. The word is a numeral. `None` comes exactly where the number is not below 2^32.
 fn number_of(digits: &str) -> Option<u32>
     requires { is_numeral digits.now ≡ true }
     ensures { SomeIff result (decimal_value digits.now < 2 ^ 32) (decimal_value digits.now) }
@@ -39,7 +39,8 @@ fn number_of(digits: &str) -> Option<u32>
     }
 }
 
-/// The number from the least to the greatest that the word writes.
+/// The number from the least to the greatest that the word writes. `None` comes exactly where the word is no numeral, or its
+/// number is not between them.
 pub fn number_within(word: &str, least: u32, greatest: u32) -> Option<u32>
     ensures exact { result ≡ number_within least greatest word.now }
     ensures most { IfSome result (λ number. number ≤ greatest) }
@@ -54,28 +55,28 @@ pub fn number_within(word: &str, least: u32, greatest: u32) -> Option<u32>
     None
 }
 
-/// The filter value that the word writes.
+/// The filter value that the word writes. `None` comes exactly where it writes no number from 0 to 7.
 pub fn filter_of(word: &str) -> Option<u8>
     ensures { result ≡ filter_of word.now }
 {
     Some(number_within(word, 0, 7)? as u8)
 }
 
-/// The number of digits of a company prefix that the word writes.
+/// The number of digits of a company prefix that the word writes. `None` comes exactly where it writes no number from 1 to 12.
 pub fn gcp_of(word: &str) -> Option<u8>
     ensures { result ≡ gcp_of word.now }
 {
     Some(number_within(word, 1, 12)? as u8)
 }
 
-/// The number of connections that the word writes.
+/// The number of connections that the word writes. `None` comes exactly where it writes no number from 1 to 1,000,000.
 pub fn count_of(word: &str) -> Option<u32>
     ensures { result ≡ count_of word.now }
 {
     number_within(word, 1, 1_000_000)
 }
 
-/// The number of lines that the word writes.
+/// The number of lines that the word writes. `None` comes exactly where it writes no number from 0 to 100,000.
 pub fn lines_of(word: &str) -> Option<u32>
     ensures exact { result ≡ lines_of word.now }
     ensures most { IfSome result (λ lines. lines ≤ most_lines) }

@@ -33,7 +33,13 @@ impl<'a> Model for TranslatedLines<'a> {
 
     ghost Value = { Translating };
 
-    ghost view = { λ a. record { set = a.set.now; prefixes = a.prefixes.now; options = a.options.now; from = a.from; to = a.to } };
+    ghost view = { λ a. record {
+      set = a.set.now;
+      prefixes = a.prefixes.now;
+      options = a.options.now;
+      from = a.from;
+      to = a.to;
+    } };
 
     ghost invariant = { λ a. AreInOrder a.options.now };
 }

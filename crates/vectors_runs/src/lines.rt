@@ -16,12 +16,11 @@ use vector_cases::{Answer, Refusal, arg, number, section, shown, sink_of, source
 struct Echo;
 
 impl Answerer for Echo {
-    ghost use Rattle.std.specs.Prelude.{◌≡◌, ◌<◌, ◌≤◌, ◌⊎◌, codes, length};
     ghost use Rattle.std.proofs.Common.{inl, inr};
     ghost use Rattle.std.proofs.Math.Nat.{not-le_of_lt};
-    ghost use Rattle.gs_lines.specs.Outputs.LineAnswer.{accepted, refused};
+    ghost use Rattle.vectors_runs.specs.Echoes.{IsEcho};
 
-    ghost is_answer = { λ _ text answer. ((2048 < length text) × (answer ≡ refused (codes "long"))) ⊎ ((length text ≤ 2048) × (answer ≡ accepted text)) };
+    ghost is_answer = { λ _. IsEcho };
 
     fn append_answer(
         &self,
@@ -39,7 +38,10 @@ impl Answerer for Echo {
         Ok(false)
     }
 
-    ghost long_alike = { λ _ text other answer long more is. elim is [ inl x ↦ inl (more, x.1) | inr x ↦ absurd (not-le_of_lt long x.0) ] };
+    ghost long_alike = { λ _ text other answer long more is. elim is [
+      | inl x ↦ inl (more, x.1)
+      | inr x ↦ absurd (not-le_of_lt long x.0)
+    ] };
 }
 
 /// The answer to a call of gs_lines.
