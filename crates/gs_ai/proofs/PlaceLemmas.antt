@@ -1,6 +1,7 @@
 -- The rows by the first two digits of their codes.
-use Rattle.std.proofs.Common.{◌≡◌, ℕ, zero, suc, ◌+◌, ◌-◌, ◌*◌, ◌<◌, ◌≤◌, Bool, true, false, List, [], ◌∷◌, ◌++◌, length, take, map, filter, position, Some, None, bytes_eq, get_or, slice_get, refl, sym, ap, ◌∙◌, arith, inl, inr, true≢false}
+use Rattle.std.proofs.Common.{◌≡◌, ℕ, zero, suc, ◌+◌, ◌-◌, ◌*◌, ◌<◌, ◌≤◌, Bool, true, false, List, [], ◌∷◌, ◌++◌, length, take, map, filter, position, Some, None, bytes_eq, get_or, slice_get, drop, drop-cons, append_assoc, append-nil, add-one, refl, sym, ap, ◌∙◌, arith, inl, inr, true≢false}
 use Rattle.std.specs.List.{enumerate_from}
+use Rattle.std.proofs.Math.Seq.{drop-length}
 use Rattle.std.proofs.lemmas.Bool.Decides.{nat_tests}
 use borrow.Author.Count.{below_more}
 use Rattle.gs_chars.specs.Characters.{is_digit, are_digits}
@@ -33,6 +34,19 @@ more_starts rows starts i len done =
 
 abbrev places_of : {X : Type 0} → (X → Bool) → ℕ → List X → List ℕ
 places_of t n xs = map (λ place. place.0) (filter (λ place. t place.1) (enumerate_from n xs))
+
+module _ {X : Type 0} (t : X → Bool) (xs : List X) (i : ℕ) (x : X) (low : i < length xs) (at : x ≡ get_or xs i x) where
+  left : drop i xs ≡ x ∷ drop (i + 1) xs
+  left = rw add-one (drop-cons xs i x low ∙ ap (λ c. c ∷ drop (suc i) xs) (sym at))
+
+  pub place_found : (places : List ℕ) → t x ≡ true → (places ++ i ∷ []) ++ places_of t (i + 1) (drop (i + 1) xs) ≡ places ++ places_of t i (drop i xs)
+  place_found places h = rw (left, h) (append_assoc places (i ∷ []) (places_of t (i + 1) (drop (i + 1) xs)))
+
+  pub place_passed : (places : List ℕ) → t x ≡ false → places ++ places_of t (i + 1) (drop (i + 1) xs) ≡ places ++ places_of t i (drop i xs)
+  place_passed places h = rw (left, h) refl
+
+pub places_done : {X : Type 0} (t : X → Bool) (xs : List X) (places : List ℕ) → places ++ places_of t (length xs) (drop (length xs) xs) ≡ places
+places_done t xs places = rw (drop-length xs) (append-nil places)
 
 later_place : (n m k i : ℕ) (ks : List ℕ) → ((l : ℕ) → slice_get ks l ≡ Some i → i < n + 1 + m) → slice_get (n ∷ ks) k ≡ Some i → i < n + suc m
 later_place n m zero i ks low e = let same : n ≡ i = cc in omega arith

@@ -144,9 +144,13 @@ two_digits _ = None
 abbrev pub starts_at : ℕ → AiRow → Bool
 starts_at start row = option_map_or (λ n. n == start) (two_digits row.code) false
 
+-- the indexes, counted from n, of the rows whose codes begin with the two digits of the number
+abbrev pub places_from : ℕ → ℕ → List AiRow → List ℕ
+places_from start n rows = map (λ place. place.0) (filter (λ place. starts_at start place.1) (enumerate_from n rows))
+
 -- the indexes of the rows whose codes begin with the two digits of the number
 abbrev pub places_at : ℕ → List AiRow → List ℕ
-places_at start rows = map (λ place. place.0) (filter (λ place. starts_at start place.1) (enumerate_from 0 rows))
+places_at start rows = places_from start 0 rows
 
 -- For each number of two digits the indexes of the rows whose codes begin with them.
 pub record AreStarts (rows : List AiRow) (starts : List (List ℕ)) : Type 0 where

@@ -33,13 +33,13 @@ fn starts_at(start: usize, row: &AiRow) -> bool
 fn places_at(alloc: Global, start: usize, rows: &[AiRow]) -> Result<Vec<usize>, Memory>
     ensures { IfOk result (λ places. places.items ≡ places_at start rows.now) }
 {
-    Ok(
-        rows.iter()
-            .enumerate()
-            .filter(|place| starts_at(start, place.1))
-            .map(|place| place.0)
-            .collect(alloc)?,
-    )
+    let mut places = Vec::new(alloc);
+    for i in 0..rows.len() {
+        if starts_at(start, &rows[i]) {
+            places.push(i)?;
+        }
+    }
+    Ok(places)
 }
 
 /// For each number of two digits the indexes of the rows whose codes begin with them.
