@@ -1,9 +1,9 @@
 -- Decimal digits and the numbers that they write.
-use Rattle.std.proofs.Common.{◌≡◌, ℕ, ◌<◌, ◌≤◌, ◌+◌, ◌-◌, ◌*◌, ◌/◌, ◌%◌, ◌^◌, ◌&&◌, inl, inr, zero, suc, Bool, true, false, Option, Some, None, SomeIff, IfSome, IfNone, List, [], ◌∷◌, ◌++◌, length, drop, refl, sym, ◌∙◌, ap, arith, add-one, leb, eqb, subst, rules, decimal, get_or, length-append}
-use Rattle.std.proofs.Math.Nat.{pow-le-pow_right, pow-suc, pow-succ', one-le-pow, div-eq_of_lt, div-div-eq-div-mul}
+use Rattle.std.proofs.Common.{◌≡◌, ℕ, ◌<◌, ◌≤◌, ◌+◌, ◌-◌, ◌*◌, ◌/◌, ◌%◌, ◌^◌, ◌&&◌, inl, inr, zero, suc, Bool, true, false, Option, Some, None, SomeIff, IfSome, IfNone, List, [], ◌∷◌, ◌++◌, length, drop, take, refl, sym, ◌∙◌, ap, set, arith, add-one, leb, eqb, rules, decimal, get_or, length-append}
+use Rattle.std.proofs.Math.Nat.{pow-le-pow_right, pow-suc, pow-succ', div-eq_of_lt, div-div-eq-div-mul, mul_assoc, add-mul, le-mul_of_pos_right, mul_comm, eq-zero-or-pos}
 use Rattle.std.proofs.lemmas.Bool.{cases_eq}
 use Rattle.std.proofs.lemmas.Bool.Decides.{nat_tests, leb_tells}
-use Rattle.std.proofs.lemmas.List.{drop_more}
+use Rattle.std.proofs.lemmas.List.{drop_more, drop-set, take_at}
 use Rattle.std.proofs.lemmas.List.Folds.{list_all-append}
 use Rattle.std.proofs.lemmas.Str.Parse.{IsNumeralModel, numerals_by_weight, digits_value_short}
 use Rattle.std.proofs.lemmas.Fmt.{digits_value-decimal, digits_decimal, decimal-digits_value, length-decimal-le, decimal_nonempty, first_decimal, decimal_digit}
@@ -66,9 +66,6 @@ count_order m n h small =
 
 pub pow_small : (k : ℕ) → k ≤ 18 → 10 ^ k < 2 ^ 63
 pow_small k h = let l = pow-le-pow_right {n = 10} (omega arith) h in omega arith
-
-pub pow_positive : (k : ℕ) → 0 < 10 ^ k
-pow_positive k = one-le-pow k 10 (omega arith)
 
 -- reading a numeral
 
@@ -157,20 +154,6 @@ pads_step n number place digit digits p e =
           omega arith;
     }
 
-pub pads_next : (n number place : ℕ) (digits : List ℕ) → Pads n number place digits → 0 < place → Pads n number (place - 1) (digits ++ (48 + number / 10 ^ (place - 1) % 10) ∷ [])
-pads_next n number place digits p h =
-    let e : place ≡ suc (place - 1) = omega arith in
-    let q : Pads n number (suc (place - 1)) digits = subst (λ (k : ℕ). Pads n number k digits) e p in
-    pads_step n number (place - 1) (number / 10 ^ (place - 1) % 10) digits q refl
-
--- a power of ten, and the next one below
-pub power_down : (power place : ℕ) → power ≡ 10 ^ place → 0 < place → power / 10 ≡ 10 ^ (place - 1)
-power_down power place e h =
-    let up : 10 ^ suc (place - 1) ≡ 10 * 10 ^ (place - 1) = pow-succ' 10 (place - 1) in
-    let at : place ≡ suc (place - 1) = omega arith in
-    let same : power ≡ 10 * 10 ^ (place - 1) = e ∙ ap (λ (k : ℕ). 10 ^ k) at ∙ up in
-    omega arith
-
 pub pads_end : (n number : ℕ) (digits : List ℕ) → Pads n number 0 digits → IsPadded n number digits
 pads_end n number digits p =
     record { count = let c = p.count in omega arith; all_digits = p.all_digits; value = let v = p.value in omega arith }
@@ -182,6 +165,64 @@ padded_from n number (suc place) digits p = padded_from n number place (digits +
 -- there are n digits of each number below 10 to the n
 pub some_padded : (n number : ℕ) → number < 10 ^ n → (digits : List ℕ) × IsPadded n number digits
 some_padded n number h = let r = padded_from n number n [] (pads_start n number h) in (r.0, pads_end n number r.0 r.1)
+
+-- the last digits of a number, written behind a place of a list, and the number in front of them
+pub record Fills (n number place left : ℕ) (digits : List ℕ) : Type 0 where
+  pub back : List ℕ
+  pub behind : List ℕ
+  pub shape : drop place digits ≡ back ++ behind
+  pub count : length back + place ≡ n
+  pub all_digits : are_digits back ≡ true
+  pub value : left * 10 ^ length back + decimal_value back ≡ number
+
+pub fills_start : (n number : ℕ) (digits : List ℕ) → Fills n number n number digits
+fills_start n number digits = record {
+  back = [];
+  behind = drop n digits;
+  shape = refl;
+  count = omega arith;
+  all_digits = refl;
+  value = omega arith;
+}
+
+fills_value : (left power behind number : ℕ) → left * power + behind ≡ number → left / 10 * (10 * power) + (left % 10 * power + behind) ≡ number
+fills_value left power behind number h =
+    let whole : left ≡ left / 10 * 10 + left % 10 = omega arith in
+    let split : left * power ≡ left / 10 * 10 * power + left % 10 * power = ap (λ (k : ℕ). k * power) whole ∙ add-mul (left / 10 * 10) (left % 10) power in
+    let around : left / 10 * 10 * power ≡ left / 10 * (10 * power) = mul_assoc (left / 10) 10 power in
+    omega arith
+
+pub fills_step : (n number place left : ℕ) (digits : List ℕ) → place < length digits → Fills n number (place + 1) left digits → Fills n number place (left / 10) (set digits place (48 + left % 10))
+fills_step n number place left digits low f =
+    let digit = 48 + left % 10 in
+    record {
+      back = digit ∷ f.back;
+      behind = f.behind;
+      shape = drop-set digits place digit low ∙ ap (λ c. digit ∷ c) f.shape;
+      count = let c = f.count in omega arith;
+      all_digits =
+          let one : is_digit digit ≡ true = grind (arith, nat_tests) in
+          let d = f.all_digits in
+          rw (one, d) refl;
+      value =
+          let power : 10 ^ suc (length f.back) ≡ 10 * 10 ^ length f.back = pow-succ' 10 (length f.back) in
+          let plain : digit - 48 ≡ left % 10 = omega arith in
+          rw (power, plain) (fills_value left (10 ^ length f.back) (decimal_value f.back) number f.value);
+    }
+
+pub fills_end : (n number left : ℕ) (digits : List ℕ) → Fills n number 0 left digits → number < 10 ^ n → IsPadded n number (take n digits)
+fills_end n number left digits f small =
+    let long : length f.back ≡ n = let c = f.count in omega arith in
+    let front : take n digits ≡ f.back = rw f.shape (take_at f.back f.behind n long) in
+    let value : left * 10 ^ n + decimal_value f.back ≡ number = rw long at f.value in
+    rw front (record {
+      count = long;
+      all_digits = f.all_digits;
+      value = elim (eq-zero-or-pos left) [
+        | inl e ↦ let at : left * 10 ^ n ≡ 0 * 10 ^ n = ap (λ (k : ℕ). k * 10 ^ n) e in omega arith
+        | inr h ↦ absurd (let more : 10 ^ n ≤ 10 ^ n * left = le-mul_of_pos_right (10 ^ n) h in let turn = mul_comm (10 ^ n) left in omega arith)
+      ];
+    })
 
 -- the digits of a number, as many as its decimal text has, are that text
 

@@ -111,31 +111,25 @@ counts_none w rest n k h none u s =
     let b = first_spelling r.value rest rest r.spelled refl h in
     none b.c b.len b.begins
 
--- what the characters so far say, where the rest is still to come
-pub record Collects (w rest out : List ℕ) : Type 0 where
+-- the characters so far, and the front of the symbols that spells them
+pub record Gathers (w rest out : List ℕ) : Type 0 where
   pub back : (v : List ℕ) → SpellsEach v rest → SpellsEach (out ++ v) w
-  pub value : List ℕ
-  pub spelled : SpellsEach value rest
+  pub counts : Counts w rest (length out)
 
-pub collects_start : (w v : List ℕ) → SpellsEach v w → Collects w w []
-collects_start w v s = record { back = λ u t. t; value = v; spelled = s }
+pub gathers_start : (w : List ℕ) → Gathers w w []
+gathers_start w = record { back = λ u t. t; counts = counts_start w }
 
-pub collects_step : (w rest out : List ℕ) (c used : ℕ) → Collects w rest out → BeginsWithSpelling rest c used → Collects w (drop used rest) (out ++ c ∷ [])
-collects_step w rest out c used k b =
-    let g = one_behind c used k.value rest b k.spelled in
-    record {
-      back = λ v s. let t = k.back (c ∷ v) (one_in_front c used v rest b s) in rw append_assoc t;
-      value = g.value;
-      spelled = g.spelled;
-    }
+pub gathers_step : (w rest out : List ℕ) (c used : ℕ) → Gathers w rest out → BeginsWithSpelling rest c used → Gathers w (drop used rest) (out ++ c ∷ [])
+gathers_step w rest out c used k b = record {
+  back = λ v s. let t = k.back (c ∷ v) (one_in_front c used v rest b s) in rw append_assoc t;
+  counts = rw (length-append out (c ∷ [])) (counts_step w rest (length out) c used k.counts b);
+}
 
-pub collects_end : (w rest out : List ℕ) → Collects w rest out → length rest ≡ 0 → SpellsEach out w
-collects_end w rest out k e =
+pub gathers_end : (w rest out : List ℕ) → Gathers w rest out → length rest ≡ 0 → SpellsEach out w
+gathers_end w rest out k e =
     let nil : rest ≡ [] = nil_from_length rest e in
     let t = k.back [] (rw nil no_more) in
     rw append-nil at t
 
-pub collects_none : (w rest out : List ℕ) → Collects w rest out → 0 < length rest → ((c len : ℕ) → BeginsWithSpelling rest c len → ⊥) → ⊥
-collects_none w rest out k h none =
-    let b = first_spelling k.value rest rest k.spelled refl h in
-    none b.c b.len b.begins
+pub gathers_none : (w rest out : List ℕ) → Gathers w rest out → 0 < length rest → ((c len : ℕ) → BeginsWithSpelling rest c len → ⊥) → (u : List ℕ) → SpellsEach u w → ⊥
+gathers_none w rest out k = counts_none w rest (length out) k.counts

@@ -2,7 +2,7 @@ ghost use Rattle.std.specs.Prelude.{◌≡◌, ◌↔◌, ◌≤◌, ◌++◌, �
 ghost use Rattle.gs_grammar.specs.Words.{WritesNumber, IsPacked, PacksMany};
 ghost use Rattle.gs_grammar.specs.Numerals.{HasCode, NoCode};
 
-use gs_chars::{CharSet, Memory};
+use gs_chars::{CharSet, Memory, Text};
 use std::alloc::Global;
 
 /// Whether the symbols are n zeros.
@@ -71,12 +71,12 @@ pub fn packed_count(symbols: &[u8]) -> Option<usize>
 }
 
 /// The characters that the symbols pack. They are packed characters.
-pub fn unpacked(alloc: Global, symbols: &[u8]) -> Result<Vec<u8>, Memory>
+pub fn unpacked(alloc: Global, symbols: &[u8]) -> Result<Text, Memory>
     requires { (value : List ℕ) × IsPacked value symbols.now }
-    ensures { IfOk result (λ value. IsPacked value.items symbols.now) }
+    ensures { IfOk result (λ value. IsPacked value symbols.now) }
 {
     let mut rest = symbols;
-    let mut value = Vec::new(alloc);
+    let mut value = Text::new(alloc);
     while let Some(code) = front_code(rest) {
         value.push(code)?;
         rest = &rest[7..];

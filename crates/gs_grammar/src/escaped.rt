@@ -1,7 +1,7 @@
 ghost use Rattle.std.specs.Prelude.{ℕ, List, IfSome, IfNone, IfOk};
 ghost use Rattle.gs_grammar.specs.Words.{SpellsEach, SpellsMany};
 
-use gs_chars::{Memory, read_escape};
+use gs_chars::{Memory, Text, read_escape};
 use std::alloc::Global;
 
 /// The number of characters that the symbols spell, each in a spelling of EPC URIs. `None` comes exactly where they spell
@@ -20,19 +20,19 @@ pub fn spelled_count(symbols: &[u8]) -> Option<usize>
     Some(count)
 }
 
-/// The characters that the symbols spell. They spell some characters.
-pub fn spelled(alloc: Global, symbols: &[u8]) -> Result<Vec<u8>, Memory>
-    requires { (value : List ℕ) × SpellsEach value symbols.now }
-    ensures { IfOk result (λ value. SpellsEach value.items symbols.now) }
+/// The characters that the symbols spell. `None` comes exactly where they spell no value. Each spelling is looked for once.
+pub fn read_spelled(alloc: Global, symbols: &[u8]) -> Result<Option<Text>, Memory>
+    ensures found { IfOk result (λ found. IfSome found (λ value. SpellsEach value symbols.now)) }
+    ensures none { IfOk result (λ found. IfNone found ((value : List ℕ) → SpellsEach value symbols.now → ⊥)) }
 {
     let mut rest = symbols;
-    let mut value = Vec::with_capacity(alloc, symbols.len())?;
+    let mut value = Text::new(alloc);
     while !rest.is_empty() {
         let Some((character, used)) = read_escape(rest) else {
-            unreachable!()
+            return Ok(None);
         };
         value.push(character)?;
         rest = &rest[used..];
     }
-    Ok(value)
+    Ok(Some(value))
 }

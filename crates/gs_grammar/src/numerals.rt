@@ -86,21 +86,21 @@ pub fn numeral(symbols: &[u8]) -> Option<u64>
 }
 
 /// The n digits of a number, zeros in front. n is at most 18, and the number has no more digits.
-pub fn padded(alloc: Global, number: u64, n: u8) -> Result<Vec<u8>, Memory>
+pub fn padded(alloc: Global, number: u64, n: u8) -> Result<Text, Memory>
     requires few { n ≤ 18 }
     requires fits { number < 10 ^ n }
-    ensures { IfOk result (λ digits. IsPadded n number digits.items) }
+    ensures { IfOk result (λ digits. IsPadded n number digits) }
 {
-    let mut digits = Vec::with_capacity(alloc, usize::from(n))?;
-    let mut place = u32::from(n);
-    let mut power = 10u64.pow(place);
+    let mut digits = [b'0'; 18];
+    let mut place = usize::from(n);
+    let mut left = number;
     while place > 0 {
         place -= 1;
-        power /= 10;
-        let digit = number / power % 10;
-        digits.push(b'0' + digit as u8)?;
+        digits[place] = b'0' + (left % 10) as u8;
+        left /= 10;
     }
-    Ok(digits)
+    let text = Text::from_bytes(alloc, &digits[..usize::from(n)])?;
+    Ok(text)
 }
 
 /// The decimal text of a number.
@@ -113,5 +113,5 @@ pub fn decimal_text(alloc: Global, number: u64) -> Result<Text, Memory>
         return Ok(Text::from_vec(text.into_bytes()));
     }
     let digits = padded(alloc, number, count as u8)?;
-    Ok(Text::from_vec(digits))
+    Ok(digits)
 }

@@ -1,11 +1,11 @@
-ghost use Rattle.std.specs.Prelude.{◌≡◌, ◌↔◌, ◌==◌, ◌&&◌, ◌≤◌, length, ℕ, IsTrue, IfOk, IfSome, IfNone};
+ghost use Rattle.std.specs.Prelude.{◌≡◌, ◌↔◌, ◌==◌, ◌&&◌, ◌≤◌, length, ℕ, List, IsTrue, IfOk, IfSome, IfNone};
 ghost use Rattle.gs_chars.specs.Characters.{are_digits};
 ghost use Rattle.gs_grammar.specs.Items.{IsItem};
-ghost use Rattle.gs_grammar.specs.Words.{IsWord, Word, WritesNumber, number_of_word};
-ghost use Rattle.gs_grammar.specs.declared.item.Item.TheVariants.{Num, NumPad};
+ghost use Rattle.gs_grammar.specs.Words.{IsWord, SpellsEach, Word, WritesNumber, number_of_word};
+ghost use Rattle.gs_grammar.specs.declared.item.Item.TheVariants.{Esc, Num, NumPad};
 
 use crate::bit_words::{are_zeros, number_in_bits, packed_count, unpacked};
-use crate::escaped::{spelled, spelled_count};
+use crate::escaped::{read_spelled, spelled_count};
 use crate::item::{Item, is_within};
 use crate::numerals::{decimal_text, has_at_most_digits, numeral, padded};
 use gs_chars::{CharSet, Memory, Text};
@@ -76,6 +76,17 @@ fn number_of_bits(word: &[u8], bits: u8) -> u64
     }
 }
 
+/// The characters that a word spells.
+fn spelled(alloc: Global, word: &[u8]) -> Result<Text, Memory>
+    requires { (value : List ℕ) × SpellsEach value word.now }
+    ensures { IfOk result (λ value. SpellsEach value word.now) }
+{
+    match read_spelled(alloc, word)? {
+        Some(value) => Ok(value),
+        None => unreachable!(),
+    }
+}
+
 /// The value of a word of the item. The item keeps its bounds.
 pub fn value_of(alloc: Global, item: &Item, word: &[u8]) -> Result<Text, Memory>
     requires item { IsItem item.now }
@@ -83,18 +94,18 @@ pub fn value_of(alloc: Global, item: &Item, word: &[u8]) -> Result<Text, Memory>
     ensures { IfOk result (λ value. Word item.now value word.now) }
 {
     match item {
-        Item::Lit(_) | Item::Fill { .. } => Ok(Text::from_vec(Vec::new(alloc))),
+        Item::Lit(_) | Item::Fill { .. } => Ok(Text::new(alloc)),
         Item::Pad { .. } | Item::Int { .. } => Text::from_bytes(alloc, word),
-        Item::Esc { .. } => Ok(Text::from_vec(spelled(alloc, word)?)),
+        Item::Esc { .. } => Ok(spelled(alloc, word)?),
         Item::NumPad { bits, n } => {
             let number = number_of_bits(word, *bits);
-            Ok(Text::from_vec(padded(alloc, number, *n)?))
+            Ok(padded(alloc, number, *n)?)
         }
         Item::Num { bits, .. } => {
             let number = number_of_bits(word, *bits);
             Ok(decimal_text(alloc, number)?)
         }
-        Item::Ascii7 { .. } => Ok(Text::from_vec(unpacked(alloc, word)?)),
+        Item::Ascii7 { .. } => Ok(unpacked(alloc, word)?),
     }
 }
 
@@ -112,7 +123,7 @@ fn read_padded(alloc: Global, symbols: &[u8], bits: u8, n: u8) -> Result<Option<
         return Ok(None);
     }
     let digits = padded(alloc, number, n)?;
-    Ok(Some(Text::from_vec(digits)))
+    Ok(Some(digits))
 }
 
 /// The decimal text of the number that the symbols are in bits, where they are a word of the item `Num`.
@@ -131,6 +142,20 @@ fn read_number(alloc: Global, symbols: &[u8], bits: u8, max: u64) -> Result<Opti
     Ok(Some(text))
 }
 
+/// The characters that the symbols spell, where they are a word of the item `Esc`.
+fn read_escaped(alloc: Global, symbols: &[u8], lo: u8, hi: u8) -> Result<Option<Text>, Memory>
+    ensures found { IfOk result (λ found. IfSome found (λ value. Word (Esc lo hi) value symbols.now)) }
+    ensures none { IfOk result (λ found. IfNone found (IsWord (Esc lo hi) symbols.now → ⊥)) }
+{
+    let Some(value) = read_spelled(alloc, symbols)? else {
+        return Ok(None);
+    };
+    if !is_within(usize::from(lo), usize::from(hi), value.as_bytes().len()) {
+        return Ok(None);
+    }
+    Ok(Some(value))
+}
+
 /// The value of the symbols, where they are a word of an item.
 fn read_any(alloc: Global, item: &Item, symbols: &[u8]) -> Result<Option<Text>, Memory>
     requires { IsItem item.now }
@@ -145,7 +170,7 @@ fn read_any(alloc: Global, item: &Item, symbols: &[u8]) -> Result<Option<Text>, 
 }
 
 /// The value of the symbols, where they are a word of the item. `None` comes exactly where they are none. The item keeps its
-/// bounds. The bits of a number are gone through once.
+/// bounds. The bits of a number and the spellings of characters are gone through once.
 pub fn read_word(alloc: Global, item: &Item, symbols: &[u8]) -> Result<Option<Text>, Memory>
     requires { IsItem item.now }
     ensures found { IfOk result (λ found. IfSome found (λ value. Word item.now value symbols.now)) }
@@ -154,6 +179,7 @@ pub fn read_word(alloc: Global, item: &Item, symbols: &[u8]) -> Result<Option<Te
     match item {
         Item::NumPad { bits, n } => read_padded(alloc, symbols, *bits, *n),
         Item::Num { bits, max } => read_number(alloc, symbols, *bits, *max),
+        Item::Esc { lo, hi } => read_escaped(alloc, symbols, *lo, *hi),
         _ => read_any(alloc, item, symbols),
     }
 }

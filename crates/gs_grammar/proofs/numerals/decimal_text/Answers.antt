@@ -1,4 +1,4 @@
-use Rattle.std.proofs.Common.{arith, ◌<◌, ◌^◌, ◌∙◌}
+use Rattle.std.proofs.Common.{arith, ◌<◌, ◌^◌}
 use Rattle.gs_grammar.proofs.Numbers.{below_count, padded_decimal}
 use Rattle.gs_grammar.proofs.numerals.decimal_text.Goals as goal
 
@@ -10,4 +10,4 @@ padded-requires-clause-fits c =
 pub returns : goal.returns
 returns c =
     let small : c.args.number < 2 ^ 64 = omega arith in
-    c.from_vec-2.ensures ∙ padded_decimal c.args.number _ _ small c.digit_count-count.ensures.count c.in_ok-digits.ensures
+    padded_decimal c.args.number _ _ small c.digit_count-count.ensures.count c.in_ok-digits.ensures

@@ -1,13 +1,23 @@
-use Rattle.gs_grammar.proofs.Numbers.{pow_positive, pads_next, power_down}
+use Rattle.std.proofs.Common.{◌≡◌, ◌-◌, ◌+◌, ◌<◌, ◌∙◌, ℕ, length, subst, arith}
+use Rattle.std.proofs.lemmas.List.{length-set}
+use Rattle.gs_grammar.proofs.Numbers.{Fills, fills_step, fills_end}
 use Rattle.gs_grammar.proofs.numerals.padded.Goals as goal
-
-pub nonzero_div-digit : goal.nonzero_div-digit
-nonzero_div-digit c = rw (power_down _ _ c.loop-place.invariant.power c.loop-place-test.true) (pow_positive _)
 
 pub loop-place-preserved : goal.loop-place-preserved
 loop-place-preserved c =
-    let power = power_down _ _ c.loop-place.invariant.power c.loop-place-test.true in
+    let i = c.loop-place.invariant in
+    let digits = c.loop-place.digits in
+    let low : c.loop-place.place - 1 < length digits = let f = i.fills.count in let l = i.long in let t = c.loop-place-test.true in let few = c.requires.few in omega arith in
+    let at : c.loop-place.place ≡ c.loop-place.place - 1 + 1 = let t = c.loop-place-test.true in omega arith in
+    let filled : Fills c.args.n c.args.number (c.loop-place.place - 1 + 1) c.loop-place.left digits = subst (λ (k : ℕ). Fills c.args.n c.args.number k c.loop-place.left digits) at i.fills in
     record {
-      pads = rw (c.in_ok-push.ensures.items, power) (pads_next _ _ _ _ c.loop-place.invariant.pads c.loop-place-test.true);
-      power = power;
+      fills = fills_step c.args.n c.args.number (c.loop-place.place - 1) c.loop-place.left digits low filled;
+      long = length-set digits (c.loop-place.place - 1) _ ∙ i.long;
     }
+
+pub returns : goal.returns
+returns c =
+    let none : c.loop-place.place ≡ 0 = let t = c.loop-place-test.false in omega arith in
+    let filled : Fills c.args.n c.args.number 0 c.loop-place.left c.loop-place.digits =
+    subst (λ (k : ℕ). Fills c.args.n c.args.number k c.loop-place.left c.loop-place.digits) none c.loop-place.invariant.fills in
+    rw (c.in_ok-text.ensures, c.from.ensures) (fills_end c.args.n c.args.number c.loop-place.left c.loop-place.digits filled c.requires.fits)

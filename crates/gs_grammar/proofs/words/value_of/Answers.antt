@@ -3,7 +3,7 @@ use Rattle.gs_grammar.proofs.words.value_of.Goals as goal
 
 pub returns-in_ok-spelled-in-Esc : goal.returns-in_ok-spelled-in-Esc
 returns-in_ok-spelled-in-Esc c =
-    rw c.from_vec.ensures (esc_value _ _ _ _ _ c.in-Esc.is c.requires.word c.in_ok-spelled-in-Esc.ensures)
+    (esc_value _ _ _ _ _ c.in-Esc.is c.requires.word c.in_ok-spelled-in-Esc.ensures)
 
 pub padded-requires-clause-fits : goal.padded-requires-clause-fits
 padded-requires-clause-fits c = numpad_fits _ _ _ _ _ c.in-NumPad.is c.requires.word c.number_of_bits-number.ensures
@@ -14,4 +14,4 @@ returns-in_ok-decimal_text-in-Num c =
 
 pub returns-in_ok-unpacked-in-Ascii7 : goal.returns-in_ok-unpacked-in-Ascii7
 returns-in_ok-unpacked-in-Ascii7 c =
-    rw c.from_vec-in-Ascii7.ensures (ascii_value _ _ _ _ _ _ c.in-Ascii7.is c.requires.word c.in_ok-unpacked-in-Ascii7.ensures)
+    (ascii_value _ _ _ _ _ _ c.in-Ascii7.is c.requires.word c.in_ok-unpacked-in-Ascii7.ensures)
