@@ -3,3 +3,4 @@ pub mod IdentityLemmas
 pub mod LinkLemmas
 pub mod PairLemmas
 pub mod ValueEscapes
+pub mod MovedPairs

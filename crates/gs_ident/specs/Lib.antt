@@ -1,3 +1,4 @@
 pub mod Elements
 pub mod Identities
 pub mod Links
+pub mod Moves

@@ -1,8 +1,11 @@
-ghost use Rattle.std.specs.Prelude.{◌≡◌, ◌≢◌, All, Ok, Err, IfOk, IfErr};
-ghost use Rattle.gs_ident.specs.Identities.{counted, elements_of, identity_of_counted, identity_of_pairs, listed, IsInOrder, IsMadeWith};
+ghost use Rattle.std.specs.Prelude.{◌≡◌, ◌≢◌, ◌<◌, All, Ok, Err, IfOk, IfErr, false, length, true};
+ghost use Rattle.std.specs.List.{list_any};
+ghost use Rattle.gs_ai.specs.Tables.{are_distinct, is_key_of};
+ghost use Rattle.gs_ident.specs.Identities.{counted, identity_of_counted, identity_of_pairs, listed, IsInOrder, IsMadeWith};
+ghost use Rattle.gs_ident.specs.Moves.{HasElements, IsKeyAt};
 
 use crate::choosing::{
-    copy_listed, find_contradiction, find_key, find_other_key, keep_others, stands_for_none,
+    find_contradiction, find_key, find_other_key, keep_others, move_listed, stands_for_none,
 };
 use crate::faults::IdentFault;
 use crate::identity::Identity;
@@ -13,27 +16,34 @@ use std::alloc::Global;
 
 /// The codes that the key's row lists as qualifiers.
 fn listed_codes<'a>(table: &'a AiTable, key: &Pair) -> &'a [Text]
-    ensures { result.now ≡ listed table.now key.now }
+    ensures codes { result.now ≡ listed table.now key.now }
+    ensures distinct { are_distinct result.now ≡ true }
+    ensures no_key { list_any (is_key_of table.now) result.now ≡ false }
 {
+    // the proof alone reads it: the rows keep the rules of application identifiers
+    let _ = table.rows();
     match table.row_with(key.code.as_bytes()) {
         Some(row) => row.qualifiers.items(),
         None => &[],
     }
 }
 
-/// The identity of this key and of the pairs around it. All pairs but the qualifiers are moved.
+/// The identity of the key at this place and of the pairs around it. The pairs are moved.
 #[tactic(auto, unfolding(crate::specs::Identities::elements_of))]
 fn elements_of(
     alloc: Global,
     table: &AiTable,
     pairs: Vec<Pair>,
-    key: Pair,
+    place: usize,
 ) -> Result<Identity, Memory>
-    ensures { IfOk result (λ identity. identity ≡ elements_of table.now pairs.items key) }
+    requires within { place < length pairs.items }
+    requires key { IsKeyAt table.now pairs.items place }
+    ensures { IfOk result (HasElements table.now pairs.items place) }
 {
-    let listed = listed_codes(table, &key);
-    let qualifiers = copy_listed(alloc, pairs.as_slice(), listed)?;
     let mut others = pairs;
+    let key = others.remove(place);
+    let listed = listed_codes(table, &key);
+    let qualifiers = move_listed(alloc, &mut others, listed)?;
     keep_others(&mut others, listed, &key);
     let attributes = sort_pairs(alloc, others)?;
     Ok(Identity::from_pairs(key, qualifiers, attributes))
@@ -55,14 +65,13 @@ fn make_counted(alloc: Global, table: &AiTable, pairs: Vec<Pair>) -> Result<Iden
     if let Some(pair) = find_contradiction(pairs.as_slice()) {
         return Err(IdentFault::Repeat(pair.code.copy(alloc)?));
     }
-    let Some(key) = find_key(table, pairs.as_slice()) else {
+    let Some(place) = find_key(table, pairs.as_slice()) else {
         return Err(IdentFault::NoKey);
     };
-    if let Some(other) = find_other_key(table, pairs.as_slice(), key) {
+    if let Some(other) = find_other_key(table, pairs.as_slice(), &pairs[place]) {
         return Err(IdentFault::TwoKeys(other.code.copy(alloc)?));
     }
-    let own = key.copy(alloc)?;
-    Ok(elements_of(alloc, table, pairs, own)?)
+    Ok(elements_of(alloc, table, pairs, place)?)
 }
 
 /// The identity of the pairs. Pairs whose value stands for none are dropped first; equal repeats count once. A refusal is the
