@@ -107,7 +107,7 @@ fn keep_coded(pairs: &mut Vec<Pair>, code: &[u8])
 fn copies(alloc: Global, pairs: &[Pair]) -> Result<Vec<Pair>, Memory>
     ensures { IfOk result (λ list. list.items ≡ pairs.now) }
 {
-    let mut list = Vec::new(alloc);
+    let mut list = Vec::with_capacity(alloc, pairs.len())?;
     for pair in pairs {
         list.push(pair.copy(alloc)?)?;
     }

@@ -15,6 +15,9 @@ const ESCAPED: AsciiSet = percent_encoding::ascii_set!(
     NON_ALPHANUMERIC.remove(b'-').remove(b'.').remove(b'_')
 );
 
+/// The bytes that are taken for a link at first, which hold a usual one. A longer link takes more.
+const ROOM: usize = 128;
+
 /// Appends the value with its escapes.
 fn write_value(out: &mut Vec<u8>, value: &[u8]) -> Result<(), Memory>
     ensures { IfOk result (λ _. out.new.items ≡ out.old.items ++ percent_encoded value.now) }
@@ -64,7 +67,8 @@ fn write_query(out: &mut Vec<u8>, pairs: &[Pair]) -> Result<(), Memory>
 pub fn spell(alloc: Global, stem: &[u8], identity: &Identity) -> Result<Text, Memory>
     ensures { IfOk result (λ text. text ≡ spelled stem.now identity.now) }
 {
-    let mut out = Vec::from_slice(alloc, stem)?;
+    let mut out = Vec::with_capacity(alloc, ROOM)?;
+    out.extend_from_slice(stem)?;
     write_pair(&mut out, b'/', identity.key(), b'/')?;
     write_pairs(&mut out, b'/', identity.qualifiers(), b'/')?;
     write_query(&mut out, identity.attributes())?;
