@@ -15,9 +15,6 @@ const ESCAPED: AsciiSet = percent_encoding::ascii_set!(
     NON_ALPHANUMERIC.remove(b'-').remove(b'.').remove(b'_')
 );
 
-/// The bytes that are taken for a link at first, which hold a usual one. A longer link takes more.
-const ROOM: usize = 128;
-
 /// Appends the value with its escapes.
 fn write_value(out: &mut Vec<u8>, value: &[u8]) -> Result<(), Memory>
     ensures { IfOk result (λ _. out.new.items ≡ out.old.items ++ percent_encoded value.now) }
