@@ -11,6 +11,7 @@ use gs_ai::{AiTable, ElementFault, ElementWhy, Pair, ValueFault};
 use gs_chars::{Memory, Text};
 use percent_encoding::percent_decode;
 use std::alloc::Global;
+use std::borrow::CowSlice;
 
 /// The zeros that a GTIN of 8 digits lacks.
 const ZEROS: &[u8] = b"000000";
@@ -30,23 +31,24 @@ fn is_short_gtin(text: &[u8]) -> bool
 }
 
 /// The text without its escapes.
-fn decoded(alloc: Global, text: &[u8]) -> Result<Vec<u8>, Memory>
-    ensures { IfOk result (λ out. out.items ≡ percent_decode text.now) }
+fn decoded(alloc: Global, text: &[u8]) -> Result<Text, Memory>
+    ensures { IfOk result (λ out. out ≡ percent_decode text.now) }
 {
-    let mut out = Vec::new(alloc);
-    percent_decode(text).append_to(&mut out)?;
-    Ok(out)
+    match percent_decode(text).into_cow(alloc)? {
+        CowSlice::Borrowed(plain) => Text::from_bytes(alloc, plain),
+        CowSlice::Owned(bytes) => Ok(Text::from_vec(bytes)),
+    }
 }
 
 /// The value with zeros in front up to 14 digits, where it is a short GTIN and its row allows one.
-fn padded(alloc: Global, short: bool, value: Vec<u8>) -> Result<Vec<u8>, Memory>
-    ensures { IfOk result (λ out. out.items ≡ padded short value.items) }
+fn padded(alloc: Global, short: bool, value: Text) -> Result<Text, Memory>
+    ensures { IfOk result (λ out. out ≡ padded short value) }
 {
-    if !short || !is_short_gtin(value.as_slice()) {
+    if !short || !is_short_gtin(value.as_bytes()) {
         return Ok(value);
     }
-    let mut out = Vec::from_slice(alloc, &ZEROS[..14 - value.len()])?;
-    out.extend_from_slice(value.as_slice())?;
+    let mut out = Text::from_bytes(alloc, &ZEROS[..14 - value.as_bytes().len()])?;
+    out.extend_from_slice(value.as_bytes())?;
     Ok(out)
 }
 
@@ -76,10 +78,10 @@ pub(crate) fn read_pair(
     }
     let value = decoded(alloc, written.value)?;
     let value = padded(alloc, row.short, value)?;
-    match table.value_ok(written.code, value.as_slice()) {
+    match table.value_ok(written.code, value.as_bytes()) {
         Ok(()) => Ok(Pair {
             code: Text::from_bytes(alloc, written.code)?,
-            value: Text::from_vec(value),
+            value,
         }),
         Err(fault) => Err(fault_of(written, ElementWhy::Value(fault))),
     }

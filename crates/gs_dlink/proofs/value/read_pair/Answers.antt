@@ -14,11 +14,11 @@ returns-then-not-are_escapes c =
 pub returns-in-Err : goal.returns-in-Err
 returns-in-Err c =
     rw c.fault_of-in-Err.ensures
-    (inr (value_refused c.args.table.now (written_of c.args.written.now) c.in-Some.row.now c.in_ok-value-2.value.items c.in-Err.fault c.in-Some.ensures.row (sym c.are_escapes.ensures ∙ c.if-not-are_escapes.false)
-    (rw c.in_ok-value.ensures at c.in_ok-value-2.ensures) (rw c.as_slice.ensures.value at c.in-Err.ensures.fault)))
+    (inr (value_refused c.args.table.now (written_of c.args.written.now) c.in-Some.row.now c.in_ok-value-2.value c.in-Err.fault c.in-Some.ensures.row (sym c.are_escapes.ensures ∙ c.if-not-are_escapes.false)
+    (rw c.in_ok-value.ensures at c.in_ok-value-2.ensures) (rw c.as_bytes.ensures at c.in-Err.ensures.fault)))
 
 pub returns-in_ok-from_bytes-in-Ok : goal.returns-in_ok-from_bytes-in-Ok
 returns-in_ok-from_bytes-in-Ok c =
-    rw (c.in_ok-from_bytes-in-Ok.ensures, c.from_vec.ensures)
-    (inr (value_taken c.args.table.now (written_of c.args.written.now) c.in-Some.row.now c.in_ok-value-2.value.items c.in-Some.ensures.row (sym c.are_escapes.ensures ∙ c.if-not-are_escapes.false)
-    (rw c.in_ok-value.ensures at c.in_ok-value-2.ensures) (rw c.as_slice.ensures.value at c.in-Ok.ensures.ok)))
+    rw (c.in_ok-from_bytes-in-Ok.ensures)
+    (inr (value_taken c.args.table.now (written_of c.args.written.now) c.in-Some.row.now c.in_ok-value-2.value c.in-Some.ensures.row (sym c.are_escapes.ensures ∙ c.if-not-are_escapes.false)
+    (rw c.in_ok-value.ensures at c.in_ok-value-2.ensures) (rw c.as_bytes.ensures at c.in-Ok.ensures.ok)))
