@@ -70,15 +70,16 @@ pub(crate) fn read_pair(
 ) -> Result<Pair, LinkFault>
     ensures { OrMemory result (pair_answer table.now (written_of written.now)) }
 {
-    let Some(row) = table.row_with(written.code) else {
+    let Some(place) = table.find(written.code) else {
         return Err(fault_of(written, ElementWhy::Value(ValueFault::Unknown)));
     };
+    let row = &table.rows()[place];
     if !are_escapes(written.value) {
         return Err(fault_of(written, ElementWhy::Escape));
     }
     let value = decoded(alloc, written.value)?;
     let value = padded(alloc, row.short, value)?;
-    match table.value_ok(written.code, value.as_bytes()) {
+    match table.row_value_ok(place, value.as_bytes()) {
         Ok(()) => Ok(Pair {
             code: Text::from_bytes(alloc, written.code)?,
             value,
