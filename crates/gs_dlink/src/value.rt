@@ -2,8 +2,9 @@ ghost use Rattle.std.specs.Prelude.{◌≡◌, IfOk};
 ghost use Rattle.gs_dlink.specs.Answers.{OrMemory};
 ghost use Rattle.gs_chars.specs.Characters.{are_digits};
 ghost use Rattle.percent_encoding.specs.Percent.{percent_decode};
-ghost use Rattle.gs_dlink.specs.Values.{is_short_gtin, padded, pair_answer, written_of};
+ghost use Rattle.gs_dlink.specs.Values.{is_short_gtin, padded, pair_answer, unescaped, written_of};
 
+use crate::cuts::place_of;
 use crate::escapes::are_escapes;
 use crate::fault::LinkFault;
 use crate::written::WrittenPair;
@@ -11,7 +12,6 @@ use gs_ai::{AiTable, ElementFault, ElementWhy, Pair, ValueFault};
 use gs_chars::{Memory, Text};
 use percent_encoding::percent_decode;
 use std::alloc::Global;
-use std::borrow::CowSlice;
 
 /// The zeros that a GTIN of 8 digits lacks.
 const ZEROS: &[u8] = b"000000";
@@ -34,10 +34,22 @@ fn is_short_gtin(text: &[u8]) -> bool
 fn decoded(alloc: Global, text: &[u8]) -> Result<Text, Memory>
     ensures { IfOk result (λ out. out ≡ percent_decode text.now) }
 {
-    match percent_decode(text).into_cow(alloc)? {
-        CowSlice::Borrowed(plain) => Text::from_bytes(alloc, plain),
-        CowSlice::Owned(bytes) => Ok(Text::from_vec(bytes)),
+    let mut out = Vec::with_capacity(alloc, text.len())?;
+    percent_decode(text).append_to(&mut out)?;
+    Ok(Text::from_vec(out))
+}
+
+/// The value that the text spells. `None` comes exactly where a percent sign begins no escape.
+fn unescaped(alloc: Global, text: &[u8]) -> Result<Option<Text>, Memory>
+    ensures { IfOk result (λ value. value ≡ unescaped text.now) }
+{
+    if place_of(text, b'%') == text.len() {
+        return Ok(Some(Text::from_bytes(alloc, text)?));
     }
+    if !are_escapes(text) {
+        return Ok(None);
+    }
+    Ok(Some(decoded(alloc, text)?))
 }
 
 /// The value with zeros in front up to 14 digits, where it is a short GTIN and its row allows one.
@@ -74,10 +86,9 @@ pub(crate) fn read_pair(
         return Err(fault_of(written, ElementWhy::Value(ValueFault::Unknown)));
     };
     let row = &table.rows()[place];
-    if !are_escapes(written.value) {
+    let Some(value) = unescaped(alloc, written.value)? else {
         return Err(fault_of(written, ElementWhy::Escape));
-    }
-    let value = decoded(alloc, written.value)?;
+    };
     let value = padded(alloc, row.short, value)?;
     match table.row_value_ok(place, value.as_bytes()) {
         Ok(()) => Ok(Pair {
