@@ -1,23 +1,35 @@
 -- The answer to a pair, and to pairs, by what was found of them.
-use Rattle.std.proofs.Common.{◌≡◌, ◌≢◌, ℕ, zero, suc, ◌+◌, ◌<◌, ◌≤◌, true, false, List, [], ◌∷◌, ◌++◌, length, map, take, find, slice_get, get_or, Option, Some, None, option_map, All, refl, sym, ap, ◌∙◌, inl, inr, arith}
+use Rattle.std.proofs.Common.{◌≡◌, ◌≢◌, ℕ, zero, suc, ◌+◌, ◌<◌, ◌≤◌, true, false, List, [], ◌∷◌, ◌++◌, length, map, take, find, position, slice_get, get_or, Option, Some, None, option_map, All, refl, sym, ap, ◌∙◌, inl, inr, arith}
 use Rattle.std.specs.Prelude.{Result, Ok, Err}
 use Rattle.std.proofs.lemmas.List.{map-append}
 use Rattle.std.proofs.lemmas.List.Elements.{All-cons, All-nil}
 use Rattle.percent_encoding.specs.Percent.{percent_decode}
-use Rattle.gs_chars.proofs.TruthsAndLists.{true_or_false}
+use Rattle.gs_chars.proofs.TruthsAndLists.{equal_bytes, read_at, true_or_false}
 use Rattle.gs_ai.specs.declared.faults.ElementWhy.TheVariants.{Value, Escape}
 use Rattle.gs_ai.specs.declared.faults.ValueFault.{ValueFault}
 use Rattle.gs_ai.specs.declared.faults.ValueFault.TheVariants.{Unknown}
 use Rattle.gs_ai.specs.declared.pair.Pair.{Pair}
 use Rattle.gs_ai.specs.declared.row.AiRow.{AiRow}
-use Rattle.gs_ai.specs.Values.{has_code, value_fault}
+use Rattle.gs_ai.specs.Values.{has_code, row_fault, value_fault}
+use Rattle.gs_ai.proofs.Searches.{find_read}
 use Rattle.gs_ident.specs.Identities.{IsInOrder}
+use Rattle.gs_ident.proofs.PairLemmas.{found_passes}
 use Rattle.gs_dlink.specs.declared.fault.LinkFault.{LinkFault}
 use Rattle.gs_dlink.specs.declared.fault.LinkFault.TheVariants.{Element, Memory}
 use Rattle.gs_dlink.specs.Answers.{OrMemory, fault_in, then_pairs, written_answer}
 use Rattle.gs_dlink.specs.Uris.{Written}
 use Rattle.gs_dlink.proofs.CutLemmas.{take_all}
 use Rattle.gs_dlink.specs.Values.{are_escapes, by_row, by_value, padded, pair_answer, value_of}
+
+-- the row at the place of a code, which judges a value as the code does
+module _ (table : List AiRow) (code : List ℕ) (i : ℕ) (row : AiRow) (place : Some i ≡ position (has_code code) table) (low : i < length table) (read : row ≡ get_or table i row) where
+  pub row_found : Some row ≡ find (has_code code) table
+  row_found = sym (find_read (has_code code) table i row (sym place) read)
+
+  pub same_fault : (value : List ℕ) → row_fault table i value ≡ value_fault table code value
+  same_fault value =
+      let own : code ≡ row.code = equal_bytes code row.code (found_passes (has_code code) table row (sym row_found)) in
+      rw (read_at table i row low read, own) refl
 
 module _ (table : List AiRow) (pair : Written) where
   pub unknown : None ≡ find (has_code pair.code) table → Err (Element (record { at = pair.at; why = Value Unknown })) ≡ pair_answer table pair

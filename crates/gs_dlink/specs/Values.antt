@@ -30,6 +30,10 @@ abbrev pub are_escapes : List ℕ → Bool
 are_escapes [] = true
 are_escapes (c ∷ text) = (not (c == 37) || begins_hex text) && are_escapes text
 
+-- what a text with escapes spells, where each percent sign begins one
+abbrev pub unescaped : List ℕ → Option (List ℕ)
+unescaped text = if are_escapes text then Some (percent_decode text) else None
+
 -- a GTIN of 8, 12 or 13 digits
 abbrev pub is_short_gtin : List ℕ → Bool
 is_short_gtin value = ((length value == 8) || (length value == 12) || (length value == 13)) && are_digits value

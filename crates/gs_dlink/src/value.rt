@@ -2,8 +2,9 @@ ghost use Rattle.std.specs.Prelude.{◌≡◌, IfOk};
 ghost use Rattle.gs_dlink.specs.Answers.{OrMemory};
 ghost use Rattle.gs_chars.specs.Characters.{are_digits};
 ghost use Rattle.percent_encoding.specs.Percent.{percent_decode};
-ghost use Rattle.gs_dlink.specs.Values.{is_short_gtin, padded, pair_answer, written_of};
+ghost use Rattle.gs_dlink.specs.Values.{is_short_gtin, padded, pair_answer, unescaped, written_of};
 
+use crate::cuts::place_of;
 use crate::escapes::are_escapes;
 use crate::fault::LinkFault;
 use crate::written::WrittenPair;
@@ -30,23 +31,36 @@ fn is_short_gtin(text: &[u8]) -> bool
 }
 
 /// The text without its escapes.
-fn decoded(alloc: Global, text: &[u8]) -> Result<Vec<u8>, Memory>
-    ensures { IfOk result (λ out. out.items ≡ percent_decode text.now) }
+fn decoded(alloc: Global, text: &[u8]) -> Result<Text, Memory>
+    ensures { IfOk result (λ out. out ≡ percent_decode text.now) }
 {
-    let mut out = Vec::new(alloc);
+    let mut out = Vec::with_capacity(alloc, text.len())?;
     percent_decode(text).append_to(&mut out)?;
-    Ok(out)
+    Ok(Text::from_vec(out))
+}
+
+/// The value that the text spells. `None` comes exactly where a percent sign begins no escape.
+fn unescaped(alloc: Global, text: &[u8]) -> Result<Option<Text>, Memory>
+    ensures { IfOk result (λ value. value ≡ unescaped text.now) }
+{
+    if place_of(text, b'%') == text.len() {
+        return Ok(Some(Text::from_bytes(alloc, text)?));
+    }
+    if !are_escapes(text) {
+        return Ok(None);
+    }
+    Ok(Some(decoded(alloc, text)?))
 }
 
 /// The value with zeros in front up to 14 digits, where it is a short GTIN and its row allows one.
-fn padded(alloc: Global, short: bool, value: Vec<u8>) -> Result<Vec<u8>, Memory>
-    ensures { IfOk result (λ out. out.items ≡ padded short value.items) }
+fn padded(alloc: Global, short: bool, value: Text) -> Result<Text, Memory>
+    ensures { IfOk result (λ out. out ≡ padded short value) }
 {
-    if !short || !is_short_gtin(value.as_slice()) {
+    if !short || !is_short_gtin(value.as_bytes()) {
         return Ok(value);
     }
-    let mut out = Vec::from_slice(alloc, &ZEROS[..14 - value.len()])?;
-    out.extend_from_slice(value.as_slice())?;
+    let mut out = Text::from_bytes(alloc, &ZEROS[..14 - value.as_bytes().len()])?;
+    out.extend_from_slice(value.as_bytes())?;
     Ok(out)
 }
 
@@ -68,18 +82,18 @@ pub(crate) fn read_pair(
 ) -> Result<Pair, LinkFault>
     ensures { OrMemory result (pair_answer table.now (written_of written.now)) }
 {
-    let Some(row) = table.row_with(written.code) else {
+    let Some(place) = table.find(written.code) else {
         return Err(fault_of(written, ElementWhy::Value(ValueFault::Unknown)));
     };
-    if !are_escapes(written.value) {
+    let row = &table.rows()[place];
+    let Some(value) = unescaped(alloc, written.value)? else {
         return Err(fault_of(written, ElementWhy::Escape));
-    }
-    let value = decoded(alloc, written.value)?;
+    };
     let value = padded(alloc, row.short, value)?;
-    match table.value_ok(written.code, value.as_slice()) {
+    match table.row_value_ok(place, value.as_bytes()) {
         Ok(()) => Ok(Pair {
             code: Text::from_bytes(alloc, written.code)?,
-            value: Text::from_vec(value),
+            value,
         }),
         Err(fault) => Err(fault_of(written, ElementWhy::Value(fault))),
     }

@@ -4,7 +4,7 @@ ghost use Rattle.std.specs.Option.{option_map};
 ghost use Rattle.gs_chars.specs.Characters.{is_digit};
 ghost use Rattle.gs_element.specs.Bracketed.{closed_code, code_front, is_cut, value_before, written_character, written_value};
 
-use gs_chars::Memory;
+use gs_chars::{Memory, Text};
 
 /// The code and what follows its closing bracket, which is the first character of what is behind the code.
 fn closed_code<'a>(code: &'a [u8], behind: &'a [u8]) -> Option<(&'a [u8], &'a [u8])>
@@ -67,8 +67,8 @@ fn next_character(text: &[u8]) -> Option<Next<'_>>
 }
 
 /// Appends the value up to the next opening bracket that has no backslash before it, or the end, and answers what is left.
-pub fn read_value<'a>(text: &'a [u8], value: &mut Vec<u8>) -> Result<&'a [u8], Memory>
-    ensures value { IfOk result (λ _. value.new.items ≡ value.old.items ++ value_before text.now) }
+pub fn read_value<'a>(text: &'a [u8], value: &mut Text) -> Result<&'a [u8], Memory>
+    ensures value { IfOk result (λ _. value.new ≡ value.old ++ value_before text.now) }
     ensures rest { IfOk result (λ rest. text.now ≡ written_value (value_before text.now) ++ rest.now) }
     ensures cut { IfOk result (λ rest. is_cut rest.now ≡ true) }
 {

@@ -36,12 +36,12 @@ pub fn read_bracketed(
         let Some((code, after)) = code_front(rest) else {
             return Err(fault_at(at, ElementWhy::Bracket));
         };
-        let mut value = Vec::new(alloc);
+        let mut value = Text::new(alloc);
         let behind = read_value(after, &mut value)?;
-        if let Err(fault) = table.value_ok(code, value.as_slice()) {
+        if let Err(fault) = table.value_ok(code, value.as_bytes()) {
             return Err(fault_at(at + 1, ElementWhy::Value(fault)));
         }
-        push_pair(alloc, &mut pairs, code, Text::from_vec(value))?;
+        push_pair(alloc, &mut pairs, code, value)?;
         rest = behind;
     }
     Ok(pairs)

@@ -36,7 +36,7 @@ fn filter_text(alloc: Global, level: LevelName, filter: Option<u8>) -> Result<Te
     ensures { IfOk result (λ text. text ≡ filter_text level filter) }
 {
     match level {
-        LevelName::Pure => Ok(Text::from_vec(Vec::new(alloc))),
+        LevelName::Pure => Ok(Text::new(alloc)),
         LevelName::Tag => filter_digit(alloc, filter),
         LevelName::Binary => filter_digit(alloc, filter),
     }

@@ -40,7 +40,7 @@ fn take_value(alloc: Global, field: Field, fields: &[Option<Field>], values: &mu
     ensures value { result ≡ value_of field fields.now values.old }
     ensures others { KeepsOthers field fields.now values.old values.new }
 {
-    let empty = Text::from_vec(Vec::new(alloc));
+    let empty = Text::new(alloc);
     match place_of(field, fields) {
         Some(place) if place < values.len() => mem::replace(&mut values[place], empty),
         _ => empty,

@@ -33,10 +33,9 @@ fn tail_of_key<'a>(at: &SerialAt, serial: &'a Text) -> &'a [u8]
 }
 
 /// Appends the digits of the key: the lead digits of the rest, the prefix, and the other digits of the rest.
-fn push_digits(value: &mut Vec<u8>, lead: u8, prefix: &[u8], rest: &[u8]) -> Result<(), Memory>
+fn push_digits(value: &mut Text, lead: u8, prefix: &[u8], rest: &[u8]) -> Result<(), Memory>
     requires { lead ≤ length rest.now }
-    ensures { IfOk result (λ _. value.new.items
-        ≡ value.old.items ++ key_digits lead prefix.now rest.now) }
+    ensures { IfOk result (λ _. value.new ≡ value.old ++ key_digits lead prefix.now rest.now) }
 {
     let (first, others) = rest.split_at(usize::from(lead));
     value.extend_from_slice(first)?;
@@ -46,14 +45,13 @@ fn push_digits(value: &mut Vec<u8>, lead: u8, prefix: &[u8], rest: &[u8]) -> Res
 }
 
 /// Appends the digits of the key and their check digit.
-fn push_checked(value: &mut Vec<u8>, lead: u8, prefix: &[u8], rest: &[u8]) -> Result<(), Memory>
+fn push_checked(value: &mut Text, lead: u8, prefix: &[u8], rest: &[u8]) -> Result<(), Memory>
     requires { AreKeyDigits lead prefix.now rest.now }
-    ensures { IfOk result (λ _. value.new.items
-        ≡ value.old.items ++ with_check (key_digits lead prefix.now rest.now)) }
+    ensures { IfOk result (λ _. value.new ≡ value.old ++ with_check (key_digits lead prefix.now rest.now)) }
 {
-    let start = value.len();
+    let start = value.as_bytes().len();
     push_digits(value, lead, prefix, rest)?;
-    let check = check_digit(&value.as_slice()[start..]);
+    let check = check_digit(&value.as_bytes()[start..]);
     value.push(check)?;
     Ok(())
 }
@@ -66,9 +64,7 @@ fn digits_value(alloc: Global, parts: &[Part], kind: &Kind, epc: &Epc) -> Result
         ++ tail_of_key kind.now.serial epc.now.serial) }
 {
     let tail = tail_of_key(&kind.serial, &epc.serial);
-    // a zero, at most 18 digits and their check digit
-    let mut value = Vec::with_capacity(alloc, 20 + tail.len())?;
-    value.extend_from_slice(zero_in_front(parts))?;
+    let mut value = Text::from_bytes(alloc, zero_in_front(parts))?;
     push_checked(
         &mut value,
         kind.lead,
@@ -76,17 +72,16 @@ fn digits_value(alloc: Global, parts: &[Part], kind: &Kind, epc: &Epc) -> Result
         epc.rest.as_bytes(),
     )?;
     value.extend_from_slice(tail)?;
-    Ok(Text::from_vec(value))
+    Ok(value)
 }
 
 /// The value of a key of characters: the prefix and the rest, as they are.
 fn characters_value(alloc: Global, prefix: &[u8], rest: &[u8]) -> Result<Text, Memory>
     ensures { IfOk result (λ value. value ≡ prefix.now ++ rest.now) }
 {
-    let mut value = Vec::with_capacity(alloc, prefix.len() + rest.len())?;
-    value.extend_from_slice(prefix)?;
+    let mut value = Text::from_bytes(alloc, prefix)?;
     value.extend_from_slice(rest)?;
-    Ok(Text::from_vec(value))
+    Ok(value)
 }
 
 /// The value of the key, by the parts of its row.

@@ -81,10 +81,9 @@ fn prefix_in<'a>(parts: &[Part], lead: u8, gcp: u8, value: &'a [u8]) -> &'a [u8]
 fn joined(alloc: Global, first: &[u8], others: &[u8]) -> Result<Text, Memory>
     ensures { IfOk result (λ text. text ≡ first.now ++ others.now) }
 {
-    let mut text = Vec::with_capacity(alloc, first.len() + others.len())?;
-    text.extend_from_slice(first)?;
+    let mut text = Text::from_bytes(alloc, first)?;
     text.extend_from_slice(others)?;
-    Ok(Text::from_vec(text))
+    Ok(text)
 }
 
 /// What follows the company prefix, with the lead digits in front.
@@ -190,7 +189,7 @@ pub fn fields_of(
     let value = identity.key().value.as_bytes();
     Ok(Epc {
         kind,
-        encoding: Text::from_vec(Vec::new(alloc)),
+        encoding: Text::new(alloc),
         filter: None,
         gcp,
         prefix: Text::from_bytes(alloc, prefix_in(parts, row.lead, gcp, value))?,

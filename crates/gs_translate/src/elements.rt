@@ -24,7 +24,7 @@ fn meaning_of_pairs(alloc: Global, set: &TableSet, pairs: Vec<Pair>) -> Result<M
             identity,
             gcp: None,
             filter: None,
-            encoding: Text::from_vec(Vec::new(alloc)),
+            encoding: Text::new(alloc),
         }),
         Err(IdentFault::Memory) => Err(Reason::Memory),
         Err(fault) => Err(Reason::Ident(fault)),

@@ -4,7 +4,7 @@ use Rattle.gs_element.proofs.behind.read_value.Given as goal
 
 -- the characters so far, and the value of what is left
 abbrev pub invariant-loop-next : goal.invariant-loop-next
-invariant-loop-next l = (done : List ℕ) × (l.value.items ≡ l.fn.value.items ++ done) × (value_before l.text ≡ done ++ value_before l.rest) × (l.text ≡ written_value done ++ l.rest)
+invariant-loop-next l = (done : List ℕ) × (l.value ≡ l.fn.value ++ done) × (value_before l.text ≡ done ++ value_before l.rest) × (l.text ≡ written_value done ++ l.rest)
 
 abbrev pub decreases-loop-next : goal.decreases-loop-next
 decreases-loop-next l = length l.rest

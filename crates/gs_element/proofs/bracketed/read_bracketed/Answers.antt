@@ -27,15 +27,15 @@ returns-in-Err-clause-refused c =
     let rows = c.args.table.now in
     let told = bracketed_told rows c.rows.ensures.kept in
     let some = not_empty c.loop-rest.rest.now c.loop-rest-test.ensures in
-    let value = c.as_slice.ensures.value ∙ (rw c.new-value.ensures.items at c.in_ok-behind.ensures.value) in
-    let own = no_value rows c.loop-rest.rest.now c.in-Some.code.now c.in-Some.after.now c.as_slice.result.now c.in-Err.fault some c.in-Some.ensures value c.in-Err.ensures.fault in
+    let value = c.as_bytes.ensures ∙ (rw c.new-value.ensures at c.in_ok-behind.ensures.value) in
+    let own = no_value rows c.loop-rest.rest.now c.in-Some.code.now c.in-Some.after.now c.as_bytes.result.now c.in-Err.fault some c.in-Some.ensures value c.in-Err.ensures.fault in
     rw c.fault_at-in-Err.ensures (first_fault (IsBracketedElement rows) (bracketed_fault rows) told c.args.text.now c.args.text.now c.loop-rest.pairs.items c.loop-rest.rest.now (record { at = 1; why = Value c.in-Err.fault }) _ (omega arith) own (omega arith) refl c.loop-rest.invariant.joined c.loop-rest.invariant.reaches)
 
 pub loop-rest-smaller : goal.loop-rest-smaller
 loop-rest-smaller c =
     let rows = c.args.table.now in
     let kept = c.rows.ensures.kept in
-    let value = c.as_slice.ensures.value ∙ (rw c.new-value.ensures.items at c.in_ok-behind.ensures.value) in
+    let value = c.as_bytes.ensures ∙ (rw c.new-value.ensures at c.in_ok-behind.ensures.value) in
     let fits = rw value at c.in_default-value_ok.ensures.ok in
     let pair : Pair = record { code = c.in-Some.code.now; value = value_before c.in-Some.after.now } in
     let element = cut_is rows kept c.loop-rest.rest.now c.in-Some.code.now (value_before c.in-Some.after.now) c.in-Some.after.now c.in_ok-behind.behind.now (sym c.in-Some.ensures) fits c.in_ok-behind.ensures.rest c.in_ok-behind.ensures.cut in
@@ -45,13 +45,13 @@ pub loop-rest-preserved : goal.loop-rest-preserved
 loop-rest-preserved c =
     let rows = c.args.table.now in
     let kept = c.rows.ensures.kept in
-    let items = rw c.new-value.ensures.items at c.in_ok-behind.ensures.value in
-    let fits = rw (c.as_slice.ensures.value ∙ items) at c.in_default-value_ok.ensures.ok in
+    let items = rw c.new-value.ensures at c.in_ok-behind.ensures.value in
+    let fits = rw (c.as_bytes.ensures ∙ items) at c.in_default-value_ok.ensures.ok in
     let pair : Pair = record { code = c.in-Some.code.now; value = value_before c.in-Some.after.now } in
     let element = cut_is rows kept c.loop-rest.rest.now c.in-Some.code.now (value_before c.in-Some.after.now) c.in-Some.after.now c.in_ok-behind.behind.now (sym c.in-Some.ensures) fits c.in_ok-behind.ensures.rest c.in_ok-behind.ensures.cut in
     let greedy = greedy_told rows kept pair c.loop-rest.rest.now c.in_ok-behind.behind.now element in
     let read = next_read (IsBracketedElement rows) (bracketed_fault rows) (bracketed_told rows kept) c.args.text.now c.loop-rest.pairs.items pair c.loop-rest.rest.now c.in_ok-behind.behind.now element greedy c.loop-rest.invariant.joined c.loop-rest.invariant.reaches in
-    let pushed = rw (c.from_vec.ensures ∙ items) at c.in_ok-push_pair.ensures in
+    let pushed = rw items at c.in_ok-push_pair.ensures in
     rw pushed (record { joined = read.joined; reaches = read.reaches })
 
 pub returns-clause-in_order : goal.returns-clause-in_order

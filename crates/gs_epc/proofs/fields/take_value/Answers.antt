@@ -10,7 +10,7 @@ pub returns-in-Some-clause-others : goal.returns-in-Some-clause-others
 returns-in-Some-clause-others c = others_kept _ _ _ _ _ c.in-Some.ensures
 
 pub returns-in_default-clause-value : goal.returns-in_default-clause-value
-returns-in_default-clause-value c = c.from_vec-empty.ensures ∙ c.new.ensures.items ∙ no_value _ _ _ _ c.in-Some.ensures c.if-place-values.false
+returns-in_default-clause-value c = c.new-empty.ensures ∙ no_value _ _ _ _ c.in-Some.ensures c.if-place-values.false
 
 pub returns-in_default-2-clause-value : goal.returns-in_default-2-clause-value
-returns-in_default-2-clause-value c = c.from_vec-empty.ensures ∙ c.new.ensures.items ∙ no_item _ _ _ c.in_default.ensures
+returns-in_default-2-clause-value c = c.new-empty.ensures ∙ no_item _ _ _ c.in_default.ensures
