@@ -2,7 +2,7 @@ ghost use Rattle.std.specs.Prelude.{◌≡◌, ◌↔◌, ◌==◌, ◌&&◌, �
 ghost use Rattle.gs_chars.specs.Characters.{are_digits};
 ghost use Rattle.gs_grammar.specs.Items.{IsItem};
 ghost use Rattle.gs_grammar.specs.Words.{IsWord, SpellsEach, Word, WritesNumber, number_of_word};
-ghost use Rattle.gs_grammar.specs.declared.item.Item.TheVariants.{Esc, Num, NumPad};
+ghost use Rattle.gs_grammar.specs.declared.item.Item.TheVariants.{Esc, Lit, Num, NumPad, Pad};
 
 use crate::bit_words::{are_zeros, number_in_bits, packed_count, unpacked};
 use crate::escaped::{read_spelled, spelled_count};
@@ -156,6 +156,29 @@ fn read_escaped(alloc: Global, symbols: &[u8], lo: u8, hi: u8) -> Result<Option<
     Ok(Some(value))
 }
 
+/// The empty value, where the symbols are the literal of an item `Lit`.
+fn read_literal(alloc: Global, symbols: &[u8], literal: &Text) -> Option<Text>
+    ensures found { IfSome result (λ value. Word (Lit literal.now) value symbols.now) }
+    ensures none { IfNone result (IsWord (Lit literal.now) symbols.now → ⊥) }
+{
+    if literal.as_bytes() != symbols {
+        return None;
+    }
+    Some(Text::new(alloc))
+}
+
+/// The digits, where the symbols are a word of the item `Pad`.
+fn read_digits(alloc: Global, symbols: &[u8], n: u8) -> Result<Option<Text>, Memory>
+    ensures found { IfOk result (λ found. IfSome found (λ value. Word (Pad n) value symbols.now)) }
+    ensures none { IfOk result (λ found. IfNone found (IsWord (Pad n) symbols.now → ⊥)) }
+{
+    if !are_n_digits(symbols, usize::from(n)) {
+        return Ok(None);
+    }
+    let text = Text::from_bytes(alloc, symbols)?;
+    Ok(Some(text))
+}
+
 /// The value of the symbols, where they are a word of an item.
 fn read_any(alloc: Global, item: &Item, symbols: &[u8]) -> Result<Option<Text>, Memory>
     requires { IsItem item.now }
@@ -170,13 +193,15 @@ fn read_any(alloc: Global, item: &Item, symbols: &[u8]) -> Result<Option<Text>, 
 }
 
 /// The value of the symbols, where they are a word of the item. `None` comes exactly where they are none. The item keeps its
-/// bounds. The bits of a number and the spellings of characters are gone through once.
+/// bounds. Literals, digits, the bits of a number and the spellings of characters are gone through once.
 pub fn read_word(alloc: Global, item: &Item, symbols: &[u8]) -> Result<Option<Text>, Memory>
     requires { IsItem item.now }
     ensures found { IfOk result (λ found. IfSome found (λ value. Word item.now value symbols.now)) }
     ensures none { IfOk result (λ found. IfNone found (IsWord item.now symbols.now → ⊥)) }
 {
     match item {
+        Item::Lit(literal) => Ok(read_literal(alloc, symbols, literal)),
+        Item::Pad { n } => read_digits(alloc, symbols, *n),
         Item::NumPad { bits, n } => read_padded(alloc, symbols, *bits, *n),
         Item::Num { bits, max } => read_number(alloc, symbols, *bits, *max),
         Item::Esc { lo, hi } => read_escaped(alloc, symbols, *lo, *hi),

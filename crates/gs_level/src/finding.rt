@@ -1,8 +1,8 @@
-ghost use Rattle.std.specs.Prelude.{◌↔◌, ◌≤◌, ◌<◌, ◌+◌, IsTrue, IfOk, length};
+ghost use Rattle.std.specs.Prelude.{◌≡◌, ◌↔◌, ◌≤◌, ◌<◌, ◌+◌, IsTrue, IfOk, false, length};
 ghost use Rattle.gs_level.specs.Guides.{StandsAt, BeginAll};
-ghost use Rattle.gs_level.specs.Finding.{IsFound, NoneFound, NothingFound};
+ghost use Rattle.gs_level.specs.Finding.{IsFound, NoneFound, NoneReads, NothingFound};
 
-use crate::guides::{Group, Probe};
+use crate::guides::Group;
 use crate::level::Level;
 use crate::one::{Scratch, read_items};
 use gs_chars::{List, Memory, Text};
@@ -25,6 +25,15 @@ fn stands_at(symbols: &[u8], place: usize, literal: &[u8]) -> bool
     }
 }
 
+/// Whether the probe of the option of this number stands in the symbols. Where it does not, the option reads nothing of them.
+fn is_probed(level: &Level, option: usize, symbols: &[u8]) -> bool
+    requires { option < length level.now.options }
+    ensures { result ≡ false → NoneReads level.now.options option (option + 1) symbols.now }
+{
+    let probe = &level.probes()[option];
+    stands_at(symbols, probe.place, probe.literal.as_bytes())
+}
+
 /// What the option of this number reads of the symbols.
 fn read_option(
     alloc: Global,
@@ -37,10 +46,6 @@ fn read_option(
     ensures found { IfOk result (λ found. IsFound level.now.options symbols.now found) }
     ensures none { IfOk result (λ found. NoneFound level.now.options option (option + 1) symbols.now found) }
 {
-    let probe = &level.probes()[option];
-    if !stands_at(symbols, probe.place, probe.literal.as_bytes()) {
-        return Ok(None);
-    }
     let machine = &level.machines()[option];
     let items = level.options()[option].items();
     match read_items(alloc, machine, items, symbols, scratch)? {
@@ -67,6 +72,9 @@ fn read_group(
         return Ok(None);
     }
     for option in from..group.end {
+        if !is_probed(level, option, symbols) {
+            continue;
+        }
         if let Some(found) = read_option(alloc, level, option, symbols, scratch)? {
             return Ok(Some(found));
         }

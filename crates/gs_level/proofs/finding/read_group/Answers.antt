@@ -9,6 +9,9 @@ returns-then-not-stands_at-clause-none c =
 pub loop-option-init : goal.loop-option-init
 loop-option-init c = none_so_far _ _ _
 
+pub loop-option-preserved-then-not-is_probed : goal.loop-option-preserved-then-not-is_probed
+loop-option-preserved-then-not-is_probed c = none_more _ _ _ _ _ c.loop-option.invariant (c.is_probed.ensures c.if-not-is_probed.true)
+
 pub loop-option-preserved : goal.loop-option-preserved
 loop-option-preserved c = none_more _ _ _ _ _ c.loop-option.invariant (rw c.in_default.is at c.in_ok-found.ensures.none)
 

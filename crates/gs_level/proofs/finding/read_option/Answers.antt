@@ -1,12 +1,7 @@
 use Rattle.gs_level.specs.OptionMachines.{IsMachineOf}
-use Rattle.gs_level.specs.Guides.{IsProbeOf}
-use Rattle.gs_level.proofs.Fitting.{fits_at, fits_here}
-use Rattle.gs_level.proofs.Readers.{none_by_one, none_by_probe, read_by}
+use Rattle.gs_level.proofs.Fitting.{fits_at}
+use Rattle.gs_level.proofs.Readers.{none_by_one, read_by}
 use Rattle.gs_level.proofs.finding.read_option.Goals as goal
-
-pub returns-then-not-stands_at-clause-none : goal.returns-then-not-stands_at-clause-none
-returns-then-not-stands_at-clause-none c =
-    none_by_probe _ _ _ _ _ _ (fits_here IsProbeOf _ _ _ _ c.probes.ensures c.requires c.index-probes-option.is) (rw c.as_bytes.ensures at c.stands_at.ensures) c.if-not-stands_at.true
 
 pub read_items-requires-clause-rules : goal.read_items-requires-clause-rules
 read_items-requires-clause-rules c = (fits_at IsMachineOf _ _ _ _ _ c.machines.ensures c.requires c.index-machines-option.is (rw c.options.ensures.options at c.index-options-option.is)).rules

@@ -1,0 +1,8 @@
+use Rattle.gs_level.specs.Guides.{IsProbeOf}
+use Rattle.gs_level.proofs.Fitting.{fits_here}
+use Rattle.gs_level.proofs.Readers.{none_by_probe}
+use Rattle.gs_level.proofs.finding.is_probed.Goals as goal
+
+pub returns : goal.returns
+returns c = λ e.
+    none_by_probe _ _ _ _ _ _ (fits_here IsProbeOf _ _ _ _ c.probes.ensures c.requires c.index-probes-option.is) (rw c.as_bytes.ensures at c.stands_at.ensures) e
