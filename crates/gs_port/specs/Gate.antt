@@ -23,9 +23,9 @@ abbrev pub ended_with : MemConnection → ℕ → ℕ → Finished
 ended_with stream reads writes =
     record { read = Some stream.taken; written = Some stream.kept; reads = reads; writes = writes }
 
--- a list of so many places has room for the connections that are finished, that are open and that wait
-abbrev pub HasRoom : {A B : Type 0} → List A → Option MemConnection → List B → ℕ → Type 0
-HasRoom finished current waiting places = length finished + number_open current + length waiting ≤ places
+-- the list of the finished connections has room for the open one and for those that wait
+abbrev pub HasRoom : {A : Type 0} → Vec Finished Global → Option MemConnection → List A → Type 0
+HasRoom finished current waiting = length finished.items + number_open current + length waiting ≤ vec_capacity finished
 
 -- what is left of the open connection
 abbrev pub left_of : MemGate → Option (List ℕ)

@@ -56,7 +56,7 @@ pub struct MemDoor {
 }
 
 impl Model for MemDoor {
-    ghost use Rattle.std.specs.Prelude.{◌<◌, vec_capacity};
+    ghost use Rattle.std.specs.Prelude.{◌<◌};
     ghost use Rattle.gs_port.specs.Gate.{HasRoom, told_inputs};
     ghost use Rattle.gs_port.specs.Memory.{MemGate};
 
@@ -76,7 +76,7 @@ impl Model for MemDoor {
       writes_then = a.writes_then;
     } };
 
-    ghost invariant = { λ a. (0 < a.cut) × HasRoom a.finished.items a.current a.waiting.items (vec_capacity a.finished) };
+    ghost invariant = { λ a. (0 < a.cut) × HasRoom a.finished a.current a.waiting.items };
 }
 
 impl MemDoor {
