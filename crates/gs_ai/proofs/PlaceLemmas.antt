@@ -3,6 +3,7 @@ use Rattle.std.proofs.Common.{◌≡◌, ℕ, zero, suc, ◌+◌, ◌-◌, ◌*�
 use Rattle.std.specs.List.{enumerate_from}
 use Rattle.std.proofs.Math.Seq.{drop-length}
 use Rattle.std.proofs.lemmas.Bool.Decides.{nat_tests}
+use Rattle.std.proofs.lemmas.List.{take_all}
 use borrow.Author.Count.{below_more}
 use Rattle.gs_chars.specs.Characters.{is_digit, are_digits}
 use Rattle.gs_chars.proofs.TruthsAndLists.{true_or_false}
@@ -174,6 +175,16 @@ module _ (rows : List AiRow) (rules : KeepsRules rows) (code : List ℕ) where
         let e : Some row ≡ Some some.0 = sym at ∙ some.1 in
         let same : row ≡ some.0 = cc in
         rw same some.2
+
+    -- the row's code is the code where both are equally long
+    pub code_by_length : length row.code ≡ length code → true ≡ bytes_eq row.code code
+    code_by_length e =
+        let whole : take (length row.code) code ≡ code = take_all (length row.code) code (omega (arith, e)) in
+        let same : row.code ≡ code = begun row.code code front ∙ whole in
+        rw same (sym (same_bytes code))
+
+    pub length_differs : (length row.code ≡ length code → ⊥) → false ≡ bytes_eq row.code code
+    length_differs differs = sym (false_from (bytes_eq row.code code) (λ own. differs (ap length (equal_bytes row.code code own))))
 
     -- no other row has the code
     alone : (j : ℕ) (other : AiRow) → slice_get rows j ≡ Some other → has_code code other ≡ true → j ≡ i

@@ -72,7 +72,8 @@ impl AiTable {
     {
         let rows = self.rows.items();
         let row = self.begins(code)?;
-        if rows[row].code.as_bytes() == code {
+        // The row's code begins the text, so it is the text where both are equally long.
+        if rows[row].code.as_bytes().len() == code.len() {
             Some(row)
         } else {
             None
