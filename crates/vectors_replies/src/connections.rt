@@ -1,4 +1,4 @@
-//! Calls of gs_http over connections in memory. STORE is as in heads.rt, and no description is served.
+//! Calls of gs_http over connections in memory. STORE is as in site.rt, and no description is served.
 //!
 //! - `serve STORE / CUT FAILS BYTES / CUT FAILS`: how serving the input ended, and what was written.
 //! - `cuts STORE BYTES`: the same, where it is the same for reads and writes of 1 byte, of 2, and so on up to all; else `differ`.
@@ -6,37 +6,42 @@
 
 ghost use Rattle.std.specs.Prelude.{◌<◌};
 
-use crate::heads::{linkset_of, settings_of, store_of};
+use crate::site::{Site, site_of};
 use gs_ai::AiTable;
 use gs_chars::{Memory, Text};
-use gs_http::{Served, Settings, serve_one};
-use gs_links::Store;
+use gs_http::{Served, serve_one};
 use gs_port::{MemSink, MemSource, Pair};
 use std::alloc::Global;
-use vector_cases::{Answer, Refusal, add, arg, number, section, shown, sink_of, source_of};
-
-/// What requests are answered from.
-#[derive(Drop)]
-struct Site {
-    store: Store,
-    settings: Settings,
-}
+use vector_cases::{Answer, Refusal, add_shown, arg, number, section, sink_of, source_of};
 
 /// The answer to a call of gs_http over connections.
 pub fn answer(alloc: Global, table: &AiTable, call: &str, args: &[Text]) -> Answer {
-    let store = store_of(alloc, table, linkset_of(arg(args, 0)?))?;
-    let settings = settings_of(alloc, b"-")?;
-    let site = Site { store, settings };
+    let site = site_of(alloc, table, arg(args, 0)?, b"-")?;
+    answer_from(alloc, table, &site, call, args)
+}
+
+/// The answer from this site, which is lent so that it is dropped at one exit.
+fn answer_from(alloc: Global, table: &AiTable, site: &Site, call: &str, args: &[Text]) -> Answer {
     match call {
-        "serve" => {
-            let mut input = source_of(alloc, section(args, 1)?)?;
-            let mut output = sink_of(alloc, section(args, 2)?)?;
-            outcome(alloc, table, &site, &mut input, &mut output)
-        }
-        "cuts" => over_cuts(alloc, table, &site, arg(args, 1)?),
-        "many" => of_many(alloc, table, &site, number(args, 1)?, arg(args, 2)?),
+        "serve" => serve(alloc, table, site, args),
+        "cuts" => cuts(alloc, table, site, args),
+        "many" => many(alloc, table, site, args),
         _ => Err(Refusal::NoCase),
     }
+}
+
+fn serve(alloc: Global, table: &AiTable, site: &Site, args: &[Text]) -> Answer {
+    let mut input = source_of(alloc, section(args, 1)?)?;
+    let mut output = sink_of(alloc, section(args, 2)?)?;
+    outcome(alloc, table, site, &mut input, &mut output)
+}
+
+fn cuts(alloc: Global, table: &AiTable, site: &Site, args: &[Text]) -> Answer {
+    over_cuts(alloc, table, site, arg(args, 1)?)
+}
+
+fn many(alloc: Global, table: &AiTable, site: &Site, args: &[Text]) -> Answer {
+    of_many(alloc, table, site, number(args, 1)?, arg(args, 2)?)
 }
 
 /// How serving ends. Apart from what becomes of it, since it promises much.
@@ -60,7 +65,7 @@ fn outcome(
 ) -> Answer {
     let ended = served(alloc, table, site, input, output);
     let mut answer = format!(in alloc; "{ended:?}")?;
-    add(&mut answer, shown(alloc, output.bytes())?.as_str())?;
+    add_shown(alloc, &mut answer, output.bytes())?;
     Ok(answer)
 }
 
@@ -96,9 +101,13 @@ fn of_many(alloc: Global, table: &AiTable, site: &Site, count: u64, head: &[u8])
     let mut input = MemSource::new(alloc, bytes, 65_536, Vec::new(alloc));
     let mut output = MemSink::new(alloc, 65_536, Vec::new(alloc));
     let ended = served(alloc, table, site, &mut input, &mut output);
-    let written = output.bytes();
+    summary(alloc, ended, output.bytes())
+}
+
+/// How serving ended, how many bytes were written, and the last 64 of these.
+fn summary(alloc: Global, ended: Served, written: &[u8]) -> Answer {
     let last = &written[written.len() - written.len().min(64)..];
     let mut answer = format!(in alloc; "{ended:?} {}", written.len())?;
-    add(&mut answer, shown(alloc, last)?.as_str())?;
+    add_shown(alloc, &mut answer, last)?;
     Ok(answer)
 }

@@ -1,66 +1,31 @@
-//! Calls of gs_http over heads, by the built-in table of application identifiers. `gs1:` stands for https://ref.gs1.org/voc/. STORE is the
-//! name of a linkset that stands in this file, or the text of one.
+//! Calls of gs_http over heads, by the built-in table of application identifiers. STORE is as in site.rt.
 //!
 //! - `reply STORE DESCRIBE LAST HEAD`, with DESCRIBE the resolver description file or `-`, and LAST `last` or `-`: the bytes of
 //!   the reply, and `closes` or `stays`.
 
+use crate::site::{Site, site_of};
 use gs_ai::AiTable;
 use gs_chars::Text;
-use gs_http::{Settings, reply};
-use gs_links::Store;
+use gs_http::{Reply, reply};
 use std::alloc::Global;
-use vector_cases::{Answer, Refusal, add, arg, shown};
-
-/// What `gs1:` stands for.
-const VOC: &[u8] = b"https://ref.gs1.org/voc/";
-
-/// A trade item with a default link and product information, and a lot of it with a link of its own.
-const LOTS: &[u8] =
-    br#"{"linkset":[{"anchor":"https://id.gs1.org/01/09506000134352","gs1:defaultLink":[{"href":"https://example.com/p"}],"gs1:pip":[{"href":"https://example.com/pip"}]},{"anchor":"/01/09506000134352/10/ABC","gs1:defaultLink":[{"href":"https://example.com/lot"}]}]}"#;
-
-/// A place with two links of one relation.
-const PLACE: &[u8] =
-    br#"{"linkset":[{"anchor":"/414/0614141000012","gs1:defaultLink":[{"href":"https://a.example/1"},{"href":"https://a.example/2"}]}]}"#;
-
-/// The linkset of a name, or the text itself.
-pub fn linkset_of(name: &[u8]) -> &[u8] {
-    if name == b"lots".as_slice() {
-        LOTS
-    } else if name == b"place".as_slice() {
-        PLACE
-    } else {
-        name
-    }
-}
-
-/// The store of a linkset.
-pub fn store_of(alloc: Global, table: &AiTable, text: &[u8]) -> Result<Store, Refusal> {
-    let Ok(doc) = gs_linkset::read(alloc, text) else {
-        return Err(Refusal::NoCase);
-    };
-    match Store::load(alloc, table, VOC, doc) {
-        Ok(store) => Ok(store),
-        Err(_) => Err(Refusal::NoCase),
-    }
-}
-
-/// The settings with this description, or with none where it is a hyphen.
-pub fn settings_of(alloc: Global, describe: &[u8]) -> Result<Settings, Refusal> {
-    let voc = Text::from_bytes(alloc, VOC)?;
-    let describe = if describe == b"-".as_slice() {
-        None
-    } else {
-        Some(Text::from_bytes(alloc, describe)?)
-    };
-    Ok(Settings { voc, describe })
-}
+use vector_cases::{Answer, add, arg, shown};
 
 /// The answer to a call of `reply`.
 pub fn replied(alloc: Global, table: &AiTable, args: &[Text]) -> Answer {
-    let store = store_of(alloc, table, linkset_of(arg(args, 0)?))?;
-    let settings = settings_of(alloc, arg(args, 1)?)?;
+    let site = site_of(alloc, table, arg(args, 0)?, arg(args, 1)?)?;
+    replied_from(alloc, table, &site, args)
+}
+
+/// The answer from this site, which is lent so that it is dropped at one exit.
+fn replied_from(alloc: Global, table: &AiTable, site: &Site, args: &[Text]) -> Answer {
     let last = arg(args, 2)? == b"last".as_slice();
-    let reply = reply(alloc, table, &store, &settings, arg(args, 3)?, last)?;
+    let head = arg(args, 3)?;
+    let reply = reply(alloc, table, &site.store, &site.settings, head, last)?;
+    reply_words(alloc, &reply)
+}
+
+/// The bytes of a reply, and whether the connection ends with it.
+fn reply_words(alloc: Global, reply: &Reply) -> Answer {
     let mut answer = shown(alloc, reply.bytes.as_bytes())?;
     add(&mut answer, if reply.close { "closes" } else { "stays" })?;
     Ok(answer)

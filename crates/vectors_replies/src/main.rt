@@ -4,6 +4,7 @@
 
 mod connections;
 mod heads;
+mod site;
 
 use gs_chars::Text;
 use gs_tables::{TableSet, builtin};

@@ -17,15 +17,16 @@ use vector_cases::{Answer, Refusal, arg, behind, number, shown};
 /// The answer to a call that writes or takes apart.
 pub fn answer(alloc: Global, set: &TableSet, call: &str, args: &[Text]) -> Answer {
     match call {
-        "write_hex" | "write_tag" => write_on_tag(alloc, set, call, &epc_of(alloc, set, args)?),
-        "write_pure" => {
-            let written = write_pure(alloc, set, &epc_of(alloc, set, args)?);
-            written_word(alloc, written)
-        }
-        "fields_of" => {
-            let kind = kind_of(set, arg(args, 0)?)?;
-            taken_apart(alloc, set, kind, byte(args, 1)?, behind(args, 2))
-        }
+        "fields_of" => taken_apart(alloc, set, args),
+        _ => write(alloc, set, call, &epc_of(alloc, set, args)?),
+    }
+}
+
+/// What a call writes of an EPC.
+fn write(alloc: Global, set: &TableSet, call: &str, epc: &Epc) -> Answer {
+    match call {
+        "write_pure" => written_word(alloc, write_pure(alloc, set, epc)),
+        "write_hex" | "write_tag" => write_on_tag(alloc, set, call, epc),
         _ => Err(Refusal::NoCase),
     }
 }
@@ -56,16 +57,25 @@ fn filter(args: &[Text], i: usize) -> Result<Option<u8>, Refusal> {
     Ok(Some(byte(args, i)?))
 }
 
+/// The text at a place.
+fn text_at(alloc: Global, args: &[Text], i: usize) -> Result<Text, Refusal> {
+    Ok(Text::from_bytes(alloc, arg(args, i)?)?)
+}
+
 /// The EPC of these words.
 fn epc_of(alloc: Global, set: &TableSet, args: &[Text]) -> Result<Epc, Refusal> {
+    // the numbers first, since each exit behind a text drops it
+    let kind = kind_of(set, arg(args, 0)?)?;
+    let filter = filter(args, 2)?;
+    let gcp = byte(args, 3)?;
     Ok(Epc {
-        kind: kind_of(set, arg(args, 0)?)?,
-        encoding: Text::from_bytes(alloc, arg(args, 1)?)?,
-        filter: filter(args, 2)?,
-        gcp: byte(args, 3)?,
-        prefix: Text::from_bytes(alloc, arg(args, 4)?)?,
-        rest: Text::from_bytes(alloc, arg(args, 5)?)?,
-        serial: Text::from_bytes(alloc, arg(args, 6)?)?,
+        kind,
+        encoding: text_at(alloc, args, 1)?,
+        filter,
+        gcp,
+        prefix: text_at(alloc, args, 4)?,
+        rest: text_at(alloc, args, 5)?,
+        serial: text_at(alloc, args, 6)?,
     })
 }
 
@@ -92,7 +102,10 @@ fn written_word(alloc: Global, written: Result<Text, EpcWriteFault>) -> Answer {
 }
 
 /// The fields of the identity of pairs.
-fn taken_apart(alloc: Global, set: &TableSet, kind: usize, gcp: u8, words: &[Text]) -> Answer {
+fn taken_apart(alloc: Global, set: &TableSet, args: &[Text]) -> Answer {
+    let kind = kind_of(set, arg(args, 0)?)?;
+    let gcp = byte(args, 1)?;
+    let words = behind(args, 2);
     let table = set.ais();
     if let Some(fault) = first_fault(alloc, table, words)? {
         return Ok(fault);

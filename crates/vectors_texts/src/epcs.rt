@@ -11,13 +11,14 @@
 ghost use Rattle.std.specs.Prelude.{IfOk};
 ghost use Rattle.gs_epc.specs.Epcs.{IsOfSet};
 
+use crate::elements::text_word;
 use crate::epc_writing;
 use crate::tables::set_of;
 use gs_chars::Text;
 use gs_epc::{Epc, EpcFault, identity_of, read_hex, read_pure, read_tag};
 use gs_ident::canonical;
 use gs_tables::TableSet;
-use std::alloc::Global;
+use std::alloc::{AllocError, Global};
 use vector_cases::{Answer, Refusal, add, add_shown, arg, shown};
 
 /// The answer to a call of gs_epc.
@@ -52,19 +53,25 @@ pub fn epc_words(alloc: Global, set: &TableSet, epc: &Epc) -> Answer {
         return Err(Refusal::NoCase);
     };
     let mut answer = shown(alloc, kind.name.as_bytes())?;
-    add_shown(alloc, &mut answer, epc.encoding.as_bytes())?;
-    add(&mut answer, numbers_word(alloc, epc)?.as_str())?;
-    add_shown(alloc, &mut answer, epc.prefix.as_bytes())?;
-    add_shown(alloc, &mut answer, epc.rest.as_bytes())?;
-    add_shown(alloc, &mut answer, epc.serial.as_bytes())?;
+    add_fields(alloc, &mut answer, epc)?;
     Ok(answer)
 }
 
-/// The filter value and the prefix length.
-fn numbers_word(alloc: Global, epc: &Epc) -> Answer {
+/// Appends what an EPC says beside its kind.
+fn add_fields(alloc: Global, answer: &mut String, epc: &Epc) -> Result<(), AllocError> {
+    add_shown(alloc, answer, epc.encoding.as_bytes())?;
+    add_numbers(alloc, answer, epc)?;
+    add_shown(alloc, answer, epc.prefix.as_bytes())?;
+    add_shown(alloc, answer, epc.rest.as_bytes())?;
+    add_shown(alloc, answer, epc.serial.as_bytes())
+}
+
+/// Appends the filter value and the prefix length.
+fn add_numbers(alloc: Global, answer: &mut String, epc: &Epc) -> Result<(), AllocError> {
     let filter = epc.filter;
     let gcp = epc.gcp;
-    Ok(format!(in alloc; "{filter:?} {gcp}")?)
+    let word = format!(in alloc; "{filter:?} {gcp}")?;
+    add(answer, word.as_str())
 }
 
 /// What a text of a form says.
@@ -82,13 +89,17 @@ fn read(alloc: Global, set: &TableSet, form: &[u8], text: &[u8]) -> Result<Epc, 
 
 fn link_of(alloc: Global, set: &TableSet, form: &[u8], text: &[u8]) -> Answer {
     match read(alloc, set, form, text) {
-        Ok(epc) => {
-            let identity = identity_of(alloc, set, &epc)?;
-            let link = canonical(alloc, &identity)?;
-            Ok(shown(alloc, link.as_bytes())?)
-        }
+        Ok(epc) => identity_link(alloc, set, &epc),
         Err(fault) => fault_word(alloc, fault),
     }
+}
+
+/// The canonical link of the identity of an EPC of the set.
+fn identity_link(alloc: Global, set: &TableSet, epc: &Epc) -> Answer
+    requires { IsOfSet set.now epc.now }
+{
+    let identity = identity_of(alloc, set, epc)?;
+    text_word(alloc, canonical(alloc, &identity))
 }
 
 fn by_document(alloc: Global, document: &[u8], form: &[u8], text: &[u8]) -> Answer {

@@ -9,36 +9,48 @@
 //! - `table ROW..`: the number of rows, or the fault. A ROW is `CODE/PART+PART/ROLE/CODE+CODE/SHORT/NONE`, where what stands
 //!   behind the role may be left out and SHORT is `short` or empty.
 
+use crate::identities::pair_of;
 use gs_ai::{AiFault, AiRow, AiTable, Pair, Part, Role, ValueFault};
 use gs_chars::{List, Text};
 use gs_tables::TableSet;
 use std::alloc::Global;
-use vector_cases::{Answer, Refusal, add, arg, shown, shown_all, text_of};
+use std::fmt::Debug;
+use vector_cases::{Answer, Refusal, add, add_shown, arg, shown, shown_all, text_of};
 
 /// The answer to a call of gs_ai.
 pub fn answer(alloc: Global, set: &TableSet, call: &str, args: &[Text]) -> Answer {
     match call {
-        "part" => Ok(format!(in alloc; "{:?}", Part::read(arg(args, 0)?))?),
-        "role" => Ok(format!(in alloc; "{:?}", Role::read(arg(args, 0)?))?),
-        "copy" => copy(alloc, arg(args, 0)?, arg(args, 1)?),
         "table" => table(alloc, args),
-        "row" => row(alloc, set.ais(), arg(args, 0)?),
-        "value_ok" => value_ok(alloc, set.ais(), arg(args, 0)?, arg(args, 1)?),
-        "row_value_ok" => row_value_ok(alloc, set.ais(), arg(args, 0)?, arg(args, 1)?),
-        _ => looked_up(alloc, set.ais(), call, arg(args, 0)?),
+        "copy" => copy(alloc, args),
+        "value_ok" => value_ok(alloc, set.ais(), args),
+        "row_value_ok" => row_value_ok(alloc, set.ais(), args),
+        _ => answer_on(alloc, set.ais(), call, arg(args, 0)?),
     }
 }
 
-fn looked_up(alloc: Global, table: &AiTable, call: &str, text: &[u8]) -> Answer {
+/// The answer to a call on one text.
+fn answer_on(alloc: Global, table: &AiTable, call: &str, text: &[u8]) -> Answer {
     match call {
-        "find" => Ok(format!(in alloc; "{:?}", table.find(text))?),
-        "begins" => Ok(format!(in alloc; "{:?}", table.begins(text))?),
-        "is_key" => Ok(format!(in alloc; "{}", table.is_key(text))?),
-        "predefined" => match table.find(text) {
-            Some(row) => Ok(format!(in alloc; "{:?}", table.predefined(row))?),
-            None => Err(Refusal::NoCase),
-        },
+        "part" => debug_word(alloc, &Part::read(text)),
+        "role" => debug_word(alloc, &Role::read(text)),
+        "row" => row(alloc, table, text),
+        "find" => debug_word(alloc, &table.find(text)),
+        "begins" => debug_word(alloc, &table.begins(text)),
+        "is_key" => debug_word(alloc, &table.is_key(text)),
+        "predefined" => predefined(alloc, table, text),
         _ => Err(Refusal::NoCase),
+    }
+}
+
+/// What is found, in Rust's words.
+fn debug_word<T: Debug>(alloc: Global, found: &T) -> Answer {
+    Ok(format!(in alloc; "{found:?}")?)
+}
+
+fn predefined(alloc: Global, table: &AiTable, code: &[u8]) -> Answer {
+    match table.find(code) {
+        Some(row) => debug_word(alloc, &table.predefined(row)),
+        None => Err(Refusal::NoCase),
     }
 }
 
@@ -49,60 +61,79 @@ fn judgement(alloc: Global, judged: Result<(), ValueFault>) -> Answer {
     }
 }
 
-fn value_ok(alloc: Global, table: &AiTable, code: &[u8], value: &[u8]) -> Answer {
-    judgement(alloc, table.value_ok(code, value))
+fn value_ok(alloc: Global, table: &AiTable, args: &[Text]) -> Answer {
+    judgement(alloc, table.value_ok(arg(args, 0)?, arg(args, 1)?))
 }
 
-fn row_value_ok(alloc: Global, table: &AiTable, code: &[u8], value: &[u8]) -> Answer {
+fn row_value_ok(alloc: Global, table: &AiTable, args: &[Text]) -> Answer {
+    let code = arg(args, 0)?;
+    let value = arg(args, 1)?;
     match table.find(code) {
         Some(row) => judgement(alloc, table.row_value_ok(row, value)),
         None => Err(Refusal::NoCase),
     }
 }
 
+/// A part, as it is written.
+fn part_word(alloc: Global, part: Part) -> Answer {
+    match part {
+        Part::Zero => Ok(String::from_str(alloc, "zero")?),
+        Part::Num(k) => Ok(format!(in alloc; "n{k}")?),
+        Part::NumCheck(k) => Ok(format!(in alloc; "n{k}c")?),
+        Part::NumUpTo(k) => Ok(format!(in alloc; "n..{k}")?),
+        Part::Set(k) => Ok(format!(in alloc; "x..{k}")?),
+        Part::SetOpt(k) => Ok(format!(in alloc; "x..{k}?")?),
+        Part::Date => Ok(String::from_str(alloc, "date")?),
+        Part::Other => Ok(String::from_str(alloc, "other")?),
+    }
+}
+
 /// Appends a part, as it is written.
 fn add_part(alloc: Global, answer: &mut String, part: Part) -> Result<(), Refusal> {
-    let word = match part {
-        Part::Zero => String::from_str(alloc, "zero")?,
-        Part::Num(k) => format!(in alloc; "n{k}")?,
-        Part::NumCheck(k) => format!(in alloc; "n{k}c")?,
-        Part::NumUpTo(k) => format!(in alloc; "n..{k}")?,
-        Part::Set(k) => format!(in alloc; "x..{k}")?,
-        Part::SetOpt(k) => format!(in alloc; "x..{k}?")?,
-        Part::Date => String::from_str(alloc, "date")?,
-        Part::Other => String::from_str(alloc, "other")?,
-    };
+    let word = part_word(alloc, part)?;
     Ok(add(answer, word.as_str())?)
 }
 
 fn row(alloc: Global, table: &AiTable, code: &[u8]) -> Answer {
-    let Some(row) = table.row_with(code) else {
-        return Ok(String::from_str(alloc, "None")?);
-    };
-    let mut answer = String::new(alloc);
-    for part in row.parts.items() {
-        add_part(alloc, &mut answer, *part)?;
+    match table.row_with(code) {
+        Some(row) => row_words(alloc, row),
+        None => Ok(String::from_str(alloc, "None")?),
     }
-    let role = row.role;
-    add(&mut answer, format!(in alloc; "{role:?}")?.as_str())?;
-    let qualifiers = shown_all(alloc, row.qualifiers.items())?;
-    let none = shown(alloc, row.none.as_bytes())?;
-    let short = row.short;
-    add(
-        &mut answer,
-        format!(in alloc; "[{qualifiers}] {short} {none}")?.as_str(),
-    )?;
+}
+
+/// The parts of a row, and then the rest of it.
+fn row_words(alloc: Global, row: &AiRow) -> Answer {
+    let rest = rest_words(alloc, row)?;
+    let mut answer = parts_words(alloc, row.parts.items())?;
+    add(&mut answer, rest.as_str())?;
     Ok(answer)
 }
 
-fn copy(alloc: Global, code: &[u8], value: &[u8]) -> Answer {
-    let pair = Pair {
-        code: Text::from_bytes(alloc, code)?,
-        value: Text::from_bytes(alloc, value)?,
-    };
-    let copy = pair.copy(alloc)?;
-    let mut answer = shown(alloc, copy.code.as_bytes())?;
-    add(&mut answer, shown(alloc, copy.value.as_bytes())?.as_str())?;
+fn parts_words(alloc: Global, parts: &[Part]) -> Answer {
+    let mut answer = String::new(alloc);
+    for part in parts {
+        add_part(alloc, &mut answer, *part)?;
+    }
+    Ok(answer)
+}
+
+/// The role of a row, its qualifiers, whether it is short, and its text for none.
+fn rest_words(alloc: Global, row: &AiRow) -> Answer {
+    let qualifiers = shown_all(alloc, row.qualifiers.items())?;
+    let none = shown(alloc, row.none.as_bytes())?;
+    let role = row.role;
+    let short = row.short;
+    Ok(format!(in alloc; "{role:?} [{qualifiers}] {short} {none}")?)
+}
+
+fn copy(alloc: Global, args: &[Text]) -> Answer {
+    let pair = pair_of(alloc, arg(args, 0)?, arg(args, 1)?)?;
+    pair_words(alloc, &pair.copy(alloc)?)
+}
+
+fn pair_words(alloc: Global, pair: &Pair) -> Answer {
+    let mut answer = shown(alloc, pair.code.as_bytes())?;
+    add_shown(alloc, &mut answer, pair.value.as_bytes())?;
     Ok(answer)
 }
 
@@ -148,14 +179,18 @@ fn row_of(alloc: Global, word: &[u8]) -> Result<AiRow, Refusal> {
     })
 }
 
-fn table(alloc: Global, words: &[Text]) -> Answer {
+fn rows_of(alloc: Global, words: &[Text]) -> Result<Vec<AiRow>, Refusal> {
     let mut rows = Vec::new(alloc);
     for word in words {
         rows.push(row_of(alloc, word.as_bytes())?)?;
     }
-    match AiTable::new(alloc, rows) {
-        Ok(table) => Ok(format!(in alloc; "{}", table.rows().len())?),
+    Ok(rows)
+}
+
+fn table(alloc: Global, words: &[Text]) -> Answer {
+    match AiTable::new(alloc, rows_of(alloc, words)?) {
+        Ok(table) => debug_word(alloc, &table.rows().len()),
         Err(AiFault::Memory) => Err(Refusal::Memory),
-        Err(fault) => Ok(format!(in alloc; "{fault:?}")?),
+        Err(fault) => debug_word(alloc, &fault),
     }
 }

@@ -8,6 +8,7 @@
 ghost use Rattle.std.specs.Prelude.{◌≡◌, All, IfOk};
 ghost use Rattle.gs_ident.specs.Identities.{IsInOrder};
 
+use crate::elements::text_word;
 use gs_ai::{AiTable, Pair};
 use gs_chars::Text;
 use gs_ident::{IdentFault, Identity, canonical, make, spell};
@@ -71,7 +72,7 @@ pub fn first_fault(
 }
 
 /// A pair of these bytes.
-fn pair_of(alloc: Global, code: &[u8], value: &[u8]) -> Result<Pair, Refusal>
+pub fn pair_of(alloc: Global, code: &[u8], value: &[u8]) -> Result<Pair, Refusal>
     ensures { IfOk result (λ pair. (pair.code ≡ code.now) × (pair.value ≡ value.now)) }
 {
     Ok(Pair {
@@ -80,10 +81,12 @@ fn pair_of(alloc: Global, code: &[u8], value: &[u8]) -> Result<Pair, Refusal>
     })
 }
 
-/// A pair that is in order.
-fn checked(alloc: Global, table: &AiTable, code: &[u8], value: &[u8]) -> Result<Pair, Refusal>
+/// The pair of a code and a value, which is in order.
+fn checked(alloc: Global, table: &AiTable, words: &[Text]) -> Result<Pair, Refusal>
     ensures { IfOk result (IsInOrder table.now) }
 {
+    let code = arg(words, 0)?;
+    let value = arg(words, 1)?;
     if table.value_ok(code, value).is_err() {
         return Err(Refusal::NoCase);
     }
@@ -96,7 +99,7 @@ pub fn pairs_of(alloc: Global, table: &AiTable, words: &[Text]) -> Result<Vec<Pa
 {
     let mut pairs = Vec::new(alloc);
     for pair in words.chunks(2) {
-        pairs.push(checked(alloc, table, arg(pair, 0)?, arg(pair, 1)?)?)?;
+        pairs.push(checked(alloc, table, pair)?)?;
     }
     Ok(pairs)
 }
@@ -117,18 +120,21 @@ fn coded(alloc: Global, name: &str, code: &Text) -> Answer {
 }
 
 fn told(alloc: Global, identity: &Identity, asked: Asked<'_>) -> Answer {
-    let link = match asked {
-        Asked::Parts => return parts(alloc, identity),
-        Asked::Canonical => canonical(alloc, identity)?,
-        Asked::Under(stem) => spell(alloc, stem, identity)?,
-        Asked::Prefix(count) => {
-            if count > identity.qualifiers().len() as u64 {
-                return Err(Refusal::NoCase);
-            }
-            canonical(alloc, &identity.prefix(alloc, count as usize)?)?
-        }
-    };
-    Ok(shown(alloc, link.as_bytes())?)
+    match asked {
+        Asked::Parts => parts(alloc, identity),
+        Asked::Canonical => text_word(alloc, canonical(alloc, identity)),
+        Asked::Under(stem) => text_word(alloc, spell(alloc, stem, identity)),
+        Asked::Prefix(count) => prefix_link(alloc, identity, count),
+    }
+}
+
+/// The canonical link of the identity of the key and so many qualifiers.
+fn prefix_link(alloc: Global, identity: &Identity, count: u64) -> Answer {
+    if count > identity.qualifiers().len() as u64 {
+        return Err(Refusal::NoCase);
+    }
+    let prefix = identity.prefix(alloc, count as usize)?;
+    text_word(alloc, canonical(alloc, &prefix))
 }
 
 fn add_pair(alloc: Global, answer: &mut String, pair: &Pair) -> Result<(), Refusal> {

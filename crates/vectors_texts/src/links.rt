@@ -101,9 +101,14 @@ fn asked(alloc: Global, store: &Store, call: &str, identity: &Identity, want: &[
 fn choice_words(alloc: Global, depth: usize, numbers: &[u32]) -> Answer {
     let mut answer = format!(in alloc; "{depth}")?;
     for number in numbers {
-        add(&mut answer, format!(in alloc; "{number}")?.as_str())?;
+        add_number(alloc, &mut answer, *number)?;
     }
     Ok(answer)
+}
+
+fn add_number(alloc: Global, answer: &mut String, number: u32) -> Result<(), Refusal> {
+    let word = format!(in alloc; "{number}")?;
+    Ok(add(answer, word.as_str())?)
 }
 
 fn written(alloc: Global, doc: &LinkDoc) -> Answer {

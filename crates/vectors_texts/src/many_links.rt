@@ -74,14 +74,32 @@ fn is_alone(store: &Store, identity: &Identity, k: usize, times: u64, numbers: &
     true
 }
 
+/// Whether the link K alone is chosen for its anchor, each of so many times.
+fn anchor_is_alone(
+    alloc: Global,
+    table: &AiTable,
+    store: &Store,
+    k: usize,
+    times: u64,
+    numbers: &mut [u32],
+) -> Result<bool, Refusal>
+    requires { length store.now ≤ length numbers.old }
+{
+    let identity = identity(alloc, table, k)?;
+    Ok(is_alone(store, &identity, k, times, numbers))
+}
+
+fn number_word(alloc: Global, number: usize) -> Answer {
+    Ok(format!(in alloc; "{number}")?)
+}
+
 /// The number of links, or of the first that is not chosen alone.
 fn first_other(alloc: Global, table: &AiTable, store: &Store, times: u64) -> Answer {
     let mut numbers = room(alloc, store.len())?;
     for k in 0..store.len() {
-        let identity = identity(alloc, table, k)?;
-        if !is_alone(store, &identity, k, times, numbers.as_mut_slice()) {
-            return Ok(format!(in alloc; "{k}")?);
+        if !anchor_is_alone(alloc, table, store, k, times, numbers.as_mut_slice())? {
+            return number_word(alloc, k);
         }
     }
-    Ok(format!(in alloc; "{}", store.len())?)
+    number_word(alloc, store.len())
 }

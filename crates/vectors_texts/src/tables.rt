@@ -8,11 +8,11 @@
 
 use gs_chars::Text;
 use gs_grammar::Item;
-use gs_json::Doc;
+use gs_json::{Doc, Node};
 use gs_tables::{
     Field, ItemFault, Kind, LevelName, LoadFault, OptInfo, SerialAt, TableSet, read_item,
 };
-use std::alloc::Global;
+use std::alloc::{AllocError, Global};
 use vector_cases::{Answer, Refusal, add, add_shown, arg, fault_word, item_word, number, shown};
 
 /// The answer to a call of gs_tables.
@@ -20,18 +20,17 @@ pub fn answer(alloc: Global, set: &TableSet, call: &str, args: &[Text]) -> Answe
     match call {
         "load" => load(alloc, arg(args, 0)?),
         "builtin" => counts(alloc, set),
-        "kind" => match set.kinds().get(number(args, 0)? as usize) {
-            Some(kind) => kind_words(alloc, kind),
-            None => Err(Refusal::NoCase),
-        },
-        "option" => option(
-            alloc,
-            set,
-            level_of(arg(args, 0)?)?,
-            number(args, 1)? as usize,
-        ),
-        "read_item" => item(alloc, level_of(arg(args, 0)?)?, arg(args, 1)?),
+        "kind" => kind(alloc, set, args),
+        "option" => option(alloc, set, args),
+        "read_item" => item(alloc, args),
         _ => Err(Refusal::NoCase),
+    }
+}
+
+fn kind(alloc: Global, set: &TableSet, args: &[Text]) -> Answer {
+    match set.kinds().get(number(args, 0)? as usize) {
+        Some(kind) => kind_words(alloc, kind),
+        None => Err(Refusal::NoCase),
     }
 }
 
@@ -83,16 +82,21 @@ fn load(alloc: Global, document: &[u8]) -> Answer {
 }
 
 fn kind_words(alloc: Global, kind: &Kind) -> Answer {
-    let mut answer = shown(alloc, kind.name.as_bytes())?;
-    add_shown(alloc, &mut answer, kind.key.as_bytes())?;
+    let name = shown(alloc, kind.name.as_bytes())?;
+    let key = shown(alloc, kind.key.as_bytes())?;
     let lead = kind.lead;
-    add(&mut answer, format!(in alloc; "{lead}")?.as_str())?;
-    match &kind.serial {
-        SerialAt::Nowhere => add(&mut answer, "Nowhere")?,
-        SerialAt::Tail => add(&mut answer, "Tail")?,
-        SerialAt::Ai(code) => add_shown(alloc, &mut answer, code.as_bytes())?,
-    }
+    let mut answer = format!(in alloc; "{name} {key} {lead}")?;
+    add_serial(alloc, &mut answer, &kind.serial)?;
     Ok(answer)
+}
+
+/// Appends where the serial of a kind stands.
+fn add_serial(alloc: Global, answer: &mut String, serial: &SerialAt) -> Result<(), AllocError> {
+    match serial {
+        SerialAt::Nowhere => add(answer, "Nowhere"),
+        SerialAt::Tail => add(answer, "Tail"),
+        SerialAt::Ai(code) => add_shown(alloc, answer, code.as_bytes()),
+    }
 }
 
 /// Whether the symbols of a level are bits.
@@ -117,7 +121,9 @@ fn field_item(alloc: Global, level: LevelName, field: Option<Field>, item: &Item
     Ok(format!(in alloc; "{name}{word}")?)
 }
 
-fn option(alloc: Global, set: &TableSet, level: LevelName, i: usize) -> Answer {
+fn option(alloc: Global, set: &TableSet, args: &[Text]) -> Answer {
+    let level = level_of(arg(args, 0)?)?;
+    let i = number(args, 1)? as usize;
     let Some(info) = set.info(level).get(i) else {
         return Err(Refusal::NoCase);
     };
@@ -126,12 +132,21 @@ fn option(alloc: Global, set: &TableSet, level: LevelName, i: usize) -> Answer {
     };
     let mut answer = head_words(alloc, set, info)?;
     for (field, item) in info.fields.items().iter().zip(option.items()) {
-        add(
-            &mut answer,
-            field_item(alloc, level, *field, item)?.as_str(),
-        )?;
+        add_item(alloc, &mut answer, level, *field, item)?;
     }
     Ok(answer)
+}
+
+/// Appends an item with the name of its field.
+fn add_item(
+    alloc: Global,
+    answer: &mut String,
+    level: LevelName,
+    field: Option<Field>,
+    item: &Item,
+) -> Result<(), Refusal> {
+    let word = field_item(alloc, level, field, item)?;
+    Ok(add(answer, word.as_str())?)
 }
 
 /// The kind, encoding and prefix length of an option.
@@ -145,11 +160,17 @@ fn head_words(alloc: Global, set: &TableSet, info: &OptInfo) -> Answer {
     Ok(format!(in alloc; "{name} {encoding} {gcp}")?)
 }
 
-fn item(alloc: Global, level: LevelName, document: &[u8]) -> Answer {
-    let Ok(doc) = Doc::parse(alloc, document) else {
-        return Err(Refusal::NoCase);
-    };
-    match read_item(alloc, &doc.root(alloc), is_bits(level)) {
+fn item(alloc: Global, args: &[Text]) -> Answer {
+    let level = level_of(arg(args, 0)?)?;
+    match Doc::parse(alloc, arg(args, 1)?) {
+        Ok(doc) => item_at(alloc, level, &doc.root(alloc)),
+        Err(_) => Err(Refusal::NoCase),
+    }
+}
+
+/// The item that a part of a document is, or `Bad`.
+fn item_at(alloc: Global, level: LevelName, node: &Node<'_>) -> Answer {
+    match read_item(alloc, node, is_bits(level)) {
         Ok((field, item)) => field_item(alloc, level, field, &item),
         Err(ItemFault::Bad) => Ok(String::from_str(alloc, "Bad")?),
         Err(ItemFault::Memory) => Err(Refusal::Memory),

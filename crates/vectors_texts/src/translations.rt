@@ -15,7 +15,7 @@ ghost use Rattle.gs_translate.specs.Translations.{AreInOrder};
 
 use gs_chars::Text;
 use gs_dlink::stem_ok;
-use gs_ident::canonical;
+use gs_ident::{Identity, canonical};
 use gs_prefix::{PrefixFault, PrefixList};
 use gs_tables::TableSet;
 use gs_translate::{
@@ -28,13 +28,18 @@ use vector_cases::{Answer, Refusal, arg, behind, number_of, shown, text_of};
 pub fn answer(alloc: Global, set: &TableSet, call: &str, args: &[Text]) -> Answer {
     let form = form_of(arg(args, 0)?)?;
     match call {
-        "read" => match read(alloc, set, form, arg(args, 1)?) {
-            Ok(meaning) => meaning_words(alloc, &meaning),
-            Err(reason) => reason_word(alloc, &reason),
-        },
+        "read" => meant(alloc, set, form, args),
         "answer" => text_word(alloc, answer_to(alloc, set, form, arg(args, 1)?)),
         "translate" => translation(alloc, set, form, args),
         _ => Err(Refusal::NoCase),
+    }
+}
+
+/// What a text means, or the reason.
+fn meant(alloc: Global, set: &TableSet, form: Form, args: &[Text]) -> Answer {
+    match read(alloc, set, form, arg(args, 1)?) {
+        Ok(meaning) => meaning_words(alloc, &meaning),
+        Err(reason) => reason_word(alloc, &reason),
     }
 }
 
@@ -119,12 +124,18 @@ fn stem_of(alloc: Global, word: &[u8]) -> Result<Text, Refusal>
 fn options_of(alloc: Global, args: &[Text]) -> Result<Options, Refusal>
     ensures { IfOk result AreInOrder }
 {
+    // the texts last, since each exit behind a text drops it
+    let filter = filter_of(arg(args, 0)?)?;
+    let gcp = small_number(arg(args, 1)?, 12)?;
+    let encoding = arg(args, 2)?;
+    let keys_only = is_yes(arg(args, 3)?)?;
+    let stem = stem_of(alloc, arg(args, 4)?)?;
     Ok(Options {
-        filter: filter_of(arg(args, 0)?)?,
-        gcp: small_number(arg(args, 1)?, 12)?,
-        encoding: Text::from_bytes(alloc, arg(args, 2)?)?,
-        keys_only: is_yes(arg(args, 3)?)?,
-        stem: stem_of(alloc, arg(args, 4)?)?,
+        filter,
+        gcp,
+        encoding: Text::from_bytes(alloc, encoding)?,
+        keys_only,
+        stem,
     })
 }
 
@@ -156,8 +167,14 @@ fn reason_word(alloc: Global, reason: &Reason) -> Answer {
     Ok(shown(alloc, text.as_slice())?)
 }
 
+/// The canonical link of an identity.
+fn link_word(alloc: Global, identity: &Identity) -> Answer {
+    let link = canonical(alloc, identity)?;
+    Ok(shown(alloc, link.as_bytes())?)
+}
+
 fn meaning_words(alloc: Global, meaning: &Meaning) -> Answer {
-    let link = shown(alloc, canonical(alloc, &meaning.identity)?.as_bytes())?;
+    let link = link_word(alloc, &meaning.identity)?;
     let encoding = shown(alloc, meaning.encoding.as_bytes())?;
     let gcp = meaning.gcp;
     let filter = meaning.filter;

@@ -8,7 +8,7 @@
 
 ghost use Rattle.std.specs.Prelude.{◌≤◌, ◌<◌, ◌^◌, IsTrue, IfOk};
 
-use gs_bits::BitBuf;
+use gs_bits::{BitBuf, Cursor, Full};
 use gs_chars::Text;
 use std::alloc::Global;
 use vector_cases::{Answer, Refusal, add, arg, behind, number, number_of, shown, text_of};
@@ -85,6 +85,32 @@ fn width_of(number: u64) -> Result<u32, Refusal>
     }
 }
 
+/// The number of the next bits, or `Short`.
+fn taken_word<const N: usize>(alloc: Global, cursor: &mut Cursor<'_, N>, width: &Text) -> Answer {
+    let width = width_of(number_of(text_of(width.as_bytes())?)?)?;
+    match cursor.take(width) {
+        Ok(number) => Ok(format!(in alloc; "{number}")?),
+        Err(fault) => Ok(format!(in alloc; "{fault:?}")?),
+    }
+}
+
+/// Appends the number of the next bits, or `Short`.
+fn add_taken<const N: usize>(
+    alloc: Global,
+    answer: &mut String,
+    cursor: &mut Cursor<'_, N>,
+    width: &Text,
+) -> Result<(), Refusal> {
+    let word = taken_word(alloc, cursor, width)?;
+    Ok(add(answer, word.as_str())?)
+}
+
+/// Appends how many bits are left.
+fn add_left(alloc: Global, answer: &mut String, left: usize) -> Result<(), Refusal> {
+    let word = format!(in alloc; "left {left}")?;
+    Ok(add(answer, word.as_str())?)
+}
+
 fn take<const N: usize>(alloc: Global, digits: &[u8], widths: &[Text]) -> Answer
     requires { N ≤ 64 }
 {
@@ -92,14 +118,9 @@ fn take<const N: usize>(alloc: Global, digits: &[u8], widths: &[Text]) -> Answer
     let mut cursor = bits.cursor();
     let mut answer = String::new(alloc);
     for width in widths {
-        let width = width_of(number_of(text_of(width.as_bytes())?)?)?;
-        match cursor.take(width) {
-            Ok(number) => add(&mut answer, format!(in alloc; "{number}")?.as_str())?,
-            Err(fault) => add(&mut answer, format!(in alloc; "{fault:?}")?.as_str())?,
-        }
+        add_taken(alloc, &mut answer, &mut cursor, width)?;
     }
-    let left = cursor.left();
-    add(&mut answer, format!(in alloc; "left {left}")?.as_str())?;
+    add_left(alloc, &mut answer, cursor.left())?;
     Ok(answer)
 }
 
@@ -111,22 +132,37 @@ fn fits(number: u64, width: u32) -> bool
     u128::from(number) < 1 << width
 }
 
+/// Pushes a number and its width, and says whether there was room.
+fn push_pair<const N: usize>(
+    bits: &mut BitBuf<N>,
+    pair: &[Text],
+) -> Result<Result<(), Full>, Refusal> {
+    let value = number(pair, 0)?;
+    let width = width_of(number(pair, 1)?)?;
+    if !fits(value, width) {
+        return Err(Refusal::NoCase);
+    }
+    Ok(bits.push_bits(value, width))
+}
+
+/// Appends the fault of a number without room.
+fn add_fault(alloc: Global, answer: &mut String, fault: Full) -> Result<(), Refusal> {
+    let word = format!(in alloc; "{fault:?}")?;
+    Ok(add(answer, word.as_str())?)
+}
+
 fn push_bits<const N: usize>(alloc: Global, args: &[Text]) -> Answer
     requires { N ≤ 64 }
 {
     let mut bits = BitBuf::<N>::new();
     let mut answer = String::new(alloc);
     for pair in args.chunks(2) {
-        let value = number(pair, 0)?;
-        let width = width_of(number(pair, 1)?)?;
-        if !fits(value, width) {
-            return Err(Refusal::NoCase);
-        }
-        if let Err(fault) = bits.push_bits(value, width) {
-            add(&mut answer, format!(in alloc; "{fault:?}")?.as_str())?;
+        if let Err(fault) = push_pair(&mut bits, pair)? {
+            add_fault(alloc, &mut answer, fault)?;
         }
     }
-    add(&mut answer, bits_word(alloc, &bits)?.as_str())?;
+    let word = bits_word(alloc, &bits)?;
+    add(&mut answer, word.as_str())?;
     Ok(answer)
 }
 

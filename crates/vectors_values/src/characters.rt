@@ -12,20 +12,27 @@ ghost use Rattle.gs_chars.specs.Characters.{are_digits};
 
 use gs_chars::{CharSet, List, Rows, Text, check_digit, read_escape, write_escape};
 use std::alloc::Global;
-use vector_cases::{Answer, Refusal, add, arg, number, shown};
+use vector_cases::{Answer, Refusal, add_shown, arg, number, shown};
 
 /// The answer to a call of gs_chars.
 pub fn answer(alloc: Global, call: &str, args: &[Text]) -> Answer {
     match call {
-        "holds" => holds(alloc, arg(args, 0)?, arg(args, 1)?),
-        "check_digit" => digit(alloc, arg(args, 0)?),
-        "read_escape" => escape_read(alloc, arg(args, 0)?),
-        "write_escape" => escape_written(alloc, arg(args, 0)?),
         "rows" => rows(alloc, args),
-        "text" => Ok(shown(alloc, Text::from_bytes(alloc, arg(args, 0)?)?.as_bytes())?),
-        "copy" => copy(alloc, arg(args, 0)?),
-        "compare" => compare(alloc, arg(args, 0)?, arg(args, 1)?),
-        "list" => list(alloc, arg(args, 0)?),
+        "holds" => holds(alloc, args),
+        "compare" => compare(alloc, args),
+        _ => answer_on(alloc, call, arg(args, 0)?),
+    }
+}
+
+/// The answer to a call on one text.
+fn answer_on(alloc: Global, call: &str, text: &[u8]) -> Answer {
+    match call {
+        "check_digit" => digit(alloc, text),
+        "read_escape" => escape_read(alloc, text),
+        "write_escape" => escape_written(alloc, text),
+        "text" => text_word(alloc, text),
+        "copy" => copy(alloc, text),
+        "list" => list(alloc, text),
         _ => Err(Refusal::NoCase),
     }
 }
@@ -47,8 +54,9 @@ fn set_of(name: &[u8]) -> Result<CharSet, Refusal> {
     }
 }
 
-fn holds(alloc: Global, name: &[u8], text: &[u8]) -> Answer {
-    let set = set_of(name)?;
+fn holds(alloc: Global, args: &[Text]) -> Answer {
+    let set = set_of(arg(args, 0)?)?;
+    let text = arg(args, 1)?;
     let mut answer = String::new(alloc);
     for c in text {
         answer.push(if set.holds(*c) { 'y' } else { 'n' })?;
@@ -100,25 +108,34 @@ fn rows(alloc: Global, args: &[Text]) -> Answer {
     Ok(format!(in alloc; "{:?}", rows.find(key(args, 3)?))?)
 }
 
+fn text_word(alloc: Global, bytes: &[u8]) -> Answer {
+    let text = Text::from_bytes(alloc, bytes)?;
+    Ok(shown(alloc, text.as_bytes())?)
+}
+
 fn copy(alloc: Global, bytes: &[u8]) -> Answer {
     let text = Text::from_bytes(alloc, bytes)?;
     let copy = text.copy(alloc)?;
     Ok(shown(alloc, copy.as_bytes())?)
 }
 
-fn compare(alloc: Global, a: &[u8], b: &[u8]) -> Answer {
-    let left = Text::from_bytes(alloc, a)?;
+fn compare(alloc: Global, args: &[Text]) -> Answer {
+    let b = arg(args, 1)?;
+    let left = Text::from_bytes(alloc, arg(args, 0)?)?;
     let right = Text::from_vec(b.to_vec(alloc)?);
+    order_words(alloc, &left, &right)
+}
+
+/// The order of two texts, and whether they are equal.
+fn order_words(alloc: Global, left: &Text, right: &Text) -> Answer {
     let equal = left == right;
-    Ok(format!(in alloc; "{:?} {equal}", left.cmp(&right))?)
+    Ok(format!(in alloc; "{:?} {equal}", left.cmp(right))?)
 }
 
 fn list(alloc: Global, bytes: &[u8]) -> Answer {
     let list = List::from_vec(bytes.to_vec(alloc)?);
     let mut answer = shown(alloc, list.items())?;
-    add(
-        &mut answer,
-        shown(alloc, list.into_vec().as_slice())?.as_str(),
-    )?;
+    let items = list.into_vec();
+    add_shown(alloc, &mut answer, items.as_slice())?;
     Ok(answer)
 }

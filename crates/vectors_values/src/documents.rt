@@ -11,23 +11,33 @@
 use gs_chars::Text;
 use gs_json::{Doc, Entry, JsonFault, Node, Sort};
 use std::alloc::Global;
-use vector_cases::{Answer, Refusal, add, arg, behind, fault_word, number_of, shown, text_of};
+use vector_cases::{
+    Answer, Refusal, add_shown, arg, behind, fault_word, number_of, shown, text_of,
+};
 
 /// The answer to a call of gs_json.
 pub fn answer(alloc: Global, call: &str, args: &[Text]) -> Answer {
-    let doc = match Doc::parse(alloc, arg(args, 0)?) {
-        Ok(doc) => doc,
-        Err(fault) => return fault_word(alloc, fault),
-    };
-    let others = behind(args, 1);
+    match Doc::parse(alloc, arg(args, 0)?) {
+        Ok(doc) => answer_over(alloc, &doc, call, behind(args, 1)),
+        Err(fault) => fault_word(alloc, fault),
+    }
+}
+
+/// The answer to a call over a document, which is lent so that it is dropped at one exit.
+fn answer_over(alloc: Global, doc: &Doc, call: &str, others: &[Text]) -> Answer {
     match call {
         "parse" => Ok(String::from_str(alloc, "Ok")?),
-        "shaped" => shaped(alloc, &doc, others),
-        _ => match followed(alloc, &doc, others)? {
-            Walked::At(node) => asked(alloc, call, &node),
-            Walked::Absent => Ok(String::from_str(alloc, "None")?),
-            Walked::Refused(fault) => fault_word(alloc, fault),
-        },
+        "shaped" => shaped(alloc, doc, others),
+        _ => asked_behind(alloc, doc, call, others),
+    }
+}
+
+/// What the part to which the steps lead answers.
+fn asked_behind(alloc: Global, doc: &Doc, call: &str, steps: &[Text]) -> Answer {
+    match followed(alloc, doc, steps)? {
+        Walked::At(node) => asked(alloc, call, &node),
+        Walked::Absent => Ok(String::from_str(alloc, "None")?),
+        Walked::Refused(fault) => fault_word(alloc, fault),
     }
 }
 
@@ -91,38 +101,56 @@ fn followed<'a>(alloc: Global, doc: &'a Doc, steps: &[Text]) -> Result<Walked<'a
 /// What a part answers.
 fn asked(alloc: Global, call: &str, node: &Node<'_>) -> Answer {
     match call {
-        "text" => match node.text(alloc) {
-            Ok(text) => Ok(shown(alloc, text.as_bytes())?),
-            Err(fault) => fault_word(alloc, fault),
-        },
-        "number" => match node.number(alloc) {
-            Ok(number) => Ok(format!(in alloc; "{number}")?),
-            Err(fault) => fault_word(alloc, fault),
-        },
-        "truth" => match node.truth(alloc) {
-            Ok(truth) => Ok(format!(in alloc; "{truth}")?),
-            Err(fault) => fault_word(alloc, fault),
-        },
-        "count" => match node.count(alloc) {
-            Ok(count) => Ok(format!(in alloc; "{count}")?),
-            Err(fault) => fault_word(alloc, fault),
-        },
+        "text" => text(alloc, node),
+        "number" => number(alloc, node),
+        "truth" => truth(alloc, node),
+        "count" => count(alloc, node),
         "names" => names(alloc, node),
         _ => Err(Refusal::NoCase),
     }
 }
 
-fn names(alloc: Global, node: &Node<'_>) -> Answer {
-    match node.names(alloc) {
-        Ok(names) => {
-            let mut answer = String::new(alloc);
-            for name in names.items() {
-                add(&mut answer, shown(alloc, name.as_bytes())?.as_str())?;
-            }
-            Ok(answer)
-        }
+fn text(alloc: Global, node: &Node<'_>) -> Answer {
+    match node.text(alloc) {
+        Ok(text) => Ok(shown(alloc, text.as_bytes())?),
         Err(fault) => fault_word(alloc, fault),
     }
+}
+
+fn number(alloc: Global, node: &Node<'_>) -> Answer {
+    match node.number(alloc) {
+        Ok(number) => Ok(format!(in alloc; "{number}")?),
+        Err(fault) => fault_word(alloc, fault),
+    }
+}
+
+fn truth(alloc: Global, node: &Node<'_>) -> Answer {
+    match node.truth(alloc) {
+        Ok(truth) => Ok(format!(in alloc; "{truth}")?),
+        Err(fault) => fault_word(alloc, fault),
+    }
+}
+
+fn count(alloc: Global, node: &Node<'_>) -> Answer {
+    match node.count(alloc) {
+        Ok(count) => Ok(format!(in alloc; "{count}")?),
+        Err(fault) => fault_word(alloc, fault),
+    }
+}
+
+fn names(alloc: Global, node: &Node<'_>) -> Answer {
+    match node.names(alloc) {
+        Ok(names) => names_words(alloc, names.items()),
+        Err(fault) => fault_word(alloc, fault),
+    }
+}
+
+fn names_words(alloc: Global, names: &[&str]) -> Answer {
+    let mut answer = String::new(alloc);
+    for name in names {
+        add_shown(alloc, &mut answer, name.as_bytes())?;
+    }
+    Ok(answer)
 }
 
 fn sort_of(name: &[u8]) -> Result<Sort, Refusal> {
@@ -141,18 +169,25 @@ fn entry_of(alloc: Global, pair: &[Text]) -> Result<Entry, Refusal> {
     let Some((kind, name)) = arg(pair, 0)?.split_first() else {
         return Err(Refusal::NoCase);
     };
+    let sort = sort_of(arg(pair, 1)?)?;
     Ok(Entry {
         name: Text::from_bytes(alloc, name)?,
         required: *kind == b'+',
-        sort: sort_of(arg(pair, 1)?)?,
+        sort,
     })
 }
 
-fn shaped(alloc: Global, doc: &Doc, words: &[Text]) -> Answer {
+/// The entries of these pairs.
+fn plan_of(alloc: Global, words: &[Text]) -> Result<Vec<Entry>, Refusal> {
     let mut plan = Vec::new(alloc);
     for pair in words.chunks(2) {
         plan.push(entry_of(alloc, pair)?)?;
     }
+    Ok(plan)
+}
+
+fn shaped(alloc: Global, doc: &Doc, words: &[Text]) -> Answer {
+    let plan = plan_of(alloc, words)?;
     match doc.root(alloc).shaped(alloc, plan.as_slice()) {
         Ok(()) => Ok(String::from_str(alloc, "Ok")?),
         Err(fault) => fault_word(alloc, fault),

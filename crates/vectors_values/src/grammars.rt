@@ -5,7 +5,7 @@
 //! - `read_option HEX ITEM..`: the numbers of the items of one option, or `false`.
 //! - `write_text ITEM.. = VALUE..`: the text, or the fault. `write_bits ITEM.. = VALUE..`: the bits, or the fault.
 
-ghost use Rattle.std.specs.Prelude.{◌≡◌, IfOk};
+ghost use Rattle.std.specs.Prelude.{◌≡◌, IfOk, true};
 ghost use Rattle.gs_grammar.specs.Levels.{AreOfKind, OptionForm};
 
 use crate::bits::{bits_word, buffer};
@@ -84,17 +84,34 @@ pub fn options_of(alloc: Global, bit_level: bool, words: &[Text]) -> Result<Vec<
 }
 
 fn option_read(alloc: Global, digits: &[u8], words: &[Text]) -> Answer {
-    let option = option_of(alloc, true, words)?;
     let bits = buffer::<64>(digits)?;
+    let option = option_of(alloc, true, words)?;
+    numbers_read(alloc, &option, &bits)
+}
+
+/// The numbers of the items of an option, or `false`.
+fn numbers_read(alloc: Global, option: &Opt, bits: &BitBuf<64>) -> Answer
+    requires { option.now.bit_level ≡ true }
+{
     let mut numbers = vec![in alloc; 0u64; option.items().len()]?;
-    if !read_option(&option, &bits, numbers.as_mut_slice()) {
-        return Ok(String::from_str(alloc, "false")?);
+    if read_option(option, bits, numbers.as_mut_slice()) {
+        numbers_words(alloc, numbers.as_slice())
+    } else {
+        Ok(String::from_str(alloc, "false")?)
     }
+}
+
+fn numbers_words(alloc: Global, numbers: &[u64]) -> Answer {
     let mut answer = String::new(alloc);
-    for number in numbers.iter() {
-        add(&mut answer, format!(in alloc; "{number}")?.as_str())?;
+    for number in numbers {
+        add_number(alloc, &mut answer, *number)?;
     }
     Ok(answer)
+}
+
+fn add_number(alloc: Global, answer: &mut String, number: u64) -> Result<(), Refusal> {
+    let word = format!(in alloc; "{number}")?;
+    Ok(add(answer, word.as_str())?)
 }
 
 /// The words before and behind `=`.

@@ -86,12 +86,15 @@ fn add_context(alloc: Global, answer: &mut String, context: &Context) -> Result<
 }
 
 fn read(alloc: Global, document: &[u8]) -> Answer {
-    let doc = match gs_linkset::read(alloc, document) {
-        Ok(doc) => doc,
-        Err(fault) => return fault_word(alloc, fault),
-    };
+    match gs_linkset::read(alloc, document) {
+        Ok(doc) => contexts_words(alloc, doc.contexts()),
+        Err(fault) => fault_word(alloc, fault),
+    }
+}
+
+fn contexts_words(alloc: Global, contexts: &[Context]) -> Answer {
     let mut answer = String::from_str(alloc, "Linkset")?;
-    for context in doc.contexts() {
+    for context in contexts {
         add_context(alloc, &mut answer, context)?;
     }
     Ok(answer)
@@ -121,14 +124,19 @@ fn targets_of(alloc: Global, references: &[Text]) -> Result<List<Target>, Memory
     Ok(List::from_vec(targets))
 }
 
+/// The relation of a name and its references.
+fn relation_of(alloc: Global, words: &[Text]) -> Result<Relation, Refusal> {
+    Ok(Relation {
+        name: Text::from_bytes(alloc, arg(words, 0)?)?,
+        targets: targets_of(alloc, behind(words, 1))?,
+    })
+}
+
 /// Relations, each a name and its references, with `/` between them.
 fn relations_of(alloc: Global, words: &[Text]) -> Result<List<Relation>, Refusal> {
     let mut relations = Vec::new(alloc);
     for part in words.split(|word| word.as_bytes() == b"/".as_slice()) {
-        relations.push(Relation {
-            name: Text::from_bytes(alloc, arg(part, 0)?)?,
-            targets: targets_of(alloc, behind(part, 1))?,
-        })?;
+        relations.push(relation_of(alloc, part)?)?;
     }
     Ok(List::from_vec(relations))
 }
@@ -154,14 +162,22 @@ fn first_target(doc: &LinkDoc) -> Option<&Target> {
 }
 
 fn copy(alloc: Global, document: &[u8]) -> Answer {
-    let doc = match gs_linkset::read(alloc, document) {
-        Ok(doc) => doc,
-        Err(fault) => return fault_word(alloc, fault),
-    };
-    let mut answer = String::new(alloc);
-    match first_target(&doc) {
-        Some(target) => add_target(alloc, &mut answer, &target.copy(alloc)?)?,
-        None => add(&mut answer, "None")?,
+    match gs_linkset::read(alloc, document) {
+        Ok(doc) => copied(alloc, first_target(&doc)),
+        Err(fault) => fault_word(alloc, fault),
     }
+}
+
+/// A copy of a target, or `None`.
+fn copied(alloc: Global, target: Option<&Target>) -> Answer {
+    match target {
+        Some(target) => target_words(alloc, &target.copy(alloc)?),
+        None => Ok(String::from_str(alloc, "None")?),
+    }
+}
+
+fn target_words(alloc: Global, target: &Target) -> Answer {
+    let mut answer = String::new(alloc);
+    add_target(alloc, &mut answer, target)?;
     Ok(answer)
 }

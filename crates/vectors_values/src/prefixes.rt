@@ -20,11 +20,15 @@ pub fn answer(alloc: Global, call: &str, args: &[Text]) -> Answer {
 
 fn load(alloc: Global, document: &[u8]) -> Answer {
     match PrefixList::load(alloc, document) {
-        Ok(list) => Ok(format!(in alloc; "{}", list.len())?),
+        Ok(list) => count_word(alloc, list.len()),
         Err(PrefixFault::Json(fault)) => fault_word(alloc, fault),
         Err(PrefixFault::Memory) => Err(Refusal::Memory),
         Err(fault) => Ok(format!(in alloc; "{fault:?}")?),
     }
+}
+
+fn count_word(alloc: Global, count: usize) -> Answer {
+    Ok(format!(in alloc; "{count}")?)
 }
 
 /// The list of a document, where it is one.
