@@ -1,6 +1,6 @@
 -- Decimal digits and the numbers that they write.
 use Rattle.std.proofs.Common.{◌≡◌, ℕ, ◌<◌, ◌≤◌, ◌+◌, ◌-◌, ◌*◌, ◌/◌, ◌%◌, ◌^◌, ◌&&◌, inl, inr, zero, suc, Bool, true, false, Option, Some, None, SomeIff, IfSome, IfNone, List, [], ◌∷◌, ◌++◌, length, drop, take, refl, sym, ◌∙◌, ap, set, arith, add-one, leb, eqb, rules, decimal, get_or, length-append}
-use Rattle.std.proofs.Math.Nat.{pow-le-pow_right, pow-suc, pow-succ', div-eq_of_lt, div-div-eq-div-mul, mul_assoc, add-mul, le-mul_of_pos_right, mul_comm, eq-zero-or-pos}
+use Rattle.std.proofs.Math.Nat.{pow-le-pow_right, pow-suc, pow-succ', div-eq_of_lt, div-div-eq-div-mul, mul_assoc, add-mul, le-mul_of_pos_right, mul_comm}
 use Rattle.std.proofs.lemmas.Bool.{cases_eq}
 use Rattle.std.proofs.lemmas.Bool.Decides.{nat_tests, leb_tells}
 use Rattle.std.proofs.lemmas.List.{drop_more, drop-set, take_at}
@@ -210,19 +210,21 @@ fills_step n number place left digits low f =
           rw (power, plain) (fills_value left (10 ^ length f.back) (decimal_value f.back) number f.value);
     }
 
-pub fills_end : (n number left : ℕ) (digits : List ℕ) → Fills n number 0 left digits → number < 10 ^ n → IsPadded n number (take n digits)
-fills_end n number left digits f small =
+-- the whole number, where nothing of it is left
+pub fills_end : (n number : ℕ) (digits : List ℕ) → Fills n number 0 0 digits → IsPadded n number (take n digits)
+fills_end n number digits f =
     let long : length f.back ≡ n = let c = f.count in omega arith in
     let front : take n digits ≡ f.back = rw f.shape (take_at f.back f.behind n long) in
+    rw front (record { count = long; all_digits = f.all_digits; value = let v = f.value in omega arith })
+
+-- a number of which something is left has more digits
+pub fills_more : (n number left : ℕ) (digits : List ℕ) → Fills n number 0 left digits → 0 < left → 10 ^ n ≤ number
+fills_more n number left digits f some =
+    let long : length f.back ≡ n = let c = f.count in omega arith in
     let value : left * 10 ^ n + decimal_value f.back ≡ number = rw long at f.value in
-    rw front (record {
-      count = long;
-      all_digits = f.all_digits;
-      value = elim (eq-zero-or-pos left) [
-        | inl e ↦ let at : left * 10 ^ n ≡ 0 * 10 ^ n = ap (λ (k : ℕ). k * 10 ^ n) e in omega arith
-        | inr h ↦ absurd (let more : 10 ^ n ≤ 10 ^ n * left = le-mul_of_pos_right (10 ^ n) h in let turn = mul_comm (10 ^ n) left in omega arith)
-      ];
-    })
+    let more : 10 ^ n ≤ 10 ^ n * left = le-mul_of_pos_right (10 ^ n) some in
+    let turn = mul_comm (10 ^ n) left in
+    omega arith
 
 -- the digits of a number, as many as its decimal text has, are that text
 

@@ -85,11 +85,11 @@ pub fn numeral(symbols: &[u8]) -> Option<u64>
     decimal_number(symbols)
 }
 
-/// The n digits of a number, zeros in front. n is at most 18, and the number has no more digits.
-pub fn padded(alloc: Global, number: u64, n: u8) -> Result<Text, Memory>
-    requires few { n ≤ 18 }
-    requires fits { number < 10 ^ n }
-    ensures { IfOk result (λ digits. IsPadded n number digits) }
+/// The n digits of a number, zeros in front. `None` comes exactly where the number has more digits. n is at most 18.
+pub fn padded_within(alloc: Global, number: u64, n: u8) -> Result<Option<Text>, Memory>
+    requires { n ≤ 18 }
+    ensures found { IfOk result (λ found. IfSome found (λ digits. IsPadded n number digits)) }
+    ensures none { IfOk result (λ found. IfNone found (10 ^ n ≤ number)) }
 {
     let mut digits = [b'0'; 18];
     let mut place = usize::from(n);
@@ -99,8 +99,23 @@ pub fn padded(alloc: Global, number: u64, n: u8) -> Result<Text, Memory>
         digits[place] = b'0' + (left % 10) as u8;
         left /= 10;
     }
+    if left > 0 {
+        return Ok(None);
+    }
     let text = Text::from_bytes(alloc, &digits[..usize::from(n)])?;
-    Ok(text)
+    Ok(Some(text))
+}
+
+/// The n digits of a number, zeros in front. n is at most 18, and the number has no more digits.
+pub fn padded(alloc: Global, number: u64, n: u8) -> Result<Text, Memory>
+    requires few { n ≤ 18 }
+    requires fits { number < 10 ^ n }
+    ensures { IfOk result (λ digits. IsPadded n number digits) }
+{
+    match padded_within(alloc, number, n)? {
+        Some(digits) => Ok(digits),
+        None => unreachable!(),
+    }
 }
 
 /// The decimal text of a number.

@@ -7,7 +7,7 @@ ghost use Rattle.gs_grammar.specs.declared.item.Item.TheVariants.{Esc, Lit, Num,
 use crate::bit_words::{are_zeros, number_in_bits, packed_count, unpacked};
 use crate::escaped::{read_spelled, spelled_count};
 use crate::item::{Item, is_within};
-use crate::numerals::{decimal_text, has_at_most_digits, numeral, padded};
+use crate::numerals::{decimal_text, has_at_most_digits, numeral, padded, padded_within};
 use gs_chars::{CharSet, Memory, Text};
 use std::alloc::Global;
 
@@ -119,11 +119,10 @@ fn read_padded(alloc: Global, symbols: &[u8], bits: u8, n: u8) -> Result<Option<
     let Some(number) = number_in_bits(symbols, usize::from(bits)) else {
         return Ok(None);
     };
-    if !has_at_most_digits(number, n) {
-        return Ok(None);
+    match padded_within(alloc, number, n)? {
+        Some(digits) => Ok(Some(digits)),
+        None => Ok(None),
     }
-    let digits = padded(alloc, number, n)?;
-    Ok(Some(digits))
 }
 
 /// The decimal text of the number that the symbols are in bits, where they are a word of the item `Num`.
