@@ -9,7 +9,7 @@ use Rattle.std.proofs.lemmas.Str.Parse.{IsNumeralModel, numerals_by_weight, digi
 use Rattle.std.proofs.lemmas.Fmt.{digits_value-decimal, digits_decimal, decimal-digits_value, length-decimal-le, decimal_nonempty, first_decimal, decimal_digit}
 use Rattle.gs_chars.specs.Characters.{are_digits, is_digit}
 use Rattle.gs_grammar.specs.Words.{decimal_value}
-use Rattle.gs_grammar.specs.Numerals.{IsPadded}
+use Rattle.gs_grammar.specs.Numerals.{IsPadded, WritesSmall}
 
 pub own : IsNumeralModel (λ ds. are_digits ds ≡ true) decimal_value
 own = numerals_by_weight _ (search rules) decimal_value (search rules)
@@ -175,16 +175,6 @@ pub record Fills (n number place left : ℕ) (digits : List ℕ) : Type 0 where
   pub all_digits : are_digits back ≡ true
   pub value : left * 10 ^ length back + decimal_value back ≡ number
 
-pub fills_start : (n number : ℕ) (digits : List ℕ) → Fills n number n number digits
-fills_start n number digits = record {
-  back = [];
-  behind = drop n digits;
-  shape = refl;
-  count = omega arith;
-  all_digits = refl;
-  value = omega arith;
-}
-
 fills_value : (left power behind number : ℕ) → left * power + behind ≡ number → left / 10 * (10 * power) + (left % 10 * power + behind) ≡ number
 fills_value left power behind number h =
     let whole : left ≡ left / 10 * 10 + left % 10 = omega arith in
@@ -238,12 +228,6 @@ pub padded_decimal : (number n : ℕ) (digits : List ℕ) → number < 2 ^ 64 �
 padded_decimal number n digits small e p =
     same_digits digits (decimal number) (p.count ∙ e) p.all_digits (digits_of_decimal number small) (p.value ∙ sym (value_decimal number small))
 
-pub no_digits : (symbols : List ℕ) → are_digits symbols ≡ false → (number : ℕ) → number < 2 ^ 64 → symbols ≡ decimal number → ⊥
-no_digits symbols d number small e = let x : true ≡ false = sym (digits_of_decimal number small) ∙ sym (ap are_digits e) ∙ d in cc
-
-pub no_great_numeral : (symbols : List ℕ) → (decimal_value symbols < 2 ^ 64 → ⊥) → (number : ℕ) → number < 2 ^ 64 → symbols ≡ decimal number → ⊥
-no_great_numeral symbols n number small e = let v = ap decimal_value e ∙ value_decimal number small in n (omega arith)
-
 pub too_great : (symbols : List ℕ) (i number limit : ℕ) → i < length symbols → value_after number (drop i symbols) ≡ decimal_value symbols → limit ≤ 10 * number + (get_or symbols i 0 - 48) → decimal_value symbols < limit → ⊥
 too_great symbols i number limit l v h small =
     let s = value_step symbols i number l in
@@ -258,10 +242,11 @@ numeral_is symbols number empty zero_first e f z g d v small =
     grind (arith, nat_tests) in
     numeral_whole symbols number some alone d v small
 
-pub numeral_gives : (symbols : List ℕ) (result : Option ℕ) (empty zero_first : Bool) → empty ≡ eqb (length symbols) 0 → empty ≡ false → zero_first ≡ (leb 2 (length symbols) && eqb (get_or symbols 0 0) 48) → zero_first ≡ false → are_digits symbols ≡ true → SomeIff result (decimal_value symbols < 2 ^ 64) (decimal_value symbols) → IfSome result (λ number. symbols ≡ decimal number)
-numeral_gives symbols (Some number) empty zero_first e f z g d h = numeral_is symbols number empty zero_first e f z g d h.1 (let s = h.0 in let v = h.1 in omega arith)
-numeral_gives symbols None empty zero_first e f z g d h = tt
+pub numeral_gives : (symbols : List ℕ) (result : Option ℕ) (empty zero_first : Bool) → empty ≡ eqb (length symbols) 0 → empty ≡ false → zero_first ≡ (leb 2 (length symbols) && eqb (get_or symbols 0 0) 48) → zero_first ≡ false → SomeIff result (WritesSmall symbols) (decimal_value symbols) → IfSome result (λ number. symbols ≡ decimal number)
+numeral_gives symbols (Some number) empty zero_first e f z g h = numeral_is symbols number empty zero_first e f z g h.0.0 h.1 (let s = h.0.1 in let v = h.1 in omega arith)
+numeral_gives symbols None empty zero_first e f z g h = tt
 
-pub numeral_lacks : (symbols : List ℕ) (result : Option ℕ) → SomeIff result (decimal_value symbols < 2 ^ 64) (decimal_value symbols) → IfNone result ((number : ℕ) → number < 2 ^ 64 → symbols ≡ decimal number → ⊥)
+pub numeral_lacks : (symbols : List ℕ) (result : Option ℕ) → SomeIff result (WritesSmall symbols) (decimal_value symbols) → IfNone result ((number : ℕ) → number < 2 ^ 64 → symbols ≡ decimal number → ⊥)
 numeral_lacks symbols (Some number) h = tt
-numeral_lacks symbols None h = no_great_numeral symbols h
+numeral_lacks symbols None h = λ number small e.
+    h (ap are_digits e ∙ digits_of_decimal number small, let v = ap decimal_value e ∙ value_decimal number small in omega arith)

@@ -116,9 +116,6 @@ pub record Gathers (w rest out : List ℕ) : Type 0 where
   pub back : (v : List ℕ) → SpellsEach v rest → SpellsEach (out ++ v) w
   pub counts : Counts w rest (length out)
 
-pub gathers_start : (w : List ℕ) → Gathers w w []
-gathers_start w = record { back = λ u t. t; counts = counts_start w }
-
 pub gathers_step : (w rest out : List ℕ) (c used : ℕ) → Gathers w rest out → BeginsWithSpelling rest c used → Gathers w (drop used rest) (out ++ c ∷ [])
 gathers_step w rest out c used k b = record {
   back = λ v s. let t = k.back (c ∷ v) (one_in_front c used v rest b s) in rw append_assoc t;

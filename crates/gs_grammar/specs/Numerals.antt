@@ -14,6 +14,10 @@ pub record IsPadded (n number : ℕ) (digits : List ℕ) : Type 0 where
 abbrev pub NoNumeral : List ℕ → Type 0
 NoNumeral symbols = (number : ℕ) → number < 2 ^ 64 → symbols ≡ decimal number → ⊥
 
+-- the symbols are digits, which write a number below 2 to the 64
+abbrev pub WritesSmall : List ℕ → Type 0
+WritesSmall symbols = IsTrue (are_digits symbols) × (decimal_value symbols < 2 ^ 64)
+
 -- the list begins with the code in 7 bits, and the code is not 0
 pub record HasCode (w : List ℕ) (code : ℕ) : Type 0 where
   pub some : 0 < code

@@ -1,11 +1,10 @@
 ghost use Rattle.std.specs.Prelude.{◌≡◌, ◌↔◌, ◌^◌, ◌<◌, ◌≤◌, List, IsTrue, IfSome, IfNone, IfOk, SomeIff, length, decimal, nat_lt};
-ghost use Rattle.gs_grammar.specs.Numerals.{IsPadded, NoNumeral};
+ghost use Rattle.gs_grammar.specs.Numerals.{IsPadded, NoNumeral, WritesSmall};
 ghost use Rattle.gs_grammar.specs.Words.{decimal_value};
 ghost use Rattle.gs_grammar.specs.Writing.{has_leading_zero};
 
 use crate::wide::WideNumber;
-use crate::words::all_digits;
-use gs_chars::{Memory, Text};
+use gs_chars::{CharSet, Memory, Text};
 use std::alloc::Global;
 
 /// The number of decimal digits of a number.
@@ -67,6 +66,21 @@ pub fn fits_wide_bits(digits: &[u8], bits: u8) -> bool
     }
 }
 
+/// The number that the symbols write. `None` comes exactly where one of them is no digit, or the number is not below 2 to the 64.
+fn number_of_digits(symbols: &[u8]) -> Option<u64>
+    ensures { SomeIff result (WritesSmall symbols.now) (decimal_value symbols.now) }
+{
+    let mut number: u64 = 0;
+    for symbol in symbols {
+        if !CharSet::Digits.holds(*symbol) {
+            return None;
+        }
+        let shifted = number.checked_mul(10)?;
+        number = shifted.checked_add(u64::from(*symbol - b'0'))?;
+    }
+    Some(number)
+}
+
 /// The number whose decimal text, without leading zeros, the symbols are. `None` comes exactly where they are the text of no
 /// number below 2 to the 64.
 pub fn numeral(symbols: &[u8]) -> Option<u64>
@@ -79,10 +93,7 @@ pub fn numeral(symbols: &[u8]) -> Option<u64>
     if has_leading_zero(symbols) {
         return None;
     }
-    if !all_digits(symbols) {
-        return None;
-    }
-    decimal_number(symbols)
+    number_of_digits(symbols)
 }
 
 /// The n digits of a number, zeros in front. `None` comes exactly where the number has more digits. n is at most 18.

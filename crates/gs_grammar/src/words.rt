@@ -2,7 +2,7 @@ ghost use Rattle.std.specs.Prelude.{◌≡◌, ◌↔◌, ◌==◌, ◌&&◌, �
 ghost use Rattle.gs_chars.specs.Characters.{are_digits};
 ghost use Rattle.gs_grammar.specs.Items.{IsItem};
 ghost use Rattle.gs_grammar.specs.Words.{IsWord, SpellsEach, Word, WritesNumber, number_of_word};
-ghost use Rattle.gs_grammar.specs.declared.item.Item.TheVariants.{Esc, Lit, Num, NumPad, Pad};
+ghost use Rattle.gs_grammar.specs.declared.item.Item.TheVariants.{Esc, Int, Lit, Num, NumPad, Pad};
 
 use crate::bit_words::{are_zeros, number_in_bits, packed_count, unpacked};
 use crate::escaped::{read_spelled, spelled_count};
@@ -141,6 +141,22 @@ fn read_number(alloc: Global, symbols: &[u8], bits: u8, max: u64) -> Result<Opti
     Ok(Some(text))
 }
 
+/// The symbols, where they are a word of the item `Int`.
+fn read_integer(alloc: Global, symbols: &[u8], max: u64) -> Result<Option<Text>, Memory>
+    requires { IsItem (Int max) }
+    ensures found { IfOk result (λ found. IfSome found (λ value. Word (Int max) value symbols.now)) }
+    ensures none { IfOk result (λ found. IfNone found (IsWord (Int max) symbols.now → ⊥)) }
+{
+    let Some(number) = numeral(symbols) else {
+        return Ok(None);
+    };
+    if number > max {
+        return Ok(None);
+    }
+    let text = Text::from_bytes(alloc, symbols)?;
+    Ok(Some(text))
+}
+
 /// The characters that the symbols spell, where they are a word of the item `Esc`.
 fn read_escaped(alloc: Global, symbols: &[u8], lo: u8, hi: u8) -> Result<Option<Text>, Memory>
     ensures found { IfOk result (λ found. IfSome found (λ value. Word (Esc lo hi) value symbols.now)) }
@@ -192,7 +208,7 @@ fn read_any(alloc: Global, item: &Item, symbols: &[u8]) -> Result<Option<Text>, 
 }
 
 /// The value of the symbols, where they are a word of the item. `None` comes exactly where they are none. The item keeps its
-/// bounds. Literals, digits, the bits of a number and the spellings of characters are gone through once.
+/// bounds. All but packed characters and fillings are gone through once.
 pub fn read_word(alloc: Global, item: &Item, symbols: &[u8]) -> Result<Option<Text>, Memory>
     requires { IsItem item.now }
     ensures found { IfOk result (λ found. IfSome found (λ value. Word item.now value symbols.now)) }
@@ -201,6 +217,7 @@ pub fn read_word(alloc: Global, item: &Item, symbols: &[u8]) -> Result<Option<Te
     match item {
         Item::Lit(literal) => Ok(read_literal(alloc, symbols, literal)),
         Item::Pad { n } => read_digits(alloc, symbols, *n),
+        Item::Int { max } => read_integer(alloc, symbols, *max),
         Item::NumPad { bits, n } => read_padded(alloc, symbols, *bits, *n),
         Item::Num { bits, max } => read_number(alloc, symbols, *bits, *max),
         Item::Esc { lo, hi } => read_escaped(alloc, symbols, *lo, *hi),
