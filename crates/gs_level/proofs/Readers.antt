@@ -44,12 +44,12 @@ none_by_one options w n option l e none = record {
       none (subst (λ (o : OptionForm). IsDerived o.items w) (sym is) d);
 }
 
-pub none_by_probe : (options : List OptionForm) (w : List ℕ) (n place : ℕ) (literal : List ℕ) (b : Bool) → ((option : OptionForm) → slice_get options n ≡ Some option → HasLiteral option.items place literal) → ((IsTrue b → StandsAt place literal w) × (StandsAt place literal w → IsTrue b)) → b ≡ false → NoneReads options n (n + 1) w
+pub none_by_probe : (options : List OptionForm) (w : List ℕ) (n place : ℕ) (literal : List ℕ) (b : Bool) → ((option : OptionForm) → slice_get options n ≡ Some option → HasLiteral option.items place literal) → (StandsAt place literal w → IsTrue b) → b ≡ false → NoneReads options n (n + 1) w
 none_by_probe options w n place literal b has test f = record {
   none = λ k option low high g d.
       let same : k ≡ n = omega arith in
       let h = has option (ap (slice_get options) (sym same) ∙ g) in
-      let t : IsTrue b = test.1 (h.stands w d) in
+      let t : IsTrue b = test (h.stands w d) in
       let u : false ≡ true = sym f ∙ t in
       cc;
 }

@@ -25,13 +25,24 @@ fn stands_at(symbols: &[u8], place: usize, literal: &[u8]) -> bool
     }
 }
 
+/// Whether the first symbol of the literal stands at this place. An empty literal stands everywhere.
+fn begins_at(symbols: &[u8], place: usize, literal: &[u8]) -> bool
+    ensures { StandsAt place literal.now symbols.now → IsTrue result }
+{
+    match literal.first() {
+        Some(first) => symbols.get(place) == Some(first),
+        None => true,
+    }
+}
+
 /// Whether the probe of the option of this number stands in the symbols. Where it does not, the option reads nothing of them.
 fn is_probed(level: &Level, option: usize, symbols: &[u8]) -> bool
     requires { option < length level.now.options }
     ensures { result ≡ false → NoneReads level.now.options option (option + 1) symbols.now }
 {
     let probe = &level.probes()[option];
-    stands_at(symbols, probe.place, probe.literal.as_bytes())
+    let literal = probe.literal.as_bytes();
+    begins_at(symbols, probe.place, literal) && stands_at(symbols, probe.place, literal)
 }
 
 /// What the option of this number reads of the symbols.

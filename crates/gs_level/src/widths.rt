@@ -1,11 +1,26 @@
-ghost use Rattle.std.specs.Prelude.{All, IfOk, IfSome};
-ghost use Rattle.gs_grammar.specs.Items.{IsItem};
+ghost use Rattle.std.specs.Prelude.{◌≡◌, All, IfOk, IfSome, IsTrue};
+ghost use Rattle.gs_grammar.specs.Items.{IsItem, shortest_of, size_of};
 ghost use Rattle.gs_level.specs.Widths.{HasWidth, IsMeasured};
 
 use crate::measured::Measured;
 use gs_chars::{List, Memory};
 use gs_grammar::{Item, read_word};
 use std::alloc::Global;
+
+/// Whether each word of the item is as long as the longest.
+fn has_one_length(item: &Item, size: usize) -> bool
+    requires { size ≡ size_of item.now }
+    ensures { IsTrue result → shortest_of item.now ≡ size }
+{
+    match item {
+        Item::Int { .. } | Item::Esc { .. } | Item::Fill { .. } => item.shortest() == size,
+        Item::Lit(_)
+        | Item::Pad { .. }
+        | Item::NumPad { .. }
+        | Item::Num { .. }
+        | Item::Ascii7 { .. } => true,
+    }
+}
 
 /// The length of the word of an item, where it has one: all that is left for the last item, and the size of an item whose words
 /// have one length.
@@ -17,7 +32,7 @@ fn width_of(item: &Item, others: &[Item], rest: &[u8]) -> Option<usize>
         return Some(rest.len());
     }
     let size = item.size();
-    if item.shortest() == size {
+    if has_one_length(item, size) {
         Some(size)
     } else {
         None
