@@ -95,10 +95,20 @@ impl AiTable {
     {
         // For the proof alone: the rows keep the rules.
         let _ = &self.rows;
-        match self.row_with(code) {
-            Some(row) => row.role.is_key(),
+        match self.find(code) {
+            Some(row) => self.is_key_row(row),
             None => false,
         }
+    }
+
+    /// Whether the row is that of a key. The row is one of the table.
+    pub fn is_key_row(&self, row: usize) -> bool
+        requires { row < length self.now }
+        ensures { (code : List ℕ) → position (has_code code) self.now ≡ Some row → result ≡ is_key_of self.now code }
+    {
+        // For the proof alone: the rows keep the rules.
+        let _ = &self.rows;
+        self.rows.items()[row].role.is_key()
     }
 
     /// The index of the row whose code begins the text. At most one row's code does. `None` comes exactly where no row's code
