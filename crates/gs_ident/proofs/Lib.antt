@@ -1,5 +1,6 @@
 pub mod CodeOrder
 pub mod IdentityLemmas
+pub mod KeyLemmas
 pub mod LinkLemmas
 pub mod PairLemmas
 pub mod ValueEscapes

@@ -1,4 +1,5 @@
 pub mod Elements
 pub mod Identities
+pub mod Keys
 pub mod Links
 pub mod Moves

@@ -23,6 +23,7 @@
 mod choosing;
 mod faults;
 mod identity;
+mod keys;
 mod making;
 mod sorting;
 mod spelling;

@@ -1,48 +1,44 @@
-ghost use Rattle.std.specs.Prelude.{◌≡◌, ◌≢◌, ◌<◌, All, Ok, Err, IfOk, IfErr, false, length, true};
+ghost use Rattle.std.specs.Prelude.{◌≡◌, ◌≢◌, ◌<◌, All, Ok, Err, Some, IfOk, IfErr, false, length, slice_get, true};
 ghost use Rattle.std.specs.List.{list_any};
+ghost use Rattle.gs_ai.specs.declared.pair.Pair.{Pair};
 ghost use Rattle.gs_ai.specs.Tables.{are_distinct, is_key_of};
-ghost use Rattle.gs_ident.specs.Identities.{counted, identity_of_counted, identity_of_pairs, listed, IsInOrder, IsMadeWith};
-ghost use Rattle.gs_ident.specs.Moves.{HasElements, IsKeyAt};
+ghost use Rattle.gs_ident.specs.Identities.{counted, identity_of_counted, identity_of_pairs, IsInOrder, IsMadeWith};
+ghost use Rattle.gs_ident.specs.Keys.{AreKeys, HasFirstKey, IsList};
+ghost use Rattle.gs_ident.specs.Moves.{HasElements};
 
-use crate::choosing::{
-    find_contradiction, find_key, find_other_key, keep_others, move_listed, stands_for_none,
-};
+use crate::choosing::{find_contradiction, keep_others, move_listed, stands_for_none};
 use crate::faults::IdentFault;
 use crate::identity::Identity;
+use crate::keys::{KeyPlace, Keys, keys_among};
 use crate::sorting::sort_pairs;
 use gs_ai::{AiTable, Pair};
 use gs_chars::{Memory, Text};
 use std::alloc::Global;
 
-/// The codes that the key's row lists as qualifiers.
-fn listed_codes<'a>(table: &'a AiTable, key: &Pair) -> &'a [Text]
-    ensures codes { result.now ≡ listed table.now key.now }
+/// The codes that the row lists as qualifiers. The row is one of the table.
+fn listed_codes(table: &AiTable, row: usize) -> &[Text]
+    requires { row < length table.now }
+    ensures codes { IsList table.now row result.now }
     ensures distinct { are_distinct result.now ≡ true }
     ensures no_key { list_any (is_key_of table.now) result.now ≡ false }
 {
-    // the proof alone reads it: the rows keep the rules of application identifiers
-    let _ = table.rows();
-    match table.row_with(key.code.as_bytes()) {
-        Some(row) => row.qualifiers.items(),
-        None => &[],
-    }
+    table.rows()[row].qualifiers.items()
 }
 
-/// The identity of the key at this place and of the pairs around it. The pairs are moved.
+/// The identity of the first key and of the pairs around it. The pairs are moved.
 #[tactic(auto, unfolding(crate::specs::Identities::elements_of))]
 fn elements_of(
     alloc: Global,
     table: &AiTable,
     pairs: Vec<Pair>,
-    place: usize,
+    first: KeyPlace,
 ) -> Result<Identity, Memory>
-    requires within { place < length pairs.items }
-    requires key { IsKeyAt table.now pairs.items place }
-    ensures { IfOk result (HasElements table.now pairs.items place) }
+    requires { HasFirstKey table.now pairs.items first }
+    ensures { IfOk result (HasElements table.now pairs.items first.pair) }
 {
     let mut others = pairs;
-    let key = others.remove(place);
-    let listed = listed_codes(table, &key);
+    let key = others.remove(first.pair);
+    let listed = listed_codes(table, first.row);
     let qualifiers = move_listed(alloc, &mut others, listed)?;
     keep_others(&mut others, listed, &key);
     let attributes = sort_pairs(alloc, others)?;
@@ -56,8 +52,27 @@ fn keep_counted(table: &AiTable, pairs: &mut Vec<Pair>)
     pairs.retain(|pair| !stands_for_none(table, pair));
 }
 
-/// The identity of pairs of which each counts.
-fn make_counted(alloc: Global, table: &AiTable, pairs: Vec<Pair>) -> Result<Identity, IdentFault>
+/// The keys among the pairs that count. The others, of which there are none as a rule, are dropped.
+fn keys_of_counted(table: &AiTable, pairs: &mut Vec<Pair>) -> Keys
+    ensures counted { pairs.new.items ≡ counted table.now pairs.old.items }
+    ensures keys { AreKeys table.now pairs.new.items result }
+{
+    let keys = keys_among(table, pairs.as_slice());
+    if !keys.with_none {
+        return keys;
+    }
+    keep_counted(table, pairs);
+    keys_among(table, pairs.as_slice())
+}
+
+/// The identity of pairs of which each counts, and whose keys these are.
+fn make_counted(
+    alloc: Global,
+    table: &AiTable,
+    pairs: Vec<Pair>,
+    keys: Keys,
+) -> Result<Identity, IdentFault>
+    requires { AreKeys table.now pairs.items keys }
     ensures made { IfOk result (λ identity. identity_of_counted table.now pairs.items ≡ Ok identity) }
     ensures refused { IfErr result (λ fault. fault ≢ IdentFault.Memory
         → identity_of_counted table.now pairs.items ≡ Err fault) }
@@ -65,13 +80,13 @@ fn make_counted(alloc: Global, table: &AiTable, pairs: Vec<Pair>) -> Result<Iden
     if let Some(pair) = find_contradiction(pairs.as_slice()) {
         return Err(IdentFault::Repeat(pair.code.copy(alloc)?));
     }
-    let Some(place) = find_key(table, pairs.as_slice()) else {
+    let Some(first) = keys.first else {
         return Err(IdentFault::NoKey);
     };
-    if let Some(other) = find_other_key(table, pairs.as_slice(), &pairs[place]) {
-        return Err(IdentFault::TwoKeys(other.code.copy(alloc)?));
+    if let Some(other) = keys.other {
+        return Err(IdentFault::TwoKeys(pairs[other].code.copy(alloc)?));
     }
-    Ok(elements_of(alloc, table, pairs, place)?)
+    Ok(elements_of(alloc, table, pairs, first)?)
 }
 
 /// The identity of the pairs. Pairs whose value stands for none are dropped first; equal repeats count once. A refusal is the
@@ -86,6 +101,6 @@ pub fn make(alloc: Global, table: &AiTable, pairs: Vec<Pair>) -> Result<Identity
         → identity_of_pairs table.now pairs.items ≡ Err fault) }
 {
     let mut counted = pairs;
-    keep_counted(table, &mut counted);
-    make_counted(alloc, table, counted)
+    let keys = keys_of_counted(table, &mut counted);
+    make_counted(alloc, table, counted, keys)
 }

@@ -1,11 +1,24 @@
-use Rattle.std.proofs.Common.{sym}
-use Rattle.gs_ident.proofs.MovedPairs.{row_distinct, row_lists}
+use Rattle.std.proofs.Common.{◌≡◌, Some, slice_get}
+use Rattle.gs_ai.proofs.Searches.{find_read}
+use Rattle.gs_ai.specs.Values.{has_code}
+use Rattle.gs_chars.proofs.TruthsAndLists.{read_at}
+use Rattle.gs_ident.proofs.MovedPairs.{row_distinct}
 use Rattle.gs_ident.proofs.making.listed_codes.Goals as goal
 
-pub returns-in-Some-clause-distinct : goal.returns-in-Some-clause-distinct
-returns-in-Some-clause-distinct c = rw c.items.ensures (row_distinct c.in-Some.row.now c.in-Some.ensures.kept)
+pub returns-clause-codes : goal.returns-clause-codes
+returns-clause-codes c = λ key of_row.
+    let own = rw c.rows.ensures.rows at c.index-rows-row.is in
+    let found = find_read (has_code key.code) c.args.table.now c.args.row c.index-rows-row.result of_row own in
+    rw found (rw (← c.index-rows-row.is) at c.items.ensures)
 
-pub returns-in-Some-clause-no_key : goal.returns-in-Some-clause-no_key
-returns-in-Some-clause-no_key c =
-    let found = rw c.as_bytes.ensures at c.in-Some.ensures.row in
-    rw c.items.ensures (row_lists c.args.table.now c.args.key.now.code c.in-Some.row.now c.rows.ensures.kept (sym found))
+pub returns-clause-distinct : goal.returns-clause-distinct
+returns-clause-distinct c =
+    let own = rw c.rows.ensures.rows at c.index-rows-row.is in
+    let at : slice_get c.args.table.now c.args.row ≡ Some c.index-rows-row.result = read_at c.args.table.now c.args.row c.index-rows-row.result c.requires own in
+    rw (rw (← c.index-rows-row.is) at c.items.ensures) (row_distinct c.index-rows-row.result (c.rows.ensures.kept.rows_in_order c.args.row c.index-rows-row.result at).0)
+
+pub returns-clause-no_key : goal.returns-clause-no_key
+returns-clause-no_key c =
+    let own = rw c.rows.ensures.rows at c.index-rows-row.is in
+    let at : slice_get c.args.table.now c.args.row ≡ Some c.index-rows-row.result = read_at c.args.table.now c.args.row c.index-rows-row.result c.requires own in
+    rw (rw (← c.index-rows-row.is) at c.items.ensures) (c.rows.ensures.kept.lists_qualifiers c.args.row c.index-rows-row.result at).1
