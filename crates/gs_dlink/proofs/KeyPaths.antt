@@ -1,5 +1,5 @@
 -- The key path in which segments end: there is at most one.
-use Rattle.std.proofs.Common.{◌≡◌, ℕ, zero, suc, ◌+◌, ◌≤◌, ◌||◌, Bool, true, false, List, [], ◌∷◌, ◌++◌, length, map, take, drop, find, slice_get, Option, Some, None, option_map, bytes_eq, refl, sym, ap, ◌∙◌, arith, ◌⊎◌, inl, inr, true≢false, append_assoc, append-nil, reverse, take-append-drop}
+use Rattle.std.proofs.Common.{◌≡◌, ℕ, zero, suc, ◌+◌, ◌-◌, ◌≤◌, ◌||◌, Bool, true, false, List, [], ◌∷◌, ◌++◌, length, map, take, drop, find, slice_get, Option, Some, None, option_map, bytes_eq, refl, sym, ap, ◌∙◌, arith, ◌⊎◌, inl, inr, true≢false, append_assoc, append-nil, reverse, take-append-drop}
 use Rattle.std.specs.List.{list_any}
 use Rattle.std.proofs.lemmas.List.{reverse-append}
 use Rattle.gs_chars.proofs.TruthsAndLists.{and_first, and_second, equal_bytes, or_first, or_second, true_or_false}
@@ -8,7 +8,7 @@ use Rattle.gs_ai.specs.Tables.{KeepsRules, is_key_of}
 use Rattle.gs_ai.specs.Values.{has_code}
 use Rattle.gs_dlink.specs.Paths.{IsKeyPath, codes_of, is_in_order, is_key_path, key_path, listed_of, paired, path_or}
 use Rattle.gs_dlink.specs.Uris.{LastSlash, NoSlash, Piece, Written, segments}
-use Rattle.gs_dlink.proofs.CutLemmas.{few_taken, length_take, no_segments, segments_last}
+use Rattle.gs_dlink.proofs.CutLemmas.{few_taken, length_take, no_segments, rest_taken, segments_last}
 
 -- ---- segments in pairs
 
@@ -222,8 +222,15 @@ module _ (table : List AiRow) (rules : KeepsRules table) (at : ℕ) (path front 
       }
 
 -- one pair more, in front of those so far
+turned : {X : Type 0} (old new : List X) (x : X) → new ≡ old ++ x ∷ [] → reverse new ≡ x ∷ reverse old
+turned old new x e = rw (e, reverse-append old (x ∷ [])) refl
+
 pub pushed : {X : Type 0} (f : X → Written) (old new : List X) (x : X) → new ≡ old ++ x ∷ [] → map f (reverse new) ≡ f x ∷ map f (reverse old)
-pushed f old new x e = rw (e, reverse-append old (x ∷ [])) refl
+pushed f old new x e = rw (turned old new x e) refl
+
+-- the pairs behind the one that was pushed last, and stands in front now
+pub behind_last : {X : Type 0} (old new all : List X) (x : X) → new ≡ old ++ x ∷ [] → all ≡ reverse new → take (length all - 1) (drop 1 all) ≡ reverse old
+behind_last old new all x e t = let whole : all ≡ x ∷ reverse old = t ∙ turned old new x e in rw whole (rest_taken 1 (x ∷ reverse old))
 
 -- the key path of a key and the pairs behind it
 pub ordered_path : (table : List AiRow) (key : Written) (pairs : List Written) → is_key_of table key.code ≡ true → is_in_order (listed_of table key.code) (codes_of pairs) ≡ true → Some (key ∷ pairs) ≡ path_or table (Some (key ∷ pairs)) None

@@ -62,11 +62,11 @@ fn with_key<'a>(
         ≡ path_or table.now (Some (written_of key.entry ∷ map written_of (reverse pairs.entry.items))) None) }
 {
     let mut path = pairs;
+    path.push(key)?;
     path.reverse();
-    if !are_in_order(listed(table, key.code), path.as_slice()) {
+    if !are_in_order(listed(table, key.code), &path[1..]) {
         return Ok(None);
     }
-    path.insert(0, key)?;
     Ok(Some(path))
 }
 

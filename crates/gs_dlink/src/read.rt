@@ -112,7 +112,9 @@ fn read_pairs(
 ) -> Result<List<Pair>, LinkFault>
     ensures { OrMemory result (written_answer table.now (map written_of written.now)) }
 {
-    let mut pairs = Vec::new(alloc);
+    let Ok(mut pairs) = Vec::with_capacity(alloc, written.len()) else {
+        return Err(LinkFault::Memory);
+    };
     for pair in written {
         let pair = read_pair(alloc, table, pair)?;
         let Ok(()) = pairs.push(pair) else {
