@@ -11,7 +11,7 @@ use Rattle.gs_ai.specs.declared.faults.ValueFault.TheVariants.{Unknown}
 use Rattle.gs_ai.specs.declared.pair.Pair.{Pair}
 use Rattle.gs_ai.specs.declared.row.AiRow.{AiRow}
 use Rattle.gs_ai.specs.Values.{has_code, row_fault, value_fault}
-use Rattle.gs_ai.proofs.Searches.{find_read}
+use Rattle.gs_ai.proofs.Searches.{find_read, position_within}
 use Rattle.gs_ident.specs.Identities.{IsInOrder}
 use Rattle.gs_ident.proofs.PairLemmas.{found_passes}
 use Rattle.gs_dlink.specs.declared.fault.LinkFault.{LinkFault}
@@ -19,17 +19,8 @@ use Rattle.gs_dlink.specs.declared.fault.LinkFault.TheVariants.{Element, Memory}
 use Rattle.gs_dlink.specs.Answers.{OrMemory, fault_in, then_pairs, written_answer}
 use Rattle.gs_dlink.specs.Uris.{Written}
 use Rattle.gs_dlink.proofs.CutLemmas.{take_all}
-use Rattle.gs_dlink.specs.Values.{are_escapes, by_row, by_value, padded, pair_answer, value_of}
-
--- the row at the place of a code, which judges a value as the code does
-module _ (table : List AiRow) (code : List ℕ) (i : ℕ) (row : AiRow) (place : Some i ≡ position (has_code code) table) (low : i < length table) (read : row ≡ get_or table i row) where
-  pub row_found : Some row ≡ find (has_code code) table
-  row_found = sym (find_read (has_code code) table i row (sym place) read)
-
-  pub same_fault : (value : List ℕ) → row_fault table i value ≡ value_fault table code value
-  same_fault value =
-      let own : code ≡ row.code = equal_bytes code row.code (found_passes (has_code code) table row (sym row_found)) in
-      rw (read_at table i row low read, own) refl
+use Rattle.gs_dlink.specs.Values.{are_escapes, by_row, by_value, padded, pair_answer, unescaped, value_of}
+use Rattle.gs_dlink.proofs.PlainValues.{spelled}
 
 module _ (table : List AiRow) (pair : Written) where
   pub unknown : None ≡ find (has_code pair.code) table → Err (Element (record { at = pair.at; why = Value Unknown })) ≡ pair_answer table pair
@@ -40,13 +31,25 @@ module _ (table : List AiRow) (pair : Written) where
   unfolding pair_answer
   no_escape row h other = rw (← h, other) refl
 
-  pub value_refused : (row : AiRow) (value : List ℕ) (fault : ValueFault) → Some row ≡ find (has_code pair.code) table → are_escapes pair.value ≡ true → value ≡ padded row.short (percent_decode pair.value) → value_fault table pair.code value ≡ Some fault → Err (Element (record { at = pair.at; why = Value fault })) ≡ pair_answer table pair
+  pub valued : (row : AiRow) (value : List ℕ) (fault : Option ValueFault) → Some row ≡ find (has_code pair.code) table → are_escapes pair.value ≡ true → value ≡ padded row.short (percent_decode pair.value) → value_fault table pair.code value ≡ fault → by_value pair value (option_map Value fault) ≡ pair_answer table pair
   unfolding pair_answer
-  value_refused row value fault h escapes e f = let g : value_fault table pair.code (value_of row pair.value) ≡ Some fault = rw e at f in rw (← h, escapes, g) refl
+  valued row value fault h escapes e f = let g : value_fault table pair.code (value_of row pair.value) ≡ fault = rw e at f in rw (← h, escapes, g, e) refl
 
-  pub value_taken : (row : AiRow) (value : List ℕ) → Some row ≡ find (has_code pair.code) table → are_escapes pair.value ≡ true → value ≡ padded row.short (percent_decode pair.value) → value_fault table pair.code value ≡ None → Ok (record { code = pair.code; value = value }) ≡ pair_answer table pair
-  unfolding pair_answer
-  value_taken row value h escapes e f = let g : value_fault table pair.code (value_of row pair.value) ≡ None = rw e at f in rw (← h, escapes, g, e) refl
+-- the row at the place of a pair's code, which judges the pair's value as the code does
+module _ (table : List AiRow) (pair : Written) (i : ℕ) (row : AiRow) (place : Some i ≡ position (has_code pair.code) table) (read : row ≡ get_or table i row) where
+  pub row_found : Some row ≡ find (has_code pair.code) table
+  row_found = sym (find_read (has_code pair.code) table i row (sym place) read)
+
+  same_fault : (value : List ℕ) → row_fault table i value ≡ value_fault table pair.code value
+  same_fault value =
+      let own : pair.code ≡ row.code = equal_bytes pair.code row.code (found_passes (has_code pair.code) table row (sym row_found)) in
+      let low = position_within (has_code pair.code) table i (sym place) in
+      rw (read_at table i row low read, own) refl
+
+  pub judged : (text value : List ℕ) (fault : Option ValueFault) → Some text ≡ unescaped pair.value → value ≡ padded row.short text → row_fault table i value ≡ fault → by_value pair value (option_map Value fault) ≡ pair_answer table pair
+  judged text value fault spells e f =
+      let own = spelled pair.value text spells in
+      valued table pair row value fault row_found own.0 (rw own.1 at e) (sym (same_fault value) ∙ f)
 
 module _ (table : List AiRow) where
   pub answer_append : (xs ys : List Written) (ps : List Pair) → written_answer table xs ≡ Ok ps → (qs : List Pair) → written_answer table ys ≡ Ok qs → written_answer table (xs ++ ys) ≡ Ok (ps ++ qs)

@@ -3,6 +3,7 @@ pub mod FreeBytes
 pub mod Judged
 pub mod KeyPaths
 pub mod OrderLemmas
+pub mod Placed
 pub mod PlainValues
 pub mod SpelledPairs
 pub mod Targets

@@ -25,7 +25,7 @@ use Rattle.gs_dlink.specs.Uris.{Written, is_byte, is_slash, part_pairs, pieces_b
 use Rattle.gs_dlink.specs.Values.{is_short_gtin, padded, pair_answer}
 use Rattle.gs_dlink.proofs.CutLemmas.{after_seam, any_append, before_none, before_seam, no_pieces, pieces_seam}
 use Rattle.gs_dlink.proofs.FreeBytes.{are_free, decoded_again, digits_free, encoded_escapes, encoded_free, equal_number, is_free, no_byte, none_in, set82_bytes}
-use Rattle.gs_dlink.proofs.Judged.{value_taken}
+use Rattle.gs_dlink.proofs.Judged.{valued}
 
 -- ---- what is written of a pair
 
@@ -126,7 +126,7 @@ module _ (table : List AiRow) (pair : Pair) (of : IsOfTable table pair) where
       let found : Some of.row ≡ find (has_code w.code) table = rw spelled.code (sym of.found) in
       let decoded : pair.value ≡ padded of.row.short (percent_decode w.value) =
       rw (spelled.value, decoded_again pair.value value_bytes, not_short of.row pair.value of.row_ok of.fits) refl in
-      let answer = value_taken table w of.row pair.value found (rw spelled.value (encoded_escapes pair.value value_bytes)) decoded (rw spelled.code of.in_order) in
+      let answer = valued table w of.row pair.value None found (rw spelled.value (encoded_escapes pair.value value_bytes)) decoded (rw spelled.code of.in_order) in
       sym answer ∙ ap (λ (code : List ℕ). Ok (record { code = code; value = pair.value })) spelled.code
 
 pub all_read_again : (table : List AiRow) (ws : List Written) (ps : List Pair) → AllSpelled ws ps → Each (IsOfTable table) ps → written_answer table ws ≡ Ok ps

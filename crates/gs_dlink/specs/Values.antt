@@ -1,6 +1,6 @@
 -- The value of a pair of a link: RFC 3986, section 2.1, and GS1 Digital Link URI Syntax, section 3. That a short GTIN is
 -- padded with zeros is after its section 3.3; the order of the faults is this project's own.
-use Rattle.std.specs.Prelude.{ℕ, ◌-◌, ◌==◌, ◌&&◌, ◌||◌, not, Bool, true, false, if◌then◌else◌, List, [], ◌∷◌, ◌++◌, length, take, codes, find, Option, Some, None, option_map, Result, Ok, Err}
+use Rattle.std.specs.Prelude.{◌≡◌, ℕ, ◌-◌, ◌==◌, ◌&&◌, ◌||◌, not, Bool, true, false, if◌then◌else◌, List, [], ◌∷◌, ◌++◌, length, take, codes, find, position, Option, Some, None, option_map, Result, Ok, Err}
 use Rattle.std.specs.Char.{is_ascii_hexdigit}
 use Rattle.percent_encoding.specs.Percent.{percent_decode}
 use Rattle.gs_chars.specs.Characters.{are_digits}
@@ -18,6 +18,10 @@ use Rattle.gs_dlink.specs.Uris.{Written}
 -- the pair that the code of this crate lends
 abbrev pub written_of : WrittenPair → Written
 written_of pair = record { at = pair.at; code = pair.code.now; value = pair.value.now }
+
+-- the row of the pair is that of its code
+abbrev pub IsPlaced : List AiRow → WrittenPair → Type 0
+IsPlaced table pair = pair.row ≡ position (has_code pair.code.now) table
 
 -- the text begins with two hexadecimal digits
 abbrev pub begins_hex : List ℕ → Bool

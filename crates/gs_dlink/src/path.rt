@@ -1,8 +1,8 @@
-ghost use Rattle.std.specs.Prelude.{◌≡◌, ◌+◌, ◌<◌, ◌^◌, ◌∷◌, true, IfOk, MatchOption, None, Some, map, option_map, length, reverse};
+ghost use Rattle.std.specs.Prelude.{◌≡◌, ◌+◌, ◌<◌, ◌^◌, ◌∷◌, true, All, IfOk, IfSome, MatchOption, None, Some, map, option_map, length, reverse};
 ghost use Rattle.gs_ai.specs.Tables.{is_key_of};
 ghost use Rattle.gs_dlink.specs.Paths.{codes_of, is_code_at, is_in_order, key_path, listed_of, path_or};
 ghost use Rattle.gs_dlink.specs.Uris.{LastSlash, NoSlash, segments};
-ghost use Rattle.gs_dlink.specs.Values.{written_of};
+ghost use Rattle.gs_dlink.specs.Values.{IsPlaced, written_of};
 
 use crate::written::WrittenPair;
 use gs_ai::AiTable;
@@ -41,12 +41,24 @@ fn are_in_order(list: &[Text], pairs: &[WrittenPair<'_>]) -> bool
     next == pairs.len()
 }
 
-/// The codes that the row of a key lists as qualifiers.
-fn listed<'a>(table: &'a AiTable, key: &[u8]) -> &'a [Text]
-    ensures { result.now ≡ listed_of table.now key.now }
+/// Whether the code of the pair is that of a key.
+fn is_key(table: &AiTable, pair: &WrittenPair<'_>) -> bool
+    requires { IsPlaced table.now pair.now }
+    ensures { result ≡ is_key_of table.now pair.now.code.now }
 {
-    match table.row_with(key) {
-        Some(row) => row.qualifiers.items(),
+    match pair.row {
+        Some(row) => table.is_key_row(row),
+        None => false,
+    }
+}
+
+/// The codes that the row of a key lists as qualifiers.
+fn listed<'a>(table: &'a AiTable, key: &WrittenPair<'_>) -> &'a [Text]
+    requires { IsPlaced table.now key.now }
+    ensures { result.now ≡ listed_of table.now key.now.code.now }
+{
+    match key.row {
+        Some(row) => table.rows()[row].qualifiers.items(),
         None => &[],
     }
 }
@@ -57,14 +69,17 @@ fn with_key<'a>(
     key: WrittenPair<'a>,
     pairs: Vec<WrittenPair<'a>>,
 ) -> Result<Option<Vec<WrittenPair<'a>>>, Memory>
-    requires { is_key_of table.now key.code.now ≡ true }
-    ensures { IfOk result (λ found. option_map (λ path. map written_of path.items) found
+    requires is_key { is_key_of table.now key.code.now ≡ true }
+    requires key_placed { IsPlaced table.now key }
+    requires placed { All (IsPlaced table.now) pairs.items }
+    ensures path { IfOk result (λ found. option_map (λ path. map written_of path.items) found
         ≡ path_or table.now (Some (written_of key.entry ∷ map written_of (reverse pairs.entry.items))) None) }
+    ensures placed { IfOk result (λ found. IfSome found (λ path. All (IsPlaced table.now) path.items)) }
 {
     let mut path = pairs;
     path.push(key)?;
     path.reverse();
-    if !are_in_order(listed(table, key.code), &path[1..]) {
+    if !are_in_order(listed(table, &key), &path[1..]) {
         return Ok(None);
     }
     Ok(Some(path))
@@ -79,8 +94,9 @@ pub(crate) fn key_path<'a>(
     path: &'a [u8],
 ) -> Result<Option<Vec<WrittenPair<'a>>>, Memory>
     requires { at + length path.now < 2 ^ 63 }
-    ensures { IfOk result (λ pairs. option_map (λ found. map written_of found.items) pairs
+    ensures path { IfOk result (λ pairs. option_map (λ found. map written_of found.items) pairs
         ≡ key_path table.now (segments at path.now)) }
+    ensures placed { IfOk result (λ pairs. IfSome pairs (λ found. All (IsPlaced table.now) found.items)) }
 {
     // For the proof alone: the rows keep the rules.
     let _ = table.rows();
@@ -94,12 +110,14 @@ pub(crate) fn key_path<'a>(
         let Some(code) = last_slash(before) else {
             return Ok(None);
         };
+        let name = &before[code + 1..];
         let pair = WrittenPair {
             at: at + code + 1,
-            code: &before[code + 1..],
+            row: table.find(name),
+            code: name,
             value: &front[value + 1..],
         };
-        if table.is_key(pair.code) {
+        if is_key(table, &pair) {
             return with_key(table, pair, pairs);
         }
         pairs.push(pair)?;

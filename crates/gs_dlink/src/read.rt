@@ -3,7 +3,7 @@ ghost use Rattle.std.specs.Char.{to_ascii_lowercase};
 ghost use Rattle.gs_ident.specs.Identities.{IsInOrder};
 ghost use Rattle.gs_dlink.specs.Answers.{IsLink, IsTarget, OrMemory, is_rooted, link_fault, target_answer, target_fault, written_answer};
 ghost use Rattle.gs_dlink.specs.Uris.{authority_end, has_scheme, scheme_end};
-ghost use Rattle.gs_dlink.specs.Values.{written_of};
+ghost use Rattle.gs_dlink.specs.Values.{IsPlaced, written_of};
 
 use crate::cuts::{authority_len, place_of};
 use crate::fault::LinkFault;
@@ -100,7 +100,7 @@ fn read_at(alloc: Global, table: &AiTable, at: usize, text: &[u8]) -> Result<Lis
     let Some(mut written) = key_path(alloc, table, at, path)? else {
         return Err(LinkFault::NoKeyPath);
     };
-    push_query(&mut written, at + end + 1, behind(text, end))?;
+    push_query(table, &mut written, at + end + 1, behind(text, end))?;
     read_pairs(alloc, table, written.as_slice())
 }
 
@@ -110,6 +110,7 @@ fn read_pairs(
     table: &AiTable,
     written: &[WrittenPair<'_>],
 ) -> Result<List<Pair>, LinkFault>
+    requires { All (IsPlaced table.now) written.now }
     ensures { OrMemory result (written_answer table.now (map written_of written.now)) }
 {
     let Ok(mut pairs) = Vec::with_capacity(alloc, written.len()) else {

@@ -2,7 +2,7 @@ ghost use Rattle.std.specs.Prelude.{◌≡◌, IfOk};
 ghost use Rattle.gs_dlink.specs.Answers.{OrMemory};
 ghost use Rattle.gs_chars.specs.Characters.{are_digits};
 ghost use Rattle.percent_encoding.specs.Percent.{percent_decode};
-ghost use Rattle.gs_dlink.specs.Values.{is_short_gtin, padded, pair_answer, unescaped, written_of};
+ghost use Rattle.gs_dlink.specs.Values.{IsPlaced, is_short_gtin, padded, pair_answer, unescaped, written_of};
 
 use crate::cuts::place_of;
 use crate::escapes::are_escapes;
@@ -80,9 +80,10 @@ pub(crate) fn read_pair(
     table: &AiTable,
     written: &WrittenPair<'_>,
 ) -> Result<Pair, LinkFault>
+    requires { IsPlaced table.now written.now }
     ensures { OrMemory result (pair_answer table.now (written_of written.now)) }
 {
-    let Some(place) = table.find(written.code) else {
+    let Some(place) = written.row else {
         return Err(fault_of(written, ElementWhy::Value(ValueFault::Unknown)));
     };
     let row = &table.rows()[place];
