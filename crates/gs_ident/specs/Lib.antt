@@ -3,3 +3,4 @@ pub mod Identities
 pub mod Keys
 pub mod Links
 pub mod Moves
+pub mod Room

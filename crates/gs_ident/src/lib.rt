@@ -25,6 +25,7 @@ mod faults;
 mod identity;
 mod keys;
 mod making;
+mod room;
 mod sorting;
 mod spelling;
 

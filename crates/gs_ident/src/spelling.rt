@@ -59,27 +59,9 @@ fn write_query(out: &mut Vec<u8>, pairs: &[Pair]) -> Result<(), Memory>
     write_pairs(out, b'&', rest, b'=')
 }
 
-/// The number of bytes of a pair in a link, but for its escapes.
-fn pair_room(pair: &Pair) -> usize {
-    let code = pair.code.as_bytes().len();
-    code.saturating_add(pair.value.as_bytes().len())
-        .saturating_add(2)
-}
-
-/// The number of bytes of pairs in a link, but for their escapes.
-fn pairs_room(pairs: &[Pair]) -> usize {
-    let mut room = 0usize;
-    for pair in pairs {
-        room = room.saturating_add(pair_room(pair));
-    }
-    room
-}
-
 /// The number of bytes of a link under the stem, but for its escapes: the memory that is taken for it.
 fn room_for(stem: &[u8], identity: &Identity) -> usize {
-    let path = pair_room(identity.key()).saturating_add(pairs_room(identity.qualifiers()));
-    let query = pairs_room(identity.attributes());
-    stem.len().saturating_add(path).saturating_add(query)
+    stem.len().saturating_add(identity.room())
 }
 
 /// The link of the identity under the stem: the key's pair and those of the qualifiers as the path, the attributes as the
