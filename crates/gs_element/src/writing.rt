@@ -26,8 +26,8 @@ fn is_open(table: &AiTable, pair: &Pair) -> bool
 }
 
 /// Appends an FNC1 where the element before is open.
-fn write_separator(out: &mut Text, unclosed: bool) -> Result<(), Memory>
-    ensures { IfOk result (λ _. out.new ≡ out.old ++ separator_of unclosed) }
+fn write_separator(out: &mut Vec<u8>, unclosed: bool) -> Result<(), Memory>
+    ensures { IfOk result (λ _. out.new.items ≡ out.old.items ++ separator_of unclosed) }
 {
     if unclosed {
         out.push(29)?;
@@ -38,12 +38,12 @@ fn write_separator(out: &mut Text, unclosed: bool) -> Result<(), Memory>
 /// Appends the elements of the pairs behind one that is open or not, and answers whether the last of all is open.
 fn write_elements(
     table: &AiTable,
-    out: &mut Text,
+    out: &mut Vec<u8>,
     unclosed: bool,
     pairs: &[Pair],
 ) -> Result<bool, Memory>
     requires { All (IsInOrder table.now) pairs.now }
-    ensures written { IfOk result (λ _. out.new ≡ out.old ++ raw_behind unclosed pairs.now) }
+    ensures written { IfOk result (λ _. out.new.items ≡ out.old.items ++ raw_behind unclosed pairs.now) }
     ensures last { IfOk result (λ last. last ≡ last_open unclosed pairs.now) }
 {
     let mut last = unclosed;
@@ -63,19 +63,19 @@ pub fn write_raw(alloc: Global, table: &AiTable, identity: &Identity) -> Result<
     requires { IsMadeWith table.now identity.now }
     ensures { IfOk result (λ text. text ≡ raw_text (pairs_of identity.now)) }
 {
-    let mut out = Text::new(alloc);
+    let mut out = Vec::with_capacity(alloc, identity.room())?;
     let key = identity.key();
     out.extend_from_slice(key.code.as_bytes())?;
     out.extend_from_slice(key.value.as_bytes())?;
     let unclosed = is_open(table, key);
     let unclosed = write_elements(table, &mut out, unclosed, identity.qualifiers())?;
     write_elements(table, &mut out, unclosed, identity.attributes())?;
-    Ok(out)
+    Ok(Text::from_vec(out))
 }
 
 /// Appends a character of a value, an opening bracket with a backslash before it.
-fn write_character(out: &mut Text, c: u8) -> Result<(), Memory>
-    ensures { IfOk result (λ _. out.new ≡ out.old ++ written_character c) }
+fn write_character(out: &mut Vec<u8>, c: u8) -> Result<(), Memory>
+    ensures { IfOk result (λ _. out.new.items ≡ out.old.items ++ written_character c) }
 {
     if c == b'(' {
         out.push(b'\\')?;
@@ -88,8 +88,8 @@ fn write_character(out: &mut Text, c: u8) -> Result<(), Memory>
 }
 
 /// Appends a value.
-fn write_value(out: &mut Text, value: &[u8]) -> Result<(), Memory>
-    ensures { IfOk result (λ _. out.new ≡ out.old ++ written_value value.now) }
+fn write_value(out: &mut Vec<u8>, value: &[u8]) -> Result<(), Memory>
+    ensures { IfOk result (λ _. out.new.items ≡ out.old.items ++ written_value value.now) }
 {
     for c in value {
         write_character(out, *c)?;
@@ -98,8 +98,8 @@ fn write_value(out: &mut Text, value: &[u8]) -> Result<(), Memory>
 }
 
 /// Appends the code of the pair in brackets, and its value.
-fn write_pair(out: &mut Text, pair: &Pair) -> Result<(), Memory>
-    ensures { IfOk result (λ _. out.new ≡ out.old ++ bracketed_element pair.now) }
+fn write_pair(out: &mut Vec<u8>, pair: &Pair) -> Result<(), Memory>
+    ensures { IfOk result (λ _. out.new.items ≡ out.old.items ++ bracketed_element pair.now) }
 {
     out.push(b'(')?;
     out.extend_from_slice(pair.code.as_bytes())?;
@@ -108,8 +108,8 @@ fn write_pair(out: &mut Text, pair: &Pair) -> Result<(), Memory>
 }
 
 /// Appends each pair.
-fn write_pairs(out: &mut Text, pairs: &[Pair]) -> Result<(), Memory>
-    ensures { IfOk result (λ _. out.new ≡ out.old ++ bracketed_text pairs.now) }
+fn write_pairs(out: &mut Vec<u8>, pairs: &[Pair]) -> Result<(), Memory>
+    ensures { IfOk result (λ _. out.new.items ≡ out.old.items ++ bracketed_text pairs.now) }
 {
     for pair in pairs {
         write_pair(out, pair)?;
@@ -122,9 +122,9 @@ fn write_pairs(out: &mut Text, pairs: &[Pair]) -> Result<(), Memory>
 pub fn write_bracketed(alloc: Global, identity: &Identity) -> Result<Text, Memory>
     ensures { IfOk result (λ text. text ≡ bracketed_text (pairs_of identity.now)) }
 {
-    let mut out = Text::new(alloc);
+    let mut out = Vec::with_capacity(alloc, identity.room())?;
     write_pair(&mut out, identity.key())?;
     write_pairs(&mut out, identity.qualifiers())?;
     write_pairs(&mut out, identity.attributes())?;
-    Ok(out)
+    Ok(Text::from_vec(out))
 }

@@ -6,9 +6,9 @@ pub loop-pair-preserved : goal.loop-pair-preserved
 loop-pair-preserved c =
     let before = c.loop-pair.invariant in
     let closed = rw before.last_is at c.in_ok-write_separator.ensures in
-    let coded = rw c.as_bytes.ensures at c.in_ok-extend_from_slice.ensures in
-    let valued = rw c.as_bytes-in-loop-pair.ensures at c.in_ok-extend_from_slice-2.ensures in
+    let coded = rw c.as_bytes.ensures at c.in_ok-extend_from_slice.ensures.items in
+    let valued = rw c.as_bytes-in-loop-pair.ensures at c.in_ok-extend_from_slice-2.ensures.items in
     record {
-      written = one_written c.args.unclosed c.args.pairs.now c.loop-pair.pair-index c.pair-item.result c.args.out.now c.loop-pair.out c.write_separator.new.out c.extend_from_slice.new.self c.extend_from_slice-in-loop-pair.new.self c.loop-pair-test.true c.pair-item.is before.written closed coded valued;
+      written = one_written c.args.unclosed c.args.pairs.now c.loop-pair.pair-index c.pair-item.result c.args.out.now.items c.loop-pair.out.items c.write_separator.new.out.items c.extend_from_slice.new.self.items c.extend_from_slice-in-loop-pair.new.self.items c.loop-pair-test.true c.pair-item.is before.written closed coded valued;
       last_is = c.is_open-last.ensures ∙ one_open c.args.unclosed c.args.pairs.now c.loop-pair.pair-index c.pair-item.result c.loop-pair-test.true c.pair-item.is;
     }

@@ -5,6 +5,6 @@ use Rattle.gs_element.proofs.writing.write_elements.Given as goal
 -- what the pairs so far make, and whether the last of them is open
 abbrev pub invariant-loop-pair : goal.invariant-loop-pair
 invariant-loop-pair l = record {
-  written : l.out ≡ l.fn.out ++ raw_behind l.fn.unclosed (take l.pair-index l.pairs);
+  written : l.out.items ≡ l.fn.out.items ++ raw_behind l.fn.unclosed (take l.pair-index l.pairs);
   last_is : l.last ≡ last_open l.fn.unclosed (take l.pair-index l.pairs);
 }

@@ -4,4 +4,4 @@ use Rattle.gs_element.proofs.writing.write_pairs.Given as goal
 
 -- what the pairs so far make
 abbrev pub invariant-loop-pair : goal.invariant-loop-pair
-invariant-loop-pair l = l.out ≡ l.fn.out ++ bracketed_text (take l.pair-index l.pairs)
+invariant-loop-pair l = l.out.items ≡ l.fn.out.items ++ bracketed_text (take l.pair-index l.pairs)

@@ -4,4 +4,4 @@ use Rattle.gs_element.proofs.writing.write_value.Given as goal
 
 -- what the characters so far make
 abbrev pub invariant-loop-c : goal.invariant-loop-c
-invariant-loop-c l = l.out ≡ l.fn.out ++ written_value (take l.c-index l.value)
+invariant-loop-c l = l.out.items ≡ l.fn.out.items ++ written_value (take l.c-index l.value)
