@@ -1,4 +1,4 @@
-ghost use Rattle.std.specs.Prelude.{◌≡◌, find};
+ghost use Rattle.std.specs.Prelude.{◌≡◌, find, true};
 ghost use Rattle.std.specs.Option.{option_copied};
 ghost use Rattle.gs_ident.specs.Identities.{IsMadeWith};
 ghost use Rattle.gs_translate.specs.Targets.{has_key, kept, key_and_serial, narrowed};
@@ -38,15 +38,12 @@ fn narrowed(set: &TableSet, identity: Identity) -> Identity
     }
 }
 
-/// The meaning, narrowed where only keys are kept. No pair is copied.
-pub(crate) fn keep(set: &TableSet, keys_only: bool, meaning: Meaning) -> Meaning
+/// The meaning with the key alone, and its serial where that has an element of its own. No pair is copied.
+pub(crate) fn narrow(set: &TableSet, meaning: Meaning) -> Meaning
     requires { IsMadeWith set.now.ais meaning.identity }
-    ensures kept { result ≡ kept set.now keys_only meaning }
+    ensures narrowed { result ≡ kept set.now true meaning }
     ensures with_table { IsMadeWith set.now.ais result.identity }
 {
-    if !keys_only {
-        return meaning;
-    }
     let Meaning {
         identity,
         gcp,

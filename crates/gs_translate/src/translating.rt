@@ -2,7 +2,7 @@ ghost use Rattle.gs_translate.specs.Steps.{UnlessMemory};
 ghost use Rattle.gs_translate.specs.Translations.{AreInOrder, IsTranslation};
 
 use crate::form::Form;
-use crate::narrowing::keep;
+use crate::narrowing::narrow;
 use crate::options::Options;
 use crate::reading::read;
 use crate::reason::Reason;
@@ -42,6 +42,9 @@ pub fn translate(
     // the proof alone reads it: the rows keep the rules of tables
     let _ = set.ais();
     let meaning = read(alloc, set, from, text)?;
-    let meaning = keep(set, options.keys_only, meaning);
+    if !options.keys_only {
+        return spell(alloc, set, prefixes, options, to, &meaning);
+    }
+    let meaning = narrow(set, meaning);
     spell(alloc, set, prefixes, options, to, &meaning)
 }

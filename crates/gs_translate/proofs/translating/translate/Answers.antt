@@ -1,8 +1,8 @@
-use Rattle.std.proofs.Common.{ℕ, List, refl}
+use Rattle.std.proofs.Common.{ℕ, List, refl, true}
 use Rattle.std.proofs.lemmas.Result.{err_from_is_err_and}
 use Rattle.gs_translate.specs.declared.meaning.Meaning.{Meaning}
 use Rattle.gs_translate.specs.Steps.{goes_on, refuses}
-use Rattle.gs_translate.proofs.FilterLaws.{filter_fits, kept_fits}
+use Rattle.gs_translate.proofs.FilterLaws.{filter_fits, kept_fits, kept_narrow, kept_whole}
 use Rattle.gs_translate.proofs.StepLaws.{unless_map, unless_refused}
 use Rattle.gs_translate.proofs.translating.translate.Goals as goal
 
@@ -12,11 +12,21 @@ returns-in_err-meaning c =
     rw (p.1, p.2) (unless_refused Meaning (List ℕ) c.in_err-meaning.field-0.0 (λ said. refuses c.in_err-meaning.field-0.0 said refl) c.in_err-meaning.ensures.meaning)
 
 pub spell-requires-clause-filter : goal.spell-requires-clause-filter
-spell-requires-clause-filter c =
+spell-requires-clause-filter c = filter_fits c.args.set.now c.args.from c.args.text.now c.in_ok-meaning.meaning c.ais.ensures.shaped c.in_ok-meaning.ensures.meaning
+
+pub returns-then-not-options : goal.returns-then-not-options
+returns-then-not-options c =
+    let whole = kept_whole c.args.set.now c.args.options.now.keys_only c.in_ok-meaning.meaning c.if-not-options.true in
+    let spelled = rw whole at c.spell.ensures in
+    unless_map c.spell.result (λ spelling. goes_on c.in_ok-meaning.meaning c.in_ok-meaning.ensures.meaning spelling) spelled
+
+pub spell-requires-2-clause-filter : goal.spell-requires-2-clause-filter
+spell-requires-2-clause-filter c =
     let fits = filter_fits c.args.set.now c.args.from c.args.text.now c.in_ok-meaning.meaning c.ais.ensures.shaped c.in_ok-meaning.ensures.meaning in
-    rw c.keep-meaning.ensures.kept (kept_fits c.args.set.now c.args.options.now.keys_only c.in_ok-meaning.meaning fits)
+    rw c.narrow-meaning.ensures.narrowed (kept_fits c.args.set.now true c.in_ok-meaning.meaning fits)
 
 pub returns : goal.returns
 returns c =
-    let spelled = rw c.keep-meaning.ensures.kept at c.spell.ensures in
-    unless_map c.spell.result (λ spelling. goes_on c.in_ok-meaning.meaning c.in_ok-meaning.ensures.meaning spelling) spelled
+    let narrow = kept_narrow c.args.set.now c.args.options.now.keys_only c.in_ok-meaning.meaning c.narrow-meaning.result c.if-not-options.false c.narrow-meaning.ensures.narrowed in
+    let spelled = rw narrow at c.spell-2.ensures in
+    unless_map c.spell-2.result (λ spelling. goes_on c.in_ok-meaning.meaning c.in_ok-meaning.ensures.meaning spelling) spelled
