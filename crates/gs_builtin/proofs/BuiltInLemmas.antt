@@ -1,7 +1,8 @@
 -- The built-in rows: bits one by one, and tests that hold at each row.
-use Rattle.std.proofs.Common.{◌≡◌, ℕ, ◌-◌, ◌<◌, ◌∙◌, zero, suc, true, List, [], ◌∷◌, ◌++◌, append_assoc, refl, arith}
+use Rattle.std.proofs.Common.{◌≡◌, ℕ, ◌+◌, ◌-◌, ◌<◌, ◌∙◌, zero, suc, true, List, [], ◌∷◌, ◌++◌, length, take, get_or, append_assoc, refl, arith}
 use Rattle.std.specs.Int.{bit_at}
-use Rattle.std.specs.List.{list_all}
+use Rattle.std.proofs.lemmas.List.{flat_map_more, take_more}
+use Rattle.std.specs.List.{flat_map, list_all}
 use Rattle.gs_bits.specs.Bits.{bits_of}
 use Rattle.gs_builtin.specs.BuiltIn.{asset_encodings, document_encodings, encodings, rests_fit, item_encodings}
 
@@ -18,3 +19,9 @@ bits_more xs ys b (suc n) number h e f =
 pub rests_of_encodings_fit : list_all rests_fit encodings ≡ true
 unfolding encodings item_encodings asset_encodings document_encodings
 rests_of_encodings_fit = refl
+
+-- the rows of one more of those that the rows are made for
+pub rows_more : {X R : Type 0} (f : X → List R) (xs : List X) (i : ℕ) (x : X) (old new : List R) → i < length xs → x ≡ get_or xs i x → old ≡ flat_map f (take i xs) → new ≡ old ++ f x → new ≡ flat_map f (take (i + 1) xs)
+rows_more f xs i x old new low at before gained =
+    let one : take (i + 1) xs ≡ take i xs ++ x ∷ [] = rw at (take_more xs i x low) in
+    rw one (gained ∙ (rw before (flat_map_more f [] (take i xs) x)))

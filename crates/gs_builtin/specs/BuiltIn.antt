@@ -315,6 +315,10 @@ rest_fits Characters bits = true
 abbrev pub rests_fit : Encoding → Bool
 rests_fit e = list_all (λ (p : Partition). rest_fits e.rest (e.width - p.bits)) partitions
 
+-- the document of the application identifiers, the kinds, and the options of these encodings and identities
+abbrev pub document_of : List Encoding → List Identity → Document
+document_of these those = record { version = 1; ais = builtin_ais; kinds = builtin_kinds; binary = flat_map binary_rows these; tag = flat_map tag_rows these; pure = flat_map pure_rows those }
+
 -- the rows of the built-in tables
 abbrev pub builtin_document : Document
 builtin_document = record { version = 1; ais = builtin_ais; kinds = builtin_kinds; binary = builtin_binary; tag = builtin_tag; pure = builtin_pure }

@@ -1,4 +1,4 @@
-ghost use Rattle.std.specs.Prelude.{◌≡◌, ◌++◌, IfOk, OnOk};
+ghost use Rattle.std.specs.Prelude.{◌≡◌, ◌++◌, IfOk, OnOk, map};
 ghost use Rattle.gs_builtin.specs.BuiltIn.{Gains, additional_ais, agreed_ais, asset_ais, attribute, builtin_ais, company_ais, date_ais, item_ais, key, location_ais, party_ais, qualifier, shipment_ais, variant_ais, weight_ais};
 
 use gs_ai::Part::{Date, Num, NumCheck, NumUpTo, Set, SetOpt, Zero};
@@ -49,36 +49,38 @@ fn push_qualifier(
     Ok(())
 }
 
+/// The list of these codes.
+fn list_of(alloc: Global, codes: &[&[u8]]) -> Result<List<Text>, Memory>
+    ensures { IfOk result (λ list. list ≡ map (λ code. code.now) codes.now) }
+{
+    let mut list = Vec::new(alloc);
+    for code in codes {
+        list.push(Text::from_bytes(alloc, code)?)?;
+    }
+    Ok(List::from_vec(list))
+}
+
 /// Appends a key, with the codes of its qualifiers, and whether a link may have it with fewer digits.
 fn push_key(
     alloc: Global,
     rows: &mut Vec<AiRow>,
     code: &[u8],
     parts: &[Part],
-    qualifiers: List<Text>,
+    qualifiers: &[&[u8]],
     short: bool,
 ) -> Result<(), Memory>
-    ensures { OnOk result (Gains rows.old.items rows.new.items (key code.now parts.now qualifiers short)) }
+    ensures { OnOk result (Gains rows.old.items rows.new.items (key code.now parts.now (map (λ code. code.now) qualifiers.now) short)) }
 {
     let row = AiRow {
         code: Text::from_bytes(alloc, code)?,
         parts: List::from_vec(Vec::from_slice(alloc, parts)?),
         role: Role::Key,
-        qualifiers,
+        qualifiers: list_of(alloc, qualifiers)?,
         short,
         none: Text::from_bytes(alloc, b"")?,
     };
     rows.push(row)?;
     Ok(())
-}
-
-/// The list of these codes.
-macro_rules! codes {
-    ($alloc:ident; $($code:literal),*) => {{
-        let mut codes = Vec::new($alloc);
-        $(codes.push(Text::from_bytes($alloc, $code)?)?;)*
-        List::from_vec(codes)
-    }};
 }
 
 /// Appends a row for each line.
@@ -93,7 +95,7 @@ macro_rules! push_rows {
         push_rows!($alloc, $rows; $($rest)*)
     };
     ($alloc:ident, $rows:ident; key $code:literal $parts:expr, qualifiers ($($qualifier:literal),*), short $short:literal; $($rest:tt)*) => {
-        push_key($alloc, $rows, $code, &$parts, codes!($alloc; $($qualifier),*), $short)?;
+        push_key($alloc, $rows, $code, &$parts, &[$($qualifier),*], $short)?;
         push_rows!($alloc, $rows; $($rest)*)
     };
 }

@@ -1,13 +1,34 @@
-ghost use Rattle.std.specs.Prelude.{◌≡◌, IfOk};
-ghost use Rattle.gs_builtin.specs.BuiltIn.{builtin_document};
+ghost use Rattle.std.specs.Prelude.{◌≡◌, IfOk, IsTrue};
+ghost use Rattle.std.specs.List.{list_all};
+ghost use Rattle.gs_builtin.specs.BuiltIn.{builtin_document, document_of, rests_fit};
 
 use crate::builtin_ais::builtin_ais;
 use crate::builtin_encodings::{encodings, identities};
 use crate::builtin_kinds::builtin_kinds;
 use crate::builtin_options::{binary_options, pure_options, tag_options};
+use crate::encoding::{Encoding, Identity};
 use gs_chars::Memory;
 use gs_document::Document;
 use std::alloc::Global;
+
+/// The document of the application identifiers, the kinds, and the options of these encodings and identities.
+fn document_of(
+    alloc: Global,
+    encodings: &[Encoding],
+    identities: &[Identity],
+) -> Result<Document, Memory>
+    requires { IsTrue (list_all rests_fit encodings.now) }
+    ensures { IfOk result (λ document. document ≡ document_of encodings.now identities.now) }
+{
+    Ok(Document {
+        version: 1,
+        ais: builtin_ais(alloc)?,
+        kinds: builtin_kinds(alloc)?,
+        binary: binary_options(alloc, encodings)?,
+        tag: tag_options(alloc, encodings)?,
+        pure: pure_options(alloc, identities)?,
+    })
+}
 
 /// The built-in rows: the application identifiers, seven kinds of key, and for each encoding and each length of the company
 /// prefix from 12 to 6 its binary and its tag option, and for each kind its pure option.
@@ -17,12 +38,5 @@ pub fn builtin_document(alloc: Global) -> Result<Document, Memory>
 {
     let encodings = encodings(alloc)?;
     let identities = identities(alloc)?;
-    Ok(Document {
-        version: 1,
-        ais: builtin_ais(alloc)?,
-        kinds: builtin_kinds(alloc)?,
-        binary: binary_options(alloc, encodings.items())?,
-        tag: tag_options(alloc, encodings.items())?,
-        pure: pure_options(alloc, identities.items())?,
-    })
+    document_of(alloc, encodings.items(), identities.items())
 }

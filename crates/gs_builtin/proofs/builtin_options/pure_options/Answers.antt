@@ -1,0 +1,7 @@
+use Rattle.gs_builtin.specs.BuiltIn.{pure_rows}
+use Rattle.gs_builtin.proofs.BuiltInLemmas.{rows_more}
+use Rattle.gs_builtin.proofs.builtin_options.pure_options.Goals as goal
+
+pub loop-identity-preserved : goal.loop-identity-preserved
+loop-identity-preserved c =
+    rows_more pure_rows c.args.identities.now c.loop-identity.identity-index c.identity-item.result _ _ c.loop-identity-test.true c.identity-item.is c.loop-identity.invariant c.in_ok-add_pure.ensures
