@@ -32,6 +32,7 @@ mod indexed_info;
 mod kind_rules;
 mod laws;
 mod level_table;
+mod level_tables;
 mod make;
 mod option_rules;
 mod rules;

@@ -10,6 +10,7 @@ ghost use Rattle.gs_document.specs.declared.fault.LoadFault.TheVariants.{Ai};
 
 use crate::indexed_info::IndexedInfo;
 use crate::level_table::LevelTable;
+use crate::level_tables::{LevelTables, OptionRows};
 use gs_ai::{AiFault, AiRow, AiTable};
 use gs_chars::{List, Memory, Text};
 use gs_document::{
@@ -123,7 +124,7 @@ fn make_option(
 }
 
 /// The level of rows that no rule refuses.
-pub(crate) fn make_level(
+fn make_level(
     alloc: Global,
     ais: &AiTable,
     kinds: &[KindRow],
@@ -146,4 +147,25 @@ pub(crate) fn make_level(
         level: Level::new(alloc, level.is_bits(), options)?,
         info: IndexedInfo::new(alloc, kinds.len(), info)?,
     })
+}
+
+/// The levels of rows that no rule refuses.
+pub(crate) fn make_levels(
+    alloc: Global,
+    ais: &AiTable,
+    kinds: &[KindRow],
+    options: OptionRows,
+) -> Result<LevelTables, Memory>
+    requires binary { level_refusals ais.now kinds.now LevelName.Binary options.binary ≡ [] }
+    requires tag { level_refusals ais.now kinds.now LevelName.Tag options.tag ≡ [] }
+    requires pure { level_refusals ais.now kinds.now LevelName.Pure options.pure ≡ [] }
+    ensures binary { IfOk result (λ made. made.binary ≡ level_of kinds.now LevelName.Binary options.binary) }
+    ensures tag { IfOk result (λ made. made.tag ≡ level_of kinds.now LevelName.Tag options.tag) }
+    ensures pure { IfOk result (λ made. made.pure ≡ level_of kinds.now LevelName.Pure options.pure) }
+{
+    let (binary, tag, pure) = options.into_lists();
+    let binary = make_level(alloc, ais, kinds, LevelName::Binary, binary)?;
+    let tag = make_level(alloc, ais, kinds, LevelName::Tag, tag)?;
+    let pure = make_level(alloc, ais, kinds, LevelName::Pure, pure)?;
+    Ok(LevelTables { binary, tag, pure })
 }

@@ -6,7 +6,8 @@ ghost use Rattle.gs_tables.specs.Shapes.{LoadAnswer};
 
 use crate::ambiguity::judge_levels;
 use crate::level_table::LevelTable;
-use crate::make::{make_ais, make_kinds, make_level};
+use crate::level_tables::{LevelTables, OptionRows};
+use crate::make::{make_ais, make_kinds, make_levels};
 use crate::rules::{check_limits, check_rows, check_version};
 use gs_ai::AiTable;
 use gs_chars::List;
@@ -20,9 +21,7 @@ use std::marker::Model;
 pub struct TableSet {
     ais: AiTable,
     kinds: List<Kind>,
-    binary: LevelTable,
-    tag: LevelTable,
-    pure: LevelTable,
+    levels: LevelTables,
 }
 
 // by hand, so that a function that drops a set calls this one: a derived drop is written out at each of its exits
@@ -31,9 +30,7 @@ impl Drop for TableSet {
         let TableSet {
             ais: _,
             kinds: _,
-            binary: _,
-            tag: _,
-            pure: _,
+            levels: _,
         } = self;
     }
 }
@@ -44,9 +41,9 @@ impl Model for TableSet {
 
     ghost Value = { TableRows };
 
-    ghost view = { λ a. set_with a.ais a.kinds a.binary a.tag a.pure };
+    ghost view = { λ a. set_with a.ais a.kinds a.levels.binary a.levels.tag a.levels.pure };
 
-    ghost invariant = { λ a. IsLoaded (set_with a.ais a.kinds a.binary a.tag a.pure) };
+    ghost invariant = { λ a. IsLoaded (set_with a.ais a.kinds a.levels.binary a.levels.tag a.levels.pure) };
 }
 
 impl TableSet {
@@ -79,21 +76,25 @@ impl TableSet {
             tag,
             pure,
         } = document;
+        let options = OptionRows { binary, tag, pure };
         let ais = make_ais(alloc, ais)?;
         let rows = kinds.items();
-        check_rows(&ais, rows, binary.items(), tag.items(), pure.items())?;
-        let binary = make_level(alloc, &ais, rows, LevelName::Binary, binary)?;
-        let tag = make_level(alloc, &ais, rows, LevelName::Tag, tag)?;
-        let pure = make_level(alloc, &ais, rows, LevelName::Pure, pure)?;
-        judge_levels(alloc, &binary.level, &tag.level, &pure.level)?;
+        check_rows(
+            &ais,
+            rows,
+            options.binary.items(),
+            options.tag.items(),
+            options.pure.items(),
+        )?;
+        let levels = make_levels(alloc, &ais, rows, options)?;
+        judge_levels(
+            alloc,
+            &levels.binary.level,
+            &levels.tag.level,
+            &levels.pure.level,
+        )?;
         let kinds = make_kinds(alloc, &ais, kinds)?;
-        Ok(TableSet {
-            ais,
-            kinds,
-            binary,
-            tag,
-            pure,
-        })
+        Ok(TableSet { ais, kinds, levels })
     }
 
     /// The application identifiers.
@@ -146,9 +147,9 @@ impl TableSet {
         ensures { result.now ≡ level_rows name self.now }
     {
         match name {
-            LevelName::Binary => &self.binary,
-            LevelName::Tag => &self.tag,
-            LevelName::Pure => &self.pure,
+            LevelName::Binary => &self.levels.binary,
+            LevelName::Tag => &self.levels.tag,
+            LevelName::Pure => &self.levels.pure,
         }
     }
 }
