@@ -1,5 +1,6 @@
-ghost use Rattle.std.specs.Prelude.{◌≡◌, ◌==◌, ◌||◌, ◌-◌, IfOk, map};
+ghost use Rattle.std.specs.Prelude.{◌≡◌, ◌==◌, ◌||◌, ◌-◌, IfErr, IfOk, None, Some, map};
 ghost use Rattle.std.specs.List.{list_all};
+ghost use Rattle.serde_json.specs.Find.{at};
 ghost use Rattle.serde_json.specs.View.{view};
 ghost use Rattle.gs_json.specs.Answers.{items_count};
 ghost use Rattle.gs_document.specs.Items.{Reads, exactly, bits_of, byte_arg, field_arg, number_arg, short_arg, text_arg};
@@ -32,18 +33,26 @@ pub(crate) fn must_have(alloc: Global, item: &Node<'_>, count: usize) -> Result<
     }
 }
 
-/// The text at a place of an array.
+/// The part at a place of an array.
 #[tactic(auto, using(crate::proofs::Parts::at_beyond))]
-pub(crate) fn text_arg(alloc: Global, item: &Node<'_>, i: usize) -> Result<Text, ItemFault>
-    ensures { Reads result (text_arg i (view item.now.tree)) }
+fn part_arg<'a>(alloc: Global, item: &Node<'a>, i: usize) -> Result<Node<'a>, ItemFault>
+    ensures part { IfOk result (λ part. Some (view part.tree) ≡ at i (view item.now.tree)) }
+    ensures bad { IfErr result (λ fault. fault ≡ ItemFault.Bad → at i (view item.now.tree) ≡ None) }
 {
     if count_of(alloc, item)? <= i {
         return Err(ItemFault::Bad);
     }
-    let part = match item.item(alloc, i) {
-        Ok(part) => part,
-        Err(_) => return Err(ItemFault::Memory),
-    };
+    match item.item(alloc, i) {
+        Ok(part) => Ok(part),
+        Err(_) => Err(ItemFault::Memory),
+    }
+}
+
+/// The text at a place of an array.
+pub(crate) fn text_arg(alloc: Global, item: &Node<'_>, i: usize) -> Result<Text, ItemFault>
+    ensures { Reads result (text_arg i (view item.now.tree)) }
+{
+    let part = part_arg(alloc, item, i)?;
     match part.text(alloc) {
         Ok(text) => Ok(text),
         Err(JsonFault::Memory) => Err(ItemFault::Memory),
@@ -52,17 +61,10 @@ pub(crate) fn text_arg(alloc: Global, item: &Node<'_>, i: usize) -> Result<Text,
 }
 
 /// The number at a place of an array.
-#[tactic(auto, using(crate::proofs::Parts::at_beyond))]
 pub(crate) fn number_arg(alloc: Global, item: &Node<'_>, i: usize) -> Result<u64, ItemFault>
     ensures { Reads result (number_arg i (view item.now.tree)) }
 {
-    if count_of(alloc, item)? <= i {
-        return Err(ItemFault::Bad);
-    }
-    let part = match item.item(alloc, i) {
-        Ok(part) => part,
-        Err(_) => return Err(ItemFault::Memory),
-    };
+    let part = part_arg(alloc, item, i)?;
     match part.number(alloc) {
         Ok(number) => Ok(number),
         Err(JsonFault::Memory) => Err(ItemFault::Memory),

@@ -2,7 +2,7 @@ ghost use Rattle.std.specs.Prelude.{◌≡◌, IfOk, IfSome, option_map};
 ghost use Rattle.serde_json.specs.Find.{get};
 ghost use Rattle.serde_json.specs.View.{view};
 ghost use Rattle.gs_json.specs.Places.{member_place};
-ghost use Rattle.gs_document.specs.Documents.{number_in, text_in, text_of, truth_in};
+ghost use Rattle.gs_document.specs.Documents.{number_in, number_of, text_in, text_of, truth_in, truth_of};
 
 use gs_chars::{Memory, Text};
 use gs_json::{JsonFault, Node};
@@ -48,17 +48,35 @@ pub(crate) fn text_in(alloc: Global, node: &Node<'_>, name: &str) -> Result<Text
     }
 }
 
+/// The number that this is, and 0 of what is no number.
+fn number_of(alloc: Global, node: &Node<'_>) -> Result<u64, Memory>
+    ensures { IfOk result (λ number. number ≡ number_of (view node.now.tree)) }
+{
+    match node.number(alloc) {
+        Ok(number) => Ok(number),
+        Err(JsonFault::Memory) => Err(Memory),
+        Err(_) => Ok(0),
+    }
+}
+
 /// The number of the member of a name, and 0 where there is none.
 pub(crate) fn number_in(alloc: Global, node: &Node<'_>, name: &str) -> Result<u64, Memory>
     ensures { IfOk result (λ number. number ≡ number_in name.now (view node.now.tree)) }
 {
-    let Some(member) = member_of(alloc, node, name)? else {
-        return Ok(0);
-    };
-    match member.number(alloc) {
-        Ok(number) => Ok(number),
+    match member_of(alloc, node, name)? {
+        Some(member) => number_of(alloc, &member),
+        None => Ok(0),
+    }
+}
+
+/// The truth value that this is, and false of what is none.
+fn truth_of(alloc: Global, node: &Node<'_>) -> Result<bool, Memory>
+    ensures { IfOk result (λ truth. truth ≡ truth_of (view node.now.tree)) }
+{
+    match node.truth(alloc) {
+        Ok(truth) => Ok(truth),
         Err(JsonFault::Memory) => Err(Memory),
-        Err(_) => Ok(0),
+        Err(_) => Ok(false),
     }
 }
 
@@ -66,12 +84,8 @@ pub(crate) fn number_in(alloc: Global, node: &Node<'_>, name: &str) -> Result<u6
 pub(crate) fn truth_in(alloc: Global, node: &Node<'_>, name: &str) -> Result<bool, Memory>
     ensures { IfOk result (λ truth. truth ≡ truth_in name.now (view node.now.tree)) }
 {
-    let Some(member) = member_of(alloc, node, name)? else {
-        return Ok(false);
-    };
-    match member.truth(alloc) {
-        Ok(truth) => Ok(truth),
-        Err(JsonFault::Memory) => Err(Memory),
-        Err(_) => Ok(false),
+    match member_of(alloc, node, name)? {
+        Some(member) => truth_of(alloc, &member),
+        None => Ok(false),
     }
 }

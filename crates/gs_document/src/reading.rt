@@ -1,9 +1,9 @@
-ghost use Rattle.std.specs.Prelude.{◌≡◌, [], IfOk, IfErr, codes};
+ghost use Rattle.std.specs.Prelude.{◌≡◌, ℕ, List, [], IfOk, IfErr, codes};
 ghost use Rattle.serde_json.specs.View.{view};
 ghost use Rattle.gs_json.specs.Answers.{OrMemory};
 ghost use Rattle.gs_json.specs.Shapes.{first_fault};
 ghost use Rattle.gs_document.specs.Documents.{IsDocument, ai_plan, document_faults, document_plan, items_in, kind_plan, object_faults, option_plan, row_faults, rows_faults};
-ghost use Rattle.gs_document.specs.Readings.{Holds, IsFormRefusal, of_json};
+ghost use Rattle.gs_document.specs.Readings.{Holds, IsFormRefusal, IsJson, of_json};
 
 use crate::document::Document;
 use crate::fault::LoadFault;
@@ -21,13 +21,22 @@ pub fn read_document(alloc: Global, bytes: &[u8]) -> Result<Document, LoadFault>
     ensures document { IfOk result (λ document. Holds bytes.now document) }
     ensures refused { IfErr result (λ fault. IsFormRefusal bytes.now fault) }
 {
-    let doc = match Doc::parse(alloc, bytes) {
-        Ok(doc) => doc,
-        Err(fault) => return Err(of_json(fault)),
-    };
-    let root = doc.root(alloc);
-    match judge_document(alloc, &root) {
-        Ok(()) => Ok(rows_of(alloc, &root)?),
+    match Doc::parse(alloc, bytes) {
+        Ok(doc) => read_root(alloc, &doc.root(alloc)),
+        Err(fault) => Err(of_json(fault)),
+    }
+}
+
+/// The rows of the document of this tree, or the first fault of its form.
+fn read_root(alloc: Global, root: &Node<'_>) -> Result<Document, LoadFault>
+    requires { root.now.place ≡ [] }
+    ensures document { IfOk result (λ document. (bytes : List ℕ) → IsJson bytes (view root.now.tree)
+        → Holds bytes document) }
+    ensures refused { IfErr result (λ fault. (bytes : List ℕ) → IsJson bytes (view root.now.tree)
+        → IsFormRefusal bytes fault) }
+{
+    match judge_document(alloc, root) {
+        Ok(()) => Ok(rows_of(alloc, root)?),
         Err(fault) => Err(of_json(fault)),
     }
 }

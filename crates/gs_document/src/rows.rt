@@ -1,6 +1,7 @@
-ghost use Rattle.std.specs.Prelude.{◌≡◌, IfOk};
+ghost use Rattle.std.specs.Prelude.{◌≡◌, ◌<◌, IfOk, codes};
 ghost use Rattle.serde_json.specs.View.{view};
-ghost use Rattle.gs_document.specs.Documents.{Each, items_in, rows_in};
+ghost use Rattle.gs_json.specs.Answers.{items_count};
+ghost use Rattle.gs_document.specs.Documents.{Each, IsReadAt, IsRole, items_in, rows_in, text_in};
 
 use crate::document::{FieldItem, KindRow, OptionRow};
 use crate::fault::ItemFault;
@@ -25,6 +26,17 @@ pub(crate) trait Row: Drop {
         ensures { IfOk result (λ row. reads bits (view node.now.tree) row) };
 }
 
+/// The row that the item of an array at a number is read as.
+fn read_at<R: Row>(alloc: Global, array: &Node<'_>, i: usize, bits: bool) -> Result<R, Memory>
+    requires { i < items_count (view array.now.tree) }
+    ensures { IfOk result (IsReadAt (R.reads bits) i (view array.now.tree)) }
+{
+    match array.item(alloc, i) {
+        Ok(item) => R::read(alloc, &item, bits),
+        Err(_) => Err(Memory),
+    }
+}
+
 /// The rows that the items of an array are read as, in their order, and none of what is no array.
 fn read_items<R: Row>(alloc: Global, array: &Node<'_>, bits: bool) -> Result<Vec<R>, Memory>
     ensures { IfOk result (λ rows. Each (R.reads bits) (items_in (view array.now.tree)) rows.items) }
@@ -32,10 +44,7 @@ fn read_items<R: Row>(alloc: Global, array: &Node<'_>, bits: bool) -> Result<Vec
     let count = count_of(alloc, array)?;
     let mut rows = Vec::new(alloc);
     for i in 0..count {
-        let Ok(item) = array.item(alloc, i) else {
-            return Err(Memory);
-        };
-        rows.push(R::read(alloc, &item, bits)?)?;
+        rows.push(read_at(alloc, array, i, bits)?)?;
     }
     Ok(rows)
 }
@@ -76,20 +85,27 @@ impl Row for Part {
     }
 }
 
+/// The role that the member `role` names.
+fn role_in(alloc: Global, node: &Node<'_>) -> Result<Role, Memory>
+    ensures { IfOk result (IsRole (text_in (codes "role") (view node.now.tree))) }
+{
+    let role = text_in(alloc, node, "role")?;
+    Ok(Role::read(role.as_bytes()))
+}
+
 impl Row for AiRow {
     ghost use Rattle.gs_document.specs.Documents.{IsAiRow};
 
     ghost reads = { λ _ d row. IsAiRow d row };
 
     fn read(alloc: Global, node: &Node<'_>, bits: bool) -> Result<AiRow, Memory> {
-        let role = text_in(alloc, node, "role")?;
         Ok(AiRow {
-            code: text_in(alloc, node, "code")?,
-            parts: read_rows(alloc, node, "parts", bits)?,
-            role: Role::read(role.as_bytes()),
-            qualifiers: read_rows(alloc, node, "qualifiers", bits)?,
+            role: role_in(alloc, node)?,
             short: truth_in(alloc, node, "short")?,
+            code: text_in(alloc, node, "code")?,
             none: text_in(alloc, node, "none")?,
+            parts: read_rows(alloc, node, "parts", bits)?,
+            qualifiers: read_rows(alloc, node, "qualifiers", bits)?,
         })
     }
 }
@@ -101,9 +117,9 @@ impl Row for KindRow {
 
     fn read(alloc: Global, node: &Node<'_>, _bits: bool) -> Result<KindRow, Memory> {
         Ok(KindRow {
+            lead: number_in(alloc, node, "lead")?,
             name: text_in(alloc, node, "name")?,
             key: text_in(alloc, node, "key")?,
-            lead: number_in(alloc, node, "lead")?,
             serial: text_in(alloc, node, "serial")?,
         })
     }
@@ -116,9 +132,9 @@ impl Row for OptionRow {
 
     fn read(alloc: Global, node: &Node<'_>, bits: bool) -> Result<OptionRow, Memory> {
         Ok(OptionRow {
+            gcp: number_in(alloc, node, "gcp")?,
             kind: text_in(alloc, node, "kind")?,
             encoding: text_in(alloc, node, "encoding")?,
-            gcp: number_in(alloc, node, "gcp")?,
             items: read_rows(alloc, node, "items", bits)?,
         })
     }

@@ -5,8 +5,9 @@ use Rattle.gs_document.proofs.rows.read_items.Goals as goal
 
 pub loop-i-preserved : goal.loop-i-preserved
 loop-i-preserved g c =
-    each_step (g.R.Row.reads c.args.bits) (view c.args.array.now.tree) c.loop-i.i (view c.in-Ok.item.tree) c.loop-i.rows.items c.in_ok-read.field-0 c.push.new.self.items
-    c.in-Ok.ensures.item c.loop-i.invariant c.in_ok-read.ensures c.in_ok-push.ensures.items
+    let read = c.in_ok-read_at.ensures in
+    each_step (g.R.Row.reads c.args.bits) (view c.args.array.now.tree) c.loop-i.i read.0 c.loop-i.rows.items c.in_ok-read_at.field-0 c.push.new.self.items
+    read.1.0 c.loop-i.invariant read.1.1 c.in_ok-push.ensures.items
 
 pub returns : goal.returns
 returns g c =
