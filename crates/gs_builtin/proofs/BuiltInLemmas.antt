@@ -1,5 +1,6 @@
--- The built-in rows: bits one by one, and tests that hold at each row.
-use Rattle.std.proofs.Common.{◌≡◌, ℕ, ◌+◌, ◌-◌, ◌<◌, ◌∙◌, zero, suc, true, List, [], ◌∷◌, ◌++◌, length, take, get_or, append_assoc, refl, arith}
+-- The built-in rows: bits and rows one by one, and tests that hold at each row.
+use Rattle.std.proofs.Common.{◌≡◌, ℕ, ◌+◌, ◌-◌, ◌<◌, ◌∙◌, zero, suc, Bool, true, false, List, [], ◌∷◌, ◌++◌, length, take, get_or, append_assoc, refl, sym, ap, arith}
+use Rattle.std.proofs.lemmas.List.Folds.{list_all_at}
 use Rattle.std.specs.Int.{bit_at}
 use Rattle.std.proofs.lemmas.List.{flat_map_more, take_more}
 use Rattle.std.specs.List.{flat_map, list_all}
@@ -25,3 +26,11 @@ pub rows_more : {X R : Type 0} (f : X → List R) (xs : List X) (i : ℕ) (x : X
 rows_more f xs i x old new low at before gained =
     let one : take (i + 1) xs ≡ take i xs ++ x ∷ [] = rw at (take_more xs i x low) in
     rw one (gained ∙ (rw before (flat_map_more f [] (take i xs) x)))
+
+-- a test that all pass is passed by each
+pub each_passes : {X : Type 0} (test : X → Bool) (xs : List X) (i : ℕ) (x : X) → i < length xs → x ≡ get_or xs i x → list_all test xs ≡ true → test x ≡ true
+each_passes test xs i x low at all = decided (test x) refl
+  where
+    decided : (b : Bool) → test x ≡ b → test x ≡ true
+    decided true e = e
+    decided false e = absurd (let f : false ≡ true = sym (list_all_at test xs i x low (ap test (sym at) ∙ e)) ∙ all in cc)

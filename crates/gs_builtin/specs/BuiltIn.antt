@@ -1,9 +1,11 @@
 -- The built-in rows. The application identifiers are those of GS1 General Specifications, section 3; kinds, encodings and
 -- the partition table those of TDS 2.0, sections 6.3, 14.2 and 14.6. The choice of rows is this project's own.
 use Rattle.std.specs.Prelude.{◌≡◌, ℕ, ◌-◌, ◌^◌, ◌==◌, nat_le, Bool, true, false, if◌then◌else◌, List, [], ◌∷◌, ◌++◌, map, codes, replicate, Option, Some, None, option_map, option_to_list}
+use Rattle.std.specs.Borrow.{Bor}
 use Rattle.std.specs.List.{flat_map, list_all}
 use Rattle.gs_ai.specs.declared.part.Part.{Part}
 use Rattle.gs_ai.specs.declared.part.Part.TheVariants as part
+use Rattle.gs_ai.specs.declared.part.Role.{Role}
 use Rattle.gs_ai.specs.declared.part.Role.TheVariants as role
 use Rattle.gs_ai.specs.declared.row.AiRow.{AiRow}
 use Rattle.gs_bits.specs.Bits.{bits_of}
@@ -12,6 +14,8 @@ use Rattle.gs_grammar.specs.declared.item.Item.TheVariants.{Lit, Pad, Int, Esc, 
 use Rattle.gs_document.specs.declared.document.Document.{Document}
 use Rattle.gs_document.specs.declared.document.KindRow.{KindRow}
 use Rattle.gs_document.specs.declared.document.OptionRow.{OptionRow}
+use Rattle.gs_builtin.specs.declared.ai_line.AiLine.{AiLine}
+use Rattle.gs_builtin.specs.declared.ai_line.AiLine.TheVariants as line
 use Rattle.gs_builtin.specs.declared.encoding.Encoding.{Encoding}
 use Rattle.gs_builtin.specs.declared.encoding.Identity.{Identity}
 use Rattle.gs_builtin.specs.declared.encoding.Partition.{Partition}
@@ -27,6 +31,14 @@ Gains old new row = new ≡ old ++ row ∷ []
 
 -- ---- application identifiers
 
+-- a row of these parts
+abbrev pub ai_row : List ℕ → List Part → Role → List (List ℕ) → Bool → List ℕ → AiRow
+ai_row code parts role qualifiers short none = record { code = code; parts = parts; role = role; qualifiers = qualifiers; short = short; none = none }
+
+-- the text that is lent
+abbrev pub told : Bor (List ℕ) → List ℕ
+told text = text.now
+
 -- a row of an attribute with one part
 abbrev pub attribute : List ℕ → Part → AiRow
 attribute code p = record { code = code; parts = p ∷ []; role = role.Attribute; qualifiers = []; short = false; none = [] }
@@ -38,6 +50,12 @@ qualifier code p none = record { code = code; parts = p ∷ []; role = role.Qual
 -- a row of a key with its parts and qualifiers, and whether a link may have it short
 abbrev pub key : List ℕ → List Part → List (List ℕ) → Bool → AiRow
 key code parts qualifiers short = record { code = code; parts = parts; role = role.Key; qualifiers = qualifiers; short = short; none = [] }
+
+-- the row that a line of the code tells
+abbrev pub row_of : AiLine → AiRow
+row_of (line.Attribute code p) = attribute code.now p
+row_of (line.Qualifier code p none) = qualifier code.now p none.now
+row_of (line.Key code parts qualifiers short) = key code.now parts.now (map told qualifiers.now) short
 
 -- logistic units, trade items and lots
 unfoldable pub item_ais : List AiRow
@@ -129,6 +147,10 @@ builtin_ais =
 -- a kind with its key, its lead digits and its serial
 abbrev pub kind : List ℕ → List ℕ → ℕ → List ℕ → KindRow
 kind name key lead serial = record { name = name; key = key; lead = lead; serial = serial }
+
+-- the kind that a line of the code tells
+abbrev pub kind_told : Bor (List ℕ) × Bor (List ℕ) × ℕ × Bor (List ℕ) → KindRow
+kind_told line = kind line.0.now line.1.now line.2 line.3.now
 
 -- the kinds (TDS 2.0, section 6.3)
 unfoldable pub builtin_kinds : List KindRow

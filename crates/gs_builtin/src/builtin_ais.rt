@@ -1,57 +1,16 @@
 ghost use Rattle.std.specs.Prelude.{◌≡◌, ◌++◌, IfOk, OnOk, map};
-ghost use Rattle.gs_builtin.specs.BuiltIn.{Gains, additional_ais, agreed_ais, asset_ais, attribute, builtin_ais, company_ais, date_ais, item_ais, key, location_ais, party_ais, qualifier, shipment_ais, variant_ais, weight_ais};
+ghost use Rattle.gs_builtin.specs.BuiltIn.{additional_ais, agreed_ais, ai_row, asset_ais, builtin_ais, company_ais, date_ais, item_ais, location_ais, party_ais, row_of, shipment_ais, told, variant_ais, weight_ais};
 
+use crate::ai_line::AiLine;
+use crate::ai_line::AiLine::{Attribute, Key, Qualifier};
 use gs_ai::Part::{Date, Num, NumCheck, NumUpTo, Set, SetOpt, Zero};
 use gs_ai::{AiRow, Part, Role};
 use gs_chars::{List, Memory, Text};
 use std::alloc::Global;
 
-/// Appends an attribute.
-fn push_attribute(
-    alloc: Global,
-    rows: &mut Vec<AiRow>,
-    code: &[u8],
-    part: Part,
-) -> Result<(), Memory>
-    ensures { OnOk result (Gains rows.old.items rows.new.items (attribute code.now part)) }
-{
-    let row = AiRow {
-        code: Text::from_bytes(alloc, code)?,
-        parts: List::from_vec(Vec::from_slice(alloc, &[part])?),
-        role: Role::Attribute,
-        qualifiers: List::from_vec(Vec::new(alloc)),
-        short: false,
-        none: Text::from_bytes(alloc, b"")?,
-    };
-    rows.push(row)?;
-    Ok(())
-}
-
-/// Appends a qualifier, with the value that stands for none.
-fn push_qualifier(
-    alloc: Global,
-    rows: &mut Vec<AiRow>,
-    code: &[u8],
-    part: Part,
-    none: &[u8],
-) -> Result<(), Memory>
-    ensures { OnOk result (Gains rows.old.items rows.new.items (qualifier code.now part none.now)) }
-{
-    let row = AiRow {
-        code: Text::from_bytes(alloc, code)?,
-        parts: List::from_vec(Vec::from_slice(alloc, &[part])?),
-        role: Role::Qualifier,
-        qualifiers: List::from_vec(Vec::new(alloc)),
-        short: false,
-        none: Text::from_bytes(alloc, none)?,
-    };
-    rows.push(row)?;
-    Ok(())
-}
-
 /// The list of these codes.
 fn list_of(alloc: Global, codes: &[&[u8]]) -> Result<List<Text>, Memory>
-    ensures { IfOk result (λ list. list ≡ map (λ code. code.now) codes.now) }
+    ensures { IfOk result (λ list. list ≡ map told codes.now) }
 {
     let mut list = Vec::new(alloc);
     for code in codes {
@@ -60,44 +19,54 @@ fn list_of(alloc: Global, codes: &[&[u8]]) -> Result<List<Text>, Memory>
     Ok(List::from_vec(list))
 }
 
-/// Appends a key, with the codes of its qualifiers, and whether a link may have it with fewer digits.
-fn push_key(
+/// The row of these parts.
+fn make_row(
     alloc: Global,
-    rows: &mut Vec<AiRow>,
     code: &[u8],
     parts: &[Part],
+    role: Role,
     qualifiers: &[&[u8]],
     short: bool,
-) -> Result<(), Memory>
-    ensures { OnOk result (Gains rows.old.items rows.new.items (key code.now parts.now (map (λ code. code.now) qualifiers.now) short)) }
+    none: &[u8],
+) -> Result<AiRow, Memory>
+    ensures { IfOk result (λ row. row
+        ≡ ai_row code.now parts.now role (map told qualifiers.now) short none.now) }
 {
-    let row = AiRow {
+    Ok(AiRow {
         code: Text::from_bytes(alloc, code)?,
         parts: List::from_vec(Vec::from_slice(alloc, parts)?),
-        role: Role::Key,
+        role,
         qualifiers: list_of(alloc, qualifiers)?,
         short,
-        none: Text::from_bytes(alloc, b"")?,
-    };
-    rows.push(row)?;
-    Ok(())
+        none: Text::from_bytes(alloc, none)?,
+    })
+}
+
+/// The row that a line tells.
+fn row_of(alloc: Global, line: &AiLine<'_>) -> Result<AiRow, Memory>
+    ensures { IfOk result (λ row. row ≡ row_of line.now) }
+{
+    match line {
+        Attribute(code, part) => {
+            make_row(alloc, code, &[*part], Role::Attribute, &[], false, b"")
+        }
+        Qualifier(code, part, none) => {
+            make_row(alloc, code, &[*part], Role::Qualifier, &[], false, none)
+        }
+        Key(code, parts, qualifiers, short) => {
+            make_row(alloc, code, parts, Role::Key, qualifiers, *short, b"")
+        }
+    }
 }
 
 /// Appends a row for each line.
-macro_rules! push_rows {
-    ($alloc:ident, $rows:ident;) => {};
-    ($alloc:ident, $rows:ident; attribute $code:literal $part:expr; $($rest:tt)*) => {
-        push_attribute($alloc, $rows, $code, $part)?;
-        push_rows!($alloc, $rows; $($rest)*)
-    };
-    ($alloc:ident, $rows:ident; qualifier $code:literal $part:expr, none $none:literal; $($rest:tt)*) => {
-        push_qualifier($alloc, $rows, $code, $part, $none)?;
-        push_rows!($alloc, $rows; $($rest)*)
-    };
-    ($alloc:ident, $rows:ident; key $code:literal $parts:expr, qualifiers ($($qualifier:literal),*), short $short:literal; $($rest:tt)*) => {
-        push_key($alloc, $rows, $code, &$parts, &[$($qualifier),*], $short)?;
-        push_rows!($alloc, $rows; $($rest)*)
-    };
+fn push_rows(alloc: Global, rows: &mut Vec<AiRow>, lines: &[AiLine<'_>]) -> Result<(), Memory>
+    ensures { OnOk result (rows.new.items ≡ rows.old.items ++ map row_of lines.now) }
+{
+    for line in lines {
+        rows.push(row_of(alloc, line)?)?;
+    }
+    Ok(())
 }
 
 /// Logistic units, trade items and lots.
@@ -105,13 +74,16 @@ macro_rules! push_rows {
 fn add_items(alloc: Global, rows: &mut Vec<AiRow>) -> Result<(), Memory>
     ensures { OnOk result (rows.new.items ≡ rows.old.items ++ item_ais) }
 {
-    push_rows! { alloc, rows;
-        key b"00" [NumCheck(18)], qualifiers (), short false;
-        key b"01" [NumCheck(14)], qualifiers (b"22", b"10", b"21"), short true;
-        attribute b"02" NumCheck(14);
-        qualifier b"10" Set(20), none b"";
-    }
-    Ok(())
+    push_rows(
+        alloc,
+        rows,
+        &[
+            Key(b"00", &[NumCheck(18)], &[], false),
+            Key(b"01", &[NumCheck(14)], &[b"22", b"10", b"21"], true),
+            Attribute(b"02", NumCheck(14)),
+            Qualifier(b"10", Set(20), b""),
+        ],
+    )
 }
 
 /// Dates.
@@ -119,15 +91,18 @@ fn add_items(alloc: Global, rows: &mut Vec<AiRow>) -> Result<(), Memory>
 fn add_dates(alloc: Global, rows: &mut Vec<AiRow>) -> Result<(), Memory>
     ensures { OnOk result (rows.new.items ≡ rows.old.items ++ date_ais) }
 {
-    push_rows! { alloc, rows;
-        attribute b"11" Date;
-        attribute b"12" Date;
-        attribute b"13" Date;
-        attribute b"15" Date;
-        attribute b"16" Date;
-        attribute b"17" Date;
-    }
-    Ok(())
+    push_rows(
+        alloc,
+        rows,
+        &[
+            Attribute(b"11", Date),
+            Attribute(b"12", Date),
+            Attribute(b"13", Date),
+            Attribute(b"15", Date),
+            Attribute(b"16", Date),
+            Attribute(b"17", Date),
+        ],
+    )
 }
 
 /// Variants, serials and counts.
@@ -135,14 +110,17 @@ fn add_dates(alloc: Global, rows: &mut Vec<AiRow>) -> Result<(), Memory>
 fn add_variants(alloc: Global, rows: &mut Vec<AiRow>) -> Result<(), Memory>
     ensures { OnOk result (rows.new.items ≡ rows.old.items ++ variant_ais) }
 {
-    push_rows! { alloc, rows;
-        attribute b"20" Num(2);
-        qualifier b"21" Set(20), none b"";
-        qualifier b"22" Set(20), none b"";
-        attribute b"30" NumUpTo(8);
-        attribute b"37" NumUpTo(8);
-    }
-    Ok(())
+    push_rows(
+        alloc,
+        rows,
+        &[
+            Attribute(b"20", Num(2)),
+            Qualifier(b"21", Set(20), b""),
+            Qualifier(b"22", Set(20), b""),
+            Attribute(b"30", NumUpTo(8)),
+            Attribute(b"37", NumUpTo(8)),
+        ],
+    )
 }
 
 /// Additional identifications, documents and extensions of locations.
@@ -150,15 +128,18 @@ fn add_variants(alloc: Global, rows: &mut Vec<AiRow>) -> Result<(), Memory>
 fn add_additional(alloc: Global, rows: &mut Vec<AiRow>) -> Result<(), Memory>
     ensures { OnOk result (rows.new.items ≡ rows.old.items ++ additional_ais) }
 {
-    push_rows! { alloc, rows;
-        attribute b"240" Set(30);
-        attribute b"241" Set(30);
-        attribute b"250" Set(30);
-        attribute b"251" Set(30);
-        key b"253" [NumCheck(13), SetOpt(17)], qualifiers (), short false;
-        qualifier b"254" Set(20), none b"0";
-    }
-    Ok(())
+    push_rows(
+        alloc,
+        rows,
+        &[
+            Attribute(b"240", Set(30)),
+            Attribute(b"241", Set(30)),
+            Attribute(b"250", Set(30)),
+            Attribute(b"251", Set(30)),
+            Key(b"253", &[NumCheck(13), SetOpt(17)], &[], false),
+            Qualifier(b"254", Set(20), b"0"),
+        ],
+    )
 }
 
 /// Net weights.
@@ -166,15 +147,18 @@ fn add_additional(alloc: Global, rows: &mut Vec<AiRow>) -> Result<(), Memory>
 fn add_weights(alloc: Global, rows: &mut Vec<AiRow>) -> Result<(), Memory>
     ensures { OnOk result (rows.new.items ≡ rows.old.items ++ weight_ais) }
 {
-    push_rows! { alloc, rows;
-        attribute b"3100" Num(6);
-        attribute b"3101" Num(6);
-        attribute b"3102" Num(6);
-        attribute b"3103" Num(6);
-        attribute b"3104" Num(6);
-        attribute b"3105" Num(6);
-    }
-    Ok(())
+    push_rows(
+        alloc,
+        rows,
+        &[
+            Attribute(b"3100", Num(6)),
+            Attribute(b"3101", Num(6)),
+            Attribute(b"3102", Num(6)),
+            Attribute(b"3103", Num(6)),
+            Attribute(b"3104", Num(6)),
+            Attribute(b"3105", Num(6)),
+        ],
+    )
 }
 
 /// Orders, consignments and shipments.
@@ -182,13 +166,16 @@ fn add_weights(alloc: Global, rows: &mut Vec<AiRow>) -> Result<(), Memory>
 fn add_shipments(alloc: Global, rows: &mut Vec<AiRow>) -> Result<(), Memory>
     ensures { OnOk result (rows.new.items ≡ rows.old.items ++ shipment_ais) }
 {
-    push_rows! { alloc, rows;
-        attribute b"400" Set(30);
-        key b"401" [Set(30)], qualifiers (), short false;
-        key b"402" [NumCheck(17)], qualifiers (), short false;
-        attribute b"403" Set(30);
-    }
-    Ok(())
+    push_rows(
+        alloc,
+        rows,
+        &[
+            Attribute(b"400", Set(30)),
+            Key(b"401", &[Set(30)], &[], false),
+            Key(b"402", &[NumCheck(17)], &[], false),
+            Attribute(b"403", Set(30)),
+        ],
+    )
 }
 
 /// Parties that goods are sent, billed or bought for.
@@ -196,13 +183,16 @@ fn add_shipments(alloc: Global, rows: &mut Vec<AiRow>) -> Result<(), Memory>
 fn add_parties(alloc: Global, rows: &mut Vec<AiRow>) -> Result<(), Memory>
     ensures { OnOk result (rows.new.items ≡ rows.old.items ++ party_ais) }
 {
-    push_rows! { alloc, rows;
-        attribute b"410" NumCheck(13);
-        attribute b"411" NumCheck(13);
-        attribute b"412" NumCheck(13);
-        attribute b"413" NumCheck(13);
-    }
-    Ok(())
+    push_rows(
+        alloc,
+        rows,
+        &[
+            Attribute(b"410", NumCheck(13)),
+            Attribute(b"411", NumCheck(13)),
+            Attribute(b"412", NumCheck(13)),
+            Attribute(b"413", NumCheck(13)),
+        ],
+    )
 }
 
 /// Locations, and parties by themselves.
@@ -210,13 +200,16 @@ fn add_parties(alloc: Global, rows: &mut Vec<AiRow>) -> Result<(), Memory>
 fn add_locations(alloc: Global, rows: &mut Vec<AiRow>) -> Result<(), Memory>
     ensures { OnOk result (rows.new.items ≡ rows.old.items ++ location_ais) }
 {
-    push_rows! { alloc, rows;
-        key b"414" [NumCheck(13)], qualifiers (b"254"), short false;
-        attribute b"415" NumCheck(13);
-        attribute b"416" NumCheck(13);
-        key b"417" [NumCheck(13)], qualifiers (), short false;
-    }
-    Ok(())
+    push_rows(
+        alloc,
+        rows,
+        &[
+            Key(b"414", &[NumCheck(13)], &[b"254"], false),
+            Attribute(b"415", NumCheck(13)),
+            Attribute(b"416", NumCheck(13)),
+            Key(b"417", &[NumCheck(13)], &[], false),
+        ],
+    )
 }
 
 /// Assets and services.
@@ -224,15 +217,18 @@ fn add_locations(alloc: Global, rows: &mut Vec<AiRow>) -> Result<(), Memory>
 fn add_assets(alloc: Global, rows: &mut Vec<AiRow>) -> Result<(), Memory>
     ensures { OnOk result (rows.new.items ≡ rows.old.items ++ asset_ais) }
 {
-    push_rows! { alloc, rows;
-        key b"8003" [Zero, NumCheck(13), SetOpt(16)], qualifiers (), short false;
-        key b"8004" [Set(30)], qualifiers (), short false;
-        key b"8017" [NumCheck(18)], qualifiers (b"8019"), short false;
-        key b"8018" [NumCheck(18)], qualifiers (b"8019"), short false;
-        qualifier b"8019" NumUpTo(10), none b"";
-        attribute b"8020" Set(25);
-    }
-    Ok(())
+    push_rows(
+        alloc,
+        rows,
+        &[
+            Key(b"8003", &[Zero, NumCheck(13), SetOpt(16)], &[], false),
+            Key(b"8004", &[Set(30)], &[], false),
+            Key(b"8017", &[NumCheck(18)], &[b"8019"], false),
+            Key(b"8018", &[NumCheck(18)], &[b"8019"], false),
+            Qualifier(b"8019", NumUpTo(10), b""),
+            Attribute(b"8020", Set(25)),
+        ],
+    )
 }
 
 /// What partners agree on, and the first that companies use for themselves.
@@ -240,14 +236,17 @@ fn add_assets(alloc: Global, rows: &mut Vec<AiRow>) -> Result<(), Memory>
 fn add_agreed(alloc: Global, rows: &mut Vec<AiRow>) -> Result<(), Memory>
     ensures { OnOk result (rows.new.items ≡ rows.old.items ++ agreed_ais) }
 {
-    push_rows! { alloc, rows;
-        attribute b"90" Set(30);
-        attribute b"91" Set(90);
-        attribute b"92" Set(90);
-        attribute b"93" Set(90);
-        attribute b"94" Set(90);
-    }
-    Ok(())
+    push_rows(
+        alloc,
+        rows,
+        &[
+            Attribute(b"90", Set(30)),
+            Attribute(b"91", Set(90)),
+            Attribute(b"92", Set(90)),
+            Attribute(b"93", Set(90)),
+            Attribute(b"94", Set(90)),
+        ],
+    )
 }
 
 /// What companies use for themselves.
@@ -255,14 +254,17 @@ fn add_agreed(alloc: Global, rows: &mut Vec<AiRow>) -> Result<(), Memory>
 fn add_company(alloc: Global, rows: &mut Vec<AiRow>) -> Result<(), Memory>
     ensures { OnOk result (rows.new.items ≡ rows.old.items ++ company_ais) }
 {
-    push_rows! { alloc, rows;
-        attribute b"95" Set(90);
-        attribute b"96" Set(90);
-        attribute b"97" Set(90);
-        attribute b"98" Set(90);
-        attribute b"99" Set(90);
-    }
-    Ok(())
+    push_rows(
+        alloc,
+        rows,
+        &[
+            Attribute(b"95", Set(90)),
+            Attribute(b"96", Set(90)),
+            Attribute(b"97", Set(90)),
+            Attribute(b"98", Set(90)),
+            Attribute(b"99", Set(90)),
+        ],
+    )
 }
 
 /// The built-in application identifiers.

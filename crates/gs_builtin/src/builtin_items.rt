@@ -1,7 +1,7 @@
 ghost use Rattle.std.specs.Prelude.{◌≡◌, ◌≤◌, ◌-◌, ◌^◌, ◌∷◌, ◌++◌, [], IfOk, IsTrue, OnOk, codes, map};
 ghost use Rattle.gs_bits.specs.Bits.{bits_of};
 ghost use Rattle.gs_grammar.specs.declared.item.Item.TheVariants.{Lit};
-ghost use Rattle.gs_builtin.specs.BuiltIn.{behind_prefix, binary_items, dotted, rest_fits, in_text, in_text_too, of_field, pure_items, rest_in_bits, tag_items, there};
+ghost use Rattle.gs_builtin.specs.BuiltIn.{Gains, behind_prefix, binary_items, dotted, rest_fits, in_text, in_text_too, of_field, pure_items, rest_in_bits, tag_items, there};
 
 use crate::builtin_encodings::zeros;
 use crate::encoding::{Encoding, Identity, Partition, RestForm};
@@ -10,11 +10,16 @@ use gs_document::{Field, FieldItem};
 use gs_grammar::Item;
 use std::alloc::Global;
 
-/// A literal of the lowest bits of a number, so many, the highest first.
+/// Appends a literal of the lowest bits of a number, so many, the highest first.
 #[tactic(auto, unfolding(gs_bits::specs::Bits::bits_of))]
-fn bits(alloc: Global, width: u8, number: u8) -> Result<Item, Memory>
+fn add_bits(
+    alloc: Global,
+    items: &mut Vec<Option<FieldItem>>,
+    width: u8,
+    number: u8,
+) -> Result<(), Memory>
     requires { width ≤ 8 }
-    ensures { IfOk result (λ item. item ≡ Lit (bits_of width number)) }
+    ensures { OnOk result (Gains items.old.items items.new.items (there (None, Lit (bits_of width number)))) }
 {
     let mut bits = Vec::new(alloc);
     let mut left = width;
@@ -22,25 +27,31 @@ fn bits(alloc: Global, width: u8, number: u8) -> Result<Item, Memory>
         left -= 1;
         bits.push(number >> left & 1)?;
     }
-    Ok(Item::Lit(Text::from_vec(bits)))
+    items.push(Some((None, Item::Lit(Text::from_vec(bits)))))?;
+    Ok(())
 }
 
-/// A literal of the text.
-fn literal(alloc: Global, text: &[u8]) -> Result<FieldItem, Memory>
-    ensures { IfOk result (λ item. item ≡ (None, Lit text.now)) }
+/// Appends a literal of the text.
+fn add_literal(alloc: Global, items: &mut Vec<Option<FieldItem>>, text: &[u8]) -> Result<(), Memory>
+    ensures { OnOk result (Gains items.old.items items.new.items (there (None, Lit text.now))) }
 {
-    Ok((None, Item::Lit(Text::from_bytes(alloc, text)?)))
+    let text = Text::from_bytes(alloc, text)?;
+    items.push(Some((None, Item::Lit(text))))?;
+    Ok(())
 }
 
-/// A literal of a URI's beginning up to the name, and the name and a colon.
-fn head(alloc: Global, beginning: &[u8], name: &Text) -> Result<FieldItem, Memory>
-    ensures { IfOk result (λ item. item ≡ (None, Lit (beginning.now ++ name.now ++ codes ":"))) }
+/// Begins a URI's items with a literal of its beginning up to the name, and the name and a colon.
+fn begun(alloc: Global, beginning: &[u8], name: &Text) -> Result<Vec<Option<FieldItem>>, Memory>
+    ensures { IfOk result (λ items. items.items
+        ≡ there (None, Lit (beginning.now ++ name.now ++ codes ":")) ∷ []) }
 {
     let mut text = Vec::new(alloc);
     text.extend_from_slice(beginning)?;
     text.extend_from_slice(name.as_bytes())?;
     text.extend_from_slice(b":")?;
-    Ok((None, Item::Lit(Text::from_vec(text))))
+    let mut items = Vec::new(alloc);
+    items.push(Some((None, Item::Lit(Text::from_vec(text)))))?;
+    Ok(items)
 }
 
 /// The greatest number of so many bits.
@@ -149,7 +160,7 @@ fn add_dotted(
 ) -> Result<(), Memory>
     ensures { OnOk result (items.new.items ≡ items.old.items ++ map there (dotted field item)) }
 {
-    items.push(Some(literal(alloc, b".")?))?;
+    add_literal(alloc, items, b".")?;
     items.push(Some((Some(field), item)))?;
     Ok(())
 }
@@ -165,7 +176,7 @@ fn add_behind_prefix(
 {
     let (field, rest) = rest;
     if field.is_none() {
-        items.push(Some(literal(alloc, b"..")?))?;
+        add_literal(alloc, items, b"..")?;
         return add(items, Some(Field::Serial), serial);
     }
     add_dotted(alloc, items, Field::Rest, rest)?;
@@ -189,12 +200,12 @@ pub(crate) fn binary_items(
         bits: partition.bits,
         n: partition.digits,
     };
-    let rest = rest_in_bits(alloc, encoding.rest, partition.digits, rest_bits)?;
     let mut items = Vec::new(alloc);
-    items.push(Some((None, bits(alloc, 8, encoding.header)?)))?;
+    add_bits(alloc, &mut items, 8, encoding.header)?;
     items.push(Some((Some(Field::Filter), Item::Num { bits: 3, max: 7 })))?;
-    items.push(Some((None, bits(alloc, 3, partition.number)?)))?;
+    add_bits(alloc, &mut items, 3, partition.number)?;
     items.push(Some((Some(Field::Gcp), prefix)))?;
+    let rest = rest_in_bits(alloc, encoding.rest, partition.digits, rest_bits)?;
     items.push(Some(rest))?;
     add(
         &mut items,
@@ -216,13 +227,12 @@ pub(crate) fn tag_items(
 {
     let n = partition.digits;
     let rest_bits = encoding.width.saturating_sub(partition.bits);
-    let (field, rest) = rest_in_bits(alloc, encoding.rest, n, rest_bits)?;
-    let serial = copy_of_some(alloc, &encoding.serial)?.map(in_text);
-    let mut items = Vec::new(alloc);
-    items.push(Some(head(alloc, b"urn:epc:tag:", &encoding.name)?))?;
+    let mut items = begun(alloc, b"urn:epc:tag:", &encoding.name)?;
     items.push(Some((Some(Field::Filter), Item::Int { max: 7 })))?;
-    items.push(Some(literal(alloc, b".")?))?;
+    add_literal(alloc, &mut items, b".")?;
     items.push(Some((Some(Field::Gcp), Item::Pad { n })))?;
+    let serial = copy_of_some(alloc, &encoding.serial)?.map(in_text);
+    let (field, rest) = rest_in_bits(alloc, encoding.rest, n, rest_bits)?;
     add_behind_prefix(alloc, &mut items, (field, in_text(rest)), serial)?;
     Ok(List::from_vec(items))
 }
@@ -236,11 +246,10 @@ pub(crate) fn pure_items(
     ensures { IfOk result (λ items. items ≡ map there (pure_items identity.now partition)) }
 {
     let n = partition.digits;
-    let (field, rest) = rest_in_bits(alloc, identity.rest, n, 0)?;
-    let serial = copy_of_some(alloc, &identity.serial)?;
-    let mut items = Vec::new(alloc);
-    items.push(Some(head(alloc, b"urn:epc:id:", &identity.name)?))?;
+    let mut items = begun(alloc, b"urn:epc:id:", &identity.name)?;
     items.push(Some((Some(Field::Gcp), Item::Pad { n })))?;
+    let serial = copy_of_some(alloc, &identity.serial)?;
+    let (field, rest) = rest_in_bits(alloc, identity.rest, n, 0)?;
     add_behind_prefix(alloc, &mut items, (field, in_text(rest)), serial)?;
     Ok(List::from_vec(items))
 }

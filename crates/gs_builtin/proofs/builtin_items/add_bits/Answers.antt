@@ -1,7 +1,7 @@
 use Rattle.std.proofs.Common.{◌∙◌, ◌-◌, arith}
 use Rattle.std.proofs.lemmas.Nat.Bits.{shr_and_one}
 use Rattle.gs_builtin.proofs.BuiltInLemmas.{bits_more}
-use Rattle.gs_builtin.proofs.builtin_items.bits.Goals as goal
+use Rattle.gs_builtin.proofs.builtin_items.add_bits.Goals as goal
 
 pub loop-left-preserved : goal.loop-left-preserved
 loop-left-preserved c =
