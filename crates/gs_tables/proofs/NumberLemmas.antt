@@ -1,7 +1,6 @@
 -- The numbers of the options of a kind and prefix length.
-use Rattle.std.proofs.Common.{◌≡◌, ℕ, zero, suc, ◌+◌, ◌<◌, ◌≤◌, ◌==◌, ◌&&◌, Bool, true, false, List, [], ◌∷◌, ◌++◌, length, drop, map, position, Option, Some, None, slice_get, get_or, option_map, unwrap_or, refl, sym, ap, subst, ◌∙◌, arith}
+use Rattle.std.proofs.Common.{◌≡◌, ℕ, zero, suc, ◌+◌, ◌<◌, ◌≤◌, ◌==◌, ◌&&◌, Bool, true, false, List, [], ◌∷◌, ◌++◌, length, map, position, Option, Some, None, slice_get, option_map, unwrap_or, refl, sym, ap, subst, ◌∙◌, arith}
 use Rattle.std.proofs.lemmas.Bool.Decides.{nat_tests}
-use Rattle.std.proofs.lemmas.List.{append-nil, append_assoc, drop_all, drop_more}
 use Rattle.std.proofs.lemmas.Option.{slice_get-map, slice_get_within}
 use Rattle.gs_ai.specs.declared.row.AiRow.{AiRow}
 use Rattle.gs_document.specs.declared.document.KindRow.{KindRow}
@@ -12,28 +11,6 @@ use Rattle.gs_tables.specs.Numbers.{AreNumbered, AreOfKinds, AreOfLengths, AreWi
 use Rattle.gs_tables.specs.Rules.{has_name}
 use Rattle.gs_tables.specs.Tables.{info_of, items_there, level_refusals}
 use Rattle.gs_tables.proofs.KeptRows.{gcp_kept, placed, row_at}
-
--- ---- one option more
-
-module _ (kind gcp : ℕ) (infos : List OptInfo) (i : ℕ) (info : OptInfo) (front all : List ℕ) (low : i < length infos) (read : info ≡ get_or infos i info) where
-  rest : drop i infos ≡ info ∷ drop (i + 1) infos
-  rest = drop_more infos i info low ∙ ap (λ (x : OptInfo). x ∷ drop (i + 1) infos) (sym read)
-
-  pub number_step : true ≡ is_of kind gcp info → front ++ numbers_from i kind gcp (drop i infos) ≡ all → (front ++ i ∷ []) ++ numbers_from (i + 1) kind gcp (drop (i + 1) infos) ≡ all
-  number_step is e =
-      let more : numbers_from i kind gcp (drop i infos) ≡ i ∷ numbers_from (i + 1) kind gcp (drop (i + 1) infos) = rw (rest, ← is) refl in
-      append_assoc front (i ∷ []) (numbers_from (i + 1) kind gcp (drop (i + 1) infos)) ∙ ap (λ (r : List ℕ). front ++ r) (sym more) ∙ e
-
-  pub number_skip : false ≡ is_of kind gcp info → front ++ numbers_from i kind gcp (drop i infos) ≡ all → front ++ numbers_from (i + 1) kind gcp (drop (i + 1) infos) ≡ all
-  number_skip is e =
-      let same : numbers_from i kind gcp (drop i infos) ≡ numbers_from (i + 1) kind gcp (drop (i + 1) infos) = rw (rest, ← is) refl in
-      ap (λ (r : List ℕ). front ++ r) (sym same) ∙ e
-
-pub number_end : (kind gcp : ℕ) (infos : List OptInfo) (i : ℕ) (front all : List ℕ) → length infos ≤ i → front ++ numbers_from i kind gcp (drop i infos) ≡ all → front ≡ all
-number_end kind gcp infos i front all past e =
-    let none : drop i infos ≡ [] = drop_all i infos past in
-    let empty : numbers_from i kind gcp (drop i infos) ≡ [] = rw none refl in
-    sym (append-nil front) ∙ ap (λ (r : List ℕ). front ++ r) (sym empty) ∙ e
 
 -- ---- one list more
 

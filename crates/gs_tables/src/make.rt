@@ -1,4 +1,4 @@
-ghost use Rattle.std.specs.Prelude.{◌≡◌, ◌≤◌, [], IfOk, IsSome, map, position};
+ghost use Rattle.std.specs.Prelude.{◌≡◌, ◌≤◌, ◌++◌, [], IfOk, IsSome, OnOk, map, position};
 ghost use Rattle.gs_ai.specs.Tables.{table_faults};
 ghost use Rattle.gs_grammar.specs.Levels.{KeepBounds};
 ghost use Rattle.gs_tables.specs.Forms.{serial_at};
@@ -123,6 +123,31 @@ fn make_option(
     Ok((option, info))
 }
 
+/// Appends the options of rows that no rule refuses, and what is said of each.
+fn push_options(
+    alloc: Global,
+    ais: &AiTable,
+    kinds: &[KindRow],
+    level: LevelName,
+    rows: List<OptionRow>,
+    options: &mut Vec<Opt>,
+    info: &mut Vec<OptInfo>,
+) -> Result<(), Memory>
+    requires { level_refusals ais.now kinds.now level rows ≡ [] }
+    ensures options { OnOk result (options.new.items
+        ≡ options.old.items ++ map (option_form (is_bits level)) rows) }
+    ensures info { OnOk result (info.new.items ≡ info.old.items ++ map (info_of kinds.now) rows) }
+{
+    // the proof alone reads it: the rows keep the rules beside these application identifiers
+    let _ = ais;
+    for row in rows.into_vec() {
+        let (option, said) = make_option(alloc, kinds, level, row)?;
+        options.push(option)?;
+        info.push(said)?;
+    }
+    Ok(())
+}
+
 /// The level of rows that no rule refuses.
 fn make_level(
     alloc: Global,
@@ -134,15 +159,9 @@ fn make_level(
     requires { level_refusals ais.now kinds.now level rows ≡ [] }
     ensures { IfOk result (λ made. made ≡ level_of kinds.now level rows) }
 {
-    // the proof alone reads it: the rows keep the rules beside these application identifiers
-    let _ = ais;
     let mut options = Vec::new(alloc);
     let mut info = Vec::new(alloc);
-    for row in rows.into_vec() {
-        let (option, said) = make_option(alloc, kinds, level, row)?;
-        options.push(option)?;
-        info.push(said)?;
-    }
+    push_options(alloc, ais, kinds, level, rows, &mut options, &mut info)?;
     Ok(LevelTable {
         level: Level::new(alloc, level.is_bits(), options)?,
         info: IndexedInfo::new(alloc, kinds.len(), info)?,
