@@ -12,7 +12,7 @@ pub enum AttrValue {
 }
 
 /// An attribute of a link target (RFC 9264, section 4.2.4).
-#[derive(Debug, Drop)]
+#[derive(Debug)]
 pub struct Attr {
     /// The name of the attribute.
     pub name: Text,
@@ -20,13 +20,27 @@ pub struct Attr {
     pub value: AttrValue,
 }
 
+// by hand, so that a function that drops one calls this one: a derived drop is written out at each of its exits
+impl Drop for Attr {
+    fn drop(self) {
+        let Attr { name: _, value: _ } = self;
+    }
+}
+
 /// The target of a link (RFC 9264, section 4.2.3).
-#[derive(Debug, Drop)]
+#[derive(Debug)]
 pub struct Target {
     /// The reference to the target (RFC 3986), as it is written.
     pub href: Text,
     /// The attributes, in ascending order of their names.
     pub attrs: List<Attr>,
+}
+
+// by hand, so that a function that drops one calls this one: a derived drop is written out at each of its exits
+impl Drop for Target {
+    fn drop(self) {
+        let Target { href: _, attrs: _ } = self;
+    }
 }
 
 /// The links of one relation type (RFC 9264, section 4.2.2).
