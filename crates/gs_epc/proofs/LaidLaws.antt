@@ -9,7 +9,7 @@ use Rattle.gs_ai.specs.declared.pair.Pair.{Pair}
 use Rattle.gs_ai.specs.declared.row.AiRow.{AiRow}
 use Rattle.gs_ai.specs.Tables.{KeepsRules, are_distinct, is_row, table_faults}
 use Rattle.gs_ai.specs.Values.{has_code, parts_fault, value_fault}
-use Rattle.gs_ai.proofs.RowLemmas.{and_left, and_right, listed, row_parts}
+use Rattle.gs_ai.proofs.RowLemmas.{listed, row_parts}
 use Rattle.gs_ident.specs.Elements.{Elements, pairs_of}
 use Rattle.gs_ident.specs.Identities.{IsInOrder, IsMadeWith, counted, elements_of, pair_with}
 use Rattle.gs_ident.proofs.IdentityLemmas.{made_facts}
@@ -28,6 +28,7 @@ use Rattle.gs_epc.specs.Taking.{IsOfKind, epc_at, epc_of_key, prefix_in, rest_in
 use Rattle.gs_epc.proofs.LaidAgain.{key_again, parts_kept}
 use Rattle.gs_epc.proofs.LaidSets.{AllOf, are_one, is_tail, no_pairs, own_element}
 use Rattle.gs_epc.proofs.LayoutElements.{found_place}
+use Rattle.gs_ident.proofs.MovedPairs.{row_distinct}
 
 -- ---- the kinds of a set keep the rules
 
@@ -50,10 +51,6 @@ kept_kind set i row shaped at =
     rw (shaped.made, ← kind.2) kept
 
 -- ---- the qualifiers
-
-row_distinct : (row : AiRow) → is_row row ≡ true → are_distinct row.qualifiers ≡ true
-unfolding is_row
-row_distinct row h = and_right _ _ (and_left _ _ (and_left _ _ h))
 
 -- the qualifiers are what is found by the codes that the key's row lists
 found_by_codes : (ais : List AiRow) (identity : Elements) (row : AiRow) → IsMadeWith ais identity → find (has_code identity.key.code) ais ≡ Some row → identity.qualifiers ≡ filter_map (pair_with (counted ais (pairs_of identity))) row.qualifiers

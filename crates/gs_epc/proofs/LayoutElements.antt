@@ -17,6 +17,7 @@ use Rattle.gs_ident.proofs.CodeOrder.{none_ascending}
 use Rattle.gs_ident.proofs.IdentityLemmas.{made_answer}
 use Rattle.gs_chars.proofs.TruthsAndLists.{true_or_false}
 use Rattle.gs_epc.specs.Layout.{unless_none}
+use Rattle.gs_ident.proofs.MovedPairs.{row_distinct}
 
 -- ---- codes in a list
 
@@ -164,10 +165,6 @@ role_of_key role.Other h = absurd (let e : false ≡ true = h in cc)
 row_role : (row : AiRow) → is_row row ≡ true → keeps_role row ≡ true
 unfolding is_row
 row_role row h = and_right _ _ (and_left _ _ (and_left _ _ (and_left _ _ h)))
-
-row_distinct : (row : AiRow) → is_row row ≡ true → are_distinct row.qualifiers ≡ true
-unfolding is_row
-row_distinct row h = and_right _ _ (and_left _ _ (and_left _ _ h))
 
 no_none : (row : AiRow) → is_row row ≡ true → is_key row.role ≡ true → is_empty row.none ≡ true
 no_none row in_order key = let e = role_of_key row.role key in rw e at (row_role row in_order)
