@@ -104,7 +104,8 @@ impl AiTable {
     /// Whether the row is that of a key. The row is one of the table.
     pub fn is_key_row(&self, row: usize) -> bool
         requires { row < length self.now }
-        ensures { (code : List ℕ) → position (has_code code) self.now ≡ Some row → result ≡ is_key_of self.now code }
+        ensures { (code : List ℕ) → position (has_code code) self.now ≡ Some row
+            → result ≡ is_key_of self.now code }
     {
         // For the proof alone: the rows keep the rules.
         let _ = &self.rows;
