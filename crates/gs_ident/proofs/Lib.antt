@@ -1,3 +1,4 @@
+pub mod AgreementLemmas
 pub mod CodeOrder
 pub mod IdentityLemmas
 pub mod KeyLemmas

@@ -1,3 +1,4 @@
+pub mod Agreement
 pub mod Elements
 pub mod Identities
 pub mod Keys
