@@ -5,7 +5,7 @@ use gs_chars::Memory;
 use std::alloc::{AllocError, AllocFailed};
 
 /// Why rows are no table. Rows are counted from 0.
-#[derive(Clone, Copy, Debug, PartialEq, Eq)]
+#[derive(Clone, Copy, Debug)]
 pub enum AiFault {
     /// The row by itself is out of form, or lists a code that is not that of a qualifier.
     BadAi(usize),
@@ -20,7 +20,7 @@ pub enum AiFault {
 }
 
 /// Why a value is none of its application identifier.
-#[derive(Clone, Copy, Debug, PartialEq, Eq)]
+#[derive(Clone, Copy, Debug)]
 pub enum ValueFault {
     /// No row has the code.
     Unknown,
@@ -35,7 +35,7 @@ pub enum ValueFault {
 }
 
 /// What is wrong at a place of an element string or of a link.
-#[derive(Clone, Copy, Debug, PartialEq, Eq)]
+#[derive(Clone, Copy, Debug)]
 pub enum ElementWhy {
     /// The value is none of its application identifier.
     Value(ValueFault),
@@ -46,7 +46,7 @@ pub enum ElementWhy {
 }
 
 /// The place of the element that is not in order, as a number of bytes before it, and what is wrong there.
-#[derive(Clone, Copy, Debug, PartialEq, Eq)]
+#[derive(Clone, Copy, Debug)]
 pub struct ElementFault {
     /// The number of bytes before the place.
     pub at: usize,

@@ -4,7 +4,7 @@ use gs_chars::{Memory, Text};
 use std::alloc::Global;
 
 /// An application identifier and its value.
-#[derive(Debug, Drop)]
+#[derive(Drop)]
 pub struct Pair {
     /// The digits of the application identifier.
     pub code: Text,

@@ -5,7 +5,7 @@ ghost use Rattle.gs_ai.specs.Tables.{is_key, is_qualifier};
 use gs_chars::CharSet;
 
 /// A part of the value of an application identifier.
-#[derive(Clone, Copy, Debug, PartialEq, Eq)]
+#[derive(Clone, Copy, Debug)]
 pub enum Part {
     /// The digit 0.
     Zero,
@@ -26,7 +26,7 @@ pub enum Part {
 }
 
 /// What an application identifier is in an identity.
-#[derive(Clone, Copy, Debug, PartialEq, Eq)]
+#[derive(Clone, Copy, Debug)]
 pub enum Role {
     /// It names a thing.
     Key,

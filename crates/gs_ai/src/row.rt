@@ -2,7 +2,7 @@ use crate::part::{Part, Role};
 use gs_chars::{List, Text};
 
 /// A row of a table of application identifiers.
-#[derive(Debug, Drop)]
+#[derive(Drop)]
 pub struct AiRow {
     /// The digits of the application identifier.
     pub code: Text,

@@ -1,7 +1,7 @@
 use gs_chars::Text;
 
 /// Whether machines share a list of symbols.
-#[derive(Debug, Drop)]
+#[derive(Drop)]
 pub enum Verdict {
     /// No list of symbols has two different accepting runs, in one machine or in two.
     Clear,

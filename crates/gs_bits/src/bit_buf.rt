@@ -13,7 +13,7 @@ use std::alloc::Global;
 use std::marker::Model;
 
 /// A list of at most 8N bits in an array of N bytes, where N is at most 64. Contracts see the list: each item is 0 or 1.
-#[derive(Debug, Drop)]
+#[derive(Drop)]
 pub struct BitBuf<const N: usize> {
     bytes: [u8; N],
     len: usize,

@@ -1,17 +1,17 @@
 use thiserror::Error;
 
 /// There is no room for the bits.
-#[derive(Clone, Copy, Debug, PartialEq, Eq, Error)]
+#[derive(Clone, Copy, Debug, Error)]
 #[error("no room for the bits")]
 pub struct Full;
 
 /// Fewer bits are left than were asked for.
-#[derive(Clone, Copy, Debug, PartialEq, Eq, Error)]
+#[derive(Clone, Copy, Debug, Error)]
 #[error("fewer bits are left")]
 pub struct Short;
 
 /// Why a text is no hexadecimal text of the bits of a buffer.
-#[derive(Clone, Copy, Debug, PartialEq, Eq, Error)]
+#[derive(Clone, Copy, Debug, Error)]
 pub enum HexFault {
     /// The text has an odd number of bytes.
     #[error("an odd number of digits")]

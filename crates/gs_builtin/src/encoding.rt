@@ -2,7 +2,7 @@ use gs_chars::Text;
 use gs_grammar::Item;
 
 /// A length of the company prefix: its digits, its number in the partition table, and its bits.
-#[derive(Clone, Copy, Debug)]
+#[derive(Clone, Copy)]
 pub struct Partition {
     pub digits: u8,
     pub number: u8,
@@ -11,7 +11,7 @@ pub struct Partition {
 
 /// What stands behind the prefix: the digits that the key has beside its check digit, less those of the prefix, a number,
 /// or characters.
-#[derive(Clone, Copy, Debug)]
+#[derive(Clone, Copy)]
 pub enum RestForm {
     Digits(u8),
     Number,
@@ -19,7 +19,7 @@ pub enum RestForm {
 }
 
 /// An encoding of a kind: its header, the bits of prefix and rest together, the rest, the serial, and the zeros at the end.
-#[derive(Debug, Drop)]
+#[derive(Drop)]
 pub struct Encoding {
     pub name: Text,
     pub kind: Text,
@@ -31,7 +31,7 @@ pub struct Encoding {
 }
 
 /// The pure identity of a kind: its name, the rest, and the serial.
-#[derive(Debug, Drop)]
+#[derive(Drop)]
 pub struct Identity {
     pub name: Text,
     pub rest: RestForm,

@@ -2,7 +2,7 @@ ghost use Rattle.std.specs.Prelude.{◌≡◌};
 ghost use Rattle.gs_chars.specs.CharSets.{is_in_set};
 
 /// A set of characters that a value may be made of.
-#[derive(Clone, Copy, Debug, PartialEq, Eq)]
+#[derive(Clone, Copy)]
 pub enum CharSet {
     /// The ten digits.
     Digits,

@@ -3,7 +3,7 @@ ghost use Rattle.std.specs.Prelude.{◌≡◌};
 use std::marker::Model;
 
 /// A list of items, a thin type over a `Vec` that contracts see as the list of its items.
-#[derive(Debug, Drop)]
+#[derive(Drop)]
 pub struct List<T> {
     items: Vec<T>,
 }

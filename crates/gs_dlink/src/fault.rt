@@ -2,7 +2,7 @@ use gs_ai::ElementFault;
 use gs_chars::Memory;
 
 /// Why a text is no link, or a target none of a link.
-#[derive(Clone, Copy, Debug, PartialEq, Eq)]
+#[derive(Clone, Copy, Debug)]
 pub enum LinkFault {
     /// It does not begin with `http://` or `https://` and an authority.
     NotHttp,

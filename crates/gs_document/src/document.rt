@@ -7,7 +7,7 @@ use gs_grammar::Item;
 pub type FieldItem = (Option<Field>, Item);
 
 /// A kind as a document has it, before it is judged.
-#[derive(Debug, Drop)]
+#[derive(Drop)]
 pub struct KindRow {
     /// The name, as EPC URIs have it.
     pub name: Text,
@@ -20,7 +20,7 @@ pub struct KindRow {
 }
 
 /// An option as a document has it, before it is judged.
-#[derive(Debug, Drop)]
+#[derive(Drop)]
 pub struct OptionRow {
     /// The name of its kind.
     pub kind: Text,
@@ -33,7 +33,7 @@ pub struct OptionRow {
 }
 
 /// The rows of a document, before they are judged.
-#[derive(Debug, Drop)]
+#[derive(Drop)]
 pub struct Document {
     /// The version of the profile.
     pub version: u64,

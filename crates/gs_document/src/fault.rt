@@ -4,7 +4,7 @@ use gs_chars::{Memory, Text};
 use gs_json::JsonFault;
 
 /// What there may be only so many of.
-#[derive(Clone, Copy, Debug, PartialEq, Eq)]
+#[derive(Clone, Copy, Debug)]
 pub enum LimitName {
     /// Rows of application identifiers, at most `MOST_ROWS`.
     Ais,
@@ -19,7 +19,7 @@ pub enum LimitName {
 }
 
 /// Why tables are refused. The indexes count from 0.
-#[derive(Debug, Drop, PartialEq, Eq)]
+#[derive(Debug, Drop)]
 pub enum LoadFault {
     /// The document is not of the form of a table document.
     Json(JsonFault),
@@ -45,7 +45,7 @@ pub enum LoadFault {
 }
 
 /// Why an item is not read.
-#[derive(Clone, Copy, Debug, PartialEq, Eq)]
+#[derive(Clone, Copy, Debug)]
 pub enum ItemFault {
     /// It is no item of the level.
     Bad,

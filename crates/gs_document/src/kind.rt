@@ -1,7 +1,7 @@
 use gs_chars::Text;
 
 /// Where the serial of a kind of key stands.
-#[derive(Debug, Drop)]
+#[derive(Drop)]
 pub enum SerialAt {
     /// The kind has none.
     Nowhere,
@@ -12,7 +12,7 @@ pub enum SerialAt {
 }
 
 /// A kind of EPC: a key of the application identifiers, and how its value is taken apart.
-#[derive(Debug, Drop)]
+#[derive(Drop)]
 pub struct Kind {
     /// The name, as EPC URIs have it.
     pub name: Text,

@@ -2,7 +2,7 @@ ghost use Rattle.std.specs.Prelude.{◌≡◌};
 ghost use Rattle.gs_document.specs.Documents.{is_bits};
 
 /// A level of a table set: a form in which the tags and EPC URIs of all kinds are written (TDT 2.0, section 3).
-#[derive(Clone, Copy, Debug, PartialEq, Eq)]
+#[derive(Clone, Copy, Debug)]
 pub enum LevelName {
     /// The bits of a tag.
     Binary,

@@ -2,7 +2,7 @@ use crate::field::Field;
 use gs_chars::{List, Text};
 
 /// What a table set says of an option beside its items.
-#[derive(Debug, Drop)]
+#[derive(Drop)]
 pub struct OptInfo {
     /// The index of its kind.
     pub kind: usize,

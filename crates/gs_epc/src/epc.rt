@@ -1,7 +1,7 @@
 use gs_chars::Text;
 
 /// What a tag or an EPC URI says (TDS 2.0, section 6.3): the fields of an option of a table set.
-#[derive(Debug, Drop)]
+#[derive(Drop)]
 pub struct Epc {
     /// The index of the kind.
     pub kind: usize,

@@ -2,7 +2,7 @@ use gs_bits::HexFault;
 use gs_chars::Memory;
 
 /// Why a text says no EPC.
-#[derive(Clone, Copy, Debug, PartialEq, Eq)]
+#[derive(Clone, Copy, Debug)]
 pub enum EpcFault {
     /// The text is no hexadecimal text of at most 128 digits.
     Hex(HexFault),

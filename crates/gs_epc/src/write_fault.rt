@@ -3,7 +3,7 @@ use gs_grammar::Why;
 use gs_tables::Field;
 
 /// Why an identity is not taken apart.
-#[derive(Clone, Copy, Debug, PartialEq, Eq)]
+#[derive(Clone, Copy)]
 pub enum FieldsFault {
     /// The kind has a serial, the identity lacks it, and no text stands for its absence.
     MissingSerial,
@@ -23,7 +23,7 @@ impl From<Memory> for FieldsFault {
 }
 
 /// Why an EPC is not written.
-#[derive(Clone, Copy, Debug, PartialEq, Eq)]
+#[derive(Clone, Copy, Debug)]
 pub enum EpcWriteFault {
     /// The level has no option of this kind and prefix length and of the encoding that is asked for.
     NoOption,

@@ -1,5 +1,5 @@
 /// Why a list of items makes no option.
-#[derive(Clone, Copy, Debug, PartialEq, Eq, Drop)]
+#[derive(Clone, Copy, Debug, Drop)]
 pub enum OptFault {
     /// The item of this number, the first one that breaks a bound or is not of the level.
     BadItem(usize),
@@ -8,7 +8,7 @@ pub enum OptFault {
 }
 
 /// Why an item does not hold a value. The reasons are tried in this order.
-#[derive(Clone, Copy, Debug, PartialEq, Eq)]
+#[derive(Clone, Copy, Debug)]
 pub enum Why {
     /// A character is no digit, or not in the set of 82.
     Char,
@@ -22,7 +22,7 @@ pub enum Why {
 }
 
 /// Why values are not written.
-#[derive(Clone, Copy, Debug, PartialEq, Eq)]
+#[derive(Clone, Copy, Debug)]
 pub enum WriteFault {
     /// The item of this number is the first that does not hold its value.
     CannotHold { item: usize, why: Why },

@@ -6,7 +6,7 @@ use crate::numerals::digit_count;
 use gs_chars::{CharSet, Text};
 
 /// A part of an option.
-#[derive(Debug, Drop)]
+#[derive(Drop)]
 pub enum Item {
     /// A literal of 1 to 64 symbols: visible characters, or on a bit level the bits 0 and 1. Its value is empty.
     Lit(Text),

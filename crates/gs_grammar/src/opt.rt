@@ -13,7 +13,7 @@ use std::marker::Model;
 pub const MOST_SYMBOLS: usize = 512;
 
 /// An option of a level: items that stand one after the other, of at most `MOST_SYMBOLS` symbols.
-#[derive(Debug, Drop)]
+#[derive(Drop)]
 pub struct Opt {
     bit_level: bool,
     items: List<Item>,

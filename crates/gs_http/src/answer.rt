@@ -1,7 +1,7 @@
 use gs_chars::Text;
 
 /// What is answered to a request.
-#[derive(Debug, Drop)]
+#[derive(Drop)]
 pub(crate) enum Answer<'a> {
     /// The resolver's description.
     Description(&'a [u8]),

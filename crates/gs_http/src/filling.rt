@@ -11,7 +11,7 @@ use memchr::memmem;
 const LONGEST: usize = 8192;
 
 /// What the bytes that were read of a connection begin with.
-#[derive(Clone, Copy, Debug, PartialEq, Eq)]
+#[derive(Clone, Copy)]
 pub(crate) enum Filled {
     /// There are none, and nothing is left.
     Ended,

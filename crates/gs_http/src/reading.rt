@@ -7,7 +7,7 @@ use gs_port::{Conn, ReadAnswer};
 static BLOCK: [u8; 4096] = [0; 4096];
 
 /// What came of a read.
-#[derive(Clone, Copy, Debug, PartialEq, Eq)]
+#[derive(Clone, Copy)]
 pub(crate) enum More {
     /// Bytes.
     Got,

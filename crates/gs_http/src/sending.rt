@@ -4,7 +4,7 @@ ghost use Rattle.gs_http.specs.Connected.{Writes, writes_after};
 use gs_port::{Conn, WriteAnswer};
 
 /// How writing bytes whole ended.
-#[derive(Clone, Copy, Debug, PartialEq, Eq)]
+#[derive(Clone, Copy)]
 pub(crate) enum Sent {
     /// All bytes were written.
     Done,

@@ -1,5 +1,5 @@
 /// How serving a connection ended.
-#[derive(Clone, Copy, Debug, PartialEq, Eq)]
+#[derive(Clone, Copy, Debug)]
 pub enum Served {
     /// All was answered: up to the end of the stream, or to a reply that ends the connection.
     Done,
@@ -12,7 +12,7 @@ pub enum Served {
 }
 
 /// How a turn of serving a connection ended.
-#[derive(Clone, Copy, Debug, PartialEq, Eq)]
+#[derive(Clone, Copy)]
 pub(crate) enum Turn {
     /// A head was answered, and the connection stays.
     Stays,

@@ -1,7 +1,7 @@
 use gs_chars::Text;
 
 /// How requests are answered.
-#[derive(Debug, Drop)]
+#[derive(Drop)]
 pub struct Settings {
     /// What `gs1:` stands for in the relation that a request asks for.
     pub voc: Text,
@@ -10,7 +10,7 @@ pub struct Settings {
 }
 
 /// The reply to a head.
-#[derive(Debug, Drop)]
+#[derive(Drop)]
 pub struct Reply {
     /// Its bytes.
     pub bytes: Text,

@@ -1,5 +1,5 @@
 /// A word that a part of a field's value may be.
-#[derive(Clone, Copy, Debug, PartialEq, Eq)]
+#[derive(Clone, Copy)]
 pub(crate) enum Word {
     /// `close`, in a field `Connection`.
     Close,
@@ -8,7 +8,7 @@ pub(crate) enum Word {
 }
 
 /// What a field shows that matters to the reply.
-#[derive(Clone, Copy, Debug, PartialEq, Eq)]
+#[derive(Clone, Copy)]
 pub(crate) enum Sign {
     /// That a body has a transfer coding.
     Encoded,

@@ -1,7 +1,7 @@
 use gs_chars::Text;
 
 /// What a request wishes.
-#[derive(Debug, Drop)]
+#[derive(Drop)]
 pub(crate) enum Wish {
     /// A linkset, of the links of all relations.
     Linkset,

@@ -7,7 +7,7 @@ use std::alloc::Global;
 use std::marker::Model;
 
 /// What an element string or a link identifies: the pair of its key, the pairs that qualify the key, and all other pairs.
-#[derive(Debug, Drop)]
+#[derive(Drop)]
 pub struct Identity {
     key: Pair,
     qualifiers: List<Pair>,

@@ -5,14 +5,14 @@ ghost use Rattle.gs_ident.specs.Keys.{AreKeys, IsRowOf, is_none_text};
 use gs_ai::{AiRow, AiTable, Pair};
 
 /// The place of a pair with the code of a key, and the index of the key's row.
-#[derive(Clone, Copy, Debug)]
+#[derive(Clone, Copy)]
 pub struct KeyPlace {
     pub pair: usize,
     pub row: usize,
 }
 
 /// The keys among pairs, and whether the value of one stands for none: what one look at the row of each pair tells.
-#[derive(Clone, Copy, Debug)]
+#[derive(Clone, Copy)]
 pub struct Keys {
     pub with_none: bool,
     /// The first pair with the code of a key.

@@ -1,7 +1,7 @@
 use gs_chars::{Memory, Text};
 
 /// Why a document is not read as it is asked for. The places are JSON Pointers (RFC 6901).
-#[derive(Debug, Drop, PartialEq, Eq)]
+#[derive(Debug, Drop)]
 pub enum JsonFault {
     /// The bytes are no JSON text.
     Syntax,

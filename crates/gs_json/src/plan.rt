@@ -1,7 +1,7 @@
 use gs_chars::Text;
 
 /// What a member must be.
-#[derive(Clone, Copy, Debug, PartialEq, Eq)]
+#[derive(Clone, Copy)]
 pub enum Sort {
     /// A text.
     Text,
@@ -18,7 +18,7 @@ pub enum Sort {
 }
 
 /// A member that an object may have, and what it must be.
-#[derive(Debug, Drop)]
+#[derive(Drop)]
 pub struct Entry {
     /// The member's name.
     pub name: Text,

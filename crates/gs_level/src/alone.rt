@@ -13,7 +13,7 @@ use gs_grammar::Item;
 use gs_machine::{Auto, Edge};
 
 /// Where a symbol leads from a state.
-#[derive(Clone, Copy, Debug)]
+#[derive(Clone, Copy)]
 pub enum Next {
     /// To this state, and to no other from which a run can go on.
     One(usize),
@@ -24,7 +24,7 @@ pub enum Next {
 }
 
 /// What the one run says of the symbols.
-#[derive(Clone, Copy, Debug)]
+#[derive(Clone, Copy)]
 pub enum Alone {
     /// It accepts them.
     Accepted,

@@ -9,7 +9,7 @@ use gs_chars::{List, Memory, Text};
 use std::alloc::Global;
 
 /// An option that derives a list of symbols, and the values of a derivation.
-#[derive(Debug, Drop)]
+#[derive(Drop)]
 pub struct Found {
     pub option: usize,
     pub values: List<Text>,

@@ -1,14 +1,14 @@
 use gs_chars::Text;
 
 /// A literal that stands at a place in every text of an option. An empty one stands everywhere.
-#[derive(Debug, Drop)]
+#[derive(Drop)]
 pub struct Probe {
     pub place: usize,
     pub literal: Text,
 }
 
 /// Options one after the other whose texts all begin with a literal: those before the number `end`.
-#[derive(Debug, Drop)]
+#[derive(Drop)]
 pub struct Group {
     pub literal: Text,
     pub end: usize,

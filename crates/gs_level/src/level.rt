@@ -13,7 +13,7 @@ use std::alloc::Global;
 use std::marker::Model;
 
 /// The options of one level, in the order of the table, and the machine of each.
-#[derive(Debug, Drop)]
+#[derive(Drop)]
 pub struct Level {
     bit_level: bool,
     options: List<Opt>,

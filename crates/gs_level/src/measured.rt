@@ -1,7 +1,7 @@
 use gs_chars::{List, Text};
 
 /// What the widths of items say of symbols.
-#[derive(Debug, Drop)]
+#[derive(Drop)]
 pub enum Measured {
     /// The items derive them, with these values.
     Values(List<Text>),

@@ -1,7 +1,7 @@
 use gs_chars::{List, Text};
 
 /// What a list of symbols means in a level that is not ambiguous.
-#[derive(Debug, Drop)]
+#[derive(Drop)]
 pub enum Reading {
     /// The list has a derivation, and no other: the number of its option, and the value of each of its items.
     One { option: usize, values: List<Text> },

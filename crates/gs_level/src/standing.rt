@@ -8,7 +8,7 @@ use gs_grammar::Item;
 use gs_machine::Auto;
 
 /// Where a run stands that is followed alone: its state, the number of symbols behind it, and the borders above it.
-#[derive(Clone, Copy, Debug)]
+#[derive(Clone, Copy)]
 pub struct Stand<'a> {
     pub state: usize,
     pub place: usize,

@@ -6,7 +6,7 @@ use gs_chars::Memory;
 use gs_machine::{Auto, Edge};
 
 /// A state that a machine can stand at after a symbol, and the number of the entry that it was reached from.
-#[derive(Clone, Copy, Debug)]
+#[derive(Clone, Copy)]
 pub struct Entry {
     pub state: usize,
     pub back: usize,

@@ -56,7 +56,7 @@ fn answer_block<'a, A: Answerer>(
 }
 
 /// How the answering of lines ended.
-#[derive(Clone, Copy, Debug, PartialEq, Eq)]
+#[derive(Clone, Copy)]
 enum Answering {
     /// All lines were answered, and an answer is a refusal or not.
     Whole { refused: bool },

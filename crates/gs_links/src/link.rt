@@ -3,7 +3,7 @@ use gs_ident::Identity;
 use gs_linkset::Target;
 
 /// A link of a store.
-#[derive(Debug, Drop)]
+#[derive(Drop)]
 pub struct Link {
     /// What the link is of: a key and qualifiers, without attributes.
     pub anchor: Identity,
@@ -14,7 +14,7 @@ pub struct Link {
 }
 
 /// Which links are wanted.
-#[derive(Clone, Copy, Debug)]
+#[derive(Clone, Copy)]
 pub enum Want<'a> {
     /// Those of all relations.
     All,
@@ -23,7 +23,7 @@ pub enum Want<'a> {
 }
 
 /// What a choice gave.
-#[derive(Clone, Copy, Debug, PartialEq, Eq)]
+#[derive(Clone, Copy)]
 pub struct Chosen {
     /// The number of qualifiers in the anchors of the chosen links, and 0 where none is chosen.
     pub depth: usize,

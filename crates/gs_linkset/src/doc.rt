@@ -8,7 +8,7 @@ use gs_chars::List;
 use std::marker::Model;
 
 /// Why contexts are no linkset. Contexts are counted from 0.
-#[derive(Debug, Drop, PartialEq, Eq)]
+#[derive(Debug, Drop)]
 pub enum DocFault {
     /// The context at this index has a text that is no UTF-8, names of relations or attributes that do not ascend
     /// strictly, a relation `anchor`, an attribute `href`, or a value that is not of the kind that the attribute's
@@ -19,7 +19,7 @@ pub enum DocFault {
 /// A linkset (RFC 9264), which contracts see as its contexts in their order. In each context all texts are UTF-8,
 /// the names of relations and of attributes ascend strictly, no relation is `anchor` and no attribute `href`, and
 /// each attribute has a value of the kind that its name has.
-#[derive(Debug, Drop)]
+#[derive(Drop)]
 pub struct LinkDoc {
     contexts: List<Context>,
 }

@@ -1,7 +1,7 @@
 use gs_chars::{List, Text};
 
 /// The value of an attribute of a link target (RFC 9264, section 4.2.4).
-#[derive(Debug, Drop)]
+#[derive(Drop)]
 pub enum AttrValue {
     /// A text: of `type`, `title` and `media`.
     One(Text),
@@ -12,7 +12,6 @@ pub enum AttrValue {
 }
 
 /// An attribute of a link target (RFC 9264, section 4.2.4).
-#[derive(Debug)]
 pub struct Attr {
     /// The name of the attribute.
     pub name: Text,
@@ -28,7 +27,6 @@ impl Drop for Attr {
 }
 
 /// The target of a link (RFC 9264, section 4.2.3).
-#[derive(Debug)]
 pub struct Target {
     /// The reference to the target (RFC 3986), as it is written.
     pub href: Text,
@@ -44,7 +42,7 @@ impl Drop for Target {
 }
 
 /// The links of one relation type (RFC 9264, section 4.2.2).
-#[derive(Debug, Drop)]
+#[derive(Drop)]
 pub struct Relation {
     /// The relation type, as it is written.
     pub name: Text,
@@ -53,7 +51,7 @@ pub struct Relation {
 }
 
 /// The links of one link context (RFC 9264, section 4.2.2).
-#[derive(Debug, Drop)]
+#[derive(Drop)]
 pub struct Context {
     /// The reference to the link context (RFC 3986), as it is written.
     pub anchor: Text,

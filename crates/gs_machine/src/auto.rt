@@ -11,7 +11,7 @@ use std::marker::Model;
 
 /// A machine: states, which are the numbers below `states`, the edges that leave each, and borders, which are states. A run
 /// begins at the first border, and is accepting where it ends at the last.
-#[derive(Debug, Drop)]
+#[derive(Drop)]
 pub struct Auto {
     table: Table,
     borders: Vec<usize>,

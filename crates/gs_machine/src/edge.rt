@@ -1,5 +1,5 @@
 /// An edge of a machine: it leads to a state with each symbol from `lo` to `hi`.
-#[derive(Clone, Copy, Debug, PartialEq, Eq)]
+#[derive(Clone, Copy)]
 pub struct Edge {
     pub lo: u8,
     pub hi: u8,

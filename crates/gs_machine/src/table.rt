@@ -7,7 +7,7 @@ use std::alloc::Global;
 use std::marker::Model;
 
 /// The edges that leave each state, in one array, one state after the other. Contracts see the list of the lists of edges.
-#[derive(Debug, Drop)]
+#[derive(Drop)]
 pub struct Table {
     edges: Vec<Edge>,
     ends: Vec<usize>,

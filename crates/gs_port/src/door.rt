@@ -7,7 +7,7 @@ use crate::conn::Conn;
 use crate::files::OpenAnswer;
 
 /// What accepting a connection answers.
-#[derive(Clone, Copy, Debug, PartialEq, Eq)]
+#[derive(Clone, Copy)]
 pub enum AcceptAnswer {
     /// The next connection is the open one.
     Accepted,

@@ -7,7 +7,7 @@ ghost use Rattle.gs_port.specs.Answers.{count_after_read};
 use crate::source::ReadAnswer;
 
 /// What opening a file answers.
-#[derive(Clone, Copy, Debug, PartialEq, Eq)]
+#[derive(Clone, Copy)]
 pub enum OpenAnswer {
     /// The file is the current one, with all its bytes left.
     Opened,

@@ -21,7 +21,7 @@ use std::collections::VecDeque;
 use std::marker::Model;
 
 /// A finished connection, and how far the counts of its reads and of its writes rose.
-#[derive(Debug, Drop)]
+#[derive(Drop)]
 struct Ended {
     stream: MemStream,
     reads: u64,
@@ -39,7 +39,7 @@ impl Model for Ended {
 
 /// A door in memory, with one connection for each input, which moves at most so many bytes at a time, and fails at the calls
 /// that it is told.
-#[derive(Debug, Drop)]
+#[derive(Drop)]
 pub struct MemDoor {
     alloc: Global,
     opened: bool,

@@ -15,14 +15,14 @@ use std::alloc::Global;
 use std::marker::Model;
 
 /// The current file's number, and how many of its bytes were read.
-#[derive(Clone, Copy, Debug)]
+#[derive(Clone, Copy)]
 struct Place {
     file: usize,
     at: usize,
 }
 
 /// Files in memory, which fail at the calls that they are told.
-#[derive(Debug, Drop)]
+#[derive(Drop)]
 pub struct MemFiles {
     files: Vec<(String, Vec<u8>)>,
     current: Option<Place>,

@@ -5,7 +5,7 @@ use std::alloc::{AllocError, Global};
 use std::marker::Model;
 
 /// A connection in memory: its input, how many bytes of it were read, and what was written.
-#[derive(Debug, Drop)]
+#[derive(Drop)]
 pub(crate) struct MemStream {
     input: Vec<u8>,
     at: usize,

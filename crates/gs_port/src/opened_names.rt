@@ -6,7 +6,7 @@ use std::alloc::Global;
 use std::marker::Model;
 
 /// The names that were opened, in order, until memory was wanting for one: from then on they are told no more.
-#[derive(Debug, Drop)]
+#[derive(Drop)]
 pub(crate) struct OpenedNames {
     alloc: Global,
     names: Option<List<Text>>,

@@ -4,7 +4,7 @@ ghost use Rattle.gs_port.specs.Memory.{FailsNow, after_call, uncalled};
 use std::marker::Model;
 
 /// Which calls of an object in memory fail: those whose numbers, from 0, are listed.
-#[derive(Debug, Drop)]
+#[derive(Drop)]
 pub(crate) struct CallPlan {
     fails: Vec<u64>,
     next: u64,

@@ -10,7 +10,7 @@ use gs_chars::Text;
 use std::alloc::{AllocError, Global};
 
 /// Why a file was not read whole.
-#[derive(Debug, Drop)]
+#[derive(Drop)]
 pub enum FileFault {
     /// It has more bytes than were asked for at most. These are the first of them, one more than that.
     Over(Text),

@@ -3,7 +3,7 @@ ghost use Rattle.gs_port.specs.Counts.{Rises};
 ghost use Rattle.gs_port.specs.Answers.{AppendsFront, IfTook, OnNothingTaken, OnWriteFailed, count_after_write};
 
 /// What a write answers.
-#[derive(Clone, Copy, Debug, PartialEq, Eq)]
+#[derive(Clone, Copy)]
 pub enum WriteAnswer {
     /// This many bytes were taken from the front of the piece.
     Took(usize),

@@ -3,7 +3,7 @@ ghost use Rattle.gs_port.specs.Counts.{Rises};
 ghost use Rattle.gs_port.specs.Answers.{IfGot, IsZeroAtEnd, MovesFront, OnReadFailed, count_after_read};
 
 /// What a read answers.
-#[derive(Clone, Copy, Debug, PartialEq, Eq)]
+#[derive(Clone, Copy, PartialEq, Eq)]
 pub enum ReadAnswer {
     /// This many bytes were moved. It is 0 at the end.
     Got(usize),

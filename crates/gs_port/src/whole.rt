@@ -6,7 +6,7 @@ ghost use Rattle.gs_port.specs.Answers.{OnDone, OnShort, OnSinkFault, count_afte
 use crate::sink::{Sink, WriteAnswer};
 
 /// How writing bytes whole ended.
-#[derive(Clone, Copy, Debug, PartialEq, Eq)]
+#[derive(Clone, Copy, Debug)]
 pub enum Whole {
     /// All bytes were written.
     Done,

@@ -1,7 +1,7 @@
 use gs_chars::Text;
 
 /// An entry of a list of company prefix lengths.
-#[derive(Debug, Drop)]
+#[derive(Drop)]
 pub struct PrefixEntry {
     /// The first digits of keys.
     pub prefix: Text,

@@ -2,7 +2,7 @@ use gs_chars::Memory;
 use gs_json::JsonFault;
 
 /// Why a list of company prefix lengths is refused. Entries are counted from 0.
-#[derive(Debug, Drop, PartialEq, Eq)]
+#[derive(Debug, Drop)]
 pub enum PrefixFault {
     /// The document is not of the form of such a list.
     Json(JsonFault),

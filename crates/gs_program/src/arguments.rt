@@ -10,7 +10,7 @@ use crate::request::Request;
 use gs_translate::{Form, Target};
 
 /// A command with its operands, and the words behind them.
-#[derive(Clone, Copy, Debug)]
+#[derive(Clone, Copy)]
 pub struct Split<'a> {
     /// The command with its operands.
     pub command: Command,

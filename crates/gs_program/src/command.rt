@@ -5,7 +5,7 @@ use crate::name::{Name, NameRow};
 use gs_translate::{Form, Target};
 
 /// A command with its operands.
-#[derive(Clone, Copy, Debug)]
+#[derive(Clone, Copy)]
 pub enum Command {
     /// Answers each line of the input, a text of the form, by the canonical link of what it names.
     Canon(Form),

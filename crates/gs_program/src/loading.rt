@@ -43,7 +43,7 @@ impl Drop for Loaded {
 }
 
 /// Why a run has not loaded its files.
-#[derive(Debug, Drop)]
+#[derive(Drop)]
 pub enum Unloaded {
     /// A file is refused.
     Refused(Refusal),

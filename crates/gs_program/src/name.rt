@@ -5,7 +5,7 @@ use crate::ranges::{count_of, filter_of, gcp_of, is_vocabulary};
 use gs_dlink::stem_ok;
 
 /// A name that stands in front of its value among the words.
-#[derive(Clone, Copy, Debug, PartialEq, Eq)]
+#[derive(Clone, Copy)]
 pub enum Name {
     /// The file of tables.
     Tables,
@@ -72,7 +72,7 @@ impl Name {
 }
 
 /// A name in the row of a command.
-#[derive(Clone, Copy, Debug)]
+#[derive(Clone, Copy)]
 pub struct NameRow {
     /// The name.
     pub name: Name,

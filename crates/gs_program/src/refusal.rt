@@ -5,7 +5,7 @@ use gs_prefix::PrefixFault;
 use gs_tables::LoadFault;
 
 /// Why a file, or the rows in its place, are refused.
-#[derive(Debug, Drop)]
+#[derive(Drop)]
 pub enum FileFault {
     /// The file has more bytes than its kind may have.
     Over,
@@ -20,7 +20,7 @@ pub enum FileFault {
 }
 
 /// A file that is refused.
-#[derive(Debug, Drop)]
+#[derive(Drop)]
 pub struct Refusal {
     /// The kind of the file.
     pub kind: FileKind,

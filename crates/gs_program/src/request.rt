@@ -1,7 +1,7 @@
 use crate::command::Command;
 
 /// The files that the words name.
-#[derive(Clone, Copy, Debug)]
+#[derive(Clone, Copy)]
 pub struct NamedFiles<'a> {
     /// The tables.
     pub tables: Option<&'a str>,
@@ -14,7 +14,7 @@ pub struct NamedFiles<'a> {
 }
 
 /// The values of the names that name no files, with their defaults.
-#[derive(Clone, Copy, Debug)]
+#[derive(Clone, Copy)]
 pub struct NamedValues<'a> {
     /// What stands for `gs1:` in relations.
     pub voc: &'a str,
@@ -35,7 +35,7 @@ pub struct NamedValues<'a> {
 }
 
 /// What the program is asked to do.
-#[derive(Clone, Copy, Debug)]
+#[derive(Clone, Copy)]
 pub struct Request<'a> {
     /// The command with its operands.
     pub command: Command,

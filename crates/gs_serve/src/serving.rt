@@ -15,7 +15,7 @@ use gs_port::{Door, OpenAnswer, Sink};
 use std::alloc::Global;
 
 /// How the turns at a door ended.
-#[derive(Clone, Copy, Debug, PartialEq, Eq)]
+#[derive(Clone, Copy)]
 enum Session {
     /// So many connections were finished as were asked for, or no connection comes any more.
     Over(Tally),

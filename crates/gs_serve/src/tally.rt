@@ -11,7 +11,7 @@ use gs_port::Sink;
 use std::alloc::Global;
 
 /// How many connections were finished, and how many of these ended by a fault.
-#[derive(Clone, Copy, Debug, PartialEq, Eq)]
+#[derive(Clone, Copy)]
 pub struct Tally {
     pub finished: u32,
     pub faults: u32,

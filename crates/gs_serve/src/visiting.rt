@@ -9,7 +9,7 @@ use gs_port::{AcceptAnswer, Door};
 use std::alloc::Global;
 
 /// What a turn at a door did.
-#[derive(Clone, Copy, Debug, PartialEq, Eq)]
+#[derive(Clone, Copy)]
 pub enum Turn {
     /// A connection was served and finished, and whether serving it ended by a fault.
     Finished { faulty: bool },

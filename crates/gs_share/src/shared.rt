@@ -1,7 +1,7 @@
 use gs_chars::Text;
 
 /// Two options of a level that share a list of symbols, and a text that shows one.
-#[derive(Debug, Drop)]
+#[derive(Drop)]
 pub struct Shared {
     /// The number of the first option.
     pub first: usize,

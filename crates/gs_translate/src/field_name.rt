@@ -1,5 +1,5 @@
 /// What an EPC says that an identity alone may lack.
-#[derive(Clone, Copy, Debug, PartialEq, Eq)]
+#[derive(Clone, Copy)]
 pub enum FieldName {
     /// The length of the GS1 Company Prefix.
     Gcp,

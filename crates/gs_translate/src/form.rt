@@ -1,5 +1,5 @@
 /// A form that texts are read in.
-#[derive(Clone, Copy, Debug, PartialEq, Eq)]
+#[derive(Clone, Copy)]
 pub enum Form {
     /// The bits of a tag, in hexadecimal digits (TDS 2.0, section 14).
     Hex,

@@ -2,7 +2,7 @@ use gs_chars::Text;
 use gs_ident::Identity;
 
 /// What a text means.
-#[derive(Debug, Drop)]
+#[derive(Drop)]
 pub struct Meaning {
     /// The identity that it names.
     pub identity: Identity,

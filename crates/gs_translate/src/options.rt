@@ -1,7 +1,7 @@
 use gs_chars::Text;
 
 /// What is said of a translation beside the text and its forms.
-#[derive(Debug, Drop)]
+#[derive(Drop)]
 pub struct Options {
     /// The filter value of a tag, 0 to 7, where the text tells none.
     pub filter: Option<u8>,

@@ -9,7 +9,7 @@ use gs_ident::IdentFault;
 use gs_tables::Field;
 
 /// Why a text is refused.
-#[derive(Debug, Drop)]
+#[derive(Drop)]
 pub enum Reason {
     /// The text has more than 2,048 bytes.
     Long,

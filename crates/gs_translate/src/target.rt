@@ -1,5 +1,5 @@
 /// A form that texts are written in: one that can be read, or the canonical link.
-#[derive(Clone, Copy, Debug, PartialEq, Eq)]
+#[derive(Clone, Copy)]
 pub enum Target {
     /// The bits of a tag, in upper-case hexadecimal digits (TDS 2.0, section 14).
     Hex,

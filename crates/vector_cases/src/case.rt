@@ -2,7 +2,7 @@ use gs_chars::{Memory, Text};
 use std::alloc::{AllocError, AllocFailed, Global};
 
 /// Why a case has no answer.
-#[derive(Clone, Copy, Debug)]
+#[derive(Clone, Copy)]
 pub enum Refusal {
     /// It is no case: there is no such call, or an argument is not of its form.
     NoCase,
