@@ -59,6 +59,3 @@ pub use source::{ReadAnswer, Source};
 pub use stdio::{StdinSource, StdoutSink};
 pub use tcp_door::TcpDoor;
 pub use whole::{Whole, write_whole};
-
-#[cfg(test)]
-mod tests;

@@ -1,6 +1,9 @@
 ghost use Rattle.std.specs.Prelude.{◌≡◌, false, true};
 
-use super::*;
+use gs_port::{
+    AcceptAnswer, Conn, Door, FileFault, HostFiles, OpenAnswer, ReadAnswer, Sink, Source,
+    StdinSource, StdoutSink, TcpDoor, Whole, WriteAnswer, read_file, write_whole,
+};
 use std::alloc::Global;
 use std::fs;
 use std::io::{Read, Write};

@@ -1,0 +1,7 @@
+//! The tests of the objects of gs_port that stand for the system's: the standard streams, its files, and a door that listens.
+//!
+//! They stand in a crate of their own, since a crate with tests is proved twice.
+#![tactic(auto)]
+
+#[cfg(test)]
+mod tests;
