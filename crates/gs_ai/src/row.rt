@@ -2,7 +2,6 @@ use crate::part::{Part, Role};
 use gs_chars::{List, Text};
 
 /// A row of a table of application identifiers.
-#[derive(Drop)]
 pub struct AiRow {
     /// The digits of the application identifier.
     pub code: Text,
@@ -16,4 +15,18 @@ pub struct AiRow {
     pub short: bool,
     /// The value that stands for none, or the empty text where there is no such value.
     pub none: Text,
+}
+
+// by hand, so that a function that drops a row calls this: a derived drop is written out at each of its exits
+impl Drop for AiRow {
+    fn drop(self) {
+        let AiRow {
+            code: _,
+            parts: _,
+            role: _,
+            qualifiers: _,
+            short: _,
+            none: _,
+        } = self;
+    }
 }

@@ -12,7 +12,6 @@ pub enum SerialAt {
 }
 
 /// A kind of EPC: a key of the application identifiers, and how its value is taken apart.
-#[derive(Drop)]
 pub struct Kind {
     /// The name, as EPC URIs have it.
     pub name: Text,
@@ -22,4 +21,16 @@ pub struct Kind {
     pub lead: u8,
     /// Where the serial stands.
     pub serial: SerialAt,
+}
+
+// by hand, so that a function that drops a kind calls this: a derived drop is written out at each of its exits
+impl Drop for Kind {
+    fn drop(self) {
+        let Kind {
+            name: _,
+            key: _,
+            lead: _,
+            serial: _,
+        } = self;
+    }
 }

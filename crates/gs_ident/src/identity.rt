@@ -7,11 +7,21 @@ use std::alloc::Global;
 use std::marker::Model;
 
 /// What an element string or a link identifies: the pair of its key, the pairs that qualify the key, and all other pairs.
-#[derive(Drop)]
 pub struct Identity {
     key: Pair,
     qualifiers: List<Pair>,
     attributes: List<Pair>,
+}
+
+// by hand, so that a function that drops an identity calls this: a derived drop is written out at each of its exits
+impl Drop for Identity {
+    fn drop(self) {
+        let Identity {
+            key: _,
+            qualifiers: _,
+            attributes: _,
+        } = self;
+    }
 }
 
 impl Model for Identity {
@@ -49,22 +59,32 @@ impl Identity {
     pub fn key_alone(self) -> Identity
         ensures { result ≡ key_alone self }
     {
-        let mut qualifiers = self.qualifiers.into_vec();
+        let Identity {
+            key,
+            qualifiers,
+            attributes,
+        } = self;
+        let mut qualifiers = qualifiers.into_vec();
         qualifiers.clear();
-        let mut attributes = self.attributes.into_vec();
+        let mut attributes = attributes.into_vec();
         attributes.clear();
-        Identity::from_pairs(self.key, qualifiers, attributes)
+        Identity::from_pairs(key, qualifiers, attributes)
     }
 
     /// The key with its qualifier of the code, where it has one. All other pairs are dropped; no pair is copied.
     pub fn with_qualifier(self, code: &[u8]) -> Identity
         ensures { result ≡ with_qualifier code.now self }
     {
-        let mut qualifiers = self.qualifiers.into_vec();
+        let Identity {
+            key,
+            qualifiers,
+            attributes,
+        } = self;
+        let mut qualifiers = qualifiers.into_vec();
         keep_coded(&mut qualifiers, code);
-        let mut attributes = self.attributes.into_vec();
+        let mut attributes = attributes.into_vec();
         attributes.clear();
-        Identity::from_pairs(self.key, qualifiers, attributes)
+        Identity::from_pairs(key, qualifiers, attributes)
     }
 
     /// The pair of the key.

@@ -13,13 +13,25 @@ use std::alloc::Global;
 use std::marker::Model;
 
 /// The options of one level, in the order of the table, and the machine of each.
-#[derive(Drop)]
 pub struct Level {
     bit_level: bool,
     options: List<Opt>,
     machines: List<Auto>,
     probes: List<Probe>,
     groups: List<Group>,
+}
+
+// by hand, so that a function that drops a level calls this: a derived drop is written out at each of its exits
+impl Drop for Level {
+    fn drop(self) {
+        let Level {
+            bit_level: _,
+            options: _,
+            machines: _,
+            probes: _,
+            groups: _,
+        } = self;
+    }
 }
 
 impl Model for Level {

@@ -3,7 +3,6 @@ use gs_ident::Identity;
 use gs_linkset::Target;
 
 /// A link of a store.
-#[derive(Drop)]
 pub struct Link {
     /// What the link is of: a key and qualifiers, without attributes.
     pub anchor: Identity,
@@ -11,6 +10,17 @@ pub struct Link {
     pub relation: Text,
     /// The target.
     pub target: Target,
+}
+
+// by hand, so that a function that drops a link calls this: a derived drop is written out at each of its exits
+impl Drop for Link {
+    fn drop(self) {
+        let Link {
+            anchor: _,
+            relation: _,
+            target: _,
+        } = self;
+    }
 }
 
 /// Which links are wanted.
