@@ -1,4 +1,4 @@
-use crate::case::{Answer, Refusal, behind, text_of, words_of};
+use crate::case::{Answer, Refusal, text_of, words_of};
 use gs_chars::{Memory, Text};
 use std::alloc::{AllocError, Global};
 use std::io;
@@ -10,16 +10,27 @@ pub trait Calls {
     fn answer(&self, alloc: Global, library: &str, call: &str, args: &[Text]) -> Answer;
 }
 
+/// The answer to a case of these words.
+fn answer_to<C: Calls>(alloc: Global, calls: &C, words: &[Text]) -> Answer {
+    let [path, args @ ..] = words else {
+        return Err(Refusal::NoCase);
+    };
+    match text_of(path.as_bytes())?.split_once("::") {
+        Some((library, call)) => calls.answer(alloc, library, call, args),
+        None => Err(Refusal::NoCase),
+    }
+}
+
 /// The answer to a case.
 fn answer<C: Calls>(alloc: Global, calls: &C, case: &[u8]) -> Answer {
     let words = words_of(alloc, case)?;
-    let Some(path) = words.first() else {
-        return Err(Refusal::NoCase);
-    };
-    let Some((library, call)) = text_of(path.as_bytes())?.split_once("::") else {
-        return Err(Refusal::NoCase);
-    };
-    calls.answer(alloc, library, call, behind(&words, 1))
+    answer_to(alloc, calls, words.as_slice())
+}
+
+/// Appends a line.
+fn add_line(output: &mut Vec<u8>, line: &[u8]) -> Result<(), Memory> {
+    output.extend_from_slice(line)?;
+    Ok(output.push(b'\n')?)
 }
 
 /// Appends the answer to a case, as a line.
@@ -30,18 +41,22 @@ fn add_answer<C: Calls>(
     output: &mut Vec<u8>,
 ) -> Result<(), Memory> {
     match answer(alloc, calls, case) {
-        Ok(line) => output.extend_from_slice(line.as_bytes())?,
-        Err(Refusal::NoCase) => output.extend_from_slice(b"no case")?,
-        Err(Refusal::Memory) => return Err(Memory),
+        Ok(line) => add_line(output, line.as_bytes()),
+        Err(Refusal::NoCase) => add_line(output, b"no case"),
+        Err(Refusal::Memory) => Err(Memory),
     }
-    Ok(output.push(b'\n')?)
+}
+
+/// Whether a line is a case, and neither empty nor a comment.
+fn is_case(line: &[u8]) -> bool {
+    !matches!(line, [] | [b'#', ..])
 }
 
 /// The answers to all cases, a line for each.
 fn answers<C: Calls>(alloc: Global, calls: &C, input: &[u8]) -> Result<Vec<u8>, Memory> {
     let mut output = Vec::new(alloc);
     for case in input.split(|c| *c == b'\n') {
-        if !case.is_empty() && case[0] != b'#' {
+        if is_case(case) {
             add_answer(alloc, calls, case, &mut output)?;
         }
     }

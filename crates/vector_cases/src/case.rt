@@ -72,73 +72,48 @@ fn push_run(bytes: &mut Vec<u8>, byte: u8, count: u32) -> Result<(), Memory> {
     Ok(())
 }
 
-/// Appends what a byte of a word stands for, and says where the reading stands then.
-fn push_next(bytes: &mut Vec<u8>, escape: Escape, c: u8) -> Result<Escape, Memory> {
+/// Where the reading stands behind a byte of a word, and the byte that stands there with how many of it, none within an escape.
+fn next_of(escape: Escape, c: u8) -> (Escape, u8, u32) {
     match (escape, c) {
-        (Escape::Outside, b'\\') => return Ok(Escape::Begun),
-        (Escape::Begun, b'x') => return Ok(Escape::High),
-        (Escape::Begun, b'*') => return Ok(Escape::RunHigh),
-        (Escape::Begun, b'e') => {}
-        (Escape::High, high) => return Ok(Escape::Low(digit_value(high))),
-        (Escape::Low(high), low) => bytes.push(byte_of(high, low))?,
-        (Escape::RunHigh, high) => return Ok(Escape::RunLow(digit_value(high))),
-        (Escape::RunLow(high), low) => return Ok(Escape::Run(byte_of(high, low), 0)),
-        (Escape::Run(byte, count), b';') => push_run(bytes, byte, count)?,
-        (Escape::Run(byte, count), b':') => return Ok(Escape::Run(byte, count)),
-        (Escape::Run(byte, count), digit) => return Ok(Escape::Run(byte, longer(count, digit))),
-        (Escape::Outside | Escape::Begun, plain) => bytes.push(plain)?,
+        (Escape::Outside, b'\\') => (Escape::Begun, c, 0),
+        (Escape::Begun, b'x') => (Escape::High, c, 0),
+        (Escape::Begun, b'*') => (Escape::RunHigh, c, 0),
+        (Escape::Begun, b'e') => (Escape::Outside, c, 0),
+        (Escape::High, high) => (Escape::Low(digit_value(high)), c, 0),
+        (Escape::Low(high), low) => (Escape::Outside, byte_of(high, low), 1),
+        (Escape::RunHigh, high) => (Escape::RunLow(digit_value(high)), c, 0),
+        (Escape::RunLow(high), low) => (Escape::Run(byte_of(high, low), 0), c, 0),
+        (Escape::Run(byte, count), b';') => (Escape::Outside, byte, count),
+        (Escape::Run(byte, count), b':') => (Escape::Run(byte, count), c, 0),
+        (Escape::Run(byte, count), digit) => (Escape::Run(byte, longer(count, digit)), c, 0),
+        (Escape::Outside | Escape::Begun, plain) => (Escape::Outside, plain, 1),
     }
-    Ok(Escape::Outside)
 }
 
 /// The bytes that a word stands for.
-fn unescaped(alloc: Global, word: &[u8]) -> Result<Text, Memory> {
+fn unescaped(alloc: Global, word: &[u8]) -> Result<Text, Refusal> {
     let mut bytes = Vec::new(alloc);
     let mut escape = Escape::Outside;
     for c in word {
-        escape = push_next(&mut bytes, escape, *c)?;
+        let (next, byte, count) = next_of(escape, *c);
+        push_run(&mut bytes, byte, count)?;
+        escape = next;
     }
     Ok(Text::from_vec(bytes))
 }
 
 /// The words of a case.
-pub fn words_of(alloc: Global, case: &[u8]) -> Result<Vec<Text>, Memory> {
+pub fn words_of(alloc: Global, case: &[u8]) -> Result<Vec<Text>, Refusal> {
     let mut words = Vec::new(alloc);
     for word in case.split(|c| *c == b' ') {
-        words.push(unescaped(alloc, word)?)?;
+        push(&mut words, unescaped(alloc, word))?;
     }
     Ok(words)
 }
 
-/// The word that stands for some bytes.
-pub fn shown(alloc: Global, bytes: &[u8]) -> Result<String, AllocError> {
-    let mut word = String::new(alloc);
-    if bytes.is_empty() {
-        word.push_str("\\e")?;
-    }
-    for c in bytes {
-        if c.is_ascii_graphic() && *c != b'\\' {
-            word.push(char::from(*c))?;
-        } else {
-            let escape = format!(in alloc; "\\x{c:02X}")?;
-            word.push_str(escape.as_str())?;
-        }
-    }
-    Ok(word)
-}
-
-/// Appends a word, behind a space where it is not the first.
-pub fn add(answer: &mut String, word: &str) -> Result<(), AllocError> {
-    if !answer.is_empty() {
-        answer.push_str(" ")?;
-    }
-    answer.push_str(word)
-}
-
-/// Appends the word that stands for some bytes, behind a space where it is not the first.
-pub fn add_shown(alloc: Global, answer: &mut String, bytes: &[u8]) -> Result<(), AllocError> {
-    let word = shown(alloc, bytes)?;
-    add(answer, word.as_str())
+/// Appends what was made of an argument, or says why it was not made.
+pub fn push<T: Drop>(items: &mut Vec<T>, made: Result<T, Refusal>) -> Result<(), Refusal> {
+    Ok(items.push(made?)?)
 }
 
 /// The argument at a place.
@@ -175,23 +150,19 @@ pub fn behind(args: &[Text], count: usize) -> &[Text] {
     &args[count.min(args.len())..]
 }
 
-/// The bytes of some texts as words.
-pub fn shown_all(alloc: Global, texts: &[Text]) -> Result<String, AllocError> {
-    let mut words = String::new(alloc);
-    for text in texts {
-        add_shown(alloc, &mut words, text.as_bytes())?;
+/// The numbers with commas between.
+fn numbers_in(alloc: Global, list: &str) -> Result<Vec<u64>, Refusal> {
+    let mut numbers = Vec::new(alloc);
+    for number in list.split(',') {
+        push(&mut numbers, number_of(number))?;
     }
-    Ok(words)
+    Ok(numbers)
 }
 
 /// The numbers with commas between, and none where it is `-`.
 pub fn numbers_of(alloc: Global, list: &[u8]) -> Result<Vec<u64>, Refusal> {
-    let mut numbers = Vec::new(alloc);
     if list == b"-".as_slice() {
-        return Ok(numbers);
+        return Ok(Vec::new(alloc));
     }
-    for number in text_of(list)?.split(',') {
-        numbers.push(number_of(number)?)?;
-    }
-    Ok(numbers)
+    numbers_in(alloc, text_of(list)?)
 }

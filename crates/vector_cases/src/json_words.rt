@@ -1,4 +1,5 @@
-use crate::case::{Answer, Refusal, shown};
+use crate::case::{Answer, Refusal};
+use crate::words::{Word, joined, said};
 use gs_chars::Text;
 use gs_json::JsonFault;
 use std::alloc::Global;
@@ -6,7 +7,7 @@ use std::alloc::Global;
 /// The words of a fault.
 pub fn fault_word(alloc: Global, fault: JsonFault) -> Answer {
     match fault {
-        JsonFault::Syntax => Ok(String::from_str(alloc, "Syntax")?),
+        JsonFault::Syntax => said(alloc, "Syntax"),
         JsonFault::Lacks(place) => placed(alloc, "Lacks", &place),
         JsonFault::Kind(place) => placed(alloc, "Kind", &place),
         JsonFault::Unknown(place) => placed(alloc, "Unknown", &place),
@@ -14,7 +15,7 @@ pub fn fault_word(alloc: Global, fault: JsonFault) -> Answer {
     }
 }
 
+/// The name of a fault and the place of it.
 fn placed(alloc: Global, name: &str, place: &Text) -> Answer {
-    let word = shown(alloc, place.as_bytes())?;
-    Ok(format!(in alloc; "{name} {word}")?)
+    joined(alloc, &[Word::Plain(name), Word::Bytes(place.as_bytes())])
 }

@@ -16,12 +16,14 @@ mod case;
 mod item_words;
 mod json_words;
 mod objects;
+mod words;
 
 pub use answering::{Calls, answer_cases};
-pub use case::{
-    Answer, Refusal, add, add_shown, arg, behind, number, number_of, numbers_of, shown, shown_all,
-    text_of,
-};
+pub use case::{Answer, Refusal, arg, behind, number, number_of, numbers_of, push, text_of};
 pub use item_words::{item_of, item_word};
 pub use json_words::fault_word;
 pub use objects::{cut_of, door_of, files_of, section, sink_of, source_of};
+pub use words::{
+    Word, add, add_answer, add_shown, add_word, add_words, debug_word, glued, joined, said, shown,
+    shown_all, text_word,
+};

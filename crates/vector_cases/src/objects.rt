@@ -2,7 +2,8 @@
 
 ghost use Rattle.std.specs.Prelude.{◌≡◌, ◌<◌, IfOk, false, is_some};
 
-use crate::case::{Refusal, arg, behind, number, numbers_of, text_of};
+use crate::case::{Refusal, arg, behind, number, numbers_of, push, text_of};
+use crate::words::said;
 use gs_chars::Text;
 use gs_port::{MemDoor, MemFiles, MemSink, MemSource};
 use std::alloc::Global;
@@ -33,26 +34,62 @@ pub fn cut_of(args: &[Text], i: usize) -> Result<usize, Refusal>
 
 /// The input of the most bytes that a read moves, of the calls that fail, and of the bytes.
 pub fn source_of(alloc: Global, words: &[Text]) -> Result<MemSource, Refusal> {
-    let fails = numbers_of(alloc, arg(words, 1)?)?;
-    let bytes = arg(words, 2)?.to_vec(alloc)?;
-    Ok(MemSource::new(alloc, bytes, cut_of(words, 0)?, fails))
+    let cut = cut_of(words, 0)?;
+    let [_, fails, bytes, ..] = words else {
+        return Err(Refusal::NoCase);
+    };
+    let fails = numbers_of(alloc, fails.as_bytes())?;
+    Ok(MemSource::new(alloc, copied(alloc, bytes.as_bytes())?, cut, fails))
 }
 
 /// The empty sink of a most number of bytes and of the calls that fail.
 pub fn sink_of(alloc: Global, args: &[Text]) -> Result<MemSink, Refusal> {
-    let fails = numbers_of(alloc, arg(args, 1)?)?;
-    Ok(MemSink::new(alloc, cut_of(args, 0)?, fails))
+    let cut = cut_of(args, 0)?;
+    Ok(MemSink::new(alloc, cut, fails_at(alloc, args, 1)?))
+}
+
+/// The numbers of the calls that fail, which an argument tells.
+fn fails_at(alloc: Global, args: &[Text], i: usize) -> Result<Vec<u64>, Refusal> {
+    numbers_of(alloc, arg(args, i)?)
+}
+
+/// A copy of some bytes.
+fn copied(alloc: Global, bytes: &[u8]) -> Result<Vec<u8>, Refusal> {
+    Ok(bytes.to_vec(alloc)?)
+}
+
+/// The file of a name and its bytes.
+fn file_of(alloc: Global, file: &[Text]) -> Result<(String, Vec<u8>), Refusal> {
+    let [name, bytes, ..] = file else {
+        return Err(Refusal::NoCase);
+    };
+    let name = said(alloc, text_of(name.as_bytes())?)?;
+    Ok((name, copied(alloc, bytes.as_bytes())?))
+}
+
+/// The files of names and bytes in turn.
+fn named_files(alloc: Global, words: &[Text]) -> Result<Vec<(String, Vec<u8>)>, Refusal> {
+    let mut files = Vec::new(alloc);
+    for file in words.chunks(2) {
+        push(&mut files, file_of(alloc, file))?;
+    }
+    Ok(files)
 }
 
 /// The files of the calls that fail and of names and bytes.
 pub fn files_of(alloc: Global, words: &[Text]) -> Result<MemFiles, Refusal> {
-    let fails = numbers_of(alloc, arg(words, 0)?)?;
-    let mut files = Vec::new(alloc);
-    for file in behind(words, 1).chunks(2) {
-        let name = String::from_str(alloc, text_of(arg(file, 0)?)?)?;
-        files.push((name, arg(file, 1)?.to_vec(alloc)?))?;
-    }
+    let fails = fails_at(alloc, words, 0)?;
+    let files = named_files(alloc, behind(words, 1))?;
     Ok(MemFiles::new(alloc, files, fails))
+}
+
+/// The inputs of connections.
+fn inputs_of(alloc: Global, words: &[Text]) -> Result<Vec<Vec<u8>>, Refusal> {
+    let mut inputs = Vec::new(alloc);
+    for input in words {
+        push(&mut inputs, copied(alloc, input.as_bytes()))?;
+    }
+    Ok(inputs)
 }
 
 /// The door of the most bytes that a read or a write moves, of the calls that fail, and of the inputs of the connections that
@@ -60,10 +97,8 @@ pub fn files_of(alloc: Global, words: &[Text]) -> Result<MemFiles, Refusal> {
 pub fn door_of(alloc: Global, words: &[Text]) -> Result<MemDoor, Refusal>
     ensures closed { IfOk result (λ door. is_some door.current ≡ false) }
 {
-    let fails = numbers_of(alloc, arg(words, 1)?)?;
-    let mut inputs = Vec::new(alloc);
-    for input in behind(words, 2) {
-        inputs.push(input.as_bytes().to_vec(alloc)?)?;
-    }
-    Ok(MemDoor::new(alloc, inputs, cut_of(words, 0)?, fails)?)
+    let cut = cut_of(words, 0)?;
+    let fails = fails_at(alloc, words, 1)?;
+    let inputs = inputs_of(alloc, behind(words, 2))?;
+    Ok(MemDoor::new(alloc, inputs, cut, fails)?)
 }

@@ -11,7 +11,10 @@ ghost use Rattle.std.specs.Prelude.{◌≤◌, ◌<◌, ◌^◌, IsTrue, IfOk};
 use gs_bits::{BitBuf, Cursor, Full};
 use gs_chars::Text;
 use std::alloc::Global;
-use vector_cases::{Answer, Refusal, add, arg, behind, number, number_of, shown, text_of};
+use vector_cases::{
+    Answer, Refusal, Word, add_answer, add_words, arg, behind, debug_word, joined, number,
+    number_of, said, shown, text_of,
+};
 
 /// The answer to a call of gs_bits.
 pub fn answer(alloc: Global, call: &str, args: &[Text]) -> Answer {
@@ -31,24 +34,35 @@ fn answer_of<const N: usize>(alloc: Global, call: &str, args: &[Text]) -> Answer
 {
     match call {
         "from_hex" => from_hex::<N>(alloc, arg(args, 0)?),
-        "take" => take::<N>(alloc, arg(args, 0)?, behind(args, 1)),
+        "take" => take::<N>(alloc, args),
         "push_bits" => push_bits::<N>(alloc, args),
-        "get" => get::<N>(alloc, arg(args, 0)?, number(args, 1)?),
+        "get" => get::<N>(alloc, args),
         _ => Err(Refusal::NoCase),
     }
+}
+
+/// The bits as upper-case hexadecimal digits.
+fn digits_word<const N: usize>(alloc: Global, bits: &BitBuf<N>) -> Answer {
+    let digits = bits.to_hex(alloc)?;
+    shown(alloc, digits.as_bytes())
+}
+
+/// The bits as the digits 0 and 1 behind `b`.
+fn single_bits_word<const N: usize>(alloc: Global, bits: &BitBuf<N>) -> Answer {
+    let mut word = said(alloc, "b")?;
+    for i in 0..bits.len() {
+        word.push(if bits.get(i) { '1' } else { '0' })?;
+    }
+    Ok(word)
 }
 
 /// The bits as a word.
 pub fn bits_word<const N: usize>(alloc: Global, bits: &BitBuf<N>) -> Answer {
     if bits.len() % 8 == 0 {
-        let digits = bits.to_hex(alloc)?;
-        return Ok(shown(alloc, digits.as_bytes())?);
+        digits_word(alloc, bits)
+    } else {
+        single_bits_word(alloc, bits)
     }
-    let mut word = String::from_str(alloc, "b")?;
-    for i in 0..bits.len() {
-        word.push(if bits.get(i) { '1' } else { '0' })?;
-    }
-    Ok(word)
 }
 
 /// The buffer of the digits.
@@ -61,16 +75,21 @@ pub fn buffer<const N: usize>(digits: &[u8]) -> Result<BitBuf<N>, Refusal>
     }
 }
 
+/// The number of bits and the bits.
+fn counted_bits<const N: usize>(alloc: Global, bits: &BitBuf<N>) -> Answer {
+    let word = bits_word(alloc, bits)?;
+    joined(
+        alloc,
+        &[Word::Number(bits.len() as u64), Word::Plain(word.as_str())],
+    )
+}
+
 fn from_hex<const N: usize>(alloc: Global, text: &[u8]) -> Answer
     requires { N ≤ 64 }
 {
     match BitBuf::<N>::from_hex(text) {
-        Ok(bits) => {
-            let count = bits.len();
-            let word = bits_word(alloc, &bits)?;
-            Ok(format!(in alloc; "{count} {word}")?)
-        }
-        Err(fault) => Ok(format!(in alloc; "{fault:?}")?),
+        Ok(bits) => counted_bits(alloc, &bits),
+        Err(fault) => debug_word(alloc, &fault),
     }
 }
 
@@ -85,42 +104,49 @@ fn width_of(number: u64) -> Result<u32, Refusal>
     }
 }
 
+/// The width that a word tells.
+fn width_at(word: &Text) -> Result<u32, Refusal>
+    ensures { IfOk result (λ width. width ≤ 64) }
+{
+    width_of(number_of(text_of(word.as_bytes())?)?)
+}
+
 /// The number of the next bits, or `Short`.
 fn taken_word<const N: usize>(alloc: Global, cursor: &mut Cursor<'_, N>, width: &Text) -> Answer {
-    let width = width_of(number_of(text_of(width.as_bytes())?)?)?;
-    match cursor.take(width) {
-        Ok(number) => Ok(format!(in alloc; "{number}")?),
-        Err(fault) => Ok(format!(in alloc; "{fault:?}")?),
+    match cursor.take(width_at(width)?) {
+        Ok(number) => debug_word(alloc, &number),
+        Err(fault) => debug_word(alloc, &fault),
     }
 }
 
-/// Appends the number of the next bits, or `Short`.
-fn add_taken<const N: usize>(
+/// The numbers of the next bits of these widths, or `Short`.
+fn taken_words<const N: usize>(
     alloc: Global,
-    answer: &mut String,
     cursor: &mut Cursor<'_, N>,
-    width: &Text,
-) -> Result<(), Refusal> {
-    let word = taken_word(alloc, cursor, width)?;
-    Ok(add(answer, word.as_str())?)
-}
-
-/// Appends how many bits are left.
-fn add_left(alloc: Global, answer: &mut String, left: usize) -> Result<(), Refusal> {
-    let word = format!(in alloc; "left {left}")?;
-    Ok(add(answer, word.as_str())?)
-}
-
-fn take<const N: usize>(alloc: Global, digits: &[u8], widths: &[Text]) -> Answer
-    requires { N ≤ 64 }
-{
-    let bits = buffer::<N>(digits)?;
-    let mut cursor = bits.cursor();
+    widths: &[Text],
+) -> Answer {
     let mut answer = String::new(alloc);
     for width in widths {
-        add_taken(alloc, &mut answer, &mut cursor, width)?;
+        add_answer(&mut answer, taken_word(alloc, cursor, width))?;
     }
-    add_left(alloc, &mut answer, cursor.left())?;
+    Ok(answer)
+}
+
+fn take<const N: usize>(alloc: Global, args: &[Text]) -> Answer
+    requires { N ≤ 64 }
+{
+    let [digits, widths @ ..] = args else {
+        return Err(Refusal::NoCase);
+    };
+    let bits = buffer::<N>(digits.as_bytes())?;
+    let mut cursor = bits.cursor();
+    let mut answer = taken_words(alloc, &mut cursor, widths)?;
+    let left = cursor.left() as u64;
+    add_words(
+        alloc,
+        &mut answer,
+        &[Word::Plain("left"), Word::Number(left)],
+    )?;
     Ok(answer)
 }
 
@@ -145,33 +171,33 @@ fn push_pair<const N: usize>(
     Ok(bits.push_bits(value, width))
 }
 
-/// Appends the fault of a number without room.
-fn add_fault(alloc: Global, answer: &mut String, fault: Full) -> Result<(), Refusal> {
-    let word = format!(in alloc; "{fault:?}")?;
-    Ok(add(answer, word.as_str())?)
+/// Pushes the numbers and their widths, and answers `Full` for each without room.
+fn faults_words<const N: usize>(alloc: Global, bits: &mut BitBuf<N>, pairs: &[Text]) -> Answer {
+    let mut answer = String::new(alloc);
+    for pair in pairs.chunks(2) {
+        if let Err(fault) = push_pair(bits, pair)? {
+            add_answer(&mut answer, debug_word(alloc, &fault))?;
+        }
+    }
+    Ok(answer)
 }
 
 fn push_bits<const N: usize>(alloc: Global, args: &[Text]) -> Answer
     requires { N ≤ 64 }
 {
     let mut bits = BitBuf::<N>::new();
-    let mut answer = String::new(alloc);
-    for pair in args.chunks(2) {
-        if let Err(fault) = push_pair(&mut bits, pair)? {
-            add_fault(alloc, &mut answer, fault)?;
-        }
-    }
-    let word = bits_word(alloc, &bits)?;
-    add(&mut answer, word.as_str())?;
+    let mut answer = faults_words(alloc, &mut bits, args)?;
+    add_answer(&mut answer, bits_word(alloc, &bits))?;
     Ok(answer)
 }
 
-fn get<const N: usize>(alloc: Global, digits: &[u8], i: u64) -> Answer
+fn get<const N: usize>(alloc: Global, args: &[Text]) -> Answer
     requires { N ≤ 64 }
 {
-    let bits = buffer::<N>(digits)?;
+    let i = number(args, 1)?;
+    let bits = buffer::<N>(arg(args, 0)?)?;
     if i >= bits.len() as u64 {
         return Err(Refusal::NoCase);
     }
-    Ok(format!(in alloc; "{}", bits.get(i as usize))?)
+    debug_word(alloc, &bits.get(i as usize))
 }

@@ -12,7 +12,9 @@ ghost use Rattle.gs_chars.specs.Characters.{are_digits};
 
 use gs_chars::{CharSet, List, Rows, Text, check_digit, read_escape, write_escape};
 use std::alloc::Global;
-use vector_cases::{Answer, Refusal, add_shown, arg, number, shown};
+use vector_cases::{
+    Answer, Refusal, Word, add_shown, arg, debug_word, joined, number, said, shown, text_word,
+};
 
 /// The answer to a call of gs_chars.
 pub fn answer(alloc: Global, call: &str, args: &[Text]) -> Answer {
@@ -30,7 +32,7 @@ fn answer_on(alloc: Global, call: &str, text: &[u8]) -> Answer {
         "check_digit" => digit(alloc, text),
         "read_escape" => escape_read(alloc, text),
         "write_escape" => escape_written(alloc, text),
-        "text" => text_word(alloc, text),
+        "text" => text_word(alloc, Text::from_bytes(alloc, text)),
         "copy" => copy(alloc, text),
         "list" => list(alloc, text),
         _ => Err(Refusal::NoCase),
@@ -54,9 +56,8 @@ fn set_of(name: &[u8]) -> Result<CharSet, Refusal> {
     }
 }
 
-fn holds(alloc: Global, args: &[Text]) -> Answer {
-    let set = set_of(arg(args, 0)?)?;
-    let text = arg(args, 1)?;
+/// Whether a set has each byte of a text.
+fn held(alloc: Global, set: CharSet, text: &[u8]) -> Answer {
     let mut answer = String::new(alloc);
     for c in text {
         answer.push(if set.holds(*c) { 'y' } else { 'n' })?;
@@ -64,20 +65,27 @@ fn holds(alloc: Global, args: &[Text]) -> Answer {
     Ok(answer)
 }
 
+fn holds(alloc: Global, args: &[Text]) -> Answer {
+    let [set, text, ..] = args else {
+        return Err(Refusal::NoCase);
+    };
+    held(alloc, set_of(set.as_bytes())?, text.as_bytes())
+}
+
 fn digit(alloc: Global, digits: &[u8]) -> Answer {
     if digits.is_empty() || digits.len() > 18 || !all_digits(digits) {
         return Err(Refusal::NoCase);
     }
-    Ok(shown(alloc, &[check_digit(digits)])?)
+    shown(alloc, &[check_digit(digits)])
 }
 
 fn escape_read(alloc: Global, text: &[u8]) -> Answer {
     match read_escape(text) {
         Some((character, count)) => {
-            let word = shown(alloc, &[character])?;
-            Ok(format!(in alloc; "{word} {count}")?)
+            let read = [character];
+            joined(alloc, &[Word::Bytes(&read), Word::Number(count as u64)])
         }
-        None => Ok(String::from_str(alloc, "None")?),
+        None => said(alloc, "None"),
     }
 }
 
@@ -90,8 +98,7 @@ fn escape_written(alloc: Global, characters: &[u8]) -> Answer {
     }
     let mut buffer = *b"...";
     let count = write_escape(*c, &mut buffer);
-    let word = shown(alloc, &buffer)?;
-    Ok(format!(in alloc; "{count} {word}")?)
+    joined(alloc, &[Word::Number(count as u64), Word::Bytes(&buffer)])
 }
 
 fn key(args: &[Text], i: usize) -> Result<u32, Refusal> {
@@ -101,41 +108,58 @@ fn key(args: &[Text], i: usize) -> Result<u32, Refusal> {
     }
 }
 
-fn rows(alloc: Global, args: &[Text]) -> Answer {
-    let Some(rows) = Rows::new([key(args, 0)?, key(args, 1)?, key(args, 2)?]) else {
-        return Ok(String::from_str(alloc, "refused")?);
-    };
-    Ok(format!(in alloc; "{:?}", rows.find(key(args, 3)?))?)
+/// The first three keys of the arguments.
+fn three_keys(args: &[Text]) -> Result<[u32; 3], Refusal> {
+    Ok([key(args, 0)?, key(args, 1)?, key(args, 2)?])
 }
 
-fn text_word(alloc: Global, bytes: &[u8]) -> Answer {
-    let text = Text::from_bytes(alloc, bytes)?;
-    Ok(shown(alloc, text.as_bytes())?)
+fn rows(alloc: Global, args: &[Text]) -> Answer {
+    match Rows::new(three_keys(args)?) {
+        Some(rows) => debug_word(alloc, &rows.find(key(args, 3)?)),
+        None => said(alloc, "refused"),
+    }
 }
 
 fn copy(alloc: Global, bytes: &[u8]) -> Answer {
     let text = Text::from_bytes(alloc, bytes)?;
-    let copy = text.copy(alloc)?;
-    Ok(shown(alloc, copy.as_bytes())?)
+    text_word(alloc, text.copy(alloc))
+}
+
+/// A text of a copy of these bytes.
+fn copied(alloc: Global, bytes: &[u8]) -> Result<Text, Refusal> {
+    Ok(Text::from_vec(bytes.to_vec(alloc)?))
 }
 
 fn compare(alloc: Global, args: &[Text]) -> Answer {
-    let b = arg(args, 1)?;
-    let left = Text::from_bytes(alloc, arg(args, 0)?)?;
-    let right = Text::from_vec(b.to_vec(alloc)?);
+    let [left, right, ..] = args else {
+        return Err(Refusal::NoCase);
+    };
+    let left = Text::from_bytes(alloc, left.as_bytes())?;
+    let right = copied(alloc, right.as_bytes())?;
     order_words(alloc, &left, &right)
 }
 
 /// The order of two texts, and whether they are equal.
 fn order_words(alloc: Global, left: &Text, right: &Text) -> Answer {
-    let equal = left == right;
-    Ok(format!(in alloc; "{:?} {equal}", left.cmp(right))?)
+    let equal = if left == right { "true" } else { "false" };
+    let order = debug_word(alloc, &left.cmp(right))?;
+    joined(alloc, &[Word::Plain(order.as_str()), Word::Plain(equal)])
+}
+
+/// A list of a copy of these bytes.
+fn list_of(alloc: Global, bytes: &[u8]) -> Result<List<u8>, Refusal> {
+    Ok(List::from_vec(bytes.to_vec(alloc)?))
+}
+
+/// Appends the items that a list gives back.
+fn add_items(alloc: Global, answer: &mut String, list: List<u8>) -> Result<(), Refusal> {
+    let items = list.into_vec();
+    add_shown(alloc, answer, items.as_slice())
 }
 
 fn list(alloc: Global, bytes: &[u8]) -> Answer {
-    let list = List::from_vec(bytes.to_vec(alloc)?);
+    let list = list_of(alloc, bytes)?;
     let mut answer = shown(alloc, list.items())?;
-    let items = list.into_vec();
-    add_shown(alloc, &mut answer, items.as_slice())?;
+    add_items(alloc, &mut answer, list)?;
     Ok(answer)
 }

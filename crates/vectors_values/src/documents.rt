@@ -12,13 +12,16 @@ use gs_chars::Text;
 use gs_json::{Doc, Entry, JsonFault, Node, Sort};
 use std::alloc::Global;
 use vector_cases::{
-    Answer, Refusal, add_shown, arg, behind, fault_word, number_of, shown, text_of,
+    Answer, Refusal, add_shown, debug_word, fault_word, number_of, push, said, shown, text_of,
 };
 
 /// The answer to a call of gs_json.
 pub fn answer(alloc: Global, call: &str, args: &[Text]) -> Answer {
-    match Doc::parse(alloc, arg(args, 0)?) {
-        Ok(doc) => answer_over(alloc, &doc, call, behind(args, 1)),
+    let [document, others @ ..] = args else {
+        return Err(Refusal::NoCase);
+    };
+    match Doc::parse(alloc, document.as_bytes()) {
+        Ok(doc) => answer_over(alloc, &doc, call, others),
         Err(fault) => fault_word(alloc, fault),
     }
 }
@@ -26,7 +29,7 @@ pub fn answer(alloc: Global, call: &str, args: &[Text]) -> Answer {
 /// The answer to a call over a document, which is lent so that it is dropped at one exit.
 fn answer_over(alloc: Global, doc: &Doc, call: &str, others: &[Text]) -> Answer {
     match call {
-        "parse" => Ok(String::from_str(alloc, "Ok")?),
+        "parse" => said(alloc, "Ok"),
         "shaped" => shaped(alloc, doc, others),
         _ => asked_behind(alloc, doc, call, others),
     }
@@ -36,7 +39,7 @@ fn answer_over(alloc: Global, doc: &Doc, call: &str, others: &[Text]) -> Answer 
 fn asked_behind(alloc: Global, doc: &Doc, call: &str, steps: &[Text]) -> Answer {
     match followed(alloc, doc, steps)? {
         Walked::At(node) => asked(alloc, call, &node),
-        Walked::Absent => Ok(String::from_str(alloc, "None")?),
+        Walked::Absent => said(alloc, "None"),
         Walked::Refused(fault) => fault_word(alloc, fault),
     }
 }
@@ -49,22 +52,32 @@ enum Walked<'a> {
     Refused(JsonFault),
 }
 
+/// Where a step leads, which finds a part or refuses.
+fn walk_to<'a>(found: Result<Node<'a>, JsonFault>) -> Walked<'a> {
+    match found {
+        Ok(part) => Walked::At(part),
+        Err(fault) => Walked::Refused(fault),
+    }
+}
+
+/// Where a step leads, which may find nothing.
+fn walk_maybe<'a>(found: Result<Option<Node<'a>>, JsonFault>) -> Walked<'a> {
+    match found {
+        Ok(Some(part)) => Walked::At(part),
+        Ok(None) => Walked::Absent,
+        Err(fault) => Walked::Refused(fault),
+    }
+}
+
 /// Where a step leads from a part.
 fn stepped<'a>(alloc: Global, node: &Node<'a>, step: &[u8]) -> Result<Walked<'a>, Refusal> {
-    let Some((kind, rest)) = step.split_first() else {
+    let [kind, rest @ ..] = step else {
         return Err(Refusal::NoCase);
     };
     let word = text_of(rest)?;
     match *kind {
-        b'.' => Ok(match node.member(alloc, word) {
-            Ok(member) => Walked::At(member),
-            Err(fault) => Walked::Refused(fault),
-        }),
-        b'?' => Ok(match node.maybe(alloc, word) {
-            Ok(Some(member)) => Walked::At(member),
-            Ok(None) => Walked::Absent,
-            Err(fault) => Walked::Refused(fault),
-        }),
+        b'.' => Ok(walk_to(node.member(alloc, word))),
+        b'?' => Ok(walk_maybe(node.maybe(alloc, word))),
         b'#' => item_at(alloc, node, number_of(word)?),
         _ => Err(Refusal::NoCase),
     }
@@ -73,15 +86,8 @@ fn stepped<'a>(alloc: Global, node: &Node<'a>, step: &[u8]) -> Result<Walked<'a>
 /// The item of a number.
 fn item_at<'a>(alloc: Global, node: &Node<'a>, i: u64) -> Result<Walked<'a>, Refusal> {
     match node.count(alloc) {
-        Ok(count) => {
-            if i >= count as u64 {
-                return Err(Refusal::NoCase);
-            }
-            Ok(match node.item(alloc, i as usize) {
-                Ok(item) => Walked::At(item),
-                Err(fault) => Walked::Refused(fault),
-            })
-        }
+        Ok(count) if i < count as u64 => Ok(walk_to(node.item(alloc, i as usize))),
+        Ok(_) => Err(Refusal::NoCase),
         Err(fault) => Ok(Walked::Refused(fault)),
     }
 }
@@ -112,28 +118,28 @@ fn asked(alloc: Global, call: &str, node: &Node<'_>) -> Answer {
 
 fn text(alloc: Global, node: &Node<'_>) -> Answer {
     match node.text(alloc) {
-        Ok(text) => Ok(shown(alloc, text.as_bytes())?),
+        Ok(text) => shown(alloc, text.as_bytes()),
         Err(fault) => fault_word(alloc, fault),
     }
 }
 
 fn number(alloc: Global, node: &Node<'_>) -> Answer {
     match node.number(alloc) {
-        Ok(number) => Ok(format!(in alloc; "{number}")?),
+        Ok(number) => debug_word(alloc, &number),
         Err(fault) => fault_word(alloc, fault),
     }
 }
 
 fn truth(alloc: Global, node: &Node<'_>) -> Answer {
     match node.truth(alloc) {
-        Ok(truth) => Ok(format!(in alloc; "{truth}")?),
+        Ok(truth) => debug_word(alloc, &truth),
         Err(fault) => fault_word(alloc, fault),
     }
 }
 
 fn count(alloc: Global, node: &Node<'_>) -> Answer {
     match node.count(alloc) {
-        Ok(count) => Ok(format!(in alloc; "{count}")?),
+        Ok(count) => debug_word(alloc, &count),
         Err(fault) => fault_word(alloc, fault),
     }
 }
@@ -165,11 +171,15 @@ fn sort_of(name: &[u8]) -> Result<Sort, Refusal> {
     }
 }
 
+/// The name and the sort of an entry.
 fn entry_of(alloc: Global, pair: &[Text]) -> Result<Entry, Refusal> {
-    let Some((kind, name)) = arg(pair, 0)?.split_first() else {
+    let [head, sort, ..] = pair else {
         return Err(Refusal::NoCase);
     };
-    let sort = sort_of(arg(pair, 1)?)?;
+    let [kind, name @ ..] = head.as_bytes() else {
+        return Err(Refusal::NoCase);
+    };
+    let sort = sort_of(sort.as_bytes())?;
     Ok(Entry {
         name: Text::from_bytes(alloc, name)?,
         required: *kind == b'+',
@@ -181,15 +191,20 @@ fn entry_of(alloc: Global, pair: &[Text]) -> Result<Entry, Refusal> {
 fn plan_of(alloc: Global, words: &[Text]) -> Result<Vec<Entry>, Refusal> {
     let mut plan = Vec::new(alloc);
     for pair in words.chunks(2) {
-        plan.push(entry_of(alloc, pair)?)?;
+        push(&mut plan, entry_of(alloc, pair))?;
     }
     Ok(plan)
 }
 
 fn shaped(alloc: Global, doc: &Doc, words: &[Text]) -> Answer {
     let plan = plan_of(alloc, words)?;
-    match doc.root(alloc).shaped(alloc, plan.as_slice()) {
-        Ok(()) => Ok(String::from_str(alloc, "Ok")?),
+    shaped_by(alloc, &doc.root(alloc), plan.as_slice())
+}
+
+/// Whether a part is of a plan.
+fn shaped_by(alloc: Global, node: &Node<'_>, plan: &[Entry]) -> Answer {
+    match node.shaped(alloc, plan) {
+        Ok(()) => said(alloc, "Ok"),
         Err(fault) => fault_word(alloc, fault),
     }
 }

@@ -5,32 +5,45 @@
 //! - `read_option HEX ITEM..`: the numbers of the items of one option, or `false`.
 //! - `write_text ITEM.. = VALUE..`: the text, or the fault. `write_bits ITEM.. = VALUE..`: the bits, or the fault.
 
-ghost use Rattle.std.specs.Prelude.{◌≡◌, IfOk, true};
+ghost use Rattle.std.specs.Prelude.{◌≡◌, IfOk, false, true};
 ghost use Rattle.gs_grammar.specs.Levels.{AreOfKind, OptionForm};
 
 use crate::bits::{bits_word, buffer};
 use gs_bits::BitBuf;
 use gs_chars::{List, Text};
-use gs_grammar::{Item, Opt, OptFault, WriteFault, holds, read_option, write_bits, write_text};
+use gs_grammar::{
+    Item, Opt, OptFault, Why, WriteFault, holds, read_option, write_bits, write_text,
+};
 use std::alloc::Global;
-use vector_cases::{Answer, Refusal, add, arg, behind, item_of, shown};
+use vector_cases::{
+    Answer, Refusal, Word, add_word, debug_word, item_of, joined, push, said, shown,
+};
 
 /// The answer to a call of gs_grammar.
 pub fn answer(alloc: Global, call: &str, args: &[Text]) -> Answer {
     match call {
-        "holds" => held(alloc, arg(args, 0)?, arg(args, 1)?),
-        "option" => option(alloc, arg(args, 0)?, behind(args, 1)),
-        "read_option" => option_read(alloc, arg(args, 0)?, behind(args, 1)),
+        "holds" => held(alloc, args),
+        "option" => option(alloc, args),
+        "read_option" => option_read(alloc, args),
         "write_text" => text_written(alloc, args),
         "write_bits" => bits_written(alloc, args),
         _ => Err(Refusal::NoCase),
     }
 }
 
-fn held(alloc: Global, word: &[u8], value: &[u8]) -> Answer {
-    match holds(&item_of(alloc, word)?, value) {
-        Ok(()) => Ok(String::from_str(alloc, "Ok")?),
-        Err(why) => Ok(format!(in alloc; "{why:?}")?),
+fn held(alloc: Global, args: &[Text]) -> Answer {
+    let [word, value, ..] = args else {
+        return Err(Refusal::NoCase);
+    };
+    let item = item_of(alloc, word.as_bytes())?;
+    holds_word(alloc, &item, value.as_bytes())
+}
+
+/// `Ok`, or why an item does not hold a value.
+fn holds_word(alloc: Global, item: &Item, value: &[u8]) -> Answer {
+    match holds(item, value) {
+        Ok(()) => said(alloc, "Ok"),
+        Err(why) => debug_word(alloc, &why),
     }
 }
 
@@ -38,7 +51,7 @@ fn held(alloc: Global, word: &[u8], value: &[u8]) -> Answer {
 fn items_of(alloc: Global, words: &[Text]) -> Result<Vec<Item>, Refusal> {
     let mut items = Vec::new(alloc);
     for word in words {
-        items.push(item_of(alloc, word.as_bytes())?)?;
+        push(&mut items, item_of(alloc, word.as_bytes()))?;
     }
     Ok(items)
 }
@@ -61,15 +74,21 @@ fn option_of(alloc: Global, bit_level: bool, words: &[Text]) -> Result<Opt, Refu
     }
 }
 
-fn option(alloc: Global, level: &[u8], words: &[Text]) -> Answer {
-    match made(alloc, level == b"bits".as_slice(), words)? {
-        Ok(option) => {
-            let size = option.size();
-            let count = option.items().len();
-            Ok(format!(in alloc; "{size} {count}")?)
-        }
-        Err(fault) => Ok(format!(in alloc; "{fault:?}")?),
+fn option(alloc: Global, args: &[Text]) -> Answer {
+    let [level, words @ ..] = args else {
+        return Err(Refusal::NoCase);
+    };
+    match made(alloc, level.as_bytes() == b"bits".as_slice(), words)? {
+        Ok(option) => option_words(alloc, &option),
+        Err(fault) => debug_word(alloc, &fault),
     }
+}
+
+/// The size of an option, and the number of its items.
+fn option_words(alloc: Global, option: &Opt) -> Answer {
+    let size = option.size() as u64;
+    let count = option.items().len() as u64;
+    joined(alloc, &[Word::Number(size), Word::Number(count)])
 }
 
 /// The options of the words.
@@ -83,8 +102,11 @@ pub fn options_of(alloc: Global, bit_level: bool, words: &[Text]) -> Result<Vec<
     Ok(options)
 }
 
-fn option_read(alloc: Global, digits: &[u8], words: &[Text]) -> Answer {
-    let bits = buffer::<64>(digits)?;
+fn option_read(alloc: Global, args: &[Text]) -> Answer {
+    let [digits, words @ ..] = args else {
+        return Err(Refusal::NoCase);
+    };
+    let bits = buffer::<64>(digits.as_bytes())?;
     let option = option_of(alloc, true, words)?;
     numbers_read(alloc, &option, &bits)
 }
@@ -97,21 +119,16 @@ fn numbers_read(alloc: Global, option: &Opt, bits: &BitBuf<64>) -> Answer
     if read_option(option, bits, numbers.as_mut_slice()) {
         numbers_words(alloc, numbers.as_slice())
     } else {
-        Ok(String::from_str(alloc, "false")?)
+        said(alloc, "false")
     }
 }
 
 fn numbers_words(alloc: Global, numbers: &[u64]) -> Answer {
     let mut answer = String::new(alloc);
     for number in numbers {
-        add_number(alloc, &mut answer, *number)?;
+        add_word(alloc, &mut answer, Word::Number(*number))?;
     }
     Ok(answer)
-}
-
-fn add_number(alloc: Global, answer: &mut String, number: u64) -> Result<(), Refusal> {
-    let word = format!(in alloc; "{number}")?;
-    Ok(add(answer, word.as_str())?)
 }
 
 /// The words before and behind `=`.
@@ -127,19 +144,39 @@ fn halves(words: &[Text]) -> Result<(&[Text], &[Text]), Refusal> {
 
 fn write_fault(alloc: Global, fault: WriteFault) -> Answer {
     match fault {
-        WriteFault::CannotHold { item, why } => Ok(format!(in alloc; "CannotHold {item} {why:?}")?),
+        WriteFault::CannotHold { item, why } => cannot_hold(alloc, item, why),
         WriteFault::Memory => Err(Refusal::Memory),
     }
+}
+
+/// Which item cannot hold its value, and why.
+fn cannot_hold(alloc: Global, item: usize, why: Why) -> Answer {
+    let why = debug_word(alloc, &why)?;
+    joined(
+        alloc,
+        &[
+            Word::Plain("CannotHold"),
+            Word::Number(item as u64),
+            Word::Plain(why.as_str()),
+        ],
+    )
 }
 
 fn text_written(alloc: Global, words: &[Text]) -> Answer {
     let (items, values) = halves(words)?;
     let option = option_of(alloc, false, items)?;
+    text_of_values(alloc, &option, values)
+}
+
+/// The text of an option and these values.
+fn text_of_values(alloc: Global, option: &Opt, values: &[Text]) -> Answer
+    requires { option.now.bit_level ≡ false }
+{
     if values.len() != option.items().len() {
         return Err(Refusal::NoCase);
     }
-    match write_text(alloc, &option, values) {
-        Ok(text) => Ok(shown(alloc, text.as_bytes())?),
+    match write_text(alloc, option, values) {
+        Ok(text) => shown(alloc, text.as_bytes()),
         Err(fault) => write_fault(alloc, fault),
     }
 }
@@ -147,11 +184,18 @@ fn text_written(alloc: Global, words: &[Text]) -> Answer {
 fn bits_written(alloc: Global, words: &[Text]) -> Answer {
     let (items, values) = halves(words)?;
     let option = option_of(alloc, true, items)?;
+    bits_of_values(alloc, &option, values)
+}
+
+/// The bits of an option and these values.
+fn bits_of_values(alloc: Global, option: &Opt, values: &[Text]) -> Answer
+    requires { option.now.bit_level ≡ true }
+{
     if values.len() != option.items().len() || option.size() > 512 {
         return Err(Refusal::NoCase);
     }
     let mut bits = BitBuf::<64>::new();
-    match write_bits(&option, values, &mut bits) {
+    match write_bits(option, values, &mut bits) {
         Ok(()) => bits_word(alloc, &bits),
         Err(fault) => write_fault(alloc, fault),
     }

@@ -11,40 +11,56 @@ use gs_chars::Text;
 use gs_level::{Level, Reading, read_bits, read_text};
 use gs_share::{Shared, first_share};
 use std::alloc::Global;
-use vector_cases::{Answer, Refusal, arg, behind, shown_all};
+use vector_cases::{Answer, Refusal, Word, joined, said, shown_all};
 
 /// The answer to a call of gs_level.
 pub fn answer(alloc: Global, call: &str, args: &[Text]) -> Answer {
+    let [text, words @ ..] = args else {
+        return Err(Refusal::NoCase);
+    };
     match call {
-        "read_text" => text_read(alloc, arg(args, 0)?, behind(args, 1)),
-        "read_bits" => bits_read(alloc, arg(args, 0)?, behind(args, 1)),
+        "read_text" => text_read(alloc, text.as_bytes(), words),
+        "read_bits" => bits_read(alloc, text.as_bytes(), words),
         _ => Err(Refusal::NoCase),
     }
 }
 
 /// The level of the words.
-fn level_of(alloc: Global, bit_level: bool, words: &[Text]) -> Result<Level, Refusal> {
+pub fn level_of(alloc: Global, bit_level: bool, words: &[Text]) -> Result<Level, Refusal> {
     let options = options_of(alloc, bit_level, words)?;
     Ok(Level::new(alloc, bit_level, options)?)
+}
+
+/// The number of an option, and the values of its items.
+fn values_words(alloc: Global, option: usize, values: &[Text]) -> Answer {
+    let words = shown_all(alloc, values)?;
+    joined(
+        alloc,
+        &[Word::Number(option as u64), Word::Plain(words.as_str())],
+    )
 }
 
 /// The words of a reading.
 fn reading_words(alloc: Global, reading: Reading) -> Answer {
     match reading {
-        Reading::One { option, values } => {
-            let words = shown_all(alloc, values.items())?;
-            Ok(format!(in alloc; "{option} {words}")?)
-        }
-        Reading::Nothing => Ok(String::from_str(alloc, "Nothing")?),
+        Reading::One { option, values } => values_words(alloc, option, values.items()),
+        Reading::Nothing => said(alloc, "Nothing"),
         Reading::Memory => Err(Refusal::Memory),
     }
 }
 
 /// The numbers of two options that share a list.
 fn pair_words(alloc: Global, pair: &Shared) -> Answer {
-    let first = pair.first;
-    let second = pair.second;
-    Ok(format!(in alloc; "Ambiguous {first} {second}")?)
+    let first = pair.first as u64;
+    let second = pair.second as u64;
+    joined(
+        alloc,
+        &[
+            Word::Plain("Ambiguous"),
+            Word::Number(first),
+            Word::Number(second),
+        ],
+    )
 }
 
 /// What a level says of a text.

@@ -10,37 +10,49 @@
 use gs_chars::{List, Memory, Text};
 use gs_linkset::{Attr, AttrValue, Context, LinkDoc, Relation, Target};
 use std::alloc::Global;
-use vector_cases::{Answer, Refusal, add, add_shown, arg, behind, fault_word, shown};
+use vector_cases::{
+    Answer, Refusal, Word, add_shown, add_words, debug_word, fault_word, push, said, text_word,
+};
 
 /// The answer to a call of gs_linkset.
 pub fn answer(alloc: Global, call: &str, args: &[Text]) -> Answer {
+    let [first, others @ ..] = args else {
+        return Err(Refusal::NoCase);
+    };
     match call {
-        "read" => read(alloc, arg(args, 0)?),
-        "write" => write(alloc, arg(args, 0)?),
-        "new" => made(alloc, arg(args, 0)?, behind(args, 1)),
-        "copy" => copy(alloc, arg(args, 0)?),
+        "read" => read(alloc, first.as_bytes()),
+        "write" => write(alloc, first.as_bytes()),
+        "new" => made(alloc, first.as_bytes(), others),
+        "copy" => copy(alloc, first.as_bytes()),
         _ => Err(Refusal::NoCase),
     }
 }
 
-/// Appends the word of some bytes.
-fn add_bytes(alloc: Global, answer: &mut String, bytes: &Text) -> Result<(), Refusal> {
-    Ok(add_shown(alloc, answer, bytes.as_bytes())?)
-}
-
 fn add_texts(alloc: Global, answer: &mut String, texts: &[Text]) -> Result<(), Refusal> {
     for text in texts {
-        add_bytes(alloc, answer, text)?;
+        add_shown(alloc, answer, text.as_bytes())?;
     }
     Ok(())
 }
 
 fn add_pairs(alloc: Global, answer: &mut String, pairs: &[(Text, Text)]) -> Result<(), Refusal> {
-    for pair in pairs {
-        add_bytes(alloc, answer, &pair.0)?;
-        add_bytes(alloc, answer, &pair.1)?;
+    for (text, language) in pairs {
+        let words = [
+            Word::Bytes(text.as_bytes()),
+            Word::Bytes(language.as_bytes()),
+        ];
+        add_words(alloc, answer, &words)?;
     }
     Ok(())
+}
+
+/// Appends a word and a name.
+fn add_named(alloc: Global, answer: &mut String, kind: &str, name: &Text) -> Result<(), Refusal> {
+    add_words(
+        alloc,
+        answer,
+        &[Word::Plain(kind), Word::Bytes(name.as_bytes())],
+    )
 }
 
 fn add_attr(alloc: Global, answer: &mut String, attr: &Attr) -> Result<(), Refusal> {
@@ -49,18 +61,16 @@ fn add_attr(alloc: Global, answer: &mut String, attr: &Attr) -> Result<(), Refus
         AttrValue::Many(_) => "Many",
         AttrValue::Tagged(_) => "Tagged",
     };
-    add(answer, kind)?;
-    add_bytes(alloc, answer, &attr.name)?;
+    add_named(alloc, answer, kind, &attr.name)?;
     match &attr.value {
-        AttrValue::One(text) => add_bytes(alloc, answer, text),
+        AttrValue::One(text) => add_shown(alloc, answer, text.as_bytes()),
         AttrValue::Many(texts) => add_texts(alloc, answer, texts.items()),
         AttrValue::Tagged(pairs) => add_pairs(alloc, answer, pairs.items()),
     }
 }
 
 fn add_target(alloc: Global, answer: &mut String, target: &Target) -> Result<(), Refusal> {
-    add(answer, "Target")?;
-    add_bytes(alloc, answer, &target.href)?;
+    add_named(alloc, answer, "Target", &target.href)?;
     for attr in target.attrs.items() {
         add_attr(alloc, answer, attr)?;
     }
@@ -68,8 +78,7 @@ fn add_target(alloc: Global, answer: &mut String, target: &Target) -> Result<(),
 }
 
 fn add_relation(alloc: Global, answer: &mut String, relation: &Relation) -> Result<(), Refusal> {
-    add(answer, "Relation")?;
-    add_bytes(alloc, answer, &relation.name)?;
+    add_named(alloc, answer, "Relation", &relation.name)?;
     for target in relation.targets.items() {
         add_target(alloc, answer, target)?;
     }
@@ -77,8 +86,7 @@ fn add_relation(alloc: Global, answer: &mut String, relation: &Relation) -> Resu
 }
 
 fn add_context(alloc: Global, answer: &mut String, context: &Context) -> Result<(), Refusal> {
-    add(answer, "Context")?;
-    add_bytes(alloc, answer, &context.anchor)?;
+    add_named(alloc, answer, "Context", &context.anchor)?;
     for relation in context.relations.items() {
         add_relation(alloc, answer, relation)?;
     }
@@ -93,7 +101,7 @@ fn read(alloc: Global, document: &[u8]) -> Answer {
 }
 
 fn contexts_words(alloc: Global, contexts: &[Context]) -> Answer {
-    let mut answer = String::from_str(alloc, "Linkset")?;
+    let mut answer = said(alloc, "Linkset")?;
     for context in contexts {
         add_context(alloc, &mut answer, context)?;
     }
@@ -101,8 +109,7 @@ fn contexts_words(alloc: Global, contexts: &[Context]) -> Answer {
 }
 
 fn written(alloc: Global, doc: &LinkDoc) -> Answer {
-    let text = gs_linkset::write(alloc, doc)?;
-    Ok(shown(alloc, text.as_bytes())?)
+    text_word(alloc, gs_linkset::write(alloc, doc))
 }
 
 fn write(alloc: Global, document: &[u8]) -> Answer {
@@ -112,23 +119,32 @@ fn write(alloc: Global, document: &[u8]) -> Answer {
     }
 }
 
+/// A target without attributes.
+fn target_of(alloc: Global, reference: &Text) -> Result<Target, Refusal> {
+    Ok(Target {
+        href: reference.copy(alloc)?,
+        attrs: List::from_vec(Vec::new(alloc)),
+    })
+}
+
 /// Targets without attributes.
-fn targets_of(alloc: Global, references: &[Text]) -> Result<List<Target>, Memory> {
+fn targets_of(alloc: Global, references: &[Text]) -> Result<List<Target>, Refusal> {
     let mut targets = Vec::new(alloc);
     for reference in references {
-        targets.push(Target {
-            href: reference.copy(alloc)?,
-            attrs: List::from_vec(Vec::new(alloc)),
-        })?;
+        push(&mut targets, target_of(alloc, reference))?;
     }
     Ok(List::from_vec(targets))
 }
 
 /// The relation of a name and its references.
 fn relation_of(alloc: Global, words: &[Text]) -> Result<Relation, Refusal> {
+    let [name, references @ ..] = words else {
+        return Err(Refusal::NoCase);
+    };
+    let name = name.copy(alloc)?;
     Ok(Relation {
-        name: Text::from_bytes(alloc, arg(words, 0)?)?,
-        targets: targets_of(alloc, behind(words, 1))?,
+        name,
+        targets: targets_of(alloc, references)?,
     })
 }
 
@@ -136,21 +152,31 @@ fn relation_of(alloc: Global, words: &[Text]) -> Result<Relation, Refusal> {
 fn relations_of(alloc: Global, words: &[Text]) -> Result<List<Relation>, Refusal> {
     let mut relations = Vec::new(alloc);
     for part in words.split(|word| word.as_bytes() == b"/".as_slice()) {
-        relations.push(relation_of(alloc, part)?)?;
+        push(&mut relations, relation_of(alloc, part))?;
     }
     Ok(List::from_vec(relations))
 }
 
-fn made(alloc: Global, anchor: &[u8], words: &[Text]) -> Answer {
+/// The context of an anchor and of relations.
+fn context_of(alloc: Global, anchor: &[u8], words: &[Text]) -> Result<Context, Refusal> {
     let relations = relations_of(alloc, words)?;
-    let mut contexts = Vec::new(alloc);
-    contexts.push(Context {
+    Ok(Context {
         anchor: Text::from_bytes(alloc, anchor)?,
         relations,
-    })?;
-    match LinkDoc::new(List::from_vec(contexts)) {
+    })
+}
+
+/// The list of one context.
+fn contexts_of(alloc: Global, anchor: &[u8], words: &[Text]) -> Result<List<Context>, Refusal> {
+    let mut contexts = Vec::new(alloc);
+    push(&mut contexts, context_of(alloc, anchor, words))?;
+    Ok(List::from_vec(contexts))
+}
+
+fn made(alloc: Global, anchor: &[u8], words: &[Text]) -> Answer {
+    match LinkDoc::new(contexts_of(alloc, anchor, words)?) {
         Ok(doc) => written(alloc, &doc),
-        Err(fault) => Ok(format!(in alloc; "{fault:?}")?),
+        Err(fault) => debug_word(alloc, &fault),
     }
 }
 
@@ -172,7 +198,7 @@ fn copy(alloc: Global, document: &[u8]) -> Answer {
 fn copied(alloc: Global, target: Option<&Target>) -> Answer {
     match target {
         Some(target) => target_words(alloc, &target.copy(alloc)?),
-        None => Ok(String::from_str(alloc, "None")?),
+        None => said(alloc, "None"),
     }
 }
 

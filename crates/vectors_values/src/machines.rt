@@ -8,22 +8,26 @@
 //! - `first_share LEVEL ITEM.. | ITEM..`: `None`, or the two options of the level.
 
 use crate::grammars::options_of;
+use crate::levels::level_of;
 use gs_ambig::{Verdict, check};
 use gs_chars::{List, Text};
 use gs_compile::compile;
+use gs_grammar::Opt;
 use gs_level::Level;
 use gs_machine::{Auto, Edge};
 use gs_share::first_share;
 use std::alloc::Global;
-use vector_cases::{Answer, Refusal, arg, behind, number_of, numbers_of, shown, text_of};
+use vector_cases::{
+    Answer, Refusal, Word, arg, joined, number_of, numbers_of, push, said, text_of,
+};
 
 /// The answer to a call of gs_machine, gs_ambig or gs_compile.
 pub fn answer(alloc: Global, call: &str, args: &[Text]) -> Answer {
     match call {
         "machine" => machine(alloc, arg(args, 0)?),
         "check" => checked(alloc, args),
-        "share" => shared(alloc, arg(args, 0)?, behind(args, 1)),
-        "first_share" => first_shared(alloc, arg(args, 0)?, behind(args, 1)),
+        "share" => shared(alloc, args),
+        "first_share" => first_shared(alloc, args),
         _ => Err(Refusal::NoCase),
     }
 }
@@ -53,7 +57,7 @@ fn row_of(alloc: Global, text: &str) -> Result<List<Edge>, Refusal> {
     let mut edges = Vec::new(alloc);
     for edge in text.split('+') {
         if !edge.is_empty() {
-            edges.push(edge_of(edge)?)?;
+            push(&mut edges, edge_of(edge))?;
         }
     }
     Ok(List::from_vec(edges))
@@ -62,7 +66,7 @@ fn row_of(alloc: Global, text: &str) -> Result<List<Edge>, Refusal> {
 fn rows_of(alloc: Global, text: &str) -> Result<Vec<List<Edge>>, Refusal> {
     let mut rows = Vec::new(alloc);
     for row in text.split('/') {
-        rows.push(row_of(alloc, row)?)?;
+        push(&mut rows, row_of(alloc, row))?;
     }
     Ok(rows)
 }
@@ -75,10 +79,16 @@ fn borders_of(alloc: Global, text: &str) -> Result<Vec<usize>, Refusal> {
     Ok(borders)
 }
 
+/// The machine of a word, where it is one.
 fn made(alloc: Global, word: &[u8]) -> Result<Option<Auto>, Refusal> {
-    let Some((borders, rows)) = text_of(word)?.split_once('/') else {
-        return Err(Refusal::NoCase);
-    };
+    match text_of(word)?.split_once('/') {
+        Some((borders, rows)) => machine_of(alloc, borders, rows),
+        None => Err(Refusal::NoCase),
+    }
+}
+
+/// The machine of these borders and rows, where it is one.
+fn machine_of(alloc: Global, borders: &str, rows: &str) -> Result<Option<Auto>, Refusal> {
     let rows = rows_of(alloc, rows)?;
     let borders = borders_of(alloc, borders)?;
     Ok(Auto::new(alloc, rows.as_slice(), borders)?)
@@ -86,69 +96,114 @@ fn made(alloc: Global, word: &[u8]) -> Result<Option<Auto>, Refusal> {
 
 fn machine(alloc: Global, word: &[u8]) -> Answer {
     match made(alloc, word)? {
-        Some(auto) => {
-            let states = auto.states();
-            let start = auto.start();
-            Ok(format!(in alloc; "{states} {start}")?)
-        }
-        None => Ok(String::from_str(alloc, "None")?),
+        Some(auto) => machine_words(alloc, &auto),
+        None => said(alloc, "None"),
+    }
+}
+
+/// The number of states and the start of a machine.
+fn machine_words(alloc: Global, auto: &Auto) -> Answer {
+    pair_words(alloc, auto.states(), auto.start())
+}
+
+/// Two numbers.
+fn pair_words(alloc: Global, first: usize, second: usize) -> Answer {
+    joined(
+        alloc,
+        &[Word::Number(first as u64), Word::Number(second as u64)],
+    )
+}
+
+/// The machine of a word.
+fn sure_machine(alloc: Global, word: &[u8]) -> Result<Auto, Refusal> {
+    match made(alloc, word)? {
+        Some(auto) => Ok(auto),
+        None => Err(Refusal::NoCase),
     }
 }
 
 fn machines_of(alloc: Global, words: &[Text]) -> Result<Vec<Auto>, Refusal> {
     let mut machines = Vec::new(alloc);
     for word in words {
-        match made(alloc, word.as_bytes())? {
-            Some(auto) => machines.push(auto)?,
-            None => return Err(Refusal::NoCase),
-        }
+        push(&mut machines, sure_machine(alloc, word.as_bytes()))?;
     }
     Ok(machines)
 }
 
 fn checked(alloc: Global, words: &[Text]) -> Answer {
     let machines = machines_of(alloc, words)?;
-    match check(alloc, machines.as_slice())? {
-        Verdict::Clear => Ok(String::from_str(alloc, "Clear")?),
-        Verdict::Double { i, j, word } => {
-            let word = shown(alloc, word.as_bytes())?;
-            Ok(format!(in alloc; "{i} {j} {word}")?)
-        }
+    verdict_words(alloc, machines.as_slice())
+}
+
+/// `Clear`, or the two machines and a list of symbols that they share.
+fn verdict_words(alloc: Global, machines: &[Auto]) -> Answer {
+    match check(alloc, machines)? {
+        Verdict::Clear => said(alloc, "Clear"),
+        Verdict::Double { i, j, word } => double_words(alloc, i, j, word.as_bytes()),
     }
 }
 
-/// The machines of the options of the words.
-fn compiled(alloc: Global, bit_level: bool, words: &[Text]) -> Result<Vec<Auto>, Refusal> {
+/// Two machines, and a list of symbols.
+fn double_words(alloc: Global, i: usize, j: usize, word: &[u8]) -> Answer {
+    joined(
+        alloc,
+        &[
+            Word::Number(i as u64),
+            Word::Number(j as u64),
+            Word::Bytes(word),
+        ],
+    )
+}
+
+/// The machine of an option.
+fn compiled_of(alloc: Global, option: &Opt) -> Result<Auto, Refusal> {
+    Ok(compile(alloc, option)?)
+}
+
+/// The machines of some options.
+fn compiled_all(alloc: Global, options: &[Opt]) -> Result<Vec<Auto>, Refusal> {
     let mut machines = Vec::new(alloc);
-    for option in options_of(alloc, bit_level, words)?.iter() {
-        machines.push(compile(alloc, option)?)?;
+    for option in options {
+        push(&mut machines, compiled_of(alloc, option))?;
     }
     Ok(machines)
 }
 
-fn shared(alloc: Global, level: &[u8], words: &[Text]) -> Answer {
-    let machines = compiled(alloc, level == b"bits".as_slice(), words)?;
-    match check(alloc, machines.as_slice())? {
-        Verdict::Clear => Ok(String::from_str(alloc, "Clear")?),
-        Verdict::Double { i, j, word: _ } => Ok(format!(in alloc; "{i} {j}")?),
+/// The machines of the options of the words.
+fn compiled(alloc: Global, bit_level: bool, words: &[Text]) -> Result<Vec<Auto>, Refusal> {
+    let options = options_of(alloc, bit_level, words)?;
+    compiled_all(alloc, options.as_slice())
+}
+
+fn shared(alloc: Global, args: &[Text]) -> Answer {
+    let [level, words @ ..] = args else {
+        return Err(Refusal::NoCase);
+    };
+    let machines = compiled(alloc, level.as_bytes() == b"bits".as_slice(), words)?;
+    shared_words(alloc, machines.as_slice())
+}
+
+/// `Clear`, or the two machines that share a list of symbols.
+fn shared_words(alloc: Global, machines: &[Auto]) -> Answer {
+    match check(alloc, machines)? {
+        Verdict::Clear => said(alloc, "Clear"),
+        Verdict::Double { i, j, word: _ } => pair_words(alloc, i, j),
     }
 }
 
-fn first_shared(alloc: Global, level: &[u8], words: &[Text]) -> Answer {
-    let bit_level = level == b"bits".as_slice();
-    let options = options_of(alloc, bit_level, words)?;
-    let level = Level::new(alloc, bit_level, options)?;
+fn first_shared(alloc: Global, args: &[Text]) -> Answer {
+    let [level, words @ ..] = args else {
+        return Err(Refusal::NoCase);
+    };
+    let bit_level = level.as_bytes() == b"bits".as_slice();
+    let level = level_of(alloc, bit_level, words)?;
     first_pair(alloc, &level)
 }
 
 /// The first two options of a level that share a list of symbols.
 fn first_pair(alloc: Global, level: &Level) -> Answer {
     match first_share(alloc, level)? {
-        None => Ok(String::from_str(alloc, "None")?),
-        Some(pair) => {
-            let first = pair.first;
-            let second = pair.second;
-            Ok(format!(in alloc; "{first} {second}")?)
-        }
+        Some(pair) => pair_words(alloc, pair.first, pair.second),
+        None => said(alloc, "None"),
     }
 }

@@ -7,28 +7,24 @@
 use gs_chars::Text;
 use gs_prefix::{PrefixFault, PrefixList};
 use std::alloc::Global;
-use vector_cases::{Answer, Refusal, arg, fault_word};
+use vector_cases::{Answer, Refusal, arg, debug_word, fault_word};
 
 /// The answer to a call of gs_prefix.
 pub fn answer(alloc: Global, call: &str, args: &[Text]) -> Answer {
     match call {
         "load" => load(alloc, arg(args, 0)?),
-        "length_of" => length_of(alloc, arg(args, 0)?, arg(args, 1)?),
+        "length_of" => length_of(alloc, args),
         _ => Err(Refusal::NoCase),
     }
 }
 
 fn load(alloc: Global, document: &[u8]) -> Answer {
     match PrefixList::load(alloc, document) {
-        Ok(list) => count_word(alloc, list.len()),
+        Ok(list) => debug_word(alloc, &list.len()),
         Err(PrefixFault::Json(fault)) => fault_word(alloc, fault),
         Err(PrefixFault::Memory) => Err(Refusal::Memory),
-        Err(fault) => Ok(format!(in alloc; "{fault:?}")?),
+        Err(fault) => debug_word(alloc, &fault),
     }
-}
-
-fn count_word(alloc: Global, count: usize) -> Answer {
-    Ok(format!(in alloc; "{count}")?)
 }
 
 /// The list of a document, where it is one.
@@ -43,7 +39,10 @@ fn list_of(alloc: Global, document: &[u8]) -> Result<PrefixList, Refusal> {
     }
 }
 
-fn length_of(alloc: Global, document: &[u8], digits: &[u8]) -> Answer {
-    let list = list_of(alloc, document)?;
-    Ok(format!(in alloc; "{:?}", list.length_of(digits))?)
+fn length_of(alloc: Global, args: &[Text]) -> Answer {
+    let [document, digits, ..] = args else {
+        return Err(Refusal::NoCase);
+    };
+    let list = list_of(alloc, document.as_bytes())?;
+    debug_word(alloc, &list.length_of(digits.as_bytes()))
 }
