@@ -6,7 +6,7 @@
 //! - `push_bits N NUMBER WIDTH ..`: `Full` for each number without room, then the bits.
 //! - `get N HEX I`: bit I.
 
-ghost use Rattle.std.specs.Prelude.{◌≤◌, ◌<◌, ◌^◌, IsTrue, IfOk};
+ghost use Rattle.std.specs.Prelude.{◌≡◌, ◌≤◌, ◌<◌, ◌^◌, ◌%◌, IsTrue, IfOk, length};
 
 use gs_bits::{BitBuf, Cursor, Full};
 use gs_chars::Text;
@@ -42,7 +42,9 @@ fn answer_of<const N: usize>(alloc: Global, call: &str, args: &[Text]) -> Answer
 }
 
 /// The bits as upper-case hexadecimal digits.
-fn digits_word<const N: usize>(alloc: Global, bits: &BitBuf<N>) -> Answer {
+fn digits_word<const N: usize>(alloc: Global, bits: &BitBuf<N>) -> Answer
+    requires { length bits.now % 8 ≡ 0 }
+{
     let digits = bits.to_hex(alloc)?;
     shown(alloc, digits.as_bytes())
 }
