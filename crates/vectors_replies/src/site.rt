@@ -5,6 +5,7 @@ use gs_ai::AiTable;
 use gs_chars::Text;
 use gs_http::Settings;
 use gs_links::Store;
+use gs_linkset::LinkDoc;
 use std::alloc::Global;
 use vector_cases::Refusal;
 
@@ -37,25 +38,34 @@ fn linkset_of(name: &[u8]) -> &[u8] {
     }
 }
 
+/// The linkset of a text.
+fn doc_of(alloc: Global, text: &[u8]) -> Result<LinkDoc, Refusal> {
+    match gs_linkset::read(alloc, text) {
+        Ok(doc) => Ok(doc),
+        Err(_) => Err(Refusal::NoCase),
+    }
+}
+
 /// The store of a linkset.
 fn store_of(alloc: Global, table: &AiTable, text: &[u8]) -> Result<Store, Refusal> {
-    let Ok(doc) = gs_linkset::read(alloc, text) else {
-        return Err(Refusal::NoCase);
-    };
-    match Store::load(alloc, table, VOC, doc) {
+    match Store::load(alloc, table, VOC, doc_of(alloc, text)?) {
         Ok(store) => Ok(store),
         Err(_) => Err(Refusal::NoCase),
     }
 }
 
+/// The description, none where it is a hyphen.
+fn described(alloc: Global, describe: &[u8]) -> Result<Option<Text>, Refusal> {
+    if describe == b"-".as_slice() {
+        return Ok(None);
+    }
+    Ok(Some(Text::from_bytes(alloc, describe)?))
+}
+
 /// The settings with this description, or with none where it is a hyphen.
 fn settings_of(alloc: Global, describe: &[u8]) -> Result<Settings, Refusal> {
+    let describe = described(alloc, describe)?;
     let voc = Text::from_bytes(alloc, VOC)?;
-    let describe = if describe == b"-".as_slice() {
-        None
-    } else {
-        Some(Text::from_bytes(alloc, describe)?)
-    };
     Ok(Settings { voc, describe })
 }
 
