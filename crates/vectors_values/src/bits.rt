@@ -6,14 +6,14 @@
 //! - `push_bits N NUMBER WIDTH ..`: `Full` for each number without room, then the bits.
 //! - `get N HEX I`: bit I.
 
-ghost use Rattle.std.specs.Prelude.{◌≡◌, ◌≤◌, ◌<◌, ◌^◌, ◌%◌, IsTrue, IfOk, length};
+ghost use Rattle.std.specs.Prelude.{◌≤◌, ◌<◌, ◌^◌, IsTrue, IfOk};
 
 use gs_bits::{BitBuf, Cursor, Full};
 use gs_chars::Text;
 use std::alloc::Global;
 use vector_cases::{
     Answer, Refusal, Word, add_answer, add_words, arg, behind, debug_word, joined, number,
-    number_of, said, shown, text_of,
+    number_of, said, text_of, text_word,
 };
 
 /// The answer to a call of gs_bits.
@@ -41,14 +41,6 @@ fn answer_of<const N: usize>(alloc: Global, call: &str, args: &[Text]) -> Answer
     }
 }
 
-/// The bits as upper-case hexadecimal digits.
-fn digits_word<const N: usize>(alloc: Global, bits: &BitBuf<N>) -> Answer
-    requires { length bits.now % 8 ≡ 0 }
-{
-    let digits = bits.to_hex(alloc)?;
-    shown(alloc, digits.as_bytes())
-}
-
 /// The bits as the digits 0 and 1 behind `b`.
 fn single_bits_word<const N: usize>(alloc: Global, bits: &BitBuf<N>) -> Answer {
     let mut word = said(alloc, "b")?;
@@ -61,7 +53,7 @@ fn single_bits_word<const N: usize>(alloc: Global, bits: &BitBuf<N>) -> Answer {
 /// The bits as a word.
 pub fn bits_word<const N: usize>(alloc: Global, bits: &BitBuf<N>) -> Answer {
     if bits.len() % 8 == 0 {
-        digits_word(alloc, bits)
+        text_word(alloc, bits.to_hex(alloc))
     } else {
         single_bits_word(alloc, bits)
     }
