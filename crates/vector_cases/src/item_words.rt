@@ -139,18 +139,16 @@ fn numbered(alloc: Global, name: &str, numbers: &[u64]) -> Answer {
 /// The word of an item of a level.
 pub fn item_word(alloc: Global, bit_level: bool, item: &Item) -> Answer {
     // a name and its numbers for each kind, so that the one exit of want of memory is in `numbered`
-    match item {
-        Item::Lit(literal) => literal_word(alloc, bit_level, literal.as_bytes()),
-        Item::Pad { n } => numbered(alloc, "pad", &[u64::from(*n)]),
-        Item::Int { max } => numbered(alloc, "int", &[*max]),
-        Item::Esc { lo, hi } => numbered(alloc, "esc", &[u64::from(*lo), u64::from(*hi)]),
-        Item::NumPad { bits, n } => numbered(alloc, "numpad", &[u64::from(*bits), u64::from(*n)]),
-        Item::Num { bits, max } => numbered(alloc, "num", &[u64::from(*bits), *max]),
-        Item::Ascii7 { lo, hi, bits } => numbered(
-            alloc,
-            "ascii7",
-            &[u64::from(*lo), u64::from(*hi), u64::from(*bits)],
-        ),
-        Item::Fill { a, b } => numbered(alloc, "fill", &[u64::from(*a), u64::from(*b)]),
+    match *item {
+        Item::Lit(ref literal) => literal_word(alloc, bit_level, literal.as_bytes()),
+        Item::Pad { n } => numbered(alloc, "pad", &[n as u64]),
+        Item::Int { max } => numbered(alloc, "int", &[max]),
+        Item::Esc { lo, hi } => numbered(alloc, "esc", &[lo as u64, hi as u64]),
+        Item::NumPad { bits, n } => numbered(alloc, "numpad", &[bits as u64, n as u64]),
+        Item::Num { bits, max } => numbered(alloc, "num", &[bits as u64, max]),
+        Item::Ascii7 { lo, hi, bits } => {
+            numbered(alloc, "ascii7", &[lo as u64, hi as u64, bits as u64])
+        }
+        Item::Fill { a, b } => numbered(alloc, "fill", &[a as u64, b as u64]),
     }
 }
