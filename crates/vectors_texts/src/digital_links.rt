@@ -4,24 +4,26 @@
 //! - `stem_ok STEM`: whether a link may be written under it.
 //! - `write_link STEM CODE VALUE ..`: the link of the identity of the pairs under the stem, or the refusal.
 
-use crate::elements::{listed, text_word};
-use crate::identities::{first_fault, pairs_of, refusal};
+use crate::elements::{element_fault, listed};
+use crate::identities::made;
 use gs_ai::{AiTable, Pair};
 use gs_chars::Text;
 use gs_dlink::{LinkFault, read_link, read_target, stem_ok, write_link};
-use gs_ident::make;
 use gs_tables::TableSet;
 use std::alloc::Global;
-use vector_cases::{Answer, Refusal, arg, behind};
+use vector_cases::{Answer, Refusal, debug_word, text_word};
 
 /// The answer to a call of gs_dlink.
 pub fn answer(alloc: Global, set: &TableSet, call: &str, args: &[Text]) -> Answer {
-    let text = arg(args, 0)?;
+    let [first, words @ ..] = args else {
+        return Err(Refusal::NoCase);
+    };
+    let text = first.as_bytes();
     match call {
         "read_link" => pairs_words(alloc, read_link(alloc, set.ais(), text)),
         "read_target" => pairs_words(alloc, read_target(alloc, set.ais(), text)),
-        "stem_ok" => Ok(format!(in alloc; "{}", stem_ok(text))?),
-        "write_link" => written(alloc, set.ais(), text, behind(args, 1)),
+        "stem_ok" => debug_word(alloc, &stem_ok(text)),
+        "write_link" => written(alloc, set.ais(), text, words),
         _ => Err(Refusal::NoCase),
     }
 }
@@ -29,13 +31,9 @@ pub fn answer(alloc: Global, set: &TableSet, call: &str, args: &[Text]) -> Answe
 fn pairs_words(alloc: Global, read: Result<Vec<Pair>, LinkFault>) -> Answer {
     match read {
         Ok(pairs) => listed(alloc, pairs.as_slice()),
-        Err(LinkFault::Element(fault)) => {
-            let why = fault.why;
-            let at = fault.at;
-            Ok(format!(in alloc; "{why:?} {at}")?)
-        }
+        Err(LinkFault::Element(fault)) => element_fault(alloc, fault),
         Err(LinkFault::Memory) => Err(Refusal::Memory),
-        Err(fault) => Ok(format!(in alloc; "{fault:?}")?),
+        Err(fault) => debug_word(alloc, &fault),
     }
 }
 
@@ -43,12 +41,8 @@ fn written(alloc: Global, table: &AiTable, stem: &[u8], words: &[Text]) -> Answe
     if !stem_ok(stem) {
         return Err(Refusal::NoCase);
     }
-    if let Some(fault) = first_fault(alloc, table, words)? {
-        return Ok(fault);
-    }
-    let pairs = pairs_of(alloc, table, words)?;
-    match make(alloc, table, pairs) {
+    match made(alloc, table, words)? {
         Ok(identity) => text_word(alloc, write_link(alloc, stem, &identity)),
-        Err(fault) => refusal(alloc, fault),
+        Err(refused) => Ok(refused),
     }
 }

@@ -6,20 +6,26 @@
 //!   refusal.
 
 use crate::epcs::epc_words;
-use crate::identities::{first_fault, pairs_of, refusal};
+use crate::identities::made;
 use gs_chars::Text;
 use gs_epc::{Epc, EpcWriteFault, FieldsFault, fields_of, write_hex, write_pure, write_tag};
-use gs_ident::{Identity, make};
+use gs_ident::Identity;
 use gs_tables::TableSet;
 use std::alloc::Global;
-use vector_cases::{Answer, Refusal, arg, behind, number, shown};
+use vector_cases::{Answer, Refusal, debug_word, number_of, said, shown, text_of};
 
 /// The answer to a call that writes or takes apart.
 pub fn answer(alloc: Global, set: &TableSet, call: &str, args: &[Text]) -> Answer {
     match call {
         "fields_of" => taken_apart(alloc, set, args),
-        _ => write(alloc, set, call, &epc_of(alloc, set, args)?),
+        _ => made_and_written(alloc, set, call, args),
     }
+}
+
+/// What a call writes of the EPC of these words.
+fn made_and_written(alloc: Global, set: &TableSet, call: &str, args: &[Text]) -> Answer {
+    let epc = epc_of(alloc, set, args)?;
+    write(alloc, set, call, &epc)
 }
 
 /// What a call writes of an EPC.
@@ -40,42 +46,49 @@ fn kind_of(set: &TableSet, name: &[u8]) -> Result<usize, Refusal> {
     }
 }
 
-/// The number at a place, which is one of a byte.
-fn byte(args: &[Text], i: usize) -> Result<u8, Refusal> {
-    let number = number(args, i)?;
-    if number > 255 {
-        return Err(Refusal::NoCase);
+/// The byte that a word tells.
+fn byte(word: &Text) -> Result<u8, Refusal> {
+    match u8::try_from(number_of(text_of(word.as_bytes())?)?) {
+        Ok(byte) => Ok(byte),
+        Err(_) => Err(Refusal::NoCase),
     }
-    Ok(number as u8)
 }
 
-/// The filter value at a place.
-fn filter(args: &[Text], i: usize) -> Result<Option<u8>, Refusal> {
-    if arg(args, i)? == b"-".as_slice() {
+/// The filter value that a word tells.
+fn filter(word: &Text) -> Result<Option<u8>, Refusal> {
+    if word.as_bytes() == b"-".as_slice() {
         return Ok(None);
     }
-    Ok(Some(byte(args, i)?))
+    Ok(Some(byte(word)?))
 }
 
-/// The text at a place.
-fn text_at(alloc: Global, args: &[Text], i: usize) -> Result<Text, Refusal> {
-    Ok(Text::from_bytes(alloc, arg(args, i)?)?)
+/// The numbers of an EPC: its kind, its filter value and its prefix length.
+fn numbers_of_epc(set: &TableSet, args: &[Text]) -> Result<(usize, Option<u8>, u8), Refusal> {
+    let [kind, _, filter_word, gcp, ..] = args else {
+        return Err(Refusal::NoCase);
+    };
+    Ok((
+        kind_of(set, kind.as_bytes())?,
+        filter(filter_word)?,
+        byte(gcp)?,
+    ))
 }
 
 /// The EPC of these words.
 fn epc_of(alloc: Global, set: &TableSet, args: &[Text]) -> Result<Epc, Refusal> {
     // the numbers first, since each exit behind a text drops it
-    let kind = kind_of(set, arg(args, 0)?)?;
-    let filter = filter(args, 2)?;
-    let gcp = byte(args, 3)?;
+    let (kind, filter, gcp) = numbers_of_epc(set, args)?;
+    let [_, encoding, _, _, prefix, rest, serial, ..] = args else {
+        return Err(Refusal::NoCase);
+    };
     Ok(Epc {
         kind,
-        encoding: text_at(alloc, args, 1)?,
+        encoding: encoding.copy(alloc)?,
         filter,
         gcp,
-        prefix: text_at(alloc, args, 4)?,
-        rest: text_at(alloc, args, 5)?,
-        serial: text_at(alloc, args, 6)?,
+        prefix: prefix.copy(alloc)?,
+        rest: rest.copy(alloc)?,
+        serial: serial.copy(alloc)?,
     })
 }
 
@@ -95,25 +108,22 @@ fn write_on_tag(alloc: Global, set: &TableSet, call: &str, epc: &Epc) -> Answer 
 
 fn written_word(alloc: Global, written: Result<Text, EpcWriteFault>) -> Answer {
     match written {
-        Ok(text) => Ok(shown(alloc, text.as_bytes())?),
+        Ok(text) => shown(alloc, text.as_bytes()),
         Err(EpcWriteFault::Memory) => Err(Refusal::Memory),
-        Err(fault) => Ok(format!(in alloc; "{fault:?}")?),
+        Err(fault) => debug_word(alloc, &fault),
     }
 }
 
 /// The fields of the identity of pairs.
 fn taken_apart(alloc: Global, set: &TableSet, args: &[Text]) -> Answer {
-    let kind = kind_of(set, arg(args, 0)?)?;
-    let gcp = byte(args, 1)?;
-    let words = behind(args, 2);
-    let table = set.ais();
-    if let Some(fault) = first_fault(alloc, table, words)? {
-        return Ok(fault);
-    }
-    let pairs = pairs_of(alloc, table, words)?;
-    match make(alloc, table, pairs) {
+    let [kind, gcp, words @ ..] = args else {
+        return Err(Refusal::NoCase);
+    };
+    let kind = kind_of(set, kind.as_bytes())?;
+    let gcp = byte(gcp)?;
+    match made(alloc, set.ais(), words)? {
         Ok(identity) => fields(alloc, set, kind, gcp, &identity),
-        Err(fault) => refusal(alloc, fault),
+        Err(refused) => Ok(refused),
     }
 }
 
@@ -124,6 +134,6 @@ fn fields(alloc: Global, set: &TableSet, kind: usize, gcp: u8, identity: &Identi
     match fields_of(alloc, set, kind, identity, gcp) {
         Ok(epc) => epc_words(alloc, set, &epc),
         Err(FieldsFault::Memory) => Err(Refusal::Memory),
-        Err(FieldsFault::MissingSerial) => Ok(String::from_str(alloc, "MissingSerial")?),
+        Err(FieldsFault::MissingSerial) => said(alloc, "MissingSerial"),
     }
 }

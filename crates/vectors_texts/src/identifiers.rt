@@ -14,8 +14,10 @@ use gs_ai::{AiFault, AiRow, AiTable, Pair, Part, Role, ValueFault};
 use gs_chars::{List, Text};
 use gs_tables::TableSet;
 use std::alloc::Global;
-use std::fmt::Debug;
-use vector_cases::{Answer, Refusal, add, add_shown, arg, shown, shown_all, text_of};
+use vector_cases::{
+    Answer, Refusal, Word, add_answer, add_words, arg, debug_word, joined, push, said, shown_all,
+    text_of,
+};
 
 /// The answer to a call of gs_ai.
 pub fn answer(alloc: Global, set: &TableSet, call: &str, args: &[Text]) -> Answer {
@@ -42,11 +44,6 @@ fn answer_on(alloc: Global, table: &AiTable, call: &str, text: &[u8]) -> Answer 
     }
 }
 
-/// What is found, in Rust's words.
-fn debug_word<T: Debug>(alloc: Global, found: &T) -> Answer {
-    Ok(format!(in alloc; "{found:?}")?)
-}
-
 fn predefined(alloc: Global, table: &AiTable, code: &[u8]) -> Answer {
     match table.find(code) {
         Some(row) => debug_word(alloc, &table.predefined(row)),
@@ -56,56 +53,67 @@ fn predefined(alloc: Global, table: &AiTable, code: &[u8]) -> Answer {
 
 fn judgement(alloc: Global, judged: Result<(), ValueFault>) -> Answer {
     match judged {
-        Ok(()) => Ok(String::from_str(alloc, "Ok")?),
-        Err(fault) => Ok(format!(in alloc; "{fault:?}")?),
+        Ok(()) => said(alloc, "Ok"),
+        Err(fault) => debug_word(alloc, &fault),
     }
 }
 
 fn value_ok(alloc: Global, table: &AiTable, args: &[Text]) -> Answer {
-    judgement(alloc, table.value_ok(arg(args, 0)?, arg(args, 1)?))
+    let [code, value, ..] = args else {
+        return Err(Refusal::NoCase);
+    };
+    judgement(alloc, table.value_ok(code.as_bytes(), value.as_bytes()))
 }
 
 fn row_value_ok(alloc: Global, table: &AiTable, args: &[Text]) -> Answer {
-    let code = arg(args, 0)?;
-    let value = arg(args, 1)?;
-    match table.find(code) {
-        Some(row) => judgement(alloc, table.row_value_ok(row, value)),
+    let [code, value, ..] = args else {
+        return Err(Refusal::NoCase);
+    };
+    match table.find(code.as_bytes()) {
+        Some(row) => judgement(alloc, table.row_value_ok(row, value.as_bytes())),
         None => Err(Refusal::NoCase),
+    }
+}
+
+/// What stands before the number of a part, the number, and what stands behind it.
+fn part_texts(part: Part) -> (&'static str, Option<u8>, &'static str) {
+    match part {
+        Part::Zero => ("zero", None, ""),
+        Part::Num(k) => ("n", Some(k), ""),
+        Part::NumCheck(k) => ("n", Some(k), "c"),
+        Part::NumUpTo(k) => ("n..", Some(k), ""),
+        Part::Set(k) => ("x..", Some(k), ""),
+        Part::SetOpt(k) => ("x..", Some(k), "?"),
+        Part::Date => ("date", None, ""),
+        Part::Other => ("other", None, ""),
     }
 }
 
 /// A part, as it is written.
 fn part_word(alloc: Global, part: Part) -> Answer {
-    match part {
-        Part::Zero => Ok(String::from_str(alloc, "zero")?),
-        Part::Num(k) => Ok(format!(in alloc; "n{k}")?),
-        Part::NumCheck(k) => Ok(format!(in alloc; "n{k}c")?),
-        Part::NumUpTo(k) => Ok(format!(in alloc; "n..{k}")?),
-        Part::Set(k) => Ok(format!(in alloc; "x..{k}")?),
-        Part::SetOpt(k) => Ok(format!(in alloc; "x..{k}?")?),
-        Part::Date => Ok(String::from_str(alloc, "date")?),
-        Part::Other => Ok(String::from_str(alloc, "other")?),
+    let (front, number, back) = part_texts(part);
+    match number {
+        Some(k) => Ok(format!(in alloc; "{front}{k}{back}")?),
+        None => said(alloc, front),
     }
 }
 
 /// Appends a part, as it is written.
 fn add_part(alloc: Global, answer: &mut String, part: Part) -> Result<(), Refusal> {
-    let word = part_word(alloc, part)?;
-    Ok(add(answer, word.as_str())?)
+    add_answer(answer, part_word(alloc, part))
 }
 
 fn row(alloc: Global, table: &AiTable, code: &[u8]) -> Answer {
     match table.row_with(code) {
         Some(row) => row_words(alloc, row),
-        None => Ok(String::from_str(alloc, "None")?),
+        None => said(alloc, "None"),
     }
 }
 
 /// The parts of a row, and then the rest of it.
 fn row_words(alloc: Global, row: &AiRow) -> Answer {
-    let rest = rest_words(alloc, row)?;
     let mut answer = parts_words(alloc, row.parts.items())?;
-    add(&mut answer, rest.as_str())?;
+    add_answer(&mut answer, rest_words(alloc, row))?;
     Ok(answer)
 }
 
@@ -117,24 +125,42 @@ fn parts_words(alloc: Global, parts: &[Part]) -> Answer {
     Ok(answer)
 }
 
+/// The role of a row and its qualifiers, the latter in brackets.
+fn role_words(alloc: Global, row: &AiRow) -> Answer {
+    let role = row.role;
+    let qualifiers = shown_all(alloc, row.qualifiers.items())?;
+    Ok(format!(in alloc; "{role:?} [{qualifiers}]")?)
+}
+
 /// The role of a row, its qualifiers, whether it is short, and its text for none.
 fn rest_words(alloc: Global, row: &AiRow) -> Answer {
-    let qualifiers = shown_all(alloc, row.qualifiers.items())?;
-    let none = shown(alloc, row.none.as_bytes())?;
-    let role = row.role;
-    let short = row.short;
-    Ok(format!(in alloc; "{role:?} [{qualifiers}] {short} {none}")?)
+    let mut answer = role_words(alloc, row)?;
+    let short = if row.short { "true" } else { "false" };
+    let words = [Word::Plain(short), Word::Bytes(row.none.as_bytes())];
+    add_words(alloc, &mut answer, &words)?;
+    Ok(answer)
 }
 
 fn copy(alloc: Global, args: &[Text]) -> Answer {
-    let pair = pair_of(alloc, arg(args, 0)?, arg(args, 1)?)?;
-    pair_words(alloc, &pair.copy(alloc)?)
+    let [code, value, ..] = args else {
+        return Err(Refusal::NoCase);
+    };
+    let pair = pair_of(alloc, code.as_bytes(), value.as_bytes())?;
+    copy_words(alloc, &pair)
+}
+
+/// The words of a copy of a pair.
+fn copy_words(alloc: Global, pair: &Pair) -> Answer {
+    let copy = pair.copy(alloc)?;
+    pair_words(alloc, &copy)
 }
 
 fn pair_words(alloc: Global, pair: &Pair) -> Answer {
-    let mut answer = shown(alloc, pair.code.as_bytes())?;
-    add_shown(alloc, &mut answer, pair.value.as_bytes())?;
-    Ok(answer)
+    let code = pair.code.as_bytes();
+    joined(
+        alloc,
+        &[Word::Bytes(code), Word::Bytes(pair.value.as_bytes())],
+    )
 }
 
 fn parts_of(alloc: Global, words: &str) -> Result<List<Part>, Refusal> {
@@ -147,11 +173,16 @@ fn parts_of(alloc: Global, words: &str) -> Result<List<Part>, Refusal> {
     Ok(List::from_vec(parts))
 }
 
+/// The code of a word.
+fn code_of(alloc: Global, word: &str) -> Result<Text, Refusal> {
+    Ok(Text::from_bytes(alloc, word.as_bytes())?)
+}
+
 fn codes_of(alloc: Global, words: &str) -> Result<List<Text>, Refusal> {
     let mut codes = Vec::new(alloc);
     for word in words.split('+') {
         if !word.is_empty() {
-            codes.push(Text::from_bytes(alloc, word.as_bytes())?)?;
+            push(&mut codes, code_of(alloc, word))?;
         }
     }
     Ok(List::from_vec(codes))
@@ -167,22 +198,38 @@ fn field(word: &str, i: usize) -> &str {
     ""
 }
 
+/// The code of a row and its text for none.
+fn texts_of_row(alloc: Global, word: &str) -> Result<(Text, Text), Refusal> {
+    let code = code_of(alloc, field(word, 0))?;
+    Ok((code, code_of(alloc, field(word, 5))?))
+}
+
+/// The parts and the qualifiers of a row.
+fn lists_of_row(alloc: Global, word: &str) -> Result<(List<Part>, List<Text>), Refusal> {
+    let parts = parts_of(alloc, field(word, 1))?;
+    Ok((parts, codes_of(alloc, field(word, 3))?))
+}
+
 fn row_of(alloc: Global, word: &[u8]) -> Result<AiRow, Refusal> {
     let word = text_of(word)?;
+    let role = Role::read(field(word, 2).as_bytes());
+    let short = field(word, 4) == "short";
+    let (code, none) = texts_of_row(alloc, word)?;
+    let (parts, qualifiers) = lists_of_row(alloc, word)?;
     Ok(AiRow {
-        code: Text::from_bytes(alloc, field(word, 0).as_bytes())?,
-        parts: parts_of(alloc, field(word, 1))?,
-        role: Role::read(field(word, 2).as_bytes()),
-        qualifiers: codes_of(alloc, field(word, 3))?,
-        short: field(word, 4) == "short",
-        none: Text::from_bytes(alloc, field(word, 5).as_bytes())?,
+        code,
+        parts,
+        role,
+        qualifiers,
+        short,
+        none,
     })
 }
 
 fn rows_of(alloc: Global, words: &[Text]) -> Result<Vec<AiRow>, Refusal> {
     let mut rows = Vec::new(alloc);
     for word in words {
-        rows.push(row_of(alloc, word.as_bytes())?)?;
+        push(&mut rows, row_of(alloc, word.as_bytes()))?;
     }
     Ok(rows)
 }

@@ -6,35 +6,35 @@
 //! - `prefix K CODE VALUE ..`: the canonical link of the identity of the key and the first K qualifiers.
 
 ghost use Rattle.std.specs.Prelude.{◌≡◌, All, IfOk};
-ghost use Rattle.gs_ident.specs.Identities.{IsInOrder};
+ghost use Rattle.gs_ident.specs.Identities.{IsInOrder, IsMadeWith};
 
-use crate::elements::text_word;
-use gs_ai::{AiTable, Pair};
+use crate::elements::add_pair;
+use gs_ai::{AiTable, Pair, ValueFault};
 use gs_chars::Text;
 use gs_ident::{IdentFault, Identity, canonical, make, spell};
 use gs_tables::TableSet;
 use std::alloc::Global;
-use vector_cases::{Answer, Refusal, add, add_shown, arg, behind, number, shown};
+use vector_cases::{Answer, Refusal, Word, add, joined, number, said, text_word};
 
 /// The answer to a call of gs_ident.
 pub fn answer(alloc: Global, set: &TableSet, call: &str, args: &[Text]) -> Answer {
     match call {
         "make" => answer_of(alloc, set.ais(), args, Asked::Parts),
         "canonical" => answer_of(alloc, set.ais(), args, Asked::Canonical),
-        "spell" => answer_of(
-            alloc,
-            set.ais(),
-            behind(args, 1),
-            Asked::Under(arg(args, 0)?),
-        ),
-        "prefix" => answer_of(
-            alloc,
-            set.ais(),
-            behind(args, 1),
-            Asked::Prefix(number(args, 0)?),
-        ),
+        "spell" | "prefix" => answer_behind(alloc, set.ais(), call, args),
         _ => Err(Refusal::NoCase),
     }
+}
+
+/// The answer to a call whose first word is no part of the pairs.
+fn answer_behind(alloc: Global, table: &AiTable, call: &str, args: &[Text]) -> Answer {
+    let [first, words @ ..] = args else {
+        return Err(Refusal::NoCase);
+    };
+    if call == "spell" {
+        return answer_of(alloc, table, words, Asked::Under(first.as_bytes()));
+    }
+    answer_of(alloc, table, words, Asked::Prefix(number(args, 0)?))
 }
 
 /// What is asked of an identity.
@@ -47,25 +47,48 @@ enum Asked<'a> {
 }
 
 fn answer_of(alloc: Global, table: &AiTable, words: &[Text], asked: Asked<'_>) -> Answer {
-    if let Some(fault) = first_fault(alloc, table, words)? {
-        return Ok(fault);
-    }
-    let pairs = pairs_of(alloc, table, words)?;
-    match make(alloc, table, pairs) {
+    match made(alloc, table, words)? {
         Ok(identity) => told(alloc, &identity, asked),
-        Err(fault) => refusal(alloc, fault),
+        Err(refused) => Ok(refused),
     }
 }
 
-/// The fault of the first value that is none of its code.
-pub fn first_fault(
+/// The identity of the pairs, or the answer that they are none.
+pub fn made(
     alloc: Global,
     table: &AiTable,
     words: &[Text],
-) -> Result<Option<String>, Refusal> {
+) -> Result<Result<Identity, String>, Refusal>
+    ensures { IfOk result (λ made. IfOk made (IsMadeWith table.now)) }
+{
+    if let Some(fault) = first_fault(table, words)? {
+        return Ok(Err(fault_words(alloc, fault)?));
+    }
+    match make(alloc, table, pairs_of(alloc, table, words)?) {
+        Ok(identity) => Ok(Ok(identity)),
+        Err(fault) => Ok(Err(refusal(alloc, fault)?)),
+    }
+}
+
+/// The fault of a value, behind `value`.
+fn fault_words(alloc: Global, fault: ValueFault) -> Answer {
+    Ok(format!(in alloc; "value {fault:?}")?)
+}
+
+/// What is wrong with the value of a pair.
+fn fault_of(table: &AiTable, pair: &[Text]) -> Result<Option<ValueFault>, Refusal> {
+    let [code, value, ..] = pair else {
+        return Err(Refusal::NoCase);
+    };
+    Ok(table.value_ok(code.as_bytes(), value.as_bytes()).err())
+}
+
+/// The fault of the first value that is none of its code.
+fn first_fault(table: &AiTable, words: &[Text]) -> Result<Option<ValueFault>, Refusal> {
     for pair in words.chunks(2) {
-        if let Err(fault) = table.value_ok(arg(pair, 0)?, arg(pair, 1)?) {
-            return Ok(Some(format!(in alloc; "value {fault:?}")?));
+        let fault = fault_of(table, pair)?;
+        if fault.is_some() {
+            return Ok(fault);
         }
     }
     Ok(None)
@@ -85,12 +108,13 @@ pub fn pair_of(alloc: Global, code: &[u8], value: &[u8]) -> Result<Pair, Refusal
 fn checked(alloc: Global, table: &AiTable, words: &[Text]) -> Result<Pair, Refusal>
     ensures { IfOk result (IsInOrder table.now) }
 {
-    let code = arg(words, 0)?;
-    let value = arg(words, 1)?;
-    if table.value_ok(code, value).is_err() {
+    let [code, value, ..] = words else {
+        return Err(Refusal::NoCase);
+    };
+    if table.value_ok(code.as_bytes(), value.as_bytes()).is_err() {
         return Err(Refusal::NoCase);
     }
-    pair_of(alloc, code, value)
+    pair_of(alloc, code.as_bytes(), value.as_bytes())
 }
 
 /// Pairs that are in order.
@@ -105,18 +129,18 @@ pub fn pairs_of(alloc: Global, table: &AiTable, words: &[Text]) -> Result<Vec<Pa
 }
 
 /// The words of a refusal.
-pub fn refusal(alloc: Global, fault: IdentFault) -> Answer {
+fn refusal(alloc: Global, fault: IdentFault) -> Answer {
     match fault {
         IdentFault::Repeat(code) => coded(alloc, "Repeat", &code),
-        IdentFault::NoKey => Ok(String::from_str(alloc, "NoKey")?),
+        IdentFault::NoKey => said(alloc, "NoKey"),
         IdentFault::TwoKeys(code) => coded(alloc, "TwoKeys", &code),
         IdentFault::Memory => Err(Refusal::Memory),
     }
 }
 
+/// The name of a refusal, and the code that it is of.
 fn coded(alloc: Global, name: &str, code: &Text) -> Answer {
-    let word = shown(alloc, code.as_bytes())?;
-    Ok(format!(in alloc; "{name} {word}")?)
+    joined(alloc, &[Word::Plain(name), Word::Bytes(code.as_bytes())])
 }
 
 fn told(alloc: Global, identity: &Identity, asked: Asked<'_>) -> Answer {
@@ -135,11 +159,6 @@ fn prefix_link(alloc: Global, identity: &Identity, count: u64) -> Answer {
     }
     let prefix = identity.prefix(alloc, count as usize)?;
     text_word(alloc, canonical(alloc, &prefix))
-}
-
-fn add_pair(alloc: Global, answer: &mut String, pair: &Pair) -> Result<(), Refusal> {
-    add_shown(alloc, answer, pair.code.as_bytes())?;
-    Ok(add_shown(alloc, answer, pair.value.as_bytes())?)
 }
 
 fn add_pairs(alloc: Global, answer: &mut String, pairs: &[Pair]) -> Result<(), Refusal> {

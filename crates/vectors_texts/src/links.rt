@@ -8,16 +8,18 @@
 
 ghost use Rattle.std.specs.Prelude.{◌≡◌, IfOk, vec_len};
 
-use crate::identities::{first_fault, pairs_of, refusal};
+use crate::identities::made;
 use crate::many_links;
 use gs_ai::AiTable;
 use gs_chars::Text;
-use gs_ident::{Identity, canonical, make};
+use gs_ident::{Identity, canonical};
 use gs_links::{Link, Store, StoreFault, Want};
 use gs_linkset::LinkDoc;
 use gs_tables::TableSet;
 use std::alloc::{AllocError, Global};
-use vector_cases::{Answer, Refusal, add, add_shown, arg, behind, fault_word, shown};
+use vector_cases::{
+    Answer, Refusal, Word, add_word, add_words, debug_word, fault_word, said, shown, text_word,
+};
 
 /// What `gs1:` stands for.
 pub const VOC: &[u8] = b"https://ref.gs1.org/voc/";
@@ -27,17 +29,28 @@ pub fn answer(alloc: Global, set: &TableSet, call: &str, args: &[Text]) -> Answe
     if call == "choose_each" {
         return many_links::answer(alloc, set, args);
     }
-    let doc = match gs_linkset::read(alloc, arg(args, 0)?) {
-        Ok(doc) => doc,
-        Err(fault) => return fault_word(alloc, fault),
+    let [document, others @ ..] = args else {
+        return Err(Refusal::NoCase);
     };
-    let store = match Store::load(alloc, set.ais(), VOC, doc) {
-        Ok(store) => store,
-        Err(fault) => return refused(alloc, fault),
-    };
+    match gs_linkset::read(alloc, document.as_bytes()) {
+        Ok(doc) => answer_over(alloc, set.ais(), doc, call, others),
+        Err(fault) => fault_word(alloc, fault),
+    }
+}
+
+/// The answer to a call over a linkset.
+fn answer_over(alloc: Global, table: &AiTable, doc: LinkDoc, call: &str, args: &[Text]) -> Answer {
+    match Store::load(alloc, table, VOC, doc) {
+        Ok(store) => answer_from(alloc, table, &store, call, args),
+        Err(fault) => refused(alloc, fault),
+    }
+}
+
+/// The answer to a call from a store, which is lent so that it is dropped at one exit.
+fn answer_from(alloc: Global, table: &AiTable, store: &Store, call: &str, args: &[Text]) -> Answer {
     match call {
-        "load" => links_words(alloc, &store),
-        _ => of_identity(alloc, set.ais(), &store, call, behind(args, 1)),
+        "load" => links_words(alloc, store),
+        _ => of_identity(alloc, table, store, call, args),
     }
 }
 
@@ -45,18 +58,28 @@ pub fn answer(alloc: Global, set: &TableSet, call: &str, args: &[Text]) -> Answe
 pub fn refused(alloc: Global, fault: StoreFault) -> Answer {
     match fault {
         StoreFault::Memory => Err(Refusal::Memory),
-        fault => Ok(shown(alloc, format!(in alloc; "{fault:?}")?.as_bytes())?),
+        fault => fault_shown(alloc, &fault),
     }
 }
 
+/// A refusal in Rust's words, shown as one word.
+fn fault_shown(alloc: Global, fault: &StoreFault) -> Answer {
+    let words = debug_word(alloc, fault)?;
+    shown(alloc, words.as_bytes())
+}
+
 fn add_link(alloc: Global, answer: &mut String, link: &Link) -> Result<(), Refusal> {
-    add_shown(alloc, answer, canonical(alloc, &link.anchor)?.as_bytes())?;
-    add_shown(alloc, answer, link.relation.as_bytes())?;
-    Ok(add_shown(alloc, answer, link.target.href.as_bytes())?)
+    let anchor = canonical(alloc, &link.anchor)?;
+    let words = [
+        Word::Bytes(anchor.as_bytes()),
+        Word::Bytes(link.relation.as_bytes()),
+        Word::Bytes(link.target.href.as_bytes()),
+    ];
+    add_words(alloc, answer, &words)
 }
 
 fn links_words(alloc: Global, store: &Store) -> Answer {
-    let mut answer = format!(in alloc; "{}", store.len())?;
+    let mut answer = debug_word(alloc, &store.len())?;
     for i in 0..store.len() {
         add_link(alloc, &mut answer, store.link(i))?;
     }
@@ -64,13 +87,12 @@ fn links_words(alloc: Global, store: &Store) -> Answer {
 }
 
 fn of_identity(alloc: Global, table: &AiTable, store: &Store, call: &str, args: &[Text]) -> Answer {
-    let words = behind(args, 1);
-    if let Some(fault) = first_fault(alloc, table, words)? {
-        return Ok(fault);
-    }
-    match make(alloc, table, pairs_of(alloc, table, words)?) {
-        Ok(identity) => asked(alloc, store, call, &identity, arg(args, 0)?),
-        Err(fault) => refusal(alloc, fault),
+    let [want, words @ ..] = args else {
+        return Err(Refusal::NoCase);
+    };
+    match made(alloc, table, words)? {
+        Ok(identity) => asked(alloc, store, call, &identity, want.as_bytes()),
+        Err(refused) => Ok(refused),
     }
 }
 
@@ -92,26 +114,20 @@ fn asked(alloc: Global, store: &Store, call: &str, identity: &Identity, want: &[
     let chosen_numbers = &numbers.as_slice()[..chosen.count];
     match call {
         "choose" => choice_words(alloc, chosen.depth, chosen_numbers),
-        "document" if chosen.count == 0 => Ok(String::from_str(alloc, "None")?),
+        "document" if chosen.count == 0 => said(alloc, "None"),
         "document" => written(alloc, &store.document(alloc, identity, chosen_numbers)?),
         _ => Err(Refusal::NoCase),
     }
 }
 
 fn choice_words(alloc: Global, depth: usize, numbers: &[u32]) -> Answer {
-    let mut answer = format!(in alloc; "{depth}")?;
+    let mut answer = debug_word(alloc, &depth)?;
     for number in numbers {
-        add_number(alloc, &mut answer, *number)?;
+        add_word(alloc, &mut answer, Word::Number(*number as u64))?;
     }
     Ok(answer)
 }
 
-fn add_number(alloc: Global, answer: &mut String, number: u32) -> Result<(), Refusal> {
-    let word = format!(in alloc; "{number}")?;
-    Ok(add(answer, word.as_str())?)
-}
-
 fn written(alloc: Global, doc: &LinkDoc) -> Answer {
-    let text = gs_linkset::write(alloc, doc)?;
-    Ok(shown(alloc, text.as_bytes())?)
+    text_word(alloc, gs_linkset::write(alloc, doc))
 }

@@ -3,51 +3,70 @@
 //! - `choose_each COUNT TIMES`: COUNT, where `choose` gives the link K alone and the depth 1 for the anchor of each K below
 //!   COUNT and `r`, so many times over; else the first K for which it does not, or the refusal of so many links.
 
-ghost use Rattle.std.specs.Prelude.{◌≤◌, length};
+ghost use Rattle.std.specs.Prelude.{◌≤◌, All, IfOk, length};
+ghost use Rattle.gs_ident.specs.Identities.{IsInOrder};
 
 use crate::links::{VOC, refused, room};
-use gs_ai::AiTable;
+use gs_ai::{AiTable, Pair};
 use gs_chars::Text;
 use gs_dlink::read_target;
 use gs_ident::{Identity, make};
 use gs_links::{Store, Want};
+use gs_linkset::LinkDoc;
 use gs_tables::TableSet;
-use std::alloc::{AllocError, Global};
-use vector_cases::{Answer, Refusal, fault_word, number};
+use std::alloc::Global;
+use vector_cases::{Answer, Refusal, debug_word, fault_word, number, said};
 
 /// The answer to the call.
 pub fn answer(alloc: Global, set: &TableSet, args: &[Text]) -> Answer {
     let text = linkset(alloc, number(args, 0)?)?;
-    let doc = match gs_linkset::read(alloc, text.as_bytes()) {
-        Ok(doc) => doc,
-        Err(fault) => return fault_word(alloc, fault),
-    };
-    match Store::load(alloc, set.ais(), VOC, doc) {
-        Ok(store) => first_other(alloc, set.ais(), &store, number(args, 1)?),
+    match gs_linkset::read(alloc, text.as_bytes()) {
+        Ok(doc) => answer_over(alloc, set.ais(), doc, args),
+        Err(fault) => fault_word(alloc, fault),
+    }
+}
+
+/// The answer over a linkset.
+fn answer_over(alloc: Global, table: &AiTable, doc: LinkDoc, args: &[Text]) -> Answer {
+    match Store::load(alloc, table, VOC, doc) {
+        Ok(store) => first_other(alloc, table, &store, number(args, 1)?),
         Err(fault) => refused(alloc, fault),
     }
 }
 
+/// Appends the link K of the document.
+fn push_link(alloc: Global, text: &mut String, k: u64) -> Result<(), Refusal> {
+    let front = if k == 0 { "" } else { "," };
+    let link = format!(in alloc;
+        "{front}{{\"anchor\":\"/01/09506000134352/21/{k}\",\"r\":[{{\"href\":\"a\"}}]}}"
+    )?;
+    Ok(text.push_str(link.as_str())?)
+}
+
 /// The document of so many links.
-fn linkset(alloc: Global, count: u64) -> Result<String, AllocError> {
-    let mut text = String::from_str(alloc, "{\"linkset\":[")?;
+fn linkset(alloc: Global, count: u64) -> Answer {
+    let mut text = said(alloc, "{\"linkset\":[")?;
     for k in 0..count {
-        text.push_str(if k == 0 { "" } else { "," })?;
-        text.push_str("{\"anchor\":\"/01/09506000134352/21/")?;
-        text.push_str(format!(in alloc; "{k}")?.as_str())?;
-        text.push_str("\",\"r\":[{\"href\":\"a\"}]}")?;
+        push_link(alloc, &mut text, k)?;
     }
     text.push_str("]}")?;
     Ok(text)
 }
 
+/// The pairs of the anchor of the link K.
+fn anchor_pairs(alloc: Global, table: &AiTable, k: usize) -> Result<Vec<Pair>, Refusal>
+    ensures { IfOk result (λ pairs. All (IsInOrder table.now) pairs.items) }
+{
+    let target = format!(in alloc; "/01/09506000134352/21/{k}")?;
+    match read_target(alloc, table, target.as_bytes()) {
+        Ok(pairs) => Ok(pairs),
+        Err(_) => Err(Refusal::NoCase),
+    }
+}
+
 /// The identity of the anchor of the link K.
 fn identity(alloc: Global, table: &AiTable, k: usize) -> Result<Identity, Refusal> {
-    let target = format!(in alloc; "/01/09506000134352/21/{k}")?;
-    let Ok(pairs) = read_target(alloc, table, target.as_bytes()) else {
-        return Err(Refusal::NoCase);
-    };
-    match make(alloc, table, pairs) {
+    match make(alloc, table, anchor_pairs(alloc, table, k)?) {
         Ok(identity) => Ok(identity),
         Err(_) => Err(Refusal::NoCase),
     }
@@ -89,17 +108,13 @@ fn anchor_is_alone(
     Ok(is_alone(store, &identity, k, times, numbers))
 }
 
-fn number_word(alloc: Global, number: usize) -> Answer {
-    Ok(format!(in alloc; "{number}")?)
-}
-
 /// The number of links, or of the first that is not chosen alone.
 fn first_other(alloc: Global, table: &AiTable, store: &Store, times: u64) -> Answer {
     let mut numbers = room(alloc, store.len())?;
     for k in 0..store.len() {
         if !anchor_is_alone(alloc, table, store, k, times, numbers.as_mut_slice())? {
-            return number_word(alloc, k);
+            return debug_word(alloc, &k);
         }
     }
-    number_word(alloc, store.len())
+    debug_word(alloc, &store.len())
 }

@@ -12,8 +12,11 @@ use gs_json::{Doc, Node};
 use gs_tables::{
     Field, ItemFault, Kind, LevelName, LoadFault, OptInfo, SerialAt, TableSet, read_item,
 };
-use std::alloc::{AllocError, Global};
-use vector_cases::{Answer, Refusal, add, add_shown, arg, fault_word, item_word, number, shown};
+use std::alloc::Global;
+use vector_cases::{
+    Answer, Refusal, Word, add, add_answer, add_shown, arg, debug_word, fault_word, glued,
+    item_word, joined, number, said,
+};
 
 /// The answer to a call of gs_tables.
 pub fn answer(alloc: Global, set: &TableSet, call: &str, args: &[Text]) -> Answer {
@@ -52,12 +55,19 @@ fn option_count(set: &TableSet, level: LevelName) -> usize {
 }
 
 fn counts(alloc: Global, set: &TableSet) -> Answer {
-    let ais = set.ais().rows().len();
-    let kinds = set.kinds().len();
-    let binary = option_count(set, LevelName::Binary);
-    let tag = option_count(set, LevelName::Tag);
-    let pure = option_count(set, LevelName::Pure);
-    Ok(format!(in alloc; "{ais} {kinds} {binary} {tag} {pure}")?)
+    let binary = option_count(set, LevelName::Binary) as u64;
+    let tag = option_count(set, LevelName::Tag) as u64;
+    let pure = option_count(set, LevelName::Pure) as u64;
+    joined(
+        alloc,
+        &[
+            Word::Number(set.ais().rows().len() as u64),
+            Word::Number(set.kinds().len() as u64),
+            Word::Number(binary),
+            Word::Number(tag),
+            Word::Number(pure),
+        ],
+    )
 }
 
 /// The set of a document, where it is one.
@@ -73,25 +83,37 @@ fn load(alloc: Global, document: &[u8]) -> Answer {
     match TableSet::load(alloc, document) {
         Ok(set) => counts(alloc, &set),
         Err(LoadFault::Json(fault)) => fault_word(alloc, fault),
-        Err(LoadFault::Ambiguous(level, i, j, _)) => {
-            Ok(format!(in alloc; "Ambiguous({level:?}, {i}, {j})")?)
-        }
+        Err(LoadFault::Ambiguous(level, i, j, _)) => ambiguous(alloc, level, i, j),
         Err(LoadFault::Memory) => Err(Refusal::Memory),
-        Err(fault) => Ok(format!(in alloc; "{fault:?}")?),
+        Err(fault) => debug_word(alloc, &fault),
     }
 }
 
+/// The level whose options I and J share a list of symbols.
+fn ambiguous(alloc: Global, level: LevelName, i: usize, j: usize) -> Answer {
+    Ok(format!(in alloc; "Ambiguous({level:?}, {i}, {j})")?)
+}
+
+/// The name, the key and the lead digits of a kind.
+fn head_of_kind(alloc: Global, kind: &Kind) -> Answer {
+    joined(
+        alloc,
+        &[
+            Word::Bytes(kind.name.as_bytes()),
+            Word::Bytes(kind.key.as_bytes()),
+            Word::Number(kind.lead as u64),
+        ],
+    )
+}
+
 fn kind_words(alloc: Global, kind: &Kind) -> Answer {
-    let name = shown(alloc, kind.name.as_bytes())?;
-    let key = shown(alloc, kind.key.as_bytes())?;
-    let lead = kind.lead;
-    let mut answer = format!(in alloc; "{name} {key} {lead}")?;
+    let mut answer = head_of_kind(alloc, kind)?;
     add_serial(alloc, &mut answer, &kind.serial)?;
     Ok(answer)
 }
 
 /// Appends where the serial of a kind stands.
-fn add_serial(alloc: Global, answer: &mut String, serial: &SerialAt) -> Result<(), AllocError> {
+fn add_serial(alloc: Global, answer: &mut String, serial: &SerialAt) -> Result<(), Refusal> {
     match serial {
         SerialAt::Nowhere => add(answer, "Nowhere"),
         SerialAt::Tail => add(answer, "Tail"),
@@ -117,13 +139,25 @@ fn field_name(field: Option<Field>) -> &'static str {
 /// An item with the name of its field.
 fn field_item(alloc: Global, level: LevelName, field: Option<Field>, item: &Item) -> Answer {
     let word = item_word(alloc, is_bits(level), item)?;
-    let name = field_name(field);
-    Ok(format!(in alloc; "{name}{word}")?)
+    glued(alloc, field_name(field), word.as_str())
 }
 
-fn option(alloc: Global, set: &TableSet, args: &[Text]) -> Answer {
-    let level = level_of(arg(args, 0)?)?;
-    let i = number(args, 1)? as usize;
+/// Appends the items of an option, each with the name of its field.
+fn add_items(
+    alloc: Global,
+    answer: &mut String,
+    level: LevelName,
+    fields: &[Option<Field>],
+    items: &[Item],
+) -> Result<(), Refusal> {
+    for (field, item) in fields.iter().zip(items) {
+        add_item(alloc, answer, level, *field, item)?;
+    }
+    Ok(())
+}
+
+/// The words of the option of a number, and those of its items.
+fn option_words(alloc: Global, set: &TableSet, level: LevelName, i: usize) -> Answer {
     let Some(info) = set.info(level).get(i) else {
         return Err(Refusal::NoCase);
     };
@@ -131,10 +165,19 @@ fn option(alloc: Global, set: &TableSet, args: &[Text]) -> Answer {
         return Err(Refusal::NoCase);
     };
     let mut answer = head_words(alloc, set, info)?;
-    for (field, item) in info.fields.items().iter().zip(option.items()) {
-        add_item(alloc, &mut answer, level, *field, item)?;
-    }
+    add_items(
+        alloc,
+        &mut answer,
+        level,
+        info.fields.items(),
+        option.items(),
+    )?;
     Ok(answer)
+}
+
+fn option(alloc: Global, set: &TableSet, args: &[Text]) -> Answer {
+    let i = number(args, 1)? as usize;
+    option_words(alloc, set, level_of(arg(args, 0)?)?, i)
 }
 
 /// Appends an item with the name of its field.
@@ -145,24 +188,30 @@ fn add_item(
     field: Option<Field>,
     item: &Item,
 ) -> Result<(), Refusal> {
-    let word = field_item(alloc, level, field, item)?;
-    Ok(add(answer, word.as_str())?)
+    add_answer(answer, field_item(alloc, level, field, item))
 }
 
 /// The kind, encoding and prefix length of an option.
-fn head_words(alloc: Global, set: &TableSet, info: &OptInfo) -> Answer {
+fn head_words<'a>(alloc: Global, set: &'a TableSet, info: &'a OptInfo) -> Answer {
     let Some(kind) = set.kinds().get(info.kind) else {
         return Err(Refusal::NoCase);
     };
-    let name = shown(alloc, kind.name.as_bytes())?;
-    let encoding = shown(alloc, info.encoding.as_bytes())?;
-    let gcp = info.gcp;
-    Ok(format!(in alloc; "{name} {encoding} {gcp}")?)
+    joined(
+        alloc,
+        &[
+            Word::Bytes(kind.name.as_bytes()),
+            Word::Bytes(info.encoding.as_bytes()),
+            Word::Number(info.gcp as u64),
+        ],
+    )
 }
 
 fn item(alloc: Global, args: &[Text]) -> Answer {
-    let level = level_of(arg(args, 0)?)?;
-    match Doc::parse(alloc, arg(args, 1)?) {
+    let [level, document, ..] = args else {
+        return Err(Refusal::NoCase);
+    };
+    let level = level_of(level.as_bytes())?;
+    match Doc::parse(alloc, document.as_bytes()) {
         Ok(doc) => item_at(alloc, level, &doc.root(alloc)),
         Err(_) => Err(Refusal::NoCase),
     }
@@ -172,7 +221,7 @@ fn item(alloc: Global, args: &[Text]) -> Answer {
 fn item_at(alloc: Global, level: LevelName, node: &Node<'_>) -> Answer {
     match read_item(alloc, node, is_bits(level)) {
         Ok((field, item)) => field_item(alloc, level, field, &item),
-        Err(ItemFault::Bad) => Ok(String::from_str(alloc, "Bad")?),
+        Err(ItemFault::Bad) => said(alloc, "Bad"),
         Err(ItemFault::Memory) => Err(Refusal::Memory),
     }
 }

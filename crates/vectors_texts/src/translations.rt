@@ -22,22 +22,31 @@ use gs_translate::{
     Form, Meaning, Options, Reason, Target, answer as answer_to, append_reason, read, translate,
 };
 use std::alloc::Global;
-use vector_cases::{Answer, Refusal, arg, behind, number_of, shown, text_of};
+use vector_cases::{
+    Answer, Refusal, add_answer, add_shown, arg, behind, number_of, shown, text_of, text_word,
+};
 
 /// The answer to a call of gs_translate.
 pub fn answer(alloc: Global, set: &TableSet, call: &str, args: &[Text]) -> Answer {
-    let form = form_of(arg(args, 0)?)?;
+    let [form, others @ ..] = args else {
+        return Err(Refusal::NoCase);
+    };
+    let form = form_of(form.as_bytes())?;
     match call {
-        "read" => meant(alloc, set, form, args),
-        "answer" => text_word(alloc, answer_to(alloc, set, form, arg(args, 1)?)),
-        "translate" => translation(alloc, set, form, args),
+        "read" => meant(alloc, set, form, arg(others, 0)?),
+        "answer" => answered(alloc, set, form, arg(others, 0)?),
+        "translate" => translation(alloc, set, form, others),
         _ => Err(Refusal::NoCase),
     }
 }
 
+fn answered(alloc: Global, set: &TableSet, form: Form, text: &[u8]) -> Answer {
+    translated_word(alloc, answer_to(alloc, set, form, text))
+}
+
 /// What a text means, or the reason.
-fn meant(alloc: Global, set: &TableSet, form: Form, args: &[Text]) -> Answer {
-    match read(alloc, set, form, arg(args, 1)?) {
+fn meant(alloc: Global, set: &TableSet, form: Form, text: &[u8]) -> Answer {
+    match read(alloc, set, form, text) {
         Ok(meaning) => meaning_words(alloc, &meaning),
         Err(reason) => reason_word(alloc, &reason),
     }
@@ -125,15 +134,17 @@ fn options_of(alloc: Global, args: &[Text]) -> Result<Options, Refusal>
     ensures { IfOk result AreInOrder }
 {
     // the texts last, since each exit behind a text drops it
-    let filter = filter_of(arg(args, 0)?)?;
-    let gcp = small_number(arg(args, 1)?, 12)?;
-    let encoding = arg(args, 2)?;
-    let keys_only = is_yes(arg(args, 3)?)?;
-    let stem = stem_of(alloc, arg(args, 4)?)?;
+    let [filter, gcp, encoding, keys_only, stem, ..] = args else {
+        return Err(Refusal::NoCase);
+    };
+    let filter = filter_of(filter.as_bytes())?;
+    let gcp = small_number(gcp.as_bytes(), 12)?;
+    let keys_only = is_yes(keys_only.as_bytes())?;
+    let stem = stem_of(alloc, stem.as_bytes())?;
     Ok(Options {
         filter,
         gcp,
-        encoding: Text::from_bytes(alloc, encoding)?,
+        encoding: encoding.copy(alloc)?,
         keys_only,
         stem,
     })
@@ -141,42 +152,53 @@ fn options_of(alloc: Global, args: &[Text]) -> Result<Options, Refusal>
 
 /// The translation of the last argument by those before it.
 fn translation(alloc: Global, set: &TableSet, from: Form, args: &[Text]) -> Answer {
-    let to = target_of(arg(args, 1)?)?;
-    let document = arg(args, 7)?;
-    let text = arg(args, 8)?;
-    let options = options_of(alloc, behind(args, 2))?;
-    let prefixes = list_of(alloc, document)?;
-    let translated = translate(alloc, set, &prefixes, &options, from, to, text);
-    text_word(alloc, translated)
+    let [to, _, _, _, _, _, document, text, ..] = args else {
+        return Err(Refusal::NoCase);
+    };
+    let to = target_of(to.as_bytes())?;
+    let options = options_of(alloc, behind(args, 1))?;
+    let prefixes = list_of(alloc, document.as_bytes())?;
+    let translated = translate(alloc, set, &prefixes, &options, from, to, text.as_bytes());
+    translated_word(alloc, translated)
 }
 
 /// The text as a word, or the reason.
-fn text_word(alloc: Global, answer: Result<Text, Reason>) -> Answer {
+fn translated_word(alloc: Global, answer: Result<Text, Reason>) -> Answer {
     match answer {
-        Ok(text) => Ok(shown(alloc, text.as_bytes())?),
+        Ok(text) => shown(alloc, text.as_bytes()),
         Err(reason) => reason_word(alloc, &reason),
     }
 }
 
 fn reason_word(alloc: Global, reason: &Reason) -> Answer {
-    if matches!(reason, Reason::Memory) {
-        return Err(Refusal::Memory);
+    match reason {
+        Reason::Memory => Err(Refusal::Memory),
+        reason => reason_shown(alloc, reason),
     }
+}
+
+/// A reason, shown as one word.
+fn reason_shown(alloc: Global, reason: &Reason) -> Answer {
     let mut text = Vec::new(alloc);
     append_reason(alloc, &mut text, reason)?;
-    Ok(shown(alloc, text.as_slice())?)
+    shown(alloc, text.as_slice())
 }
 
 /// The canonical link of an identity.
 fn link_word(alloc: Global, identity: &Identity) -> Answer {
-    let link = canonical(alloc, identity)?;
-    Ok(shown(alloc, link.as_bytes())?)
+    text_word(alloc, canonical(alloc, identity))
+}
+
+/// The prefix length and the filter value of a meaning.
+fn number_words(alloc: Global, meaning: &Meaning) -> Answer {
+    let gcp = meaning.gcp;
+    let filter = meaning.filter;
+    Ok(format!(in alloc; "{gcp:?} {filter:?}")?)
 }
 
 fn meaning_words(alloc: Global, meaning: &Meaning) -> Answer {
-    let link = link_word(alloc, &meaning.identity)?;
-    let encoding = shown(alloc, meaning.encoding.as_bytes())?;
-    let gcp = meaning.gcp;
-    let filter = meaning.filter;
-    Ok(format!(in alloc; "{link} {gcp:?} {filter:?} {encoding}")?)
+    let mut answer = link_word(alloc, &meaning.identity)?;
+    add_answer(&mut answer, number_words(alloc, meaning))?;
+    add_shown(alloc, &mut answer, meaning.encoding.as_bytes())?;
+    Ok(answer)
 }
