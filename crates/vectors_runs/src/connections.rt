@@ -7,13 +7,17 @@
 
 ghost use Rattle.std.specs.Prelude.{◌≡◌, false, true, is_some};
 
-use crate::outside::{add_answer, read_word, write_word};
+use crate::outside::write_word;
 use gs_chars::Text;
 use gs_port::{
     AcceptAnswer, Conn, Door, MemDoor, MemSink, MemSource, OpenAnswer, Pair, ReadAnswer,
+    WriteAnswer,
 };
 use std::alloc::Global;
-use vector_cases::{Answer, Refusal, add_shown, door_of, section, sink_of, source_of};
+use vector_cases::{
+    Answer, Refusal, add_answer, add_shown, debug_word, door_of, said, section, shown, sink_of,
+    source_of,
+};
 
 /// The answer to a call of gs_port over connections.
 pub fn answer(alloc: Global, call: &str, args: &[Text]) -> Answer {
@@ -24,6 +28,13 @@ pub fn answer(alloc: Global, call: &str, args: &[Text]) -> Answer {
     }
 }
 
+/// The bytes that a read moved, and what the write of these answers.
+fn turn_words(alloc: Global, moved: &[u8], taken: WriteAnswer) -> Answer {
+    let mut answer = shown(alloc, moved)?;
+    add_answer(&mut answer, write_word(alloc, taken))?;
+    Ok(answer)
+}
+
 /// What a turn answers.
 fn turn<C: Conn>(alloc: Global, conn: &mut C) -> Answer
     requires { C.is_open conn.old ≡ true }
@@ -32,12 +43,13 @@ fn turn<C: Conn>(alloc: Global, conn: &mut C) -> Answer
 {
     let mut block = [0; 4];
     let moved = conn.read(&mut block);
-    let mut answer = read_word(alloc, moved, &block)?;
-    if let ReadAnswer::Got(n) = moved {
-        let taken = conn.write(&block[..n]);
-        add_answer(&mut answer, write_word(alloc, taken))?;
+    match moved {
+        ReadAnswer::Got(n) => {
+            let taken = conn.write(&block[..n]);
+            turn_words(alloc, &block[..n], taken)
+        }
+        ReadAnswer::Failed => said(alloc, "Failed"),
     }
-    Ok(answer)
 }
 
 /// What three turns answer.
@@ -66,7 +78,8 @@ fn pair_words(alloc: Global, source: &mut MemSource, sink: &mut MemSink) -> Answ
 
 fn pair(alloc: Global, args: &[Text]) -> Answer {
     let to = section(args, 1)?;
-    let mut source = source_of(alloc, section(args, 0)?)?;
+    let from = section(args, 0)?;
+    let mut source = source_of(alloc, from)?;
     let mut sink = sink_of(alloc, to)?;
     pair_words(alloc, &mut source, &mut sink)
 }
@@ -84,8 +97,8 @@ fn visit(alloc: Global, door: &mut MemDoor) -> Answer
             door.finish();
             answer
         }
-        AcceptAnswer::Closed => Ok(String::from_str(alloc, "Closed")?),
-        AcceptAnswer::Failed => Ok(String::from_str(alloc, "Failed")?),
+        AcceptAnswer::Closed => said(alloc, "Closed"),
+        AcceptAnswer::Failed => said(alloc, "Failed"),
     }
 }
 
@@ -110,7 +123,7 @@ fn add_written(alloc: Global, answer: &mut String, door: &MemDoor) -> Result<(),
 
 /// The number of finished connections, and what each was written.
 pub fn finished(alloc: Global, door: &MemDoor) -> Answer {
-    let mut answer = format!(in alloc; "{}", door.finished())?;
+    let mut answer = debug_word(alloc, &door.finished())?;
     add_written(alloc, &mut answer, door)?;
     Ok(answer)
 }
@@ -131,7 +144,7 @@ fn open_word(alloc: Global, door: &mut MemDoor) -> Answer
 {
     match door.open("memory") {
         OpenAnswer::Opened => visits_told(alloc, door),
-        OpenAnswer::Failed => Ok(String::from_str(alloc, "Failed")?),
+        OpenAnswer::Failed => said(alloc, "Failed"),
         OpenAnswer::Memory => Err(Refusal::Memory),
     }
 }

@@ -5,12 +5,12 @@
 
 ghost use Rattle.std.specs.Prelude.{◌<◌, ◌^◌};
 
-use crate::runs::outcome;
+use crate::runs::{outcome, status_words};
 use gs_chars::{Memory, Text};
 use gs_lines::{Answerer, Status, answer_lines, print_line};
 use gs_port::{MemSink, MemSource};
 use std::alloc::Global;
-use vector_cases::{Answer, Refusal, arg, number, section, shown, sink_of, source_of};
+use vector_cases::{Answer, Refusal, arg, number, section, sink_of, source_of};
 
 /// Accepts each text of at most 2,048 bytes, and answers it by itself; of any other it says that it is long.
 struct Echo;
@@ -60,20 +60,30 @@ fn status_of(alloc: Global, input: &mut MemSource, output: &mut MemSink, limit: 
     answer_lines(alloc, &Echo, input, output, limit)
 }
 
+/// The input that the second part of the arguments tells.
+fn input_at(alloc: Global, args: &[Text]) -> Result<MemSource, Refusal> {
+    source_of(alloc, section(args, 1)?)
+}
+
+/// The output that a part of the arguments tells.
+fn output_at(alloc: Global, args: &[Text], number: usize) -> Result<MemSink, Refusal> {
+    sink_of(alloc, section(args, number)?)
+}
+
 fn answered(alloc: Global, args: &[Text]) -> Answer {
     let limit = number(args, 0)?;
     if limit > 4_294_967_296 {
         return Err(Refusal::NoCase);
     }
-    let mut input = source_of(alloc, section(args, 1)?)?;
-    let mut output = sink_of(alloc, section(args, 2)?)?;
+    let mut input = input_at(alloc, args)?;
+    let mut output = output_at(alloc, args, 2)?;
     let status = status_of(alloc, &mut input, &mut output, limit);
     outcome(alloc, status, &mut input, &output)
 }
 
 fn printed(alloc: Global, args: &[Text]) -> Answer {
-    let mut output = sink_of(alloc, section(args, 1)?)?;
-    let status = print_line(&mut output, arg(args, 0)?, Status::Usage);
-    let written = shown(alloc, output.bytes())?;
-    Ok(format!(in alloc; "{status:?} {written}")?)
+    let line = arg(args, 0)?;
+    let mut output = output_at(alloc, args, 1)?;
+    let status = print_line(&mut output, line, Status::Usage);
+    status_words(alloc, status, output.bytes())
 }

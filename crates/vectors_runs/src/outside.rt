@@ -16,8 +16,8 @@ use gs_port::{
 };
 use std::alloc::Global;
 use vector_cases::{
-    Answer, Refusal, add, add_shown, arg, behind, cut_of, files_of, number, numbers_of, section,
-    shown, sink_of, text_of,
+    Answer, Refusal, Word, add, add_answer, add_shown, arg, behind, cut_of, debug_word, files_of,
+    joined, number, numbers_of, said, section, shown, sink_of, text_of,
 };
 
 /// The answer to a call of gs_port.
@@ -32,16 +32,11 @@ pub fn answer(alloc: Global, call: &str, args: &[Text]) -> Answer {
     }
 }
 
-/// Appends an answer, behind a space where it is not the first.
-pub fn add_answer(answer: &mut String, more: Answer) -> Result<(), Refusal> {
-    Ok(add(answer, more?.as_str())?)
-}
-
 /// What a read answers: the bytes that it moved to the front of the block, or that it failed.
-pub fn read_word(alloc: Global, moved: ReadAnswer, block: &[u8]) -> Answer {
+fn read_word(alloc: Global, moved: ReadAnswer, block: &[u8]) -> Answer {
     match moved {
-        ReadAnswer::Got(n) => Ok(shown(alloc, &block[..n.min(block.len())])?),
-        ReadAnswer::Failed => Ok(String::from_str(alloc, "Failed")?),
+        ReadAnswer::Got(n) => shown(alloc, &block[..n.min(block.len())]),
+        ReadAnswer::Failed => said(alloc, "Failed"),
     }
 }
 
@@ -62,20 +57,27 @@ fn reads(alloc: Global, source: &mut MemSource, size: usize) -> Answer
     Ok(answer)
 }
 
+/// The input of some bytes, of the most that a read moves and of the calls that fail.
+fn input_of(alloc: Global, args: &[Text]) -> Result<MemSource, Refusal> {
+    let cut = cut_of(args, 1)?;
+    let [bytes, _, fails, ..] = args else {
+        return Err(Refusal::NoCase);
+    };
+    let fails = numbers_of(alloc, fails.as_bytes())?;
+    Ok(MemSource::new(alloc, bytes.as_bytes().to_vec(alloc)?, cut, fails))
+}
+
 fn read(alloc: Global, args: &[Text]) -> Answer {
     let size = cut_of(args, 3)?;
-    let cut = cut_of(args, 1)?;
-    let fails = numbers_of(alloc, arg(args, 2)?)?;
-    let bytes = arg(args, 0)?.to_vec(alloc)?;
-    let mut source = MemSource::new(alloc, bytes, cut, fails);
+    let mut source = input_of(alloc, args)?;
     reads(alloc, &mut source, size)
 }
 
 /// What a write answers: the number of bytes that it took, or that it failed.
 pub fn write_word(alloc: Global, taken: WriteAnswer) -> Answer {
     match taken {
-        WriteAnswer::Took(n) => Ok(format!(in alloc; "{n}")?),
-        WriteAnswer::Failed => Ok(String::from_str(alloc, "Failed")?),
+        WriteAnswer::Took(n) => debug_word(alloc, &n),
+        WriteAnswer::Failed => said(alloc, "Failed"),
         WriteAnswer::Memory => Err(Refusal::Memory),
     }
 }
@@ -99,7 +101,7 @@ fn write(alloc: Global, args: &[Text]) -> Answer {
 /// What a piece that is written whole answers.
 fn whole_word(alloc: Global, sink: &mut MemSink, piece: &[u8]) -> Answer {
     let whole = write_whole(sink, piece);
-    Ok(format!(in alloc; "{whole:?}")?)
+    debug_word(alloc, &whole)
 }
 
 /// What each piece that is written whole answers, then what the sink holds.
@@ -117,43 +119,57 @@ fn written_whole(alloc: Global, args: &[Text]) -> Answer {
     whole_writes(alloc, &mut sink, behind(args, 2))
 }
 
+/// `Opened`, and what a read answers.
+fn opened_words(alloc: Global, moved: ReadAnswer, block: &[u8]) -> Answer {
+    let word = read_word(alloc, moved, block)?;
+    joined(alloc, &[Word::Plain("Opened"), Word::Plain(word.as_str())])
+}
+
 /// What an open answers, and what a read moves then.
 fn opened(alloc: Global, files: &mut MemFiles, name: &str) -> Answer {
     match files.open(name) {
         OpenAnswer::Opened => {
             let mut block = [0; 4];
             let moved = files.read(&mut block);
-            let word = read_word(alloc, moved, &block)?;
-            Ok(format!(in alloc; "Opened {word}")?)
+            opened_words(alloc, moved, &block)
         }
-        OpenAnswer::Failed => Ok(String::from_str(alloc, "Failed")?),
+        OpenAnswer::Failed => said(alloc, "Failed"),
         OpenAnswer::Memory => Err(Refusal::Memory),
     }
+}
+
+/// What an open of a name answers, and what a read moves then.
+fn open_told(alloc: Global, files: &mut MemFiles, name: &Text) -> Answer {
+    opened(alloc, files, text_of(name.as_bytes())?)
 }
 
 /// What opens of these names answer.
 fn opens(alloc: Global, files: &mut MemFiles, names: &[Text]) -> Answer {
     let mut answer = String::new(alloc);
     for name in names {
-        let name = text_of(name.as_bytes())?;
-        add_answer(&mut answer, opened(alloc, files, name))?;
+        add_answer(&mut answer, open_told(alloc, files, name))?;
     }
     Ok(answer)
 }
 
+/// The files that the first part of the arguments tells.
+fn files_at(alloc: Global, args: &[Text]) -> Result<MemFiles, Refusal> {
+    files_of(alloc, section(args, 0)?)
+}
+
 fn open(alloc: Global, args: &[Text]) -> Answer {
     let names = section(args, 1)?;
-    let mut files = files_of(alloc, section(args, 0)?)?;
+    let mut files = files_at(alloc, args)?;
     opens(alloc, &mut files, names)
 }
 
 /// What reading a file, whose name and most bytes are told, answers.
 fn file_read(alloc: Global, files: &mut MemFiles, told: &[Text]) -> Answer {
-    let name = text_of(arg(told, 0)?)?;
     let max = number(told, 1)?;
     if max > 16_777_216 {
         return Err(Refusal::NoCase);
     }
+    let name = text_of(arg(told, 0)?)?;
     file_words(alloc, read_file(alloc, files, name, max as usize))
 }
 
@@ -162,15 +178,14 @@ fn file_words(alloc: Global, read: Result<Text, FileFault>) -> Answer {
     match read {
         Ok(text) => behind_word(alloc, "Ok", text.as_bytes()),
         Err(FileFault::Over(text)) => behind_word(alloc, "Over", text.as_bytes()),
-        Err(FileFault::Failed) => Ok(String::from_str(alloc, "Failed")?),
+        Err(FileFault::Failed) => said(alloc, "Failed"),
         Err(FileFault::Memory) => Err(Refusal::Memory),
     }
 }
 
 /// A word, and the bytes behind it.
 fn behind_word(alloc: Global, word: &str, bytes: &[u8]) -> Answer {
-    let bytes = shown(alloc, bytes)?;
-    Ok(format!(in alloc; "{word} {bytes}")?)
+    joined(alloc, &[Word::Plain(word), Word::Bytes(bytes)])
 }
 
 /// What reading these files answers.
@@ -184,6 +199,6 @@ fn file_reads(alloc: Global, files: &mut MemFiles, told: &[Text]) -> Answer {
 
 fn files_read(alloc: Global, args: &[Text]) -> Answer {
     let told = section(args, 1)?;
-    let mut files = files_of(alloc, section(args, 0)?)?;
+    let mut files = files_at(alloc, args)?;
     file_reads(alloc, &mut files, told)
 }

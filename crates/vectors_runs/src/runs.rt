@@ -10,13 +10,15 @@
 ghost use Rattle.std.specs.Prelude.{◌≡◌, IfOk, false, is_some};
 
 use crate::connections::finished;
-use crate::outside::add_answer;
 use crate::run_objects::{RunObjects, no_door, objects_of, objects_over};
 use gs_chars::Text;
 use gs_port::{MemSink, MemSource, ReadAnswer, Source};
 use gs_program::Status;
 use std::alloc::Global;
-use vector_cases::{Answer, Refusal, add_shown, arg, cut_of, number, section, text_of};
+use vector_cases::{
+    Answer, Refusal, Word, add_answer, add_shown, add_words, arg, cut_of, debug_word, number, push,
+    said, section, text_of,
+};
 
 /// The answer to a call of gs_program.
 pub fn answer(alloc: Global, call: &str, args: &[Text]) -> Answer {
@@ -28,13 +30,13 @@ pub fn answer(alloc: Global, call: &str, args: &[Text]) -> Answer {
 }
 
 fn string_of(alloc: Global, word: &[u8]) -> Result<String, Refusal> {
-    Ok(String::from_str(alloc, text_of(word)?)?)
+    said(alloc, text_of(word)?)
 }
 
 fn strings_of(alloc: Global, words: &[Text]) -> Result<Vec<String>, Refusal> {
     let mut strings = Vec::new(alloc);
     for word in words {
-        strings.push(string_of(alloc, word.as_bytes())?)?;
+        push(&mut strings, string_of(alloc, word.as_bytes()))?;
     }
     Ok(strings)
 }
@@ -56,13 +58,19 @@ fn left_of(alloc: Global, input: &mut MemSource) -> Result<Vec<u8>, Refusal> {
 /// Appends what is left of an input.
 fn add_left(alloc: Global, answer: &mut String, input: &mut MemSource) -> Result<(), Refusal> {
     let left = left_of(alloc, input)?;
-    Ok(add_shown(alloc, answer, left.as_slice())?)
+    add_shown(alloc, answer, left.as_slice())
+}
+
+/// A status, and what an output holds.
+pub fn status_words(alloc: Global, status: Status, written: &[u8]) -> Answer {
+    let mut answer = debug_word(alloc, &status)?;
+    add_shown(alloc, &mut answer, written)?;
+    Ok(answer)
 }
 
 /// The status, what an output holds, and what is left of an input.
 pub fn outcome(alloc: Global, status: Status, input: &mut MemSource, output: &MemSink) -> Answer {
-    let mut answer = format!(in alloc; "{status:?}")?;
-    add_shown(alloc, &mut answer, output.bytes())?;
+    let mut answer = status_words(alloc, status, output.bytes())?;
     add_left(alloc, &mut answer, input)?;
     Ok(answer)
 }
@@ -76,19 +84,29 @@ fn told(alloc: Global, args: &[Text], status: Status, objects: &mut RunObjects) 
     Ok(answer)
 }
 
+/// The words of a run.
+fn words_at(alloc: Global, args: &[Text]) -> Result<Vec<String>, Refusal> {
+    strings_of(alloc, section(args, 0)?)
+}
+
 fn ran(alloc: Global, args: &[Text]) -> Answer {
-    let words = strings_of(alloc, section(args, 0)?)?;
+    let words = words_at(alloc, args)?;
     let mut objects = objects_of(alloc, args)?;
     let status = objects.run(alloc, &words);
     told(alloc, args, status, &mut objects)
+}
+
+/// Appends a line and a line feed.
+fn push_line(bytes: &mut Vec<u8>, line: &[u8]) -> Result<(), Refusal> {
+    bytes.extend_from_slice(line)?;
+    Ok(bytes.push(b'\n')?)
 }
 
 /// So many copies of a line, each with a line feed.
 fn copies(alloc: Global, line: &[u8], count: u64) -> Result<Vec<u8>, Refusal> {
     let mut bytes = Vec::new(alloc);
     for _ in 0..count {
-        bytes.extend_from_slice(line)?;
-        bytes.push(b'\n')?;
+        push_line(&mut bytes, line)?;
     }
     Ok(bytes)
 }
@@ -108,16 +126,26 @@ fn lines_equal(bytes: &[u8], line: &[u8]) -> u64 {
 fn counted(alloc: Global, status: Status, output: &[u8]) -> Answer {
     let first = output.split(|c| *c == b'\n').next().unwrap_or_default();
     let count = lines_equal(output, first);
-    let mut answer = format!(in alloc; "{status:?} {} {count}", output.len())?;
-    add_shown(alloc, &mut answer, first)?;
+    let mut answer = debug_word(alloc, &status)?;
+    let words = [
+        Word::Number(output.len() as u64),
+        Word::Number(count),
+        Word::Bytes(first),
+    ];
+    add_words(alloc, &mut answer, &words)?;
     Ok(answer)
+}
+
+/// The copies of a line that two words tell.
+fn told_copies(alloc: Global, words: &[Text]) -> Result<Vec<u8>, Refusal> {
+    copies(alloc, arg(words, 1)?, number(words, 2)?)
 }
 
 /// The input of copies of a line.
 fn input_of_copies(alloc: Global, args: &[Text]) -> Result<MemSource, Refusal> {
     let lines = section(args, 2)?;
     let cut = cut_of(lines, 0)?;
-    let bytes = copies(alloc, arg(lines, 1)?, number(lines, 2)?)?;
+    let bytes = told_copies(alloc, lines)?;
     Ok(MemSource::new(alloc, bytes, cut, Vec::new(alloc)))
 }
 
@@ -131,7 +159,7 @@ fn objects_of_copies(alloc: Global, args: &[Text]) -> Result<RunObjects, Refusal
 }
 
 fn repeated(alloc: Global, args: &[Text]) -> Answer {
-    let words = strings_of(alloc, section(args, 0)?)?;
+    let words = words_at(alloc, args)?;
     let mut objects = objects_of_copies(alloc, args)?;
     let status = objects.run(alloc, &words);
     counted(alloc, status, objects.output.bytes())
