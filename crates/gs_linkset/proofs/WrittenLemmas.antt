@@ -1,5 +1,5 @@
 -- What is written of a document: members in ascending order of name, and texts that are UTF-8.
-use Rattle.std.proofs.Common.{◌≡◌, ℕ, zero, suc, ◌+◌, Bool, true, false, List, [], ◌∷◌, take, map, Some, None, slice_get, refl, ap, ◌∙◌, Ordering, Less, Equal, Greater, arith}
+use Rattle.std.proofs.Common.{◌≡◌, ℕ, zero, suc, ◌+◌, Bool, true, false, List, [], ◌∷◌, ◌++◌, take, map, Some, None, slice_get, refl, ap, ◌∙◌, Ordering, Less, Equal, Greater, arith}
 use Rattle.std.specs.Prelude.{Result, Ok, Err, IsOk, MatchResult, codes, not}
 use Rattle.std.specs.Cmp.Lexicographic.{slice_cmp}
 use Rattle.std.specs.List.{AllByRecursion, list_all}
@@ -7,6 +7,7 @@ use Rattle.std.specs.List.Sorted.{IsStrictlySortedBy}
 use Rattle.std.specs.Ordering.{is_lt, match_ordering, nat_cmp, ordering_reverse}
 use Rattle.std.specs.Str.{IsUtf8, bytes_eq, is_utf8}
 use Rattle.std.proofs.lemmas.Cmp.{nat_list_cmp_total}
+use Rattle.std.proofs.lemmas.List.{map-append}
 use Rattle.std.proofs.lemmas.Str.{IsUtf8-from_is_utf8}
 use Rattle.gs_chars.proofs.TruthsAndLists.{and_first, and_second, or_parts}
 use Rattle.gs_json.specs.Answers.{AscendByBytes}
@@ -21,6 +22,7 @@ use Rattle.gs_linkset.specs.declared.link_types.Context.{Context}
 use Rattle.gs_linkset.specs.declared.link_types.Relation.{Relation}
 use Rattle.gs_linkset.specs.declared.link_types.Target.{Target}
 use Rattle.gs_linkset.specs.LinkShapes.{ascend, is_attr, is_below_first, is_context, is_relation, is_tagged_text, is_target, is_value}
+use Rattle.gs_linkset.proofs.ReadLemmas.{take_next}
 use Rattle.gs_linkset.specs.Written.{array_by, attr_members, context_tree, members_by, relation_members, tagged_tree, target_tree, tree_of, value_tree, with_language}
 
 pub valid : {S E : Type 0} (text : List ℕ) (same : S → Type 0) (other : E → Type 0) (r : Result S E) → is_utf8 text ≡ true → MatchResult r (λ s. same s × IsUtf8 text) (λ e. (IsUtf8 text → ⊥) × other e) → IsOk r
@@ -68,6 +70,10 @@ module _ {X : Type 0} (name : X → List ℕ) (tree : X → Data) where
   put_next xs i x old new up at so_far e =
       let next : i + 1 ≡ suc i = omega arith in
       rw (e, so_far, next) (put_at xs i x (sorted (map name xs) up) at)
+
+-- a value more of an array
+pub seen_next : {X V : Type 0} (tree : X → Data) (see : V → Data) (xs : List X) (i : ℕ) (x : X) (old new : List V) (v : V) → slice_get xs i ≡ Some x → map see old ≡ map tree (take i xs) → see v ≡ tree x → new ≡ old ++ v ∷ [] → map see new ≡ map tree (take (i + 1) xs)
+seen_next tree see xs i x old new v at so_far own e = rw (e, take_next xs i x at, map-append, map-append, so_far, own) refl
 
 -- ---- the shape of what is written
 
