@@ -7,16 +7,15 @@ use Rattle.serde_json.specs.Data.{Data}
 use Rattle.serde_json.specs.Find.{get}
 use Rattle.serde_json.specs.Read.{read as read_text}
 use Rattle.gs_chars.proofs.TruthsAndLists.{true_or_false}
-use Rattle.gs_json.specs.Answers.{count_of}
+use Rattle.gs_json.specs.Answers.{count_of, items_count}
 use Rattle.gs_json.specs.Places.{member_place}
 use Rattle.gs_json.specs.declared.fault.JsonFault.{JsonFault}
 use Rattle.gs_json.specs.declared.fault.JsonFault.TheVariants as json
 use Rattle.gs_json.specs.declared.plan.Sort.TheVariants.{Array}
 use Rattle.gs_linkset.specs.Answers.{OrMemory, document_answer, document_of, first_or, read_answer}
 use Rattle.gs_linkset.specs.Attributes.{array_in, items_of}
-use Rattle.gs_linkset.specs.Documents.{context_faults, context_of, contexts_of, document_faults, item_faults, items_in, member_faults}
+use Rattle.gs_linkset.specs.Documents.{context_faults, context_of, contexts_of, count_in, document_faults, item_faults, items_in, member_faults}
 use Rattle.gs_linkset.specs.declared.link_types.Context.{Context}
-use Rattle.gs_linkset.proofs.Parts.{no_array}
 use Rattle.gs_linkset.proofs.ReadLemmas.{fault_in_front, no_fault}
 
 module _ (d : Data) (n : ℕ) where
@@ -34,8 +33,8 @@ module _ (d : Data) (n : ℕ) where
 pub no_contexts : (d : Data) → None ≡ get (codes "linkset") d → items_in (codes "linkset") d ≡ []
 no_contexts d h = rw (← h) refl
 
-pub other_contexts : (d e : Data) → Some e ≡ get (codes "linkset") d → None ≡ count_of e → items_in (codes "linkset") d ≡ []
-other_contexts d e h none = ap (λ o. unwrap_or (option_and_then array_in o) []) (sym h) ∙ ap (λ o. unwrap_or o []) (no_array e none)
+pub count_read : (d e : Data) (z : ℕ) → OrMemory (Ok z) (first_or (member_faults Array (codes "linkset") [] d) (count_in (codes "linkset") d)) → Some e ≡ get (codes "linkset") d → z ≡ items_count e
+count_read d e z h at = (no_fault (member_faults Array (codes "linkset") [] d) (count_in (codes "linkset") d) z h).1 ∙ ap (λ o. unwrap_or (option_and_then count_of o) 0) (sym at)
 
 pub array_contexts : (d e : Data) → Some e ≡ get (codes "linkset") d → items_in (codes "linkset") d ≡ items_of e
 array_contexts d e h = ap (λ o. unwrap_or (option_and_then array_in o) []) (sym h)

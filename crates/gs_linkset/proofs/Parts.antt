@@ -4,7 +4,7 @@ use Rattle.std.specs.Option.{option_and_then}
 use Rattle.serde_json.specs.Data.{Data, null, boolean, number, string, array, object, Items, no_items, item}
 use Rattle.serde_json.specs.Events.{items_len}
 use Rattle.serde_json.specs.Find.{as_object, at, get, get_item, get_member}
-use Rattle.gs_json.specs.Answers.{count_of}
+use Rattle.gs_json.specs.Answers.{count_of, items_count}
 use Rattle.gs_json.specs.Shapes.{items_list}
 use Rattle.gs_linkset.specs.Attributes.{array_in, every, items_of}
 
@@ -52,6 +52,14 @@ items_length (number m) n h = absurd (cc)
 items_length (string s) n h = absurd (cc)
 items_length (array items) n h = let e : n ≡ items_len items = cc in rw e (listed_length items)
 items_length (object _) n h = absurd (cc)
+
+pub counted : (d : Data) (n : ℕ) → n ≡ items_count d → length (items_of d) ≡ n
+counted null n h = sym h
+counted (boolean b) n h = sym h
+counted (number m) n h = sym h
+counted (string s) n h = sym h
+counted (array items) n h = listed_length items ∙ sym h
+counted (object _) n h = sym h
 
 pub items_at : (d : Data) (i : ℕ) → slice_get (items_of d) i ≡ at i d
 items_at null zero = refl

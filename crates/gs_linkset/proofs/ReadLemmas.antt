@@ -1,12 +1,12 @@
 -- What is read item by item, and name by name.
-use Rattle.std.proofs.Common.{◌≡◌, Bool, true, false, if◌then◌else◌, codes, ℕ, zero, suc, ◌+◌, ◌≤◌, List, [], ◌∷◌, ◌++◌, length, take, map, Option, Some, None, slice_get, refl, sym, ap, inl, inr, arith}
-use Rattle.std.specs.Prelude.{Ok, Err, option_map, option_and_then, unwrap_or}
+use Rattle.std.proofs.Common.{◌≡◌, Bool, true, false, if◌then◌else◌, codes, ℕ, zero, suc, ◌+◌, ◌≤◌, List, [], ◌∷◌, ◌++◌, length, take, map, Option, Some, None, slice_get, refl, sym, ap, ◌∙◌, inl, inr, arith}
+use Rattle.std.specs.Prelude.{IfSome, Result, Ok, Err, option_map, option_and_then, unwrap_or}
 use Rattle.std.specs.List.{cons_option, enumerate_from, filter_map, flat_map, list_all}
 use Rattle.std.proofs.lemmas.List.{append-nil, map-append}
 use Rattle.gs_chars.proofs.TruthsAndLists.{and_first, and_second, nil_parts}
 use Rattle.gs_json.specs.declared.fault.JsonFault.{JsonFault}
 use Rattle.gs_json.specs.declared.fault.JsonFault.TheVariants.{Memory}
-use Rattle.gs_linkset.specs.Answers.{OrMemory, first_or}
+use Rattle.gs_linkset.specs.Answers.{ItemAnswer, OrMemory, first_or, member_answer}
 use Rattle.std.specs.Str.{bytes_eq, is_utf8}
 use Rattle.serde_json.specs.Data.{Data}
 use Rattle.serde_json.specs.Find.{get}
@@ -14,7 +14,7 @@ use Rattle.gs_linkset.specs.Attributes.{every, items_of, value_of}
 use Rattle.gs_json.specs.Answers.{count_of, names_of}
 use Rattle.gs_json.specs.Places.{item_place, member_place}
 use Rattle.gs_linkset.specs.Documents.{attr_named, attr_of, attr_with, item_faults, relation_faults, relation_of, relation_with, names_in, target_faults, target_of, targets_at}
-use Rattle.gs_linkset.proofs.Parts.{is_array, no_array}
+use Rattle.gs_linkset.proofs.Parts.{is_array, items_at, no_array}
 use Rattle.gs_linkset.specs.LinkShapes.{ascend, is_attr, is_context, is_relation, is_target, is_value}
 use Rattle.gs_linkset.specs.declared.link_types.Attr.{Attr}
 use Rattle.gs_linkset.specs.declared.link_types.AttrValue.{AttrValue}
@@ -75,6 +75,10 @@ mapped_more f xs i x ys y zs at so_far own e = rw (e, so_far, own, take_next xs 
 pub all_more : {X : Type 0} (t : X → Bool) (xs : List X) (x : X) → list_all t xs ≡ true → t x ≡ true → list_all t (xs ++ x ∷ []) ≡ true
 all_more t [] x h own = rw own refl
 all_more t (y ∷ xs) x h own = rw (and_first (t y) (list_all t xs) h) (all_more t xs x (and_second (t y) (list_all t xs) h) own)
+
+pub all_by : {X : Type 0} (t : X → Bool) (xs : List X) (r : Option X) → list_all t xs ≡ true → IfSome r (λ x. t x ≡ true) → list_all t (xs ++ cons_option r []) ≡ true
+all_by t xs None all own = rw append-nil all
+all_by t xs (Some x) all own = all_more t xs x all own
 
 module _ {X Y : Type 0} (f : X → Option Y) where
   append_by : (z : X) (xs : List X) (x : X) (ys : List Y) (y : Y) (a : Option Y) (b : Option (List Y)) → f z ≡ a → every f xs ≡ b → every f (z ∷ xs) ≡ Some ys → ((zs : List Y) → every f xs ≡ Some zs → every f (xs ++ x ∷ []) ≡ Some (zs ++ y ∷ [])) → every f ((z ∷ xs) ++ x ∷ []) ≡ Some (ys ++ y ∷ [])
@@ -167,11 +171,8 @@ module _ {A X : Type 0} (h : A → Option X) where
   appended [] a = refl
   appended (b ∷ list) a = rw (appended list a) (one_option (h b) (filter_map h list) (cons_option (h a) []))
 
-  pub kept_more : (list : List A) (i : ℕ) (a : A) (x : X) (done new : List X) → slice_get list i ≡ Some a → done ≡ filter_map h (take i list) → Some x ≡ h a → new ≡ done ++ x ∷ [] → new ≡ filter_map h (take (i + 1) list)
-  kept_more list i a x done new at so_far own e = rw (e, so_far, take_next list i a at, appended (take i list) a, ← own) refl
-
-  pub left_out : (list : List A) (i : ℕ) (a : A) (done : List X) → slice_get list i ≡ Some a → done ≡ filter_map h (take i list) → None ≡ h a → done ≡ filter_map h (take (i + 1) list)
-  left_out list i a done at so_far own = rw (so_far, take_next list i a at, appended (take i list) a, ← own) (sym (append-nil (filter_map h (take i list))))
+  pub kept_by : (list : List A) (i : ℕ) (a : A) (r : Option X) (done new : List X) → slice_get list i ≡ Some a → done ≡ filter_map h (take i list) → r ≡ h a → new ≡ done ++ cons_option r [] → new ≡ filter_map h (take (i + 1) list)
+  kept_by list i a r done new at so_far own e = rw (e, so_far, own, take_next list i a at, appended (take i list) a) refl
 
   pub kept_all : {N : Type 0} (f : N → A) (ns : List N) (i : ℕ) (done : List X) → length ns ≤ i → done ≡ filter_map h (take i (map f ns)) → done ≡ filter_map h (map f ns)
   kept_all f ns i done all so_far =
@@ -233,6 +234,19 @@ module _ {Y : Type 0} (faults : List ℕ → Data → List JsonFault) (made : Da
       let few : length (enumerate_from 0 items) ≤ i = rw (rows_from 0 items) all in
       all_read (item_faults faults place items) (map made items) read (none_all row_faults (enumerate_from 0 items) i few so_far.none) (rw (take_all items i all) at so_far.read_as)
 
+-- the same for the items of what is an array
+module _ {Y : Type 0} (faults : List ℕ → Data → List JsonFault) (made : Data → Y) (place : List ℕ) (whole : Data) where
+  abbrev answer_at : List ℕ → Data → Result Y JsonFault
+  answer_at at d = first_or (faults at d) (made d)
+
+  pub array_fault : (read : List Y) (i : ℕ) (e : JsonFault) → SoFar faults made place (items_of whole) read i → ItemAnswer answer_at place i whole (Err e) → OrMemory (Err e) (first_or (item_faults faults place (items_of whole)) (map made (items_of whole)))
+  array_fault read i e so_far (inl h) = inl (let same : e ≡ Memory = cc in ap Err same)
+  array_fault read i e so_far (inr p) = item_fault faults made place (items_of whole) read i p.0 e so_far (items_at whole i ∙ sym p.1) p.2
+
+  pub array_read : (read : List Y) (i : ℕ) (y : Y) (more : List Y) → SoFar faults made place (items_of whole) read i → ItemAnswer answer_at place i whole (Ok y) → more ≡ read ++ y ∷ [] → SoFar faults made place (items_of whole) more (i + 1)
+  array_read read i y more so_far (inl h) e = absurd (let g : Ok y ≡ Err Memory = h in cc)
+  array_read read i y more so_far (inr p) e = item_read faults made place (items_of whole) read i p.0 y more so_far (items_at whole i ∙ sym p.1) p.2 e
+
 -- ---- relations of a context, each with its faults and what it is read as
 
 module _ (place : List ℕ) (d : Data) (names : List (List ℕ)) where
@@ -244,22 +258,13 @@ module _ (place : List ℕ) (d : Data) (names : List (List ℕ)) where
   pub relation_fault : (read : List Relation) (i : ℕ) (name : List ℕ) (e : JsonFault) (all : List (List ℕ)) → names ≡ all → Found read i → slice_get names i ≡ Some name → OrMemory (Err e) (first_or (relation_faults place d name) (relation_of d name)) → OrMemory (Err e) (first_or (flat_map (relation_faults place d) all) (filter_map (relation_of d) all))
   relation_fault read i name e all same so_far at h = rw (← same) (fault_at (relation_faults place d) names i name (relation_of d name) (filter_map (relation_of d) names) e at so_far.none h)
 
-  pub relation_read : (read : List Relation) (i : ℕ) (name : List ℕ) (r : Relation) (more : List Relation) → Found read i → slice_get names i ≡ Some name → OrMemory (Ok (Some r)) (first_or (relation_faults place d name) (relation_of d name)) → is_relation r ≡ true → more ≡ read ++ r ∷ [] → Found more (i + 1)
-  relation_read read i name r more so_far at h shape e =
-      let own = no_fault (relation_faults place d name) (relation_of d name) (Some r) h in
+  pub relation_kept : (read : List Relation) (i : ℕ) (name : List ℕ) (r : Option Relation) (more : List Relation) → Found read i → slice_get names i ≡ Some name → OrMemory (Ok r) (first_or (relation_faults place d name) (relation_of d name)) → IfSome r (λ x. is_relation x ≡ true) → more ≡ read ++ cons_option r [] → Found more (i + 1)
+  relation_kept read i name r more so_far at h shape e =
+      let own = no_fault (relation_faults place d name) (relation_of d name) r h in
       record {
         none = none_more (relation_faults place d) names i name at so_far.none own.0;
-        made = kept_more (relation_of d) names i name r read more at so_far.made own.1 e;
-        shaped = rw e (all_more is_relation read r so_far.shaped shape);
-      }
-
-  pub relation_left_out : (read : List Relation) (i : ℕ) (name : List ℕ) → Found read i → slice_get names i ≡ Some name → OrMemory (Ok None) (first_or (relation_faults place d name) (relation_of d name)) → Found read (i + 1)
-  relation_left_out read i name so_far at h =
-      let own = no_fault (relation_faults place d name) (relation_of d name) None h in
-      record {
-        none = none_more (relation_faults place d) names i name at so_far.none own.0;
-        made = left_out (relation_of d) names i name read at so_far.made own.1;
-        shaped = so_far.shaped;
+        made = kept_by (relation_of d) names i name r read more at so_far.made own.1 e;
+        shaped = rw e (all_by is_relation read r so_far.shaped shape);
       }
 
 pub listed_names : (d : Data) (names : List (List ℕ)) → Some names ≡ names_of d → names ≡ names_in d
@@ -267,36 +272,30 @@ listed_names d names h = ap (λ o. unwrap_or o []) h
 
 -- ---- the relation of a name
 
+module _ (name place : List ℕ) (d : Data) where
+  pub no_relation : None ≡ count_of d → OrMemory (Ok None) (member_answer name place d)
+  no_relation h = rw (no_array d h) (inr refl)
+
+  pub relation_refused : (n : ℕ) (e : JsonFault) → Some n ≡ count_of d → OrMemory (Err e) (first_or (item_faults target_faults place (items_of d)) (map target_of (items_of d))) → OrMemory (Err e) (member_answer name place d)
+  relation_refused n e count h = rw (is_array d n count) (same_fault (item_faults target_faults place (items_of d)) (map target_of (items_of d)) (Some (relation_with name (items_of d))) e h)
+
+  pub relation_made : (n : ℕ) (targets : List Target) → Some n ≡ count_of d → OrMemory (Ok targets) (first_or (item_faults target_faults place (items_of d)) (map target_of (items_of d))) → OrMemory (Ok (Some (record { name = name; targets = targets }))) (member_answer name place d)
+  relation_made n targets count h =
+      let own = no_fault (item_faults target_faults place (items_of d)) (map target_of (items_of d)) targets h in
+      rw (is_array d n count, own.0, own.1) (inr refl)
+
 module _ (place : List ℕ) (d : Data) (name : List ℕ) where
-  pub no_relation : targets_at d name ≡ None → OrMemory (Ok None) (first_or (relation_faults place d name) (relation_of d name))
-  unfolding relation_faults relation_of
-  no_relation h = rw h (inr refl)
+  pub anchor_left_out : true ≡ bytes_eq name (codes "anchor") → OrMemory (Ok None) (first_or (relation_faults place d name) (relation_of d name))
+  unfolding relation_faults relation_of targets_at
+  anchor_left_out h = rw (← h) (inr refl)
 
-  pub relation_refused : (items : List Data) (e : JsonFault) → targets_at d name ≡ Some items → OrMemory (Err e) (first_or (item_faults target_faults (member_place place name) items) (map target_of items)) → OrMemory (Err e) (first_or (relation_faults place d name) (relation_of d name))
-  unfolding relation_faults relation_of
-  relation_refused items e at h = rw at (same_fault (item_faults target_faults (member_place place name) items) (map target_of items) (Some (relation_with name items)) e h)
+  pub no_member : bytes_eq name (codes "anchor") ≡ false → None ≡ get name d → OrMemory (Ok None) (first_or (relation_faults place d name) (relation_of d name))
+  unfolding relation_faults relation_of targets_at
+  no_member other h = rw (other, ← h) (inr refl)
 
-  pub relation_made : (items : List Data) (targets : List Target) → targets_at d name ≡ Some items → OrMemory (Ok targets) (first_or (item_faults target_faults (member_place place name) items) (map target_of items)) → OrMemory (Ok (Some (record { name = name; targets = targets }))) (first_or (relation_faults place d name) (relation_of d name))
-  unfolding relation_faults relation_of
-  relation_made items targets at h =
-      let own = no_fault (item_faults target_faults (member_place place name) items) (map target_of items) targets h in
-      rw (at, own.0, own.1) (inr refl)
-
-  pub not_anchor : true ≡ bytes_eq name (codes "anchor") → targets_at d name ≡ None
-  unfolding targets_at
-  not_anchor h = rw (← h) refl
-
-  pub no_member : bytes_eq name (codes "anchor") ≡ false → None ≡ get name d → targets_at d name ≡ None
-  unfolding targets_at
-  no_member other h = rw (other, ← h) refl
-
-  pub other_member : (e : Data) → bytes_eq name (codes "anchor") ≡ false → Some e ≡ get name d → None ≡ count_of e → targets_at d name ≡ None
-  unfolding targets_at
-  other_member e other h none = rw (other, ← h) (no_array e none)
-
-  pub array_member : (e : Data) (n : ℕ) → bytes_eq name (codes "anchor") ≡ false → Some e ≡ get name d → Some n ≡ count_of e → targets_at d name ≡ Some (items_of e)
-  unfolding targets_at
-  array_member e n other h count = rw (other, ← h) (is_array e n count)
+  pub by_member : (e : Data) (r : Result (Option Relation) JsonFault) → bytes_eq name (codes "anchor") ≡ false → Some e ≡ get name d → OrMemory r (member_answer name (member_place place name) e) → OrMemory r (first_or (relation_faults place d name) (relation_of d name))
+  unfolding relation_faults relation_of targets_at
+  by_member e r other h answer = rw (other, ← h) answer
 
 -- ---- shapes
 

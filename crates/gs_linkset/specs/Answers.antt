@@ -1,16 +1,18 @@
 -- The answers of reading and making. Want of memory may come in place of the answer of a reading.
-use Rattle.std.specs.Prelude.{◌≡◌, ◌⊎◌, ℕ, if◌then◌else◌, List, [], ◌∷◌, map, Option, None, Result, Ok, Err}
+use Rattle.std.specs.Prelude.{◌≡◌, ◌⊎◌, ℕ, if◌then◌else◌, List, [], ◌∷◌, map, Option, Some, None, option_map, Result, Ok, Err}
 use Rattle.std.specs.List.{filter_map, flat_map}
 use Rattle.std.specs.Option.{option_map_or}
 use Rattle.std.specs.Str.{is_utf8}
 use Rattle.serde_json.specs.Data.{Data}
+use Rattle.serde_json.specs.Find.{at}
 use Rattle.serde_json.specs.Read.{read as read_text}
 use Rattle.gs_json.specs.declared.fault.JsonFault.{JsonFault}
 use Rattle.gs_json.specs.declared.fault.JsonFault.TheVariants.{Memory, Syntax}
 use Rattle.gs_json.specs.declared.plan.Sort.TheVariants.{Text, Array}
-use Rattle.gs_linkset.specs.Attributes.{items_of}
+use Rattle.gs_json.specs.Places.{item_place}
+use Rattle.gs_linkset.specs.Attributes.{array_in, items_of}
 use Rattle.gs_linkset.specs.Documents.{context_faults, context_of, contexts_of, count_in, document_faults, item_faults}
-use Rattle.gs_linkset.specs.Documents.{member_faults, names_in, relation_faults, relation_of, target_faults, target_of, text_in}
+use Rattle.gs_linkset.specs.Documents.{member_faults, names_in, relation_faults, relation_of, relation_with, target_faults, target_of, text_in}
 use Rattle.gs_linkset.specs.declared.link_types.Context.{Context}
 use Rattle.gs_linkset.specs.declared.link_types.Relation.{Relation}
 use Rattle.gs_linkset.specs.declared.link_types.Target.{Target}
@@ -32,6 +34,15 @@ text_answer name place d = first_or (member_faults Text name place d) (text_in n
 abbrev pub count_answer : List ℕ → List ℕ → Data → Result ℕ JsonFault
 count_answer name place d = first_or (member_faults Array name place d) (count_in name d)
 
+-- the answer to the item of an array at a number, or want of memory
+abbrev pub ItemAnswer : {X : Type 0} → (List ℕ → Data → Result X JsonFault) → List ℕ → ℕ → Data → Result X JsonFault → Type 0
+ItemAnswer answer place i whole result =
+    (result ≡ Err Memory) ⊎ ((d : Data) × (Some d ≡ at i whole) × OrMemory result (answer (item_place place i) d))
+
+-- what is read of the item of an array at a number
+abbrev pub ItemIs : {X : Type 0} → (Data → X) → ℕ → Data → X → Type 0
+ItemIs read i whole x = (d : Data) × (Some d ≡ at i whole) × (x ≡ read d)
+
 -- a target
 abbrev pub target_answer : List ℕ → Data → Result Target JsonFault
 target_answer place d = first_or (target_faults place d) (target_of d)
@@ -43,6 +54,11 @@ targets_answer place d = first_or (item_faults target_faults place (items_of d))
 -- the relation of a member, or none where the member is no relation
 abbrev pub relation_answer : List ℕ → Data → List ℕ → Result (Option Relation) JsonFault
 relation_answer place d name = first_or (relation_faults place d name) (relation_of d name)
+
+-- the relation of a name whose member stands at a place, or none where the member is no array
+abbrev pub member_answer : List ℕ → List ℕ → Data → Result (Option Relation) JsonFault
+member_answer name place d =
+    first_or (option_map_or (item_faults target_faults place) (array_in d) []) (option_map (relation_with name) (array_in d))
 
 -- the relations of a context
 abbrev pub relations_answer : List ℕ → Data → Result (List Relation) JsonFault

@@ -20,6 +20,7 @@
 //! - Relations and attributes are in ascending order of their names, so one linkset has one text.
 #![tactic(auto)]
 
+mod adding;
 mod copies;
 mod doc;
 mod laws;

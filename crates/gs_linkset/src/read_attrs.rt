@@ -1,17 +1,33 @@
-ghost use Rattle.std.specs.Prelude.{◌≡◌, IfOk, IfSome, codes, map, true};
+ghost use Rattle.std.specs.Prelude.{◌≡◌, ◌<◌, IfOk, IfSome, codes, false, map, true};
 ghost use Rattle.std.specs.List.{filter_map, list_all};
 ghost use Rattle.std.specs.Str.{bytes_eq, is_utf8};
+ghost use Rattle.serde_json.specs.Find.{as_str};
 ghost use Rattle.serde_json.specs.View.{view};
+ghost use Rattle.gs_json.specs.Answers.{AscendByBytes, items_count};
+ghost use Rattle.gs_linkset.specs.Answers.{ItemIs};
 ghost use Rattle.gs_linkset.specs.Attributes.{language_of, tagged_text, tagged_texts, texts_of, value_of};
-ghost use Rattle.gs_linkset.specs.Documents.{attr_of, names_in};
+ghost use Rattle.gs_linkset.specs.Documents.{attr_named, attr_of, names_in};
 ghost use Rattle.gs_linkset.specs.LinkShapes.{ascend, is_attr, is_tagged_text, is_value};
 
+use crate::adding::push_some;
 use crate::link_shapes::{is_single, is_tagged};
 use crate::link_types::{Attr, AttrValue};
 use crate::members::{count_in, member_of, member_text, names_of, own_text};
 use gs_chars::{List, Memory, Text};
 use gs_json::Node;
 use std::alloc::Global;
+
+/// The text at a number of an array, where it is one.
+fn text_at(alloc: Global, array: &Node<'_>, i: usize) -> Result<Option<Text>, Memory>
+    requires { i < items_count (view array.now.tree) }
+    ensures text { IfOk result (ItemIs as_str i (view array.now.tree)) }
+    ensures utf8 { IfOk result (λ text. IfSome text (λ text. is_utf8 text ≡ true)) }
+{
+    match array.item(alloc, i) {
+        Ok(item) => own_text(alloc, &item),
+        Err(_) => Err(Memory),
+    }
+}
 
 /// The texts of an array, where it is one of texts alone.
 fn read_texts(alloc: Global, part: &Node<'_>) -> Result<Option<List<Text>>, Memory>
@@ -23,10 +39,7 @@ fn read_texts(alloc: Global, part: &Node<'_>) -> Result<Option<List<Text>>, Memo
     };
     let mut texts = Vec::new(alloc);
     for i in 0..count {
-        let Ok(item) = part.item(alloc, i) else {
-            return Err(Memory);
-        };
-        let Some(text) = own_text(alloc, &item)? else {
+        let Some(text) = text_at(alloc, part, i)? else {
             return Ok(None);
         };
         texts.push(text)?;
@@ -59,6 +72,18 @@ fn read_tagged_text(alloc: Global, object: &Node<'_>) -> Result<Option<(Text, Te
     Ok(Some((value, language)))
 }
 
+/// The text with its language at a number of an array, where there is one.
+fn tagged_text_at(alloc: Global, array: &Node<'_>, i: usize) -> Result<Option<(Text, Text)>, Memory>
+    requires { i < items_count (view array.now.tree) }
+    ensures pair { IfOk result (ItemIs tagged_text i (view array.now.tree)) }
+    ensures shape { IfOk result (λ pair. IfSome pair (λ pair. is_tagged_text pair ≡ true)) }
+{
+    match array.item(alloc, i) {
+        Ok(item) => read_tagged_text(alloc, &item),
+        Err(_) => Err(Memory),
+    }
+}
+
 /// The texts with their languages of an array, where it is one of such objects alone.
 fn read_tagged_texts(alloc: Global, part: &Node<'_>) -> Result<Option<List<(Text, Text)>>, Memory>
     ensures pairs { IfOk result (λ pairs. pairs ≡ tagged_texts (view part.now.tree)) }
@@ -69,10 +94,7 @@ fn read_tagged_texts(alloc: Global, part: &Node<'_>) -> Result<Option<List<(Text
     };
     let mut pairs = Vec::new(alloc);
     for i in 0..count {
-        let Ok(item) = part.item(alloc, i) else {
-            return Err(Memory);
-        };
-        let Some(pair) = read_tagged_text(alloc, &item)? else {
+        let Some(pair) = tagged_text_at(alloc, part, i)? else {
             return Ok(None);
         };
         pairs.push(pair)?;
@@ -112,7 +134,7 @@ fn is_href(name: &[u8]) -> bool
 }
 
 /// The attribute of a name, where the target has one.
-#[tactic(auto, unfolding(crate::specs::Documents::attr_of, crate::specs::LinkShapes::is_attr))]
+#[tactic(auto, unfolding(crate::specs::Documents::attr_of))]
 fn read_attr(alloc: Global, target: &Node<'_>, name: &str) -> Result<Option<Attr>, Memory>
     ensures attr { IfOk result (λ attr. attr ≡ attr_of (view target.now.tree) name.now) }
     ensures shape { IfOk result (λ attr. IfSome attr (λ attr. is_attr attr ≡ true)) }
@@ -120,10 +142,20 @@ fn read_attr(alloc: Global, target: &Node<'_>, name: &str) -> Result<Option<Attr
     if is_href(name.as_bytes()) {
         return Ok(None);
     }
-    let Some(member) = member_of(alloc, target, name)? else {
-        return Ok(None);
-    };
-    let Some(value) = read_value(alloc, name.as_bytes(), &member)? else {
+    match member_of(alloc, target, name)? {
+        Some(member) => attr_at(alloc, &member, name),
+        None => Ok(None),
+    }
+}
+
+/// The attribute of a name, where the member's value is of its kind.
+#[tactic(auto, unfolding(crate::specs::LinkShapes::is_attr))]
+fn attr_at(alloc: Global, member: &Node<'_>, name: &str) -> Result<Option<Attr>, Memory>
+    requires { bytes_eq name.now (codes "href") ≡ false }
+    ensures attr { IfOk result (λ attr. attr ≡ attr_named name.now (view member.now.tree)) }
+    ensures shape { IfOk result (λ attr. IfSome attr (λ attr. is_attr attr ≡ true)) }
+{
+    let Some(value) = read_value(alloc, name.as_bytes(), member)? else {
         return Ok(None);
     };
     Ok(Some(Attr {
@@ -139,16 +171,25 @@ pub(crate) fn read_attrs(alloc: Global, target: &Node<'_>) -> Result<List<Attr>,
     ensures ascending { IfOk result (λ attrs. ascend (map (λ attr. attr.name) attrs) ≡ true) }
     ensures shape { IfOk result (λ attrs. list_all is_attr attrs ≡ true) }
 {
-    let Some(names) = names_of(alloc, target)? else {
-        return Ok(List::from_vec(Vec::new(alloc)));
-    };
-    let names = names.items();
+    match names_of(alloc, target)? {
+        Some(names) => named_attrs(alloc, target, names.items()),
+        None => Ok(List::from_vec(Vec::new(alloc))),
+    }
+}
+
+/// The attributes of a target, whose names these are, in the order of the names.
+fn named_attrs(alloc: Global, target: &Node<'_>, names: &[&str]) -> Result<List<Attr>, Memory>
+    requires names { map (λ name. name.now) names.now ≡ names_in (view target.now.tree) }
+    requires ascending { AscendByBytes (map (λ name. name.now) names.now) }
+    ensures attrs { IfOk result (λ attrs.
+        attrs ≡ filter_map (attr_of (view target.now.tree)) (names_in (view target.now.tree))) }
+    ensures ascending { IfOk result (λ attrs. ascend (map (λ attr. attr.name) attrs) ≡ true) }
+    ensures shape { IfOk result (λ attrs. list_all is_attr attrs ≡ true) }
+{
     let mut attrs = Vec::new(alloc);
     for i in 0..names.len() {
-        let Some(attr) = read_attr(alloc, target, names[i])? else {
-            continue;
-        };
-        attrs.push(attr)?;
+        let attr = read_attr(alloc, target, names[i])?;
+        push_some(&mut attrs, attr)?;
     }
     Ok(List::from_vec(attrs))
 }

@@ -1,27 +1,22 @@
-ghost use Rattle.std.specs.Prelude.{◌≡◌, ◌∷◌, ◌++◌, [], Some, IfOk, IfSome, codes, map, true};
+ghost use Rattle.std.specs.Prelude.{◌≡◌, ◌<◌, [], Some, IfOk, IfSome, codes, false, map, true};
 ghost use Rattle.std.specs.List.{list_all};
 ghost use Rattle.std.specs.Str.{bytes_eq};
 ghost use Rattle.serde_json.specs.View.{view};
-ghost use Rattle.gs_json.specs.Answers.{count_of};
-ghost use Rattle.gs_linkset.specs.Answers.{OrMemory, context_answer, contexts_answer, document_answer, read_answer};
-ghost use Rattle.gs_linkset.specs.Answers.{relation_answer, relations_answer, target_answer, targets_answer};
+ghost use Rattle.gs_json.specs.Answers.{AscendByBytes, count_of, items_count};
+ghost use Rattle.gs_linkset.specs.Answers.{ItemAnswer, OrMemory, context_answer, contexts_answer, document_answer};
+ghost use Rattle.gs_linkset.specs.Answers.{member_answer, read_answer, relation_answer, relations_answer};
+ghost use Rattle.gs_linkset.specs.Answers.{target_answer, targets_answer};
+ghost use Rattle.gs_linkset.specs.Documents.{names_in};
 ghost use Rattle.gs_linkset.specs.LinkShapes.{ascend, is_context, is_relation, is_target, relation_names};
 
+use crate::adding::{push, push_some};
 use crate::doc::LinkDoc;
 use crate::link_types::{Context, Relation, Target};
 use crate::members::{count_in, member_of, must_array, must_text, names_of};
 use crate::read_attrs::read_attrs;
-use gs_chars::{List, Memory, Text};
+use gs_chars::{List, Text};
 use gs_json::{Doc, JsonFault, Node};
 use std::alloc::Global;
-
-/// Adds an item.
-fn push<T: Drop>(items: &mut Vec<T>, item: T) -> Result<(), Memory>
-    ensures { IfOk result (λ _. items.new.items ≡ items.old.items ++ item ∷ []) }
-{
-    items.push(item)?;
-    Ok(())
-}
 
 /// A target.
 #[tactic(auto, unfolding(crate::specs::Documents::target_faults, crate::specs::Documents::target_of))]
@@ -34,6 +29,18 @@ fn read_target(alloc: Global, object: &Node<'_>) -> Result<Target, JsonFault>
     Ok(Target { href, attrs })
 }
 
+/// The target at a number of an array.
+fn target_at(alloc: Global, array: &Node<'_>, i: usize) -> Result<Target, JsonFault>
+    requires { i < items_count (view array.now.tree) }
+    ensures answer { ItemAnswer target_answer array.now.place i (view array.now.tree) result }
+    ensures shape { IfOk result (λ target. is_target target ≡ true) }
+{
+    match array.item(alloc, i) {
+        Ok(item) => read_target(alloc, &item),
+        Err(_) => Err(JsonFault::Memory),
+    }
+}
+
 /// The targets of an array, in their order.
 fn read_targets(alloc: Global, array: &Node<'_>, count: usize) -> Result<List<Target>, JsonFault>
     requires { Some count ≡ count_of (view array.now.tree) }
@@ -42,10 +49,7 @@ fn read_targets(alloc: Global, array: &Node<'_>, count: usize) -> Result<List<Ta
 {
     let mut targets = Vec::new(alloc);
     for i in 0..count {
-        let Ok(item) = array.item(alloc, i) else {
-            return Err(JsonFault::Memory);
-        };
-        let target = read_target(alloc, &item)?;
+        let target = target_at(alloc, array, i)?;
         push(&mut targets, target)?;
     }
     Ok(List::from_vec(targets))
@@ -70,13 +74,22 @@ fn read_relation(
     if is_anchor(name.as_bytes()) {
         return Ok(None);
     }
-    let Some(member) = member_of(alloc, context, name)? else {
+    match member_of(alloc, context, name)? {
+        Some(member) => relation_at(alloc, &member, name),
+        None => Ok(None),
+    }
+}
+
+/// The relation of a name, where the member is one.
+fn relation_at(alloc: Global, member: &Node<'_>, name: &str) -> Result<Option<Relation>, JsonFault>
+    requires { bytes_eq name.now (codes "anchor") ≡ false }
+    ensures answer { OrMemory result (member_answer name.now member.now.place (view member.now.tree)) }
+    ensures shape { IfOk result (λ relation. IfSome relation (λ relation. is_relation relation ≡ true)) }
+{
+    let Some(count) = count_in(alloc, member)? else {
         return Ok(None);
     };
-    let Some(count) = count_in(alloc, &member)? else {
-        return Ok(None);
-    };
-    let targets = read_targets(alloc, &member, count)?;
+    let targets = read_targets(alloc, member, count)?;
     Ok(Some(Relation {
         name: Text::from_bytes(alloc, name.as_bytes())?,
         targets,
@@ -89,16 +102,28 @@ fn read_relations(alloc: Global, context: &Node<'_>) -> Result<List<Relation>, J
     ensures shape { IfOk result (λ relations. list_all is_relation relations ≡ true) }
     ensures ascending { IfOk result (λ relations. ascend (relation_names relations) ≡ true) }
 {
-    let Some(names) = names_of(alloc, context)? else {
-        return Ok(List::from_vec(Vec::new(alloc)));
-    };
-    let names = names.items();
+    match names_of(alloc, context)? {
+        Some(names) => named_relations(alloc, context, names.items()),
+        None => Ok(List::from_vec(Vec::new(alloc))),
+    }
+}
+
+/// The relations of a context, whose names these are, in the order of the names.
+fn named_relations(
+    alloc: Global,
+    context: &Node<'_>,
+    names: &[&str],
+) -> Result<List<Relation>, JsonFault>
+    requires names { map (λ name. name.now) names.now ≡ names_in (view context.now.tree) }
+    requires ascending { AscendByBytes (map (λ name. name.now) names.now) }
+    ensures answer { OrMemory result (relations_answer context.now.place (view context.now.tree)) }
+    ensures shape { IfOk result (λ relations. list_all is_relation relations ≡ true) }
+    ensures ascending { IfOk result (λ relations. ascend (relation_names relations) ≡ true) }
+{
     let mut relations = Vec::new(alloc);
     for i in 0..names.len() {
-        let Some(relation) = read_relation(alloc, context, names[i])? else {
-            continue;
-        };
-        push(&mut relations, relation)?;
+        let relation = read_relation(alloc, context, names[i])?;
+        push_some(&mut relations, relation)?;
     }
     Ok(List::from_vec(relations))
 }
@@ -114,18 +139,27 @@ fn read_context(alloc: Global, object: &Node<'_>) -> Result<Context, JsonFault>
     Ok(Context { anchor, relations })
 }
 
+/// The context at a number of an array.
+fn context_at(alloc: Global, array: &Node<'_>, i: usize) -> Result<Context, JsonFault>
+    requires { i < items_count (view array.now.tree) }
+    ensures answer { ItemAnswer context_answer array.now.place i (view array.now.tree) result }
+    ensures shape { IfOk result (λ context. is_context context ≡ true) }
+{
+    match array.item(alloc, i) {
+        Ok(item) => read_context(alloc, &item),
+        Err(_) => Err(JsonFault::Memory),
+    }
+}
+
 /// The contexts of an array, in their order.
 fn read_contexts(alloc: Global, array: &Node<'_>, count: usize) -> Result<List<Context>, JsonFault>
-    requires { Some count ≡ count_of (view array.now.tree) }
+    requires { count ≡ items_count (view array.now.tree) }
     ensures answer { OrMemory result (contexts_answer array.now.place (view array.now.tree)) }
     ensures shape { IfOk result (λ contexts. list_all is_context contexts ≡ true) }
 {
     let mut contexts = Vec::new(alloc);
     for i in 0..count {
-        let Ok(item) = array.item(alloc, i) else {
-            return Err(JsonFault::Memory);
-        };
-        let context = read_context(alloc, &item)?;
+        let context = context_at(alloc, array, i)?;
         push(&mut contexts, context)?;
     }
     Ok(List::from_vec(contexts))
@@ -137,14 +171,11 @@ fn read_document(alloc: Global, root: &Node<'_>) -> Result<List<Context>, JsonFa
     ensures answer { OrMemory result (document_answer (view root.now.tree)) }
     ensures shape { IfOk result (λ contexts. list_all is_context contexts ≡ true) }
 {
-    must_array(alloc, root, "linkset")?;
-    let Some(array) = member_of(alloc, root, "linkset")? else {
-        return Ok(List::from_vec(Vec::new(alloc)));
-    };
-    let Some(count) = count_in(alloc, &array)? else {
-        return Ok(List::from_vec(Vec::new(alloc)));
-    };
-    read_contexts(alloc, &array, count)
+    let count = must_array(alloc, root, "linkset")?;
+    match member_of(alloc, root, "linkset")? {
+        Some(array) => read_contexts(alloc, &array, count),
+        None => Ok(List::from_vec(Vec::new(alloc))),
+    }
 }
 
 /// The linkset that a document in JSON is (RFC 9264, section 4.2): an object with the array `linkset` of objects

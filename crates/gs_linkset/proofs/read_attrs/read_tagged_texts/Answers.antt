@@ -10,13 +10,14 @@ use Rattle.gs_linkset.proofs.read_attrs.read_tagged_texts.Goals as goal
 pub returns-in_default-2-clause-pairs : goal.returns-in_default-2-clause-pairs
 returns-in_default-2-clause-pairs c =
     whole_array tagged_text (view c.args.part.now.tree) c.in-Some.count None (sym c.in-Some.is ∙ c.in_ok-count.ensures)
-    (every_stops tagged_text (items_of (view c.args.part.now.tree)) c.loop-i.i (view c.in-Ok.item.tree) (items_at (view c.args.part.now.tree) c.loop-i.i ∙ sym c.in-Ok.ensures.item)
-    (sym c.in_default-2.is ∙ c.in_ok-pair.ensures.pair))
+    (let p = c.in_ok-pair.ensures.pair in
+    every_stops tagged_text (items_of (view c.args.part.now.tree)) c.loop-i.i p.0 (items_at (view c.args.part.now.tree) c.loop-i.i ∙ sym p.1) (sym c.in_default-2.is ∙ p.2))
 
 pub loop-i-preserved : goal.loop-i-preserved
 loop-i-preserved c = (
-  every_more tagged_text (items_of (view c.args.part.now.tree)) c.loop-i.i (view c.in-Ok.item.tree) c.loop-i.pairs.items c.in-Some-2.pair c.push.new.self.items
-      (items_at (view c.args.part.now.tree) c.loop-i.i ∙ sym c.in-Ok.ensures.item) c.loop-i.invariant.0 (sym c.in-Some-2.is ∙ c.in_ok-pair.ensures.pair) c.in_ok-push.ensures.items,
+  let p = c.in_ok-pair.ensures.pair in
+      every_more tagged_text (items_of (view c.args.part.now.tree)) c.loop-i.i p.0 c.loop-i.pairs.items c.in-Some-2.pair c.push.new.self.items
+      (items_at (view c.args.part.now.tree) c.loop-i.i ∙ sym p.1) c.loop-i.invariant.0 (sym c.in-Some-2.is ∙ p.2) c.in_ok-push.ensures.items,
   rw c.in_ok-push.ensures.items (all_more is_tagged_text c.loop-i.pairs.items c.in-Some-2.pair c.loop-i.invariant.1 (rw c.in-Some-2.is at c.in_ok-pair.ensures.shape)),
 )
 

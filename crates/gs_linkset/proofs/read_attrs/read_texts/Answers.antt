@@ -10,13 +10,14 @@ use Rattle.gs_linkset.proofs.read_attrs.read_texts.Goals as goal
 pub returns-in_default-2-clause-texts : goal.returns-in_default-2-clause-texts
 returns-in_default-2-clause-texts c =
     whole_array as_str (view c.args.part.now.tree) c.in-Some.count None (sym c.in-Some.is ∙ c.in_ok-count.ensures)
-    (every_stops as_str (items_of (view c.args.part.now.tree)) c.loop-i.i (view c.in-Ok.item.tree) (items_at (view c.args.part.now.tree) c.loop-i.i ∙ sym c.in-Ok.ensures.item)
-    (sym c.in_default-2.is ∙ c.in_ok-text.ensures.text))
+    (let p = c.in_ok-text.ensures.text in
+    every_stops as_str (items_of (view c.args.part.now.tree)) c.loop-i.i p.0 (items_at (view c.args.part.now.tree) c.loop-i.i ∙ sym p.1) (sym c.in_default-2.is ∙ p.2))
 
 pub loop-i-preserved : goal.loop-i-preserved
 loop-i-preserved c = (
-  every_more as_str (items_of (view c.args.part.now.tree)) c.loop-i.i (view c.in-Ok.item.tree) c.loop-i.texts.items c.in-Some-2.text c.push.new.self.items
-      (items_at (view c.args.part.now.tree) c.loop-i.i ∙ sym c.in-Ok.ensures.item) c.loop-i.invariant.0 (sym c.in-Some-2.is ∙ c.in_ok-text.ensures.text) c.in_ok-push.ensures.items,
+  let p = c.in_ok-text.ensures.text in
+      every_more as_str (items_of (view c.args.part.now.tree)) c.loop-i.i p.0 c.loop-i.texts.items c.in-Some-2.text c.push.new.self.items
+      (items_at (view c.args.part.now.tree) c.loop-i.i ∙ sym p.1) c.loop-i.invariant.0 (sym c.in-Some-2.is ∙ p.2) c.in_ok-push.ensures.items,
   rw c.in_ok-push.ensures.items (all_more is_utf8 c.loop-i.texts.items c.in-Some-2.text c.loop-i.invariant.1 (rw c.in-Some-2.is at c.in_ok-text.ensures.utf8)),
 )
 

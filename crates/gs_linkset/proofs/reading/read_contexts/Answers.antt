@@ -1,28 +1,26 @@
-use Rattle.std.proofs.Common.{◌≤◌, length, sym, ◌∙◌, arith}
+use Rattle.std.proofs.Common.{◌≤◌, length, arith}
 use Rattle.std.proofs.lemmas.Result.{err_from_is_err_and}
 use Rattle.serde_json.specs.View.{view}
 use Rattle.gs_linkset.specs.Attributes.{items_of}
 use Rattle.gs_linkset.specs.Documents.{context_faults, context_of}
 use Rattle.gs_linkset.specs.LinkShapes.{is_context}
-use Rattle.gs_linkset.proofs.Parts.{items_at, items_length}
-use Rattle.gs_linkset.proofs.ReadLemmas.{all_more, item_fault, item_read, items_read}
+use Rattle.gs_linkset.proofs.Parts.{counted}
+use Rattle.gs_linkset.proofs.ReadLemmas.{all_more, array_fault, array_read, items_read}
 use Rattle.gs_linkset.proofs.reading.read_contexts.Goals as goal
 
 pub returns-in_err-context-clause-answer : goal.returns-in_err-context-clause-answer
 returns-in_err-context-clause-answer c =
     let p = err_from_is_err_and c.from_residual.result c.from_residual.ensures.1 in
-    rw (p.1, p.2) (item_fault context_faults context_of c.args.array.now.place (items_of (view c.args.array.now.tree)) c.loop-i.contexts.items c.loop-i.i (view c.in-Ok.item.tree) c.in_err-context.field-0.0 c.loop-i.invariant.0
-    (items_at (view c.args.array.now.tree) c.loop-i.i ∙ sym c.in-Ok.ensures.item) (rw c.in-Ok.ensures.place at c.in_err-context.ensures.answer))
+    rw (p.1, p.2) (array_fault context_faults context_of c.args.array.now.place (view c.args.array.now.tree) c.loop-i.contexts.items c.loop-i.i c.in_err-context.field-0.0 c.loop-i.invariant.0 c.in_err-context.ensures.answer)
 
 pub loop-i-preserved : goal.loop-i-preserved
 loop-i-preserved c = (
-  item_read context_faults context_of c.args.array.now.place (items_of (view c.args.array.now.tree)) c.loop-i.contexts.items c.loop-i.i (view c.in-Ok.item.tree) c.in_ok-context.context c.push.new.items.items c.loop-i.invariant.0
-      (items_at (view c.args.array.now.tree) c.loop-i.i ∙ sym c.in-Ok.ensures.item) (rw c.in-Ok.ensures.place at c.in_ok-context.ensures.answer) c.in_ok-push.ensures,
+  array_read context_faults context_of c.args.array.now.place (view c.args.array.now.tree) c.loop-i.contexts.items c.loop-i.i c.in_ok-context.context c.push.new.items.items c.loop-i.invariant.0 c.in_ok-context.ensures.answer c.in_ok-push.ensures,
   rw c.in_ok-push.ensures (all_more is_context c.loop-i.contexts.items c.in_ok-context.context c.loop-i.invariant.1 c.in_ok-context.ensures.shape),
 )
 
 pub returns-clause-answer : goal.returns-clause-answer
 returns-clause-answer c =
-    let size = items_length (view c.args.array.now.tree) c.args.count c.requires in
+    let size = counted (view c.args.array.now.tree) c.args.count c.requires in
     let few : length (items_of (view c.args.array.now.tree)) ≤ c.loop-i.i = rw size (omega (arith, c.loop-i-test.false)) in
     rw c.from_vec.ensures (items_read context_faults context_of c.args.array.now.place (items_of (view c.args.array.now.tree)) c.loop-i.contexts.items c.loop-i.i c.loop-i.invariant.0 few)

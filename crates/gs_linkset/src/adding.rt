@@ -1,0 +1,22 @@
+ghost use Rattle.std.specs.Prelude.{◌≡◌, ◌∷◌, ◌++◌, [], IfOk};
+ghost use Rattle.std.specs.List.{cons_option};
+
+use gs_chars::Memory;
+
+/// Adds an item.
+pub(crate) fn push<T: Drop>(items: &mut Vec<T>, item: T) -> Result<(), Memory>
+    ensures { IfOk result (λ _. items.new.items ≡ items.old.items ++ item ∷ []) }
+{
+    items.push(item)?;
+    Ok(())
+}
+
+/// Adds an item, where there is one.
+pub(crate) fn push_some<T: Drop>(items: &mut Vec<T>, item: Option<T>) -> Result<(), Memory>
+    ensures { IfOk result (λ _. items.new.items ≡ items.old.items ++ cons_option item []) }
+{
+    match item {
+        Some(item) => push(items, item),
+        None => Ok(()),
+    }
+}
