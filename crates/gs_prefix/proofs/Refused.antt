@@ -169,12 +169,15 @@ not_json bytes fault none (inl s) = elim (true_or_false (is_utf8 bytes)) [
   | inr t ↦ rw (s, t) (inr refl)
 ]
 
-pub form_refused : (bytes : List ℕ) (d : Data) (e : PrefixFault) → IsUtf8 bytes × (read_text bytes ≡ Some d) → OrMemory {X = Unit {0}} (Err e) (first_or (map Json (form_faults d)) (tt {0})) → OrMemory {X = List PrefixEntry} (Err e) (load_answer bytes)
-unfolding document_answer
-form_refused bytes d e is h = rw (is_json bytes d is) (first_in_front (map Json (form_faults d)) (refusals (entries_of d)) (tt {0}) (entries_of d) e h)
+pub document_is : (bytes : List ℕ) (d : Data) (answer : Result (List PrefixEntry) PrefixFault) → IsUtf8 bytes × (read_text bytes ≡ Some d) → OrMemory answer (document_answer d) → OrMemory answer (load_answer bytes)
+document_is bytes d answer is h = rw (is_json bytes d is) h
 
-pub entries_answer : (bytes : List ℕ) (d : Data) (entries : List PrefixEntry) (z : Unit {0}) (answer : Result (List PrefixEntry) PrefixFault) → IsUtf8 bytes × (read_text bytes ≡ Some d) → OrMemory {X = Unit {0}} (Ok z) (first_or (map Json (form_faults d)) (tt {0})) → entries ≡ entries_of d → OrMemory answer (first_or (refusals entries) entries) → OrMemory answer (load_answer bytes)
+pub form_refused : (d : Data) (e : PrefixFault) → OrMemory {X = Unit {0}} (Err e) (first_or (map Json (form_faults d)) (tt {0})) → OrMemory {X = List PrefixEntry} (Err e) (document_answer d)
 unfolding document_answer
-entries_answer bytes d entries z answer is none e h =
+form_refused d e h = first_in_front (map Json (form_faults d)) (refusals (entries_of d)) (tt {0}) (entries_of d) e h
+
+pub entries_answer : (d : Data) (entries : List PrefixEntry) (z : Unit {0}) (answer : Result (List PrefixEntry) PrefixFault) → OrMemory {X = Unit {0}} (Ok z) (first_or (map Json (form_faults d)) (tt {0})) → entries ≡ entries_of d → OrMemory answer (first_or (refusals entries) entries) → OrMemory answer (document_answer d)
+unfolding document_answer
+entries_answer d entries z answer none e h =
     let own = rw e at h in
-    rw (is_json bytes d is) (first_behind (map Json (form_faults d)) (refusals (entries_of d)) (tt {0}) z (entries_of d) answer none own)
+    first_behind (map Json (form_faults d)) (refusals (entries_of d)) (tt {0}) z (entries_of d) answer none own

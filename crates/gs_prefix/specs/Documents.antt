@@ -1,9 +1,9 @@
 -- The document in JSON of a list of company prefix lengths, this project's own profile: its form, and its entries.
-use Rattle.std.specs.Prelude.{◌≡◌, ℕ, ◌==◌, true, if◌then◌else◌, List, [], ◌∷◌, ◌++◌, map, codes, Option, IfSome, option_and_then, option_map, unwrap_or}
+use Rattle.std.specs.Prelude.{◌≡◌, ℕ, ◌==◌, true, if◌then◌else◌, List, [], ◌∷◌, ◌++◌, map, codes, Option, Some, IfSome, option_and_then, option_map, unwrap_or}
 use Rattle.std.specs.List.{flat_map, enumerate_from}
 use Rattle.std.specs.Option.{option_map_or}
 use Rattle.serde_json.specs.Data.{Data, Items, no_items, item}
-use Rattle.serde_json.specs.Find.{as_array, as_number, as_object, as_str, as_u64, get}
+use Rattle.serde_json.specs.Find.{as_array, as_number, as_object, as_str, as_u64, at, get}
 use Rattle.serde_json.specs.View.{view}
 use Rattle.gs_json.specs.Parts.{Part}
 use Rattle.gs_json.specs.Places.{item_place, member_place}
@@ -48,6 +48,10 @@ IsAtMember object name found = IfSome found (λ part. part.place ≡ member_plac
 abbrev pub text_in : List ℕ → Data → List ℕ
 text_in name d = unwrap_or (option_and_then as_str (get name d)) []
 
+-- a number, 0 where this is none
+abbrev pub own_number : Data → ℕ
+own_number d = unwrap_or (option_and_then as_u64 (as_number d)) 0
+
 -- the number of a member, 0 where there is none
 abbrev pub number_in : List ℕ → Data → ℕ
 number_in name d = unwrap_or (option_and_then as_u64 (option_and_then as_number (get name d))) 0
@@ -76,6 +80,10 @@ form_faults d = members_faults [] list_plan (as_object d) ++ (version_faults d +
 -- the entries of a document
 abbrev pub entry_of : Data → PrefixEntry
 entry_of d = record { prefix = text_in (codes "prefix") d; length = number_in (codes "length") d }
+
+-- an entry is what the item of an array at a number is
+abbrev pub IsEntryAt : ℕ → Data → PrefixEntry → Type 0
+IsEntryAt i whole entry = (d : Data) × (Some d ≡ at i whole) × (entry ≡ entry_of d)
 
 -- the entries of an array
 abbrev pub entries_of : Data → List PrefixEntry

@@ -1,7 +1,8 @@
-ghost use Rattle.std.specs.Prelude.{◌≡◌, IfOk};
+ghost use Rattle.std.specs.Prelude.{◌≡◌, [], IfOk, unwrap_or};
+ghost use Rattle.serde_json.specs.Find.{as_str};
 ghost use Rattle.serde_json.specs.View.{view};
 ghost use Rattle.gs_json.specs.Answers.{items_count};
-ghost use Rattle.gs_prefix.specs.Documents.{IsAtMember, IsMember, number_in, text_in};
+ghost use Rattle.gs_prefix.specs.Documents.{IsAtMember, IsMember, number_in, own_number, text_in};
 
 use gs_chars::{Memory, Text};
 use gs_json::{JsonFault, Node};
@@ -28,10 +29,17 @@ pub(crate) fn member_of<'a>(
 pub(crate) fn text_in(alloc: Global, node: &Node<'_>, name: &str) -> Result<Text, Memory>
     ensures { IfOk result (λ text. text ≡ text_in name.now (view node.now.tree)) }
 {
-    let Some(member) = member_of(alloc, node, name)? else {
-        return Text::from_bytes(alloc, b"");
-    };
-    match member.text(alloc) {
+    match member_of(alloc, node, name)? {
+        Some(member) => own_text(alloc, &member),
+        None => Text::from_bytes(alloc, b""),
+    }
+}
+
+/// The text that this is, and the empty one where it is none.
+fn own_text(alloc: Global, part: &Node<'_>) -> Result<Text, Memory>
+    ensures { IfOk result (λ text. text ≡ unwrap_or (as_str (view part.now.tree)) []) }
+{
+    match part.text(alloc) {
         Ok(text) => Ok(text),
         Err(JsonFault::Memory) => Err(Memory),
         Err(_) => Text::from_bytes(alloc, b""),
@@ -42,10 +50,17 @@ pub(crate) fn text_in(alloc: Global, node: &Node<'_>, name: &str) -> Result<Text
 pub(crate) fn number_in(alloc: Global, node: &Node<'_>, name: &str) -> Result<u64, Memory>
     ensures { IfOk result (λ number. number ≡ number_in name.now (view node.now.tree)) }
 {
-    let Some(member) = member_of(alloc, node, name)? else {
-        return Ok(0);
-    };
-    match member.number(alloc) {
+    match member_of(alloc, node, name)? {
+        Some(member) => own_number(alloc, &member),
+        None => Ok(0),
+    }
+}
+
+/// The number that this is, and 0 where it is none.
+fn own_number(alloc: Global, part: &Node<'_>) -> Result<u64, Memory>
+    ensures { IfOk result (λ number. number ≡ own_number (view part.now.tree)) }
+{
+    match part.number(alloc) {
         Ok(number) => Ok(number),
         Err(JsonFault::Memory) => Err(Memory),
         Err(_) => Ok(0),

@@ -1,5 +1,6 @@
 ghost use Rattle.std.specs.Prelude.{◌≡◌, ◌≤◌, [], IfSome, length};
-ghost use Rattle.gs_prefix.specs.Answers.{OrMemory, first_or, load_answer};
+ghost use Rattle.serde_json.specs.View.{view};
+ghost use Rattle.gs_prefix.specs.Answers.{OrMemory, document_answer, first_or, load_answer};
 ghost use Rattle.gs_prefix.specs.Lengths.{length_of_longest, prefix_length};
 ghost use Rattle.gs_prefix.specs.Rules.{refusals};
 
@@ -9,7 +10,7 @@ use crate::form::{judge_form, of_json};
 use crate::index::Index;
 use crate::read::read_entries;
 use crate::rules::check_entry;
-use gs_json::Doc;
+use gs_json::{Doc, Node};
 use std::alloc::Global;
 use std::marker::Model;
 
@@ -53,13 +54,19 @@ impl PrefixList {
     pub fn load(alloc: Global, bytes: &[u8]) -> Result<PrefixList, PrefixFault>
         ensures { OrMemory result (load_answer bytes.now) }
     {
-        let doc = match Doc::parse(alloc, bytes) {
-            Ok(doc) => doc,
-            Err(fault) => return Err(of_json(fault)),
-        };
-        let root = doc.root(alloc);
-        judge_form(alloc, &root)?;
-        let entries = read_entries(alloc, &root)?;
+        match Doc::parse(alloc, bytes) {
+            Ok(doc) => PrefixList::of_root(alloc, &doc.root(alloc)),
+            Err(fault) => Err(of_json(fault)),
+        }
+    }
+
+    /// The list that the document of this tree gives, or its first refusal.
+    fn of_root(alloc: Global, root: &Node<'_>) -> Result<PrefixList, PrefixFault>
+        requires { root.now.place ≡ [] }
+        ensures { OrMemory result (document_answer (view root.now.tree)) }
+    {
+        judge_form(alloc, root)?;
+        let entries = read_entries(alloc, root)?;
         PrefixList::of_entries(alloc, entries.as_slice())
     }
 

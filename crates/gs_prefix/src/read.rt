@@ -1,6 +1,7 @@
-ghost use Rattle.std.specs.Prelude.{◌≡◌, IfOk, map};
+ghost use Rattle.std.specs.Prelude.{◌≡◌, ◌<◌, IfOk, map};
 ghost use Rattle.serde_json.specs.View.{view};
-ghost use Rattle.gs_prefix.specs.Documents.{entries_of, entry_of, items_in};
+ghost use Rattle.gs_json.specs.Answers.{items_count};
+ghost use Rattle.gs_prefix.specs.Documents.{IsEntryAt, entries_of, entry_of, items_in};
 
 use crate::entry::PrefixEntry;
 use crate::members::{count_of, member_of, number_in, text_in};
@@ -18,6 +19,17 @@ fn read_entry(alloc: Global, object: &Node<'_>) -> Result<PrefixEntry, Memory>
     })
 }
 
+/// The entry that the item of an array at a number is.
+fn entry_at(alloc: Global, array: &Node<'_>, i: usize) -> Result<PrefixEntry, Memory>
+    requires { i < items_count (view array.now.tree) }
+    ensures { IfOk result (IsEntryAt i (view array.now.tree)) }
+{
+    match array.item(alloc, i) {
+        Ok(item) => read_entry(alloc, &item),
+        Err(_) => Err(Memory),
+    }
+}
+
 /// The entries that the items of an array are, in their order.
 fn read_items(alloc: Global, array: &Node<'_>) -> Result<Vec<PrefixEntry>, Memory>
     ensures { IfOk result (λ entries. entries.items ≡ map entry_of (items_in (view array.now.tree))) }
@@ -25,10 +37,7 @@ fn read_items(alloc: Global, array: &Node<'_>) -> Result<Vec<PrefixEntry>, Memor
     let count = count_of(alloc, array)?;
     let mut entries = Vec::new(alloc);
     for i in 0..count {
-        let Ok(item) = array.item(alloc, i) else {
-            return Err(Memory);
-        };
-        entries.push(read_entry(alloc, &item)?)?;
+        entries.push(entry_at(alloc, array, i)?)?;
     }
     Ok(entries)
 }

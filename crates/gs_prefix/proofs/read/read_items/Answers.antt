@@ -7,8 +7,9 @@ use Rattle.gs_prefix.proofs.read.read_items.Goals as goal
 
 pub loop-i-preserved : goal.loop-i-preserved
 loop-i-preserved c =
-    mapped_more entry_of (items_in (view c.args.array.now.tree)) c.loop-i.i (view c.in-Ok.item.tree) c.loop-i.entries.items c.in_ok-read_entry.field-0 c.push.new.self.items
-    (items_at (view c.args.array.now.tree) c.loop-i.i ∙ sym c.in-Ok.ensures.item) c.loop-i.invariant c.in_ok-read_entry.ensures c.in_ok-push.ensures.items
+    let p = c.in_ok-entry_at.ensures in
+    mapped_more entry_of (items_in (view c.args.array.now.tree)) c.loop-i.i p.0 c.loop-i.entries.items c.in_ok-entry_at.field-0 c.push.new.self.items
+    (items_at (view c.args.array.now.tree) c.loop-i.i ∙ sym p.1) c.loop-i.invariant p.2 c.in_ok-push.ensures.items
 
 pub returns : goal.returns
 returns c =
