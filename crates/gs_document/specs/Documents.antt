@@ -149,6 +149,10 @@ pub record IsRole (text : List ℕ) (r : Role) : Type 0 where
 abbrev pub IsPartOf : Data → Part → Type 0
 IsPartOf d p = IsPart (text_of d) p
 
+-- the parts and the qualifiers of a row of application identifiers
+abbrev pub AreAiLists : Data → List Part × List (List ℕ) → Type 0
+AreAiLists d lists = Each IsPartOf (rows_in (codes "parts") d) lists.0 × Each IsText (rows_in (codes "qualifiers") d) lists.1
+
 -- a row of application identifiers
 pub record IsAiRow (d : Data) (row : AiRow) : Type 0 where
   pub code : row.code ≡ text_in (codes "code") d
@@ -175,6 +179,13 @@ pub record IsOptionRow (bits : Bool) (d : Data) (row : OptionRow) : Type 0 where
   pub encoding : row.encoding ≡ text_in (codes "encoding") d
   pub gcp : row.gcp ≡ number_in (codes "gcp") d
   pub items : Each (IsItemAt bits) (rows_in (codes "items") d) row.items
+
+-- the rows of the options of the levels: binary, tag and pure
+abbrev pub AreOptions : Data → List OptionRow × List OptionRow × List OptionRow → Type 0
+AreOptions d rows =
+    Each (IsOptionRow true) (rows_in (codes "binary") d) rows.0
+    × Each (IsOptionRow false) (rows_in (codes "tag") d) rows.1
+    × Each (IsOptionRow false) (rows_in (codes "pure") d) rows.2
 
 -- the rows of a document
 pub record IsDocument (d : Data) (document : Document) : Type 0 where

@@ -2,16 +2,16 @@ ghost use Rattle.std.specs.Prelude.{◌≡◌, ℕ, List, [], IfOk, IfErr, codes
 ghost use Rattle.serde_json.specs.View.{view};
 ghost use Rattle.gs_json.specs.Answers.{OrMemory};
 ghost use Rattle.gs_json.specs.Shapes.{first_fault};
-ghost use Rattle.gs_document.specs.Documents.{IsDocument, ai_plan, document_faults, document_plan, items_in, kind_plan, object_faults, option_plan, row_faults, rows_faults};
+ghost use Rattle.gs_document.specs.Documents.{AreOptions, IsDocument, ai_plan, document_faults, document_plan, items_in, kind_plan, object_faults, option_plan, row_faults, rows_faults};
 ghost use Rattle.gs_document.specs.Readings.{Holds, IsFormRefusal, IsJson, of_json};
 
-use crate::document::Document;
+use crate::document::{Document, OptionRow};
 use crate::fault::LoadFault;
 use crate::item_args::count_of;
 use crate::members::{member_of, number_in};
 use crate::plans::{ai_plan, document_plan, kind_plan, option_plan};
 use crate::rows::read_rows;
-use gs_chars::Memory;
+use gs_chars::{List, Memory};
 use gs_json::{Doc, Entry, JsonFault, Node};
 use std::alloc::Global;
 
@@ -129,12 +129,30 @@ fn judge_items(alloc: Global, array: &Node<'_>, plan: &[Entry]) -> Result<(), Js
 fn rows_of(alloc: Global, root: &Node<'_>) -> Result<Document, Memory>
     ensures { IfOk result (λ document. IsDocument (view root.now.tree) document) }
 {
+    let version = number_in(alloc, root, "version")?;
+    let ais = read_rows(alloc, root, "ais", false)?;
+    let kinds = read_rows(alloc, root, "kinds", false)?;
+    let (binary, tag, pure) = options_of(alloc, root)?;
     Ok(Document {
-        version: number_in(alloc, root, "version")?,
-        ais: read_rows(alloc, root, "ais", false)?,
-        kinds: read_rows(alloc, root, "kinds", false)?,
-        binary: read_rows(alloc, root, "binary", true)?,
-        tag: read_rows(alloc, root, "tag", false)?,
-        pure: read_rows(alloc, root, "pure", false)?,
+        version,
+        ais,
+        kinds,
+        binary,
+        tag,
+        pure,
     })
+}
+
+/// The rows of the options of the levels: binary, tag and pure.
+fn options_of(
+    alloc: Global,
+    root: &Node<'_>,
+) -> Result<(List<OptionRow>, List<OptionRow>, List<OptionRow>), Memory>
+    ensures { IfOk result (AreOptions (view root.now.tree)) }
+{
+    Ok((
+        read_rows(alloc, root, "binary", true)?,
+        read_rows(alloc, root, "tag", false)?,
+        read_rows(alloc, root, "pure", false)?,
+    ))
 }

@@ -1,7 +1,7 @@
 ghost use Rattle.std.specs.Prelude.{◌≡◌, ◌<◌, IfOk, codes};
 ghost use Rattle.serde_json.specs.View.{view};
 ghost use Rattle.gs_json.specs.Answers.{items_count};
-ghost use Rattle.gs_document.specs.Documents.{Each, IsReadAt, IsRole, items_in, rows_in, text_in};
+ghost use Rattle.gs_document.specs.Documents.{AreAiLists, Each, IsReadAt, IsRole, items_in, rows_in, text_in};
 
 use crate::document::{FieldItem, KindRow, OptionRow};
 use crate::fault::ItemFault;
@@ -38,15 +38,15 @@ fn read_at<R: Row>(alloc: Global, array: &Node<'_>, i: usize, bits: bool) -> Res
 }
 
 /// The rows that the items of an array are read as, in their order, and none of what is no array.
-fn read_items<R: Row>(alloc: Global, array: &Node<'_>, bits: bool) -> Result<Vec<R>, Memory>
-    ensures { IfOk result (λ rows. Each (R.reads bits) (items_in (view array.now.tree)) rows.items) }
+fn read_items<R: Row>(alloc: Global, array: &Node<'_>, bits: bool) -> Result<List<R>, Memory>
+    ensures { IfOk result (λ rows. Each (R.reads bits) (items_in (view array.now.tree)) rows) }
 {
     let count = count_of(alloc, array)?;
     let mut rows = Vec::new(alloc);
     for i in 0..count {
         rows.push(read_at(alloc, array, i, bits)?)?;
     }
-    Ok(rows)
+    Ok(List::from_vec(rows))
 }
 
 /// The rows of the array that is the member of a name, and none where there is no such array.
@@ -59,7 +59,7 @@ pub(crate) fn read_rows<R: Row>(
     ensures { IfOk result (λ rows. Each (R.reads bits) (rows_in name.now (view node.now.tree)) rows) }
 {
     match member_of(alloc, node, name)? {
-        Some(array) => Ok(List::from_vec(read_items(alloc, &array, bits)?)),
+        Some(array) => read_items(alloc, &array, bits),
         None => Ok(List::from_vec(Vec::new(alloc))),
     }
 }
@@ -93,19 +93,34 @@ fn role_in(alloc: Global, node: &Node<'_>) -> Result<Role, Memory>
     Ok(Role::read(role.as_bytes()))
 }
 
+/// The parts and the qualifiers of an application identifier.
+fn lists_in(alloc: Global, node: &Node<'_>, bits: bool) -> Result<(List<Part>, List<Text>), Memory>
+    ensures { IfOk result (AreAiLists (view node.now.tree)) }
+{
+    Ok((
+        read_rows(alloc, node, "parts", bits)?,
+        read_rows(alloc, node, "qualifiers", bits)?,
+    ))
+}
+
 impl Row for AiRow {
     ghost use Rattle.gs_document.specs.Documents.{IsAiRow};
 
     ghost reads = { λ _ d row. IsAiRow d row };
 
     fn read(alloc: Global, node: &Node<'_>, bits: bool) -> Result<AiRow, Memory> {
+        let role = role_in(alloc, node)?;
+        let short = truth_in(alloc, node, "short")?;
+        let code = text_in(alloc, node, "code")?;
+        let none = text_in(alloc, node, "none")?;
+        let (parts, qualifiers) = lists_in(alloc, node, bits)?;
         Ok(AiRow {
-            role: role_in(alloc, node)?,
-            short: truth_in(alloc, node, "short")?,
-            code: text_in(alloc, node, "code")?,
-            none: text_in(alloc, node, "none")?,
-            parts: read_rows(alloc, node, "parts", bits)?,
-            qualifiers: read_rows(alloc, node, "qualifiers", bits)?,
+            role,
+            short,
+            code,
+            none,
+            parts,
+            qualifiers,
         })
     }
 }

@@ -5,7 +5,7 @@ use Rattle.std.specs.List.{enumerate_from, flat_map}
 use Rattle.std.proofs.lemmas.Bool.{cases_lt}
 use Rattle.std.proofs.lemmas.Grind.{flat_map-append}
 use Rattle.std.proofs.Common.{lt→ltb}
-use Rattle.std.proofs.lemmas.List.{append-nil, append_assoc, length-append}
+use Rattle.std.proofs.lemmas.List.{append-nil, append_assoc, length-append, map-append}
 use Rattle.gs_ai.specs.Tables.{is_empty}
 use Rattle.gs_ai.specs.declared.pair.Pair.{Pair}
 use Rattle.gs_ai.specs.declared.row.AiRow.{AiRow}
@@ -71,6 +71,14 @@ no_attributes table text anchor h = bare_pairs table (pairs_answer table text) a
 -- all qualifiers of an anchor give the anchor
 pub whole_anchor : (anchor : Elements) → anchor.attributes ≡ [] → record { key = anchor.key; qualifiers = take (length anchor.qualifiers) anchor.qualifiers; attributes = [] } ≡ anchor
 whole_anchor anchor none = ap (λ q. record { key = anchor.key; qualifiers = q; attributes = [] }) (take_whole anchor.qualifiers (length anchor.qualifiers) (omega arith)) ∙ ap (λ a. record { key = anchor.key; qualifiers = anchor.qualifiers; attributes = a }) (sym none)
+
+-- ---- what is added for each thing of a list
+
+pub mapped_more : {X Y : Type 0} (f : X → Y) (first : List Y) (xs : List X) (x : X) (old new : List Y) (y : Y) → old ≡ first ++ map f xs → y ≡ f x → new ≡ old ++ y ∷ [] → new ≡ first ++ map f (xs ++ x ∷ [])
+mapped_more f first xs x old new y h own e = rw (e, h, own, map-append) (append_assoc first (map f xs) (f x ∷ []))
+
+pub flat_more : {X Y : Type 0} (f : X → List Y) (first : List Y) (xs : List X) (x : X) (old new : List Y) → old ≡ first ++ flat_map f xs → new ≡ old ++ f x → new ≡ first ++ flat_map f (xs ++ x ∷ [])
+flat_more f first xs x old new h e = rw (e, h, flat_map-append f xs (x ∷ []), append-nil (f x)) (append_assoc first (flat_map f xs) (f x))
 
 -- ---- the targets of relations
 

@@ -132,6 +132,10 @@ first_or (fault ∷ faults) made = Err fault
 abbrev pub OrMemory : {X : Type 0} → Result X StoreFault → Result X StoreFault → Type 0
 OrMemory result answer = (result ≡ Err Memory) ⊎ (result ≡ answer)
 
+-- a fault is the first refusal of a context, or want of memory
+abbrev pub IsRefusal : List AiRow → ℕ → Context → StoreFault → Type 0
+IsRefusal table i context fault = OrMemory {X = Unit {0}} (Err fault) (first_or (context_faults table i context) (tt {0}))
+
 -- the answer of a load: the first fault, or the links
 unfoldable pub load_answer : List AiRow → List ℕ → List Context → Result (List Link) StoreFault
 load_answer table voc contexts = first_or (store_faults table contexts) (links_of table voc contexts)

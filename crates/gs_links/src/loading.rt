@@ -1,8 +1,10 @@
-ghost use Rattle.std.specs.Prelude.{◌≡◌, ◌++◌, [], IfOk, map, not, position, true};
+ghost use Rattle.std.specs.Prelude.{◌≡◌, ◌++◌, [], IfErr, IfOk, Ok, map, not, position, true};
 ghost use Rattle.gs_linkset.specs.LinkShapes.{is_context};
 ghost use Rattle.gs_links.specs.Shapes.{is_link};
 ghost use Rattle.std.specs.List.{flat_map, list_all};
-ghost use Rattle.gs_links.specs.Loading.{OrMemory, context_faults, context_links, expanded, first_or};
+ghost use Rattle.gs_ident.specs.Identities.{IsMadeWith};
+ghost use Rattle.gs_links.specs.Loading.{IsRefusal, OrMemory, anchor_answer, context_faults, context_links};
+ghost use Rattle.gs_links.specs.Loading.{expanded, first_or};
 ghost use Rattle.gs_chars.specs.Characters.{is_visible};
 ghost use Rattle.gs_links.specs.Loading.{is_reference, link_with, relation_links, relations_faults};
 
@@ -66,6 +68,24 @@ fn expand(alloc: Global, voc: &[u8], name: Text) -> Result<Text, Memory>
     }
 }
 
+/// The link of an anchor by a relation to a target.
+#[tactic(auto, using(crate::proofs::LoadLemmas::whole_anchor))]
+fn link_with(
+    alloc: Global,
+    anchor: &Identity,
+    relation: &Text,
+    target: Target,
+) -> Result<Link, Memory>
+    requires { anchor.now.attributes ≡ [] }
+    ensures { IfOk result (λ link. link ≡ link_with anchor.now relation.now target) }
+{
+    Ok(Link {
+        anchor: anchor.prefix(alloc, anchor.qualifiers().len())?,
+        relation: relation.copy(alloc)?,
+        target,
+    })
+}
+
 /// Adds the links of targets.
 fn push_targets(
     alloc: Global,
@@ -79,13 +99,25 @@ fn push_targets(
         ≡ links.old.items ++ map (link_with anchor.now relation.now) targets) }
 {
     for target in targets.into_vec() {
-        links.push(Link {
-            anchor: anchor.prefix(alloc, anchor.qualifiers().len())?,
-            relation: relation.copy(alloc)?,
-            target,
-        })?;
+        links.push(link_with(alloc, anchor, relation, target)?)?;
     }
     Ok(())
+}
+
+/// Adds the links of a relation.
+fn push_relation(
+    alloc: Global,
+    voc: &[u8],
+    anchor: &Identity,
+    relation: Relation,
+    links: &mut Vec<Link>,
+) -> Result<(), Memory>
+    requires { anchor.now.attributes ≡ [] }
+    ensures { IfOk result (λ _. links.new.items
+        ≡ links.old.items ++ relation_links voc.now anchor.now relation) }
+{
+    let name = expand(alloc, voc, relation.name)?;
+    push_targets(alloc, anchor, &name, relation.targets, links)
 }
 
 /// Adds the links of relations.
@@ -101,10 +133,29 @@ fn push_relations(
         ≡ links.old.items ++ flat_map (relation_links voc.now anchor.now) relations) }
 {
     for relation in relations.into_vec() {
-        let name = expand(alloc, voc, relation.name)?;
-        push_targets(alloc, anchor, &name, relation.targets, links)?;
+        push_relation(alloc, voc, anchor, relation, links)?;
     }
     Ok(())
+}
+
+/// The anchor of the context at an index, or the context's first refusal.
+fn judge_context(
+    alloc: Global,
+    table: &AiTable,
+    i: usize,
+    context: &Context,
+) -> Result<Identity, StoreFault>
+    ensures refused { IfErr result (IsRefusal table.now i context.now) }
+    ensures anchor { IfOk result (λ anchor. Ok anchor ≡ anchor_answer table.now context.now.anchor) }
+    ensures with_table { IfOk result (λ anchor. IsMadeWith table.now anchor) }
+    ensures relations { IfOk result (λ _. relations_faults i context.now.relations ≡ []) }
+{
+    let anchor = match read_anchor(alloc, table, context.anchor.as_bytes())? {
+        Ok(anchor) => anchor,
+        Err(why) => return Err(StoreFault::BadAnchor(i, why)),
+    };
+    judge_relations(i, context.relations.items())?;
+    Ok(anchor)
 }
 
 /// Adds the links of the context at an index, or answers its first refusal.
@@ -125,11 +176,7 @@ pub(crate) fn push_context(
 {
     // For the proof alone: the rows keep the rules.
     let _ = table.rows();
-    let anchor = match read_anchor(alloc, table, context.anchor.as_bytes())? {
-        Ok(anchor) => anchor,
-        Err(why) => return Err(StoreFault::BadAnchor(i, why)),
-    };
-    judge_relations(i, context.relations.items())?;
+    let anchor = judge_context(alloc, table, i, &context)?;
     push_relations(alloc, voc, &anchor, context.relations, links)?;
     Ok(())
 }

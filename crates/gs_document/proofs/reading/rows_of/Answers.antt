@@ -1,4 +1,6 @@
 use Rattle.gs_document.proofs.reading.rows_of.Goals as goal
 
 pub returns : goal.returns
-returns c = record { version = c.in_ok-number_in.ensures; ais = c.in_ok-read_rows.ensures; kinds = c.in_ok-read_rows-2.ensures; binary = c.in_ok-read_rows-3.ensures; tag = c.in_ok-read_rows-4.ensures; pure = c.in_ok-read_rows-5.ensures }
+returns c =
+    let options = c.in_ok-binary.ensures in
+    record { version = c.in_ok-version.ensures; ais = c.in_ok-ais.ensures; kinds = c.in_ok-kinds.ensures; binary = options.0; tag = options.1; pure = options.2 }

@@ -11,4 +11,4 @@ loop-i-preserved g c =
 
 pub returns : goal.returns
 returns g c =
-    each_all (g.R.Row.reads c.args.bits) (view c.args.array.now.tree) c.loop-i.i c.loop-i.rows.items (omega (arith, c.in_ok-count.ensures)) c.loop-i.invariant
+    rw c.from_vec.ensures (each_all (g.R.Row.reads c.args.bits) (view c.args.array.now.tree) c.loop-i.i c.loop-i.rows.items (omega (arith, c.in_ok-count.ensures)) c.loop-i.invariant)
