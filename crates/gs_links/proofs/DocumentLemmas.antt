@@ -151,6 +151,11 @@ fold_named [] names all h = h
 fold_named (link ∷ links) names all h =
     fold_named links (with_name names link) (and_second (is_link link) (list_all is_link links) all) (with_named names link (and_first (is_link link) (list_all is_link links) all) h)
 
+-- ---- what each name gives
+
+pub named_more : {E N R : Type 0} (f : N → R) (name : E → N) (xs : List E) (x : E) (old new : List R) (r : R) → old ≡ map f (map name xs) → r ≡ f (name x) → new ≡ old ++ r ∷ [] → new ≡ map f (map name (xs ++ x ∷ []))
+named_more f name xs x old new r h own e = rw (e, h, own, map-append, map-append) refl
+
 -- ---- the shape of the document
 
 targets_shaped : (links : List Link) (name : List ℕ) → list_all is_link links ≡ true → list_all is_target (targets_of links name) ≡ true
