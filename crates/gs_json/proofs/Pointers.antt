@@ -1,7 +1,9 @@
 -- Places by the JSON Pointers of `serde_json`.
-use Rattle.std.proofs.Common.{◌≡◌, ◌≢◌, ℕ, zero, suc, ◌^◌, ◌<◌, ◌==◌, ◌||◌, not, Bool, true, false, cond, List, [], ◌∷◌, ◌++◌, length, get_or, Option, Some, None, option_and_then, decimal, inl, inr, refl, sym, ap, ◌∙◌, arith, append-nil, lt-ltb, ne_eqb}
+use Rattle.std.proofs.Common.{◌≡◌, ◌≢◌, ℕ, zero, suc, ◌^◌, ◌<◌, ◌==◌, ◌||◌, not, Bool, true, false, cond, List, [], ◌∷◌, ◌++◌, length, get_or, take, ◌+◌, Option, Some, None, option_and_then, decimal, inl, inr, refl, sym, ap, ◌∙◌, arith, append-nil, lt-ltb, ne_eqb}
 use Rattle.std.proofs.lemmas.Bool.{cases_eq, eq-eqb}
 use Rattle.std.proofs.Math.Bool.{or-true}
+use Rattle.std.proofs.lemmas.Grind.{flat_map-append}
+use Rattle.std.proofs.lemmas.List.{append_assoc, take_more}
 use Rattle.std.proofs.lemmas.Float.Parse.{scan_numeral-text_of}
 use Rattle.std.proofs.lemmas.Fmt.{decimal_digit, decimal_is_IsNumeral, decimal_nonempty, first_decimal}
 use Rattle.std.specs.Char.{digit_value}
@@ -11,6 +13,13 @@ use Rattle.serde_json.specs.Data.{Data, null, boolean, number, string, array, ob
 use Rattle.serde_json.specs.Find.{at, get, get_item, get_member, index_of, pointer, step, unescape, walk}
 use Rattle.serde_json.proofs.Paths.{Lacks, walk_last}
 use Rattle.gs_json.specs.Places.{escaped, escaped_byte, item_place, member_place}
+
+-- ---- a name, byte by byte
+
+pub escaped_more : (place name : List ℕ) (i other : ℕ) (old new : List ℕ) → i < length name → old ≡ member_place place (take i name) → new ≡ old ++ escaped_byte (get_or name i other) → new ≡ member_place place (take (i + 1) name)
+escaped_more place name i other old new low so_far e =
+    rw (e, so_far, take_more name i other low, flat_map-append escaped_byte (take i name) (get_or name i other ∷ []), append-nil (escaped_byte (get_or name i other)))
+    (append_assoc place (47 ∷ escaped (take i name)) (escaped_byte (get_or name i other)))
 
 -- ---- a part more
 

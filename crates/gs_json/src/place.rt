@@ -1,5 +1,5 @@
 ghost use Rattle.std.specs.Prelude.{◌≡◌, ℕ, [], ◌++◌, List, IfOk, OnOk};
-ghost use Rattle.gs_json.specs.Places.{escaped, item_place, member_place};
+ghost use Rattle.gs_json.specs.Places.{escaped, escaped_byte, item_place, member_place};
 
 use gs_chars::{Memory, Text};
 use std::alloc::{AllocError, Global};
@@ -113,11 +113,19 @@ fn push_member(text: &mut Vec<u8>, name: &[u8]) -> Result<(), Memory>
 {
     text.push(b'/')?;
     for c in name.iter() {
-        match *c {
-            b'~' => text.extend_from_slice(b"~0")?,
-            b'/' => text.extend_from_slice(b"~1")?,
-            plain => text.push(plain)?,
-        }
+        push_escaped(text, *c)?;
+    }
+    Ok(())
+}
+
+/// Appends a byte of a name, with its escape.
+fn push_escaped(text: &mut Vec<u8>, c: u8) -> Result<(), Memory>
+    ensures { OnOk result (text.new.items ≡ text.old.items ++ escaped_byte c) }
+{
+    match c {
+        b'~' => text.extend_from_slice(b"~0")?,
+        b'/' => text.extend_from_slice(b"~1")?,
+        plain => text.push(plain)?,
     }
     Ok(())
 }
