@@ -1,6 +1,7 @@
 -- The parts of an array.
-use Rattle.std.proofs.Common.{◌≡◌, ℕ, zero, suc, ◌+◌, ◌≤◌, List, [], ◌∷◌, ◌++◌, length, take, Some, None, refl, arith, slice_get, sym, ap, ◌∙◌}
+use Rattle.std.proofs.Common.{◌≡◌, ℕ, zero, suc, ◌+◌, ◌<◌, ◌≤◌, List, [], ◌∷◌, ◌++◌, get_or, length, map, take, Some, None, refl, arith, slice_get, sym, ap, ◌∙◌}
 use Rattle.std.specs.Option.{option_and_then}
+use Rattle.std.proofs.lemmas.List.{map-append, take_more}
 use Rattle.serde_json.specs.Data.{Data, null, boolean, number, string, array, object, Items, no_items, item}
 use Rattle.serde_json.specs.Events.{items_len}
 use Rattle.serde_json.specs.Find.{as_object, at, get, get_item, get_member}
@@ -63,6 +64,11 @@ items_at (string s) (suc i) = refl
 items_at (array items) i = listed_at items i
 items_at (object _) zero = refl
 items_at (object _) (suc i) = refl
+
+-- ---- what is made of each thing of a list
+
+pub mapped_step : {X Y : Type 0} (f : X → Y) (xs : List X) (i : ℕ) (other : X) (done new : List Y) (y : Y) → i < length xs → done ≡ map f (take i xs) → y ≡ f (get_or xs i other) → new ≡ done ++ y ∷ [] → new ≡ map f (take (i + 1) xs)
+mapped_step f xs i other done new y low so_far own e = rw (e, so_far, own, take_more xs i other low, map-append) refl
 
 -- ---- rows that are read one by one
 
