@@ -187,8 +187,17 @@ fn read_document(alloc: Global, root: &Node<'_>) -> Result<List<Context>, JsonFa
 pub fn read(alloc: Global, bytes: &[u8]) -> Result<LinkDoc, JsonFault>
     ensures { OrMemory result (read_answer bytes.now) }
 {
-    let doc = Doc::parse(alloc, bytes)?;
-    let root = doc.root(alloc);
-    let contexts = read_document(alloc, &root)?;
+    match Doc::parse(alloc, bytes) {
+        Ok(doc) => read_root(alloc, &doc.root(alloc)),
+        Err(fault) => Err(fault),
+    }
+}
+
+/// The linkset of the document of this tree, or its first fault.
+fn read_root(alloc: Global, root: &Node<'_>) -> Result<LinkDoc, JsonFault>
+    requires { root.now.place ≡ [] }
+    ensures { OrMemory result (document_answer (view root.now.tree)) }
+{
+    let contexts = read_document(alloc, root)?;
     Ok(LinkDoc::of_contexts(contexts))
 }
