@@ -74,17 +74,25 @@ fn judge_version(alloc: Global, root: &Node<'_>) -> Result<(), PrefixFault>
 }
 
 /// The first fault of the entries of an array, entry by entry.
-#[tactic(auto, unfolding(crate::specs::Documents::array_faults))]
 fn judge_items(alloc: Global, array: &Node<'_>) -> Result<(), PrefixFault>
     ensures { IsFirst result (array_faults array.now.place (items_in (view array.now.tree))) }
 {
     let plan = entry_plan(alloc)?;
+    judge_by(alloc, array, plan.as_slice())
+}
+
+/// The first fault of the entries of an array by the plan of an entry, entry by entry.
+#[tactic(auto, unfolding(crate::specs::Documents::array_faults))]
+fn judge_by(alloc: Global, array: &Node<'_>, plan: &[Entry]) -> Result<(), PrefixFault>
+    requires { plan.now ≡ entry_plan }
+    ensures { IsFirst result (array_faults array.now.place (items_in (view array.now.tree))) }
+{
     let count = count_of(alloc, array)?;
     for i in 0..count {
         let Ok(entry) = array.item(alloc, i) else {
             return Err(PrefixFault::Memory);
         };
-        judge_object(alloc, &entry, plan.as_slice())?;
+        judge_object(alloc, &entry, plan)?;
     }
     Ok(())
 }
