@@ -1,0 +1,21 @@
+use Rattle.serde_json.specs.View.{view}
+use Rattle.gs_document.proofs.ItemNames.{bit_by_ascii7, bit_by_fill, bit_by_lit, bit_by_none, bit_by_num, bit_by_numpad}
+use Rattle.gs_document.proofs.items.read_bit_item.Goals as goal
+
+pub returns-then-eq : goal.returns-then-eq
+returns-then-eq c = bit_by_lit c.args.name.now (view c.args.item.now.tree) c.read_bits.result (rw c.as_slice.ensures at c.if-eq.ensures) c.read_bits.ensures
+
+pub returns-then-eq-2 : goal.returns-then-eq-2
+returns-then-eq-2 c = bit_by_numpad c.args.name.now (view c.args.item.now.tree) c.read_numpad.result (rw c.as_slice.ensures at c.if-eq.ensures) (rw c.as_slice-else-eq.ensures at c.if-eq-2.ensures) c.read_numpad.ensures
+
+pub returns-then-eq-3 : goal.returns-then-eq-3
+returns-then-eq-3 c = bit_by_num c.args.name.now (view c.args.item.now.tree) c.read_num.result (rw c.as_slice.ensures at c.if-eq.ensures) (rw c.as_slice-else-eq.ensures at c.if-eq-2.ensures) (rw c.as_slice-else-eq-2.ensures at c.if-eq-3.ensures) c.read_num.ensures
+
+pub returns-then-eq-4 : goal.returns-then-eq-4
+returns-then-eq-4 c = bit_by_ascii7 c.args.name.now (view c.args.item.now.tree) c.read_ascii7.result (rw c.as_slice.ensures at c.if-eq.ensures) (rw c.as_slice-else-eq.ensures at c.if-eq-2.ensures) (rw c.as_slice-else-eq-2.ensures at c.if-eq-3.ensures) (rw c.as_slice-else-eq-3.ensures at c.if-eq-4.ensures) c.read_ascii7.ensures
+
+pub returns-then-eq-5 : goal.returns-then-eq-5
+returns-then-eq-5 c = bit_by_fill c.args.name.now (view c.args.item.now.tree) c.read_fill.result (rw c.as_slice.ensures at c.if-eq.ensures) (rw c.as_slice-else-eq.ensures at c.if-eq-2.ensures) (rw c.as_slice-else-eq-2.ensures at c.if-eq-3.ensures) (rw c.as_slice-else-eq-3.ensures at c.if-eq-4.ensures) (rw c.as_slice-else-eq-4.ensures at c.if-eq-5.ensures) c.read_fill.ensures
+
+pub returns-else-eq-5 : goal.returns-else-eq-5
+returns-else-eq-5 c = bit_by_none c.args.name.now (view c.args.item.now.tree) (rw c.as_slice.ensures at c.if-eq.ensures) (rw c.as_slice-else-eq.ensures at c.if-eq-2.ensures) (rw c.as_slice-else-eq-2.ensures at c.if-eq-3.ensures) (rw c.as_slice-else-eq-3.ensures at c.if-eq-4.ensures) (rw c.as_slice-else-eq-4.ensures at c.if-eq-5.ensures)
