@@ -1,7 +1,26 @@
-use Rattle.std.proofs.Common.{[], sym, arith}
+use Rattle.std.proofs.Common.{Bool, true, false, ℕ, ◌≤◌, [], sym, arith}
 use Rattle.gs_port.specs.Contents.{append_nothing}
+use Rattle.gs_port.specs.Counts.{Rises}
+use Rattle.gs_lines.specs.declared.answering.Answering.{Answering}
+use Rattle.gs_lines.specs.declared.answering.Answering.TheVariants.{Whole, SinkFault, Memory}
+use Rattle.gs_lines.specs.Answering.{OnSinkFault, status_at_end}
+use Rattle.gs_lines.specs.Statuses.{OnWriteFault}
 use Rattle.gs_lines.proofs.ProgressLemmas.{after_end, after_limit, after_read_fault, after_want, after_write_fault, at_most, more_than_limit, progress_held, progress_more, progress_start, writes_nothing}
 use Rattle.gs_lines.proofs.answering.answer_lines.Goals as goal
+
+-- a count that rose later rose
+rises_later : (a b c : ℕ) → a ≤ b → Rises b c → Rises a c
+rises_later a b c low rises = omega arith
+
+-- a fault of the output while the last line was answered
+fault_at_end : {A B : Type 0} (earlier : Bool) (last : Answering) → OnSinkFault last A → (A → B) → OnWriteFault (status_at_end earlier last) B
+fault_at_end true (Whole refused) a f = tt
+fault_at_end false (Whole true) a f = tt
+fault_at_end false (Whole false) a f = tt
+fault_at_end true SinkFault a f = f a
+fault_at_end false SinkFault a f = f a
+fault_at_end true Memory a f = tt
+fault_at_end false Memory a f = tt
 
 pub returns-in_default-clause-written : goal.returns-in_default-clause-written
 returns-in_default-clause-written g c = ([], sym (append_nothing _), writes_nothing _ _ _ _)
@@ -58,3 +77,48 @@ loop-out-preserved g c = record {
   input_counts = omega (arith, c.in-Got.ensures.counts);
   output_counts = omega (arith, c.in-Whole.ensures.counts);
 }
+
+pub returns-in-Failed-clause-read_fault : goal.returns-in-Failed-clause-read_fault
+returns-in-Failed-clause-read_fault g c = rises_later _ _ _ c.loop-out.invariant.input_counts c.in-Failed.ensures.failed
+
+pub returns-in-Failed-clause-input_counts : goal.returns-in-Failed-clause-input_counts
+returns-in-Failed-clause-input_counts g c = omega (arith, c.in-Failed.ensures.counts)
+
+pub returns-in-Failed-clause-output_counts : goal.returns-in-Failed-clause-output_counts
+returns-in-Failed-clause-output_counts g c = c.loop-out.invariant.output_counts
+
+pub returns-in-Got-eq0-clause-write_fault : goal.returns-in-Got-eq0-clause-write_fault
+returns-in-Got-eq0-clause-write_fault g c = 
+    rw c.status_after.ensures
+    (fault_at_end c.loop-out.refused c.write_answers-last.result c.write_answers-last.ensures.fault (rises_later _ _ _ c.loop-out.invariant.output_counts))
+
+pub returns-in-Got-eq0-clause-input_counts : goal.returns-in-Got-eq0-clause-input_counts
+returns-in-Got-eq0-clause-input_counts g c = omega (arith, c.in-Got-eq0.ensures.counts)
+
+pub returns-in-Got-eq0-clause-output_counts : goal.returns-in-Got-eq0-clause-output_counts
+returns-in-Got-eq0-clause-output_counts g c = omega (arith, c.write_answers-last.ensures.counts)
+
+pub returns-in-Got-clause-input_counts : goal.returns-in-Got-clause-input_counts
+returns-in-Got-clause-input_counts g c = omega (arith, c.in-Got.ensures.counts)
+
+pub returns-in-Got-clause-output_counts : goal.returns-in-Got-clause-output_counts
+returns-in-Got-clause-output_counts g c = c.loop-out.invariant.output_counts
+
+pub returns-in-SinkFault-clause-input_counts : goal.returns-in-SinkFault-clause-input_counts
+returns-in-SinkFault-clause-input_counts g c = omega (arith, c.in-Got.ensures.counts)
+
+pub returns-in-SinkFault-clause-output_counts : goal.returns-in-SinkFault-clause-output_counts
+returns-in-SinkFault-clause-output_counts g c = omega (arith, c.in-SinkFault.ensures.counts)
+
+pub returns-in-Memory-clause-input_counts : goal.returns-in-Memory-clause-input_counts
+returns-in-Memory-clause-input_counts g c = omega (arith, c.in-Got.ensures.counts)
+
+pub returns-in-Memory-clause-output_counts : goal.returns-in-Memory-clause-output_counts
+returns-in-Memory-clause-output_counts g c = omega (arith, c.in-Memory.ensures.counts)
+
+pub returns-in-SinkFault-clause-write_fault : goal.returns-in-SinkFault-clause-write_fault
+returns-in-SinkFault-clause-write_fault g c = rises_later _ _ _ c.loop-out.invariant.output_counts c.in-SinkFault.ensures.fault
+
+pub returns-in-Got-eq0-clause-few : goal.returns-in-Got-eq0-clause-few
+returns-in-Got-eq0-clause-few g c =
+    at_most _ _ _ _ _ _ _ _ _ _ _ c.loop-out.invariant.progress c.in-Got-eq0.ensures.moved (omega (arith, c.in-Got-eq0.field-0-test))

@@ -27,3 +27,20 @@ loop-rest-preserved g c = record {
       appends_more _ _ _ _ _ _ _ _ _ _ _ c.loop-rest.invariant.written c.clear.ensures.items c.in-Ok.ensures.front done c.either-refused.ensures;
   counts = omega (arith, c.loop-rest.invariant.counts, c.in-Done.ensures.counts);
 }
+
+pub returns-in_default-clause-counts : goal.returns-in_default-clause-counts
+returns-in_default-clause-counts g c = c.loop-rest.invariant.counts
+
+pub returns-in-SinkFault-clause-counts : goal.returns-in-SinkFault-clause-counts
+returns-in-SinkFault-clause-counts g c = omega (arith, c.loop-rest.invariant.counts, c.in-SinkFault.ensures.counts)
+
+pub returns-in-Memory-clause-counts : goal.returns-in-Memory-clause-counts
+returns-in-Memory-clause-counts g c = omega (arith, c.loop-rest.invariant.counts, c.in-Memory.ensures.counts)
+
+pub returns-clause-counts : goal.returns-clause-counts
+returns-clause-counts g c = c.loop-rest.invariant.counts
+
+pub returns-in-SinkFault-clause-fault : goal.returns-in-SinkFault-clause-fault
+returns-in-SinkFault-clause-fault g c =
+    let rises = c.in-SinkFault.ensures.fault in
+    omega (arith, c.loop-rest.invariant.counts)
