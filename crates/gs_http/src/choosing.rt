@@ -153,10 +153,8 @@ fn by_pairs<'a>(
 {
     match make(alloc, table, pairs) {
         Ok(identity) => by_identity(alloc, store, wish, numbers, &identity),
-        Err(IdentFault::Repeat(_)) => Ok(Answer::BadRequest),
-        Err(IdentFault::NoKey) => Ok(Answer::BadRequest),
-        Err(IdentFault::TwoKeys(_)) => Ok(Answer::BadRequest),
         Err(IdentFault::Memory) => Err(Memory),
+        Err(_) => Ok(Answer::BadRequest),
     }
 }
 
@@ -176,9 +174,8 @@ fn by_target<'a>(
     match read_target(alloc, table, target) {
         Ok(pairs) => by_pairs(alloc, table, store, wish, numbers, pairs),
         Err(LinkFault::NoKeyPath) => Ok(Answer::NotFound),
-        Err(LinkFault::NotHttp) => Ok(Answer::BadRequest),
-        Err(LinkFault::Element(_)) => Ok(Answer::BadRequest),
         Err(LinkFault::Memory) => Err(Memory),
+        Err(_) => Ok(Answer::BadRequest),
     }
 }
 
