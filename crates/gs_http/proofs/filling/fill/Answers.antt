@@ -22,3 +22,114 @@ returns-in-NotRead-clause-reads g c = reads_further _ _ _ _ _ _ _ _ _ c.filling.
 
 pub returns-in-NoRoom-clause-reads : goal.returns-in-NoRoom-clause-reads
 returns-in-NoRoom-clause-reads g c = reads_further _ _ _ _ _ _ _ _ _ c.filling.invariant.reads c.in-NoRoom.ensures.reads
+
+pub returns-in-Some-clause-reads : goal.returns-in-Some-clause-reads
+returns-in-Some-clause-reads g c = c.filling.invariant.reads
+
+pub returns-in-Some-clause-few : goal.returns-in-Some-clause-few
+returns-in-Some-clause-few g c = c.filling.invariant.few
+
+pub returns-in-Some-clause-count : goal.returns-in-Some-clause-count
+returns-in-Some-clause-count g c = c.filling.invariant.count
+
+pub returns-in-Some-clause-same_held : goal.returns-in-Some-clause-same_held
+returns-in-Some-clause-same_held g c = c.filling.invariant.same_held
+
+pub returns-in-Some-clause-same_writes : goal.returns-in-Some-clause-same_writes
+returns-in-Some-clause-same_writes g c = c.filling.invariant.same_writes
+
+pub returns-in-Some-clause-same_aside : goal.returns-in-Some-clause-same_aside
+returns-in-Some-clause-same_aside g c = c.filling.invariant.same_aside
+
+pub returns-in-Some-clause-same_ends : goal.returns-in-Some-clause-same_ends
+returns-in-Some-clause-same_ends g c = c.filling.invariant.same_ends
+
+pub returns-in-Some-clause-stays_open : goal.returns-in-Some-clause-stays_open
+returns-in-Some-clause-stays_open g c = c.filling.invariant.open_now
+
+pub returns-in-Some-clause-counts : goal.returns-in-Some-clause-counts
+returns-in-Some-clause-counts g c = omega (arith, c.filling.invariant.count)
+
+pub returns-then-len-ge-LONGEST-clause-reads : goal.returns-then-len-ge-LONGEST-clause-reads
+returns-then-len-ge-LONGEST-clause-reads g c = c.filling.invariant.reads
+
+pub returns-then-len-ge-LONGEST-clause-few : goal.returns-then-len-ge-LONGEST-clause-few
+returns-then-len-ge-LONGEST-clause-few g c = c.filling.invariant.few
+
+pub returns-then-len-ge-LONGEST-clause-count : goal.returns-then-len-ge-LONGEST-clause-count
+returns-then-len-ge-LONGEST-clause-count g c = c.filling.invariant.count
+
+pub returns-then-len-ge-LONGEST-clause-same_held : goal.returns-then-len-ge-LONGEST-clause-same_held
+returns-then-len-ge-LONGEST-clause-same_held g c = c.filling.invariant.same_held
+
+pub returns-then-len-ge-LONGEST-clause-same_writes : goal.returns-then-len-ge-LONGEST-clause-same_writes
+returns-then-len-ge-LONGEST-clause-same_writes g c = c.filling.invariant.same_writes
+
+pub returns-then-len-ge-LONGEST-clause-same_aside : goal.returns-then-len-ge-LONGEST-clause-same_aside
+returns-then-len-ge-LONGEST-clause-same_aside g c = c.filling.invariant.same_aside
+
+pub returns-then-len-ge-LONGEST-clause-same_ends : goal.returns-then-len-ge-LONGEST-clause-same_ends
+returns-then-len-ge-LONGEST-clause-same_ends g c = c.filling.invariant.same_ends
+
+pub returns-then-len-ge-LONGEST-clause-stays_open : goal.returns-then-len-ge-LONGEST-clause-stays_open
+returns-then-len-ge-LONGEST-clause-stays_open g c = c.filling.invariant.open_now
+
+pub returns-then-len-ge-LONGEST-clause-counts : goal.returns-then-len-ge-LONGEST-clause-counts
+returns-then-len-ge-LONGEST-clause-counts g c = omega (arith, c.filling.invariant.count)
+
+pub returns-in-End-clause-same_held : goal.returns-in-End-clause-same_held
+returns-in-End-clause-same_held g c = c.in-End.ensures.same_held ∙ c.filling.invariant.same_held
+
+pub returns-in-End-clause-same_writes : goal.returns-in-End-clause-same_writes
+returns-in-End-clause-same_writes g c = c.in-End.ensures.same_writes ∙ c.filling.invariant.same_writes
+
+pub returns-in-End-clause-same_aside : goal.returns-in-End-clause-same_aside
+returns-in-End-clause-same_aside g c = c.in-End.ensures.same_aside ∙ c.filling.invariant.same_aside
+
+pub returns-in-End-clause-same_ends : goal.returns-in-End-clause-same_ends
+returns-in-End-clause-same_ends g c = c.in-End.ensures.same_ends ∙ c.filling.invariant.same_ends
+
+pub returns-in-End-clause-stays_open : goal.returns-in-End-clause-stays_open
+returns-in-End-clause-stays_open g c = c.in-End.ensures.stays_open
+
+pub returns-in-End-clause-counts : goal.returns-in-End-clause-counts
+returns-in-End-clause-counts g c = omega (arith, c.filling.invariant.count, c.in-End.ensures.counts)
+
+pub returns-in-NotRead-clause-same_held : goal.returns-in-NotRead-clause-same_held
+returns-in-NotRead-clause-same_held g c = c.in-NotRead.ensures.same_held ∙ c.filling.invariant.same_held
+
+pub returns-in-NotRead-clause-same_writes : goal.returns-in-NotRead-clause-same_writes
+returns-in-NotRead-clause-same_writes g c = c.in-NotRead.ensures.same_writes ∙ c.filling.invariant.same_writes
+
+pub returns-in-NotRead-clause-same_aside : goal.returns-in-NotRead-clause-same_aside
+returns-in-NotRead-clause-same_aside g c = c.in-NotRead.ensures.same_aside ∙ c.filling.invariant.same_aside
+
+pub returns-in-NotRead-clause-same_ends : goal.returns-in-NotRead-clause-same_ends
+returns-in-NotRead-clause-same_ends g c = c.in-NotRead.ensures.same_ends ∙ c.filling.invariant.same_ends
+
+pub returns-in-NotRead-clause-stays_open : goal.returns-in-NotRead-clause-stays_open
+returns-in-NotRead-clause-stays_open g c = c.in-NotRead.ensures.stays_open
+
+pub returns-in-NotRead-clause-counts : goal.returns-in-NotRead-clause-counts
+returns-in-NotRead-clause-counts g c = omega (arith, c.filling.invariant.count, c.in-NotRead.ensures.counts)
+
+pub returns-in-NoRoom-clause-same_held : goal.returns-in-NoRoom-clause-same_held
+returns-in-NoRoom-clause-same_held g c = c.in-NoRoom.ensures.same_held ∙ c.filling.invariant.same_held
+
+pub returns-in-NoRoom-clause-same_writes : goal.returns-in-NoRoom-clause-same_writes
+returns-in-NoRoom-clause-same_writes g c = c.in-NoRoom.ensures.same_writes ∙ c.filling.invariant.same_writes
+
+pub returns-in-NoRoom-clause-same_aside : goal.returns-in-NoRoom-clause-same_aside
+returns-in-NoRoom-clause-same_aside g c = c.in-NoRoom.ensures.same_aside ∙ c.filling.invariant.same_aside
+
+pub returns-in-NoRoom-clause-same_ends : goal.returns-in-NoRoom-clause-same_ends
+returns-in-NoRoom-clause-same_ends g c = c.in-NoRoom.ensures.same_ends ∙ c.filling.invariant.same_ends
+
+pub returns-in-NoRoom-clause-stays_open : goal.returns-in-NoRoom-clause-stays_open
+returns-in-NoRoom-clause-stays_open g c = c.in-NoRoom.ensures.stays_open
+
+pub returns-in-NoRoom-clause-counts : goal.returns-in-NoRoom-clause-counts
+returns-in-NoRoom-clause-counts g c = omega (arith, c.filling.invariant.count, c.in-NoRoom.ensures.counts)
+
+pub returns-in-NoRoom-clause-count : goal.returns-in-NoRoom-clause-count
+returns-in-NoRoom-clause-count g c = c.in-NoRoom.ensures.count ∙ c.filling.invariant.count

@@ -48,3 +48,66 @@ pub returns-else-moved-eq0-clause-reads : goal.returns-else-moved-eq0-clause-rea
 returns-else-moved-eq0-clause-reads g c =
     let grown : c.truncate-in-Got.new.self.items ≡ c.args.bytes.now.items ++ take c.in-Got.moved c.read.new.buf = grind (arith, common_steps, take-append-add) in
     reads_some _ _ _ _ _ _ _ grown c.in-Got.ensures.moved c.in-Got.ensures.taken
+
+pub returns-in-Failed-clause-count : goal.returns-in-Failed-clause-count
+returns-in-Failed-clause-count g c = c.in-Failed.ensures.count
+
+pub returns-in-Failed-clause-counts : goal.returns-in-Failed-clause-counts
+returns-in-Failed-clause-counts g c = c.in-Failed.ensures.counts
+
+pub returns-in-Failed-clause-same_held : goal.returns-in-Failed-clause-same_held
+returns-in-Failed-clause-same_held g c = c.in-Failed.ensures.same_held
+
+pub returns-in-Failed-clause-same_writes : goal.returns-in-Failed-clause-same_writes
+returns-in-Failed-clause-same_writes g c = c.in-Failed.ensures.same_writes
+
+pub returns-in-Failed-clause-stays_open : goal.returns-in-Failed-clause-stays_open
+returns-in-Failed-clause-stays_open g c = c.in-Failed.ensures.stays_open
+
+pub returns-in-Failed-clause-same_aside : goal.returns-in-Failed-clause-same_aside
+returns-in-Failed-clause-same_aside g c = c.in-Failed.ensures.same_aside
+
+pub returns-in-Failed-clause-same_ends : goal.returns-in-Failed-clause-same_ends
+returns-in-Failed-clause-same_ends g c = c.in-Failed.ensures.same_ends
+
+pub returns-then-moved-eq0-clause-count : goal.returns-then-moved-eq0-clause-count
+returns-then-moved-eq0-clause-count g c = c.in-Got.ensures.count
+
+pub returns-then-moved-eq0-clause-counts : goal.returns-then-moved-eq0-clause-counts
+returns-then-moved-eq0-clause-counts g c = c.in-Got.ensures.counts
+
+pub returns-then-moved-eq0-clause-same_held : goal.returns-then-moved-eq0-clause-same_held
+returns-then-moved-eq0-clause-same_held g c = c.in-Got.ensures.same_held
+
+pub returns-then-moved-eq0-clause-same_writes : goal.returns-then-moved-eq0-clause-same_writes
+returns-then-moved-eq0-clause-same_writes g c = c.in-Got.ensures.same_writes
+
+pub returns-then-moved-eq0-clause-stays_open : goal.returns-then-moved-eq0-clause-stays_open
+returns-then-moved-eq0-clause-stays_open g c = c.in-Got.ensures.stays_open
+
+pub returns-then-moved-eq0-clause-same_aside : goal.returns-then-moved-eq0-clause-same_aside
+returns-then-moved-eq0-clause-same_aside g c = c.in-Got.ensures.same_aside
+
+pub returns-then-moved-eq0-clause-same_ends : goal.returns-then-moved-eq0-clause-same_ends
+returns-then-moved-eq0-clause-same_ends g c = c.in-Got.ensures.same_ends
+
+pub returns-else-moved-eq0-clause-count : goal.returns-else-moved-eq0-clause-count
+returns-else-moved-eq0-clause-count g c = c.in-Got.ensures.count
+
+pub returns-else-moved-eq0-clause-counts : goal.returns-else-moved-eq0-clause-counts
+returns-else-moved-eq0-clause-counts g c = c.in-Got.ensures.counts
+
+pub returns-else-moved-eq0-clause-same_held : goal.returns-else-moved-eq0-clause-same_held
+returns-else-moved-eq0-clause-same_held g c = c.in-Got.ensures.same_held
+
+pub returns-else-moved-eq0-clause-same_writes : goal.returns-else-moved-eq0-clause-same_writes
+returns-else-moved-eq0-clause-same_writes g c = c.in-Got.ensures.same_writes
+
+pub returns-else-moved-eq0-clause-stays_open : goal.returns-else-moved-eq0-clause-stays_open
+returns-else-moved-eq0-clause-stays_open g c = c.in-Got.ensures.stays_open
+
+pub returns-else-moved-eq0-clause-same_aside : goal.returns-else-moved-eq0-clause-same_aside
+returns-else-moved-eq0-clause-same_aside g c = c.in-Got.ensures.same_aside
+
+pub returns-else-moved-eq0-clause-same_ends : goal.returns-else-moved-eq0-clause-same_ends
+returns-else-moved-eq0-clause-same_ends g c = c.in-Got.ensures.same_ends

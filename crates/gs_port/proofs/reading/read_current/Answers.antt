@@ -28,3 +28,48 @@ returns-in_err-extend_from_slice-in-Got-clause-taken g c =
     let piece = take c.in-Got.moved c.read.new.buf in
     let asked : c.min-asked.result ≤ (c.args.max + 1) - length bytes = omega arith in
     (bytes ++ piece, read_within c.args.max c.min-asked.result c.in-Got.moved bytes c.read.new.buf c.loop-block.block (bytes ++ piece) refl c.read.auto.buf asked (omega arith), read_further _ _ _ _ _ c.loop-block.invariant.read c.in-Got.ensures.moved)
+
+pub returns-in-Got-eq0-clause-files : goal.returns-in-Got-eq0-clause-files
+returns-in-Got-eq0-clause-files g c = c.in-Got-eq0.ensures.files ∙ c.loop-block.invariant.files
+
+pub returns-in-Got-eq0-clause-same_names : goal.returns-in-Got-eq0-clause-same_names
+returns-in-Got-eq0-clause-same_names g c = c.in-Got-eq0.ensures.same_names ∙ c.loop-block.invariant.same_names
+
+pub returns-in-Got-eq0-clause-count : goal.returns-in-Got-eq0-clause-count
+returns-in-Got-eq0-clause-count g c = c.in-Got-eq0.ensures.count ∙ c.loop-block.invariant.count
+
+pub returns-in-Got-eq0-clause-counts : goal.returns-in-Got-eq0-clause-counts
+returns-in-Got-eq0-clause-counts g c = omega (arith, c.loop-block.invariant.count, c.in-Got-eq0.ensures.counts)
+
+pub returns-in_err-extend_from_slice-in-Got-clause-files : goal.returns-in_err-extend_from_slice-in-Got-clause-files
+returns-in_err-extend_from_slice-in-Got-clause-files g c = c.in-Got.ensures.files ∙ c.loop-block.invariant.files
+
+pub returns-in_err-extend_from_slice-in-Got-clause-same_names : goal.returns-in_err-extend_from_slice-in-Got-clause-same_names
+returns-in_err-extend_from_slice-in-Got-clause-same_names g c = c.in-Got.ensures.same_names ∙ c.loop-block.invariant.same_names
+
+pub returns-in_err-extend_from_slice-in-Got-clause-counts : goal.returns-in_err-extend_from_slice-in-Got-clause-counts
+returns-in_err-extend_from_slice-in-Got-clause-counts g c = omega (arith, c.loop-block.invariant.count, c.in-Got.ensures.counts)
+
+pub returns-in-Failed-clause-files : goal.returns-in-Failed-clause-files
+returns-in-Failed-clause-files g c = c.in-Failed.ensures.files ∙ c.loop-block.invariant.files
+
+pub returns-in-Failed-clause-same_names : goal.returns-in-Failed-clause-same_names
+returns-in-Failed-clause-same_names g c = c.in-Failed.ensures.same_names ∙ c.loop-block.invariant.same_names
+
+pub returns-in-Failed-clause-counts : goal.returns-in-Failed-clause-counts
+returns-in-Failed-clause-counts g c = omega (arith, c.loop-block.invariant.count, c.in-Failed.ensures.counts)
+
+pub returns-in-Failed-clause-failed : goal.returns-in-Failed-clause-failed
+returns-in-Failed-clause-failed g c = let rises = c.in-Failed.ensures.failed in omega (arith, c.loop-block.invariant.count)
+
+pub returns-clause-files : goal.returns-clause-files
+returns-clause-files g c = c.loop-block.invariant.files
+
+pub returns-clause-same_names : goal.returns-clause-same_names
+returns-clause-same_names g c = c.loop-block.invariant.same_names
+
+pub returns-clause-count : goal.returns-clause-count
+returns-clause-count g c = c.loop-block.invariant.count
+
+pub returns-clause-counts : goal.returns-clause-counts
+returns-clause-counts g c = omega (arith, c.loop-block.invariant.count)
