@@ -1,7 +1,7 @@
 ghost use Rattle.std.specs.Prelude.{◌≡◌, ◌++◌, OnOk};
 ghost use Rattle.gs_program.specs.Refusals.{anchor_text, bad_anchor_text, bad_href_text, store_text};
 
-use crate::numbered::{append_number, append_numbered, append_numbered_twice};
+use crate::numbered::{append_number, append_numbered, append_numbered_twice, append_word};
 use gs_chars::Memory;
 use gs_links::{AnchorWhy, StoreFault};
 use gs_translate::{Reason, append_ident, append_reason};
@@ -14,7 +14,7 @@ fn append_anchor(alloc: Global, out: &mut Vec<u8>, why: &AnchorWhy) -> Result<()
     match why {
         AnchorWhy::Link(fault) => append_reason(alloc, out, &Reason::from(*fault)),
         AnchorWhy::Ident(fault) => append_ident(out, fault),
-        AnchorWhy::Attributes => Ok(out.extend_from_slice(b"attributes")?),
+        AnchorWhy::Attributes => append_word(out, b"attributes"),
     }
 }
 
@@ -28,7 +28,7 @@ fn append_bad_anchor(
     ensures { OnOk result (out.new.items ≡ out.old.items ++ bad_anchor_text i why.now) }
 {
     append_numbered(alloc, out, b"bad-anchor", i)?;
-    out.push(b' ')?;
+    append_word(out, b" ")?;
     append_anchor(alloc, out, why)
 }
 
@@ -51,9 +51,9 @@ pub fn append_store(alloc: Global, out: &mut Vec<u8>, fault: &StoreFault) -> Res
     ensures { OnOk result (out.new.items ≡ out.old.items ++ store_text fault.now) }
 {
     match fault {
-        StoreFault::TooMany => Ok(out.extend_from_slice(b"too-many")?),
+        StoreFault::TooMany => append_word(out, b"too-many"),
         StoreFault::BadAnchor(i, why) => append_bad_anchor(alloc, out, *i, why),
         StoreFault::BadHref(i, r, t) => append_bad_href(alloc, out, *i, *r, *t),
-        StoreFault::Memory => Ok(out.extend_from_slice(b"memory")?),
+        StoreFault::Memory => append_word(out, b"memory"),
     }
 }

@@ -2,7 +2,9 @@ ghost use Rattle.std.specs.Prelude.{◌≡◌, ◌++◌, IfOk, OnOk, codes};
 ghost use Rattle.gs_program.specs.Refusals.{ai_text, ambiguous_text, fault_text, json_text, level_text, limit_text, mismatch_text, numbered, of_level, of_level_twice, prefixes_text, refused_line, shown, shown_byte, tables_text};
 
 use crate::link_refusals::append_store;
-use crate::numbered::{append_number, append_numbered, append_numbered_twice};
+use crate::numbered::{
+    append_number, append_numbered, append_numbered_twice, append_word, append_words,
+};
 use crate::refusal::{FileFault, Refusal};
 use gs_ai::AiFault;
 use gs_chars::{CharSet, Memory};
@@ -43,9 +45,8 @@ fn level_text(level: LevelName) -> &'static [u8]
 fn append_of_level(out: &mut Vec<u8>, word: &[u8], level: LevelName) -> Result<(), Memory>
     ensures { OnOk result (out.new.items ≡ out.old.items ++ of_level word.now level) }
 {
-    out.extend_from_slice(word)?;
-    out.push(b' ')?;
-    Ok(out.extend_from_slice(level_text(level))?)
+    append_words(out, word, b" ")?;
+    append_word(out, level_text(level))
 }
 
 /// The name of a limit.
@@ -65,7 +66,7 @@ fn limit_text(name: LimitName) -> &'static [u8]
 fn append_placed(out: &mut Vec<u8>, word: &[u8], place: &[u8]) -> Result<(), Memory>
     ensures { OnOk result (out.new.items ≡ out.old.items ++ (word.now ++ shown place.now)) }
 {
-    out.extend_from_slice(word)?;
+    append_word(out, word)?;
     append_place(out, place)
 }
 
@@ -74,11 +75,11 @@ fn append_json(out: &mut Vec<u8>, fault: &JsonFault) -> Result<(), Memory>
     ensures { OnOk result (out.new.items ≡ out.old.items ++ json_text fault.now) }
 {
     match fault {
-        JsonFault::Syntax => Ok(out.extend_from_slice(b"syntax")?),
+        JsonFault::Syntax => append_word(out, b"syntax"),
         JsonFault::Lacks(place) => append_placed(out, b"lacks ", place.as_bytes()),
         JsonFault::Kind(place) => append_placed(out, b"kind ", place.as_bytes()),
         JsonFault::Unknown(place) => append_placed(out, b"unknown ", place.as_bytes()),
-        JsonFault::Memory => Ok(out.extend_from_slice(b"memory")?),
+        JsonFault::Memory => append_word(out, b"memory"),
     }
 }
 
@@ -91,7 +92,7 @@ fn append_ai(alloc: Global, out: &mut Vec<u8>, fault: &AiFault) -> Result<(), Me
         AiFault::CodePrefix(j, i) => append_numbered_twice(alloc, out, b"code-prefix", *j, *i),
         AiFault::KeyIsQualifier(i) => append_numbered(alloc, out, b"key-is-qualifier", *i),
         AiFault::PredefinedLength(i) => append_numbered(alloc, out, b"predefined", *i),
-        AiFault::Memory => Ok(out.extend_from_slice(b"memory")?),
+        AiFault::Memory => append_word(out, b"memory"),
     }
 }
 
@@ -136,15 +137,14 @@ fn append_ambiguous(
     ensures { OnOk result (out.new.items ≡ out.old.items ++ ambiguous_text level first second text.now) }
 {
     append_option(alloc, out, b"ambiguous", level, first, second)?;
-    out.push(b' ')?;
-    Ok(out.extend_from_slice(text)?)
+    append_words(out, b" ", text)
 }
 
 /// Appends a fault of the form of a document.
 fn append_form(out: &mut Vec<u8>, fault: &JsonFault) -> Result<(), Memory>
     ensures { OnOk result (out.new.items ≡ out.old.items ++ (codes "json " ++ json_text fault.now)) }
 {
-    out.extend_from_slice(b"json ")?;
+    append_word(out, b"json ")?;
     append_json(out, fault)
 }
 
@@ -152,8 +152,7 @@ fn append_form(out: &mut Vec<u8>, fault: &JsonFault) -> Result<(), Memory>
 fn append_limit(out: &mut Vec<u8>, name: LimitName) -> Result<(), Memory>
     ensures { OnOk result (out.new.items ≡ out.old.items ++ (codes "limit " ++ limit_text name)) }
 {
-    out.extend_from_slice(b"limit ")?;
-    Ok(out.extend_from_slice(limit_text(name))?)
+    append_words(out, b"limit ", limit_text(name))
 }
 
 /// Appends a fault of tables.
@@ -162,7 +161,7 @@ fn append_tables(alloc: Global, out: &mut Vec<u8>, fault: &LoadFault) -> Result<
 {
     match fault {
         LoadFault::Json(fault) => append_form(out, fault),
-        LoadFault::Version => Ok(out.extend_from_slice(b"version")?),
+        LoadFault::Version => append_word(out, b"version"),
         LoadFault::Limit(name) => append_limit(out, *name),
         LoadFault::Ai(fault) => append_ai(alloc, out, fault),
         LoadFault::BadKind(i) => append_numbered(alloc, out, b"bad-kind", *i),
@@ -174,7 +173,7 @@ fn append_tables(alloc: Global, out: &mut Vec<u8>, fault: &LoadFault) -> Result<
         LoadFault::Ambiguous(level, i, j, text) => {
             append_ambiguous(alloc, out, *level, *i, *j, text.as_bytes())
         }
-        LoadFault::Memory => Ok(out.extend_from_slice(b"memory")?),
+        LoadFault::Memory => append_word(out, b"memory"),
     }
 }
 
@@ -187,8 +186,8 @@ fn append_prefixes(alloc: Global, out: &mut Vec<u8>, fault: &PrefixFault) -> Res
         PrefixFault::BadPrefix(i) => append_numbered(alloc, out, b"bad-prefix", *i),
         PrefixFault::BadLength(i) => append_numbered(alloc, out, b"bad-length", *i),
         PrefixFault::Twice(i) => append_numbered(alloc, out, b"twice", *i),
-        PrefixFault::Limit => Ok(out.extend_from_slice(b"limit")?),
-        PrefixFault::Memory => Ok(out.extend_from_slice(b"memory")?),
+        PrefixFault::Limit => append_word(out, b"limit"),
+        PrefixFault::Memory => append_word(out, b"memory"),
     }
 }
 
@@ -197,7 +196,7 @@ fn append_fault(alloc: Global, out: &mut Vec<u8>, fault: &FileFault) -> Result<(
     ensures { OnOk result (out.new.items ≡ out.old.items ++ fault_text fault.now) }
 {
     match fault {
-        FileFault::Over => Ok(out.extend_from_slice(b"over")?),
+        FileFault::Over => append_word(out, b"over"),
         FileFault::Tables(fault) => append_tables(alloc, out, fault),
         FileFault::Prefixes(fault) => append_prefixes(alloc, out, fault),
         FileFault::Linkset(fault) => append_form(out, fault),
@@ -210,8 +209,7 @@ pub fn refused_line(alloc: Global, refusal: &Refusal) -> Result<Vec<u8>, Memory>
     ensures { IfOk result (λ line. line.items ≡ refused_line refusal.now) }
 {
     let mut line = b"refused ".to_vec(alloc)?;
-    line.extend_from_slice(refusal.kind.word())?;
-    line.push(b' ')?;
+    append_words(&mut line, refusal.kind.word(), b" ")?;
     append_fault(alloc, &mut line, &refusal.fault)?;
     line.push(b'\n')?;
     Ok(line)

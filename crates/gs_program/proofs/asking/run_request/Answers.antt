@@ -1,8 +1,8 @@
-use Rattle.std.proofs.Common.{[], refl, sym}
+use Rattle.std.proofs.Common.{[], refl, sym, arith}
 use Rattle.gs_port.specs.Contents.{append_nothing}
 use Rattle.gs_program.specs.Requests.{told_request}
 use Rattle.gs_program.specs.Runs.{served, unserved}
-use Rattle.gs_lines.specs.Statuses.{is_answered}
+use Rattle.gs_lines.specs.Statuses.{is_answered, is_refusal}
 use Rattle.gs_lines.proofs.StatusLemmas.{when_always}
 use Rattle.gs_program.proofs.AskedLemmas.{asked_of_command, asked_of_fault, asked_of_memory, asked_of_refusal, ended_of_command, never_refused, refusal_answered, refusal_unanswered}
 use Rattle.gs_program.proofs.RanLemmas.{none_more}
@@ -55,3 +55,81 @@ returns-in-Err-ReadFault-clause-served g c = λ heads. unserved refl refl
 
 pub returns-in-Err-Memory-clause-served : goal.returns-in-Err-Memory-clause-served
 returns-in-Err-Memory-clause-served g c = λ heads. unserved refl refl
+
+pub returns-in-Ok-clause-told : goal.returns-in-Ok-clause-told
+returns-in-Ok-clause-told g c = c.load_files.ensures.told
+
+pub returns-in-Ok-clause-opened : goal.returns-in-Ok-clause-opened
+returns-in-Ok-clause-opened g c = c.load_files.ensures.opened
+
+pub returns-in-Ok-clause-unopened : goal.returns-in-Ok-clause-unopened
+returns-in-Ok-clause-unopened g c = c.load_files.ensures.unopened
+
+pub returns-in-Ok-clause-unread : goal.returns-in-Ok-clause-unread
+returns-in-Ok-clause-unread g c = c.run_command.ensures.unread
+
+pub returns-in-Ok-clause-unserved : goal.returns-in-Ok-clause-unserved
+returns-in-Ok-clause-unserved g c = c.run_command.ensures.unserved
+
+pub returns-in-Ok-clause-door_counts : goal.returns-in-Ok-clause-door_counts
+returns-in-Ok-clause-door_counts g c = c.run_command.ensures.door_counts
+
+pub returns-in-Err-Refused-clause-told : goal.returns-in-Err-Refused-clause-told
+returns-in-Err-Refused-clause-told g c = c.load_files.ensures.told
+
+pub returns-in-Err-Refused-clause-opened : goal.returns-in-Err-Refused-clause-opened
+returns-in-Err-Refused-clause-opened g c = c.load_files.ensures.opened
+
+pub returns-in-Err-Refused-clause-unopened : goal.returns-in-Err-Refused-clause-unopened
+returns-in-Err-Refused-clause-unopened g c = c.load_files.ensures.unopened
+
+pub returns-in-Err-Refused-clause-unread : goal.returns-in-Err-Refused-clause-unread
+returns-in-Err-Refused-clause-unread g c = λ none. refl
+
+pub returns-in-Err-Refused-clause-unserved : goal.returns-in-Err-Refused-clause-unserved
+returns-in-Err-Refused-clause-unserved g c = λ none. refl
+
+pub returns-in-Err-Refused-clause-door_counts : goal.returns-in-Err-Refused-clause-door_counts
+returns-in-Err-Refused-clause-door_counts g c = omega arith
+
+pub returns-in-Err-Refused-clause-unread_refused : goal.returns-in-Err-Refused-clause-unread_refused
+returns-in-Err-Refused-clause-unread_refused g c = when_always (is_refusal c.print_refusal.result) refl
+
+pub returns-in-Err-Refused-clause-unserved_refused : goal.returns-in-Err-Refused-clause-unserved_refused
+returns-in-Err-Refused-clause-unserved_refused g c = when_always (is_refusal c.print_refusal.result) refl
+
+pub returns-in-Err-ReadFault-clause-told : goal.returns-in-Err-ReadFault-clause-told
+returns-in-Err-ReadFault-clause-told g c = c.load_files.ensures.told
+
+pub returns-in-Err-ReadFault-clause-opened : goal.returns-in-Err-ReadFault-clause-opened
+returns-in-Err-ReadFault-clause-opened g c = c.load_files.ensures.opened
+
+pub returns-in-Err-ReadFault-clause-unopened : goal.returns-in-Err-ReadFault-clause-unopened
+returns-in-Err-ReadFault-clause-unopened g c = c.load_files.ensures.unopened
+
+pub returns-in-Err-ReadFault-clause-unread : goal.returns-in-Err-ReadFault-clause-unread
+returns-in-Err-ReadFault-clause-unread g c = λ none. refl
+
+pub returns-in-Err-ReadFault-clause-unserved : goal.returns-in-Err-ReadFault-clause-unserved
+returns-in-Err-ReadFault-clause-unserved g c = λ none. refl
+
+pub returns-in-Err-ReadFault-clause-door_counts : goal.returns-in-Err-ReadFault-clause-door_counts
+returns-in-Err-ReadFault-clause-door_counts g c = omega arith
+
+pub returns-in-Err-Memory-clause-told : goal.returns-in-Err-Memory-clause-told
+returns-in-Err-Memory-clause-told g c = c.load_files.ensures.told
+
+pub returns-in-Err-Memory-clause-opened : goal.returns-in-Err-Memory-clause-opened
+returns-in-Err-Memory-clause-opened g c = c.load_files.ensures.opened
+
+pub returns-in-Err-Memory-clause-unopened : goal.returns-in-Err-Memory-clause-unopened
+returns-in-Err-Memory-clause-unopened g c = c.load_files.ensures.unopened
+
+pub returns-in-Err-Memory-clause-unread : goal.returns-in-Err-Memory-clause-unread
+returns-in-Err-Memory-clause-unread g c = λ none. refl
+
+pub returns-in-Err-Memory-clause-unserved : goal.returns-in-Err-Memory-clause-unserved
+returns-in-Err-Memory-clause-unserved g c = λ none. refl
+
+pub returns-in-Err-Memory-clause-door_counts : goal.returns-in-Err-Memory-clause-door_counts
+returns-in-Err-Memory-clause-door_counts g c = omega arith

@@ -1,4 +1,4 @@
-use Rattle.std.proofs.Common.{[], None, refl}
+use Rattle.std.proofs.Common.{[], None, refl, arith}
 use Rattle.gs_program.specs.Requests.{told_values}
 use Rattle.gs_program.proofs.RanLemmas.{none_more, ran_of_line}
 use Rattle.gs_program.proofs.GenLemmas.{gen_ran}
@@ -36,3 +36,42 @@ returns-in-Gen-clause-ran g c =
 
 pub returns-in-Resolve-clause-served : goal.returns-in-Resolve-clause-served
 returns-in-Resolve-clause-served g c = λ heads. rw c.site_of.ensures at c.resolve.ensures.served
+
+pub returns-in-Canon-clause-unserved : goal.returns-in-Canon-clause-unserved
+returns-in-Canon-clause-unserved g c = λ none. refl
+
+pub returns-in-Canon-clause-door_counts : goal.returns-in-Canon-clause-door_counts
+returns-in-Canon-clause-door_counts g c = omega arith
+
+pub returns-in-Translate-clause-unserved : goal.returns-in-Translate-clause-unserved
+returns-in-Translate-clause-unserved g c = λ none. refl
+
+pub returns-in-Translate-clause-door_counts : goal.returns-in-Translate-clause-door_counts
+returns-in-Translate-clause-door_counts g c = omega arith
+
+pub returns-in-Check-clause-unread : goal.returns-in-Check-clause-unread
+returns-in-Check-clause-unread g c = λ none. refl
+
+pub returns-in-Check-clause-unserved : goal.returns-in-Check-clause-unserved
+returns-in-Check-clause-unserved g c = λ none. refl
+
+pub returns-in-Check-clause-door_counts : goal.returns-in-Check-clause-door_counts
+returns-in-Check-clause-door_counts g c = omega arith
+
+pub returns-in-Gen-clause-unread : goal.returns-in-Gen-clause-unread
+returns-in-Gen-clause-unread g c = λ none. refl
+
+pub returns-in-Gen-clause-unserved : goal.returns-in-Gen-clause-unserved
+returns-in-Gen-clause-unserved g c = λ none. refl
+
+pub returns-in-Gen-clause-door_counts : goal.returns-in-Gen-clause-door_counts
+returns-in-Gen-clause-door_counts g c = omega arith
+
+pub returns-in-Serve-clause-unread : goal.returns-in-Serve-clause-unread
+returns-in-Serve-clause-unread g c = λ none. refl
+
+pub returns-in-Resolve-clause-unserved : goal.returns-in-Resolve-clause-unserved
+returns-in-Resolve-clause-unserved g c = λ none. refl
+
+pub returns-in-Resolve-clause-door_counts : goal.returns-in-Resolve-clause-door_counts
+returns-in-Resolve-clause-door_counts g c = omega arith

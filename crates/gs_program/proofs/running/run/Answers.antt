@@ -1,7 +1,7 @@
-use Rattle.std.proofs.Common.{map, string_bytes}
-use Rattle.gs_lines.specs.Statuses.{is_answered}
-use Rattle.gs_lines.proofs.StatusLemmas.{when_map}
-use Rattle.gs_program.specs.Commands.{uses_door}
+use Rattle.std.proofs.Common.{map, string_bytes, refl, arith}
+use Rattle.gs_lines.specs.Statuses.{is_answered, is_refusal, is_usage}
+use Rattle.gs_lines.proofs.StatusLemmas.{when_always, when_map}
+use Rattle.gs_program.specs.Commands.{reads_input, uses_door}
 use Rattle.gs_program.specs.Requests.{told_request}
 use Rattle.gs_program.specs.Runs.{named}
 use Rattle.gs_program.proofs.CompleteLemmas.{complete_asked}
@@ -80,3 +80,73 @@ returns-in-Some-clause-served g c =
 
 pub returns-in-None-clause-served : goal.returns-in-None-clause-served
 returns-in-None-clause-served g c = λ heads. absurd (c.in-None.ensures.none heads.asked heads.order)
+
+pub returns-in-Some-clause-write_fault : goal.returns-in-Some-clause-write_fault
+returns-in-Some-clause-write_fault g c = c.run_request.ensures.ran.2.2.write_fault
+
+pub returns-in-Some-clause-input_long : goal.returns-in-Some-clause-input_long
+returns-in-Some-clause-input_long g c = c.run_request.ensures.ran.2.2.long
+
+pub returns-in-Some-clause-input_counts : goal.returns-in-Some-clause-input_counts
+returns-in-Some-clause-input_counts g c = c.run_request.ensures.ran.2.2.input_counts
+
+pub returns-in-Some-clause-file_counts : goal.returns-in-Some-clause-file_counts
+returns-in-Some-clause-file_counts g c = c.run_request.ensures.ran.2.2.file_counts
+
+pub returns-in-Some-clause-output_counts : goal.returns-in-Some-clause-output_counts
+returns-in-Some-clause-output_counts g c = c.run_request.ensures.ran.2.2.output_counts
+
+pub returns-in-Some-clause-door_counts : goal.returns-in-Some-clause-door_counts
+returns-in-Some-clause-door_counts g c = c.run_request.ensures.door_counts
+
+pub returns-in-Some-clause-told : goal.returns-in-Some-clause-told
+returns-in-Some-clause-told g c = c.run_request.ensures.told
+
+pub returns-in-Some-clause-unread_refused : goal.returns-in-Some-clause-unread_refused
+returns-in-Some-clause-unread_refused g c = c.run_request.ensures.unread_refused
+
+pub returns-in-Some-clause-unserved_refused : goal.returns-in-Some-clause-unserved_refused
+returns-in-Some-clause-unserved_refused g c = c.run_request.ensures.unserved_refused
+
+pub returns-in-Some-clause-unread : goal.returns-in-Some-clause-unread
+returns-in-Some-clause-unread g c =
+    λ none. c.run_request.ensures.unread (asks_not reads_input (map string_bytes c.args.words.now) (told_request c.in-Some.request) c.in-Some.ensures.request none)
+
+pub returns-in-Some-clause-not_in_order : goal.returns-in-Some-clause-not_in_order
+returns-in-Some-clause-not_in_order g c = λ none. absurd (none (told_request c.in-Some.request) c.in-Some.ensures.request)
+
+pub returns-in-None-clause-told : goal.returns-in-None-clause-told
+returns-in-None-clause-told g c = refl
+
+pub returns-in-None-clause-unread : goal.returns-in-None-clause-unread
+returns-in-None-clause-unread g c = λ none. refl
+
+pub returns-in-None-clause-unserved : goal.returns-in-None-clause-unserved
+returns-in-None-clause-unserved g c = λ none. refl
+
+pub returns-in-None-clause-unopened : goal.returns-in-None-clause-unopened
+returns-in-None-clause-unopened g c = λ none. refl
+
+pub returns-in-None-clause-usage : goal.returns-in-None-clause-usage
+returns-in-None-clause-usage g c = when_always (is_usage c.print_line.result) c.in-None.ensures.none
+
+pub returns-in-None-clause-unread_refused : goal.returns-in-None-clause-unread_refused
+returns-in-None-clause-unread_refused g c = when_always (is_refusal c.print_line.result) refl
+
+pub returns-in-None-clause-unserved_refused : goal.returns-in-None-clause-unserved_refused
+returns-in-None-clause-unserved_refused g c = when_always (is_refusal c.print_line.result) refl
+
+pub returns-in-None-clause-input_counts : goal.returns-in-None-clause-input_counts
+returns-in-None-clause-input_counts g c = omega arith
+
+pub returns-in-None-clause-file_counts : goal.returns-in-None-clause-file_counts
+returns-in-None-clause-file_counts g c = omega arith
+
+pub returns-in-None-clause-door_counts : goal.returns-in-None-clause-door_counts
+returns-in-None-clause-door_counts g c = omega arith
+
+pub returns-in-None-clause-output_counts : goal.returns-in-None-clause-output_counts
+returns-in-None-clause-output_counts g c = c.print_line.ensures.counts
+
+pub returns-in-None-clause-write_fault : goal.returns-in-None-clause-write_fault
+returns-in-None-clause-write_fault g c = c.print_line.ensures.fault
