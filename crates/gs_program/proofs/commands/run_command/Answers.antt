@@ -1,4 +1,5 @@
-use Rattle.std.proofs.Common.{[], None, refl, arith}
+use Rattle.std.proofs.Common.{[], None, refl, arith, sym}
+use Rattle.std.proofs.lemmas.Bool.{false≢true}
 use Rattle.gs_program.specs.Requests.{told_values}
 use Rattle.gs_program.proofs.RanLemmas.{none_more, ran_of_line}
 use Rattle.gs_program.proofs.GenLemmas.{gen_ran}
@@ -75,3 +76,30 @@ returns-in-Resolve-clause-unserved g c = λ none. refl
 
 pub returns-in-Resolve-clause-door_counts : goal.returns-in-Resolve-clause-door_counts
 returns-in-Resolve-clause-door_counts g c = omega arith
+
+pub returns-in-Canon-clause-served : goal.returns-in-Canon-clause-served
+returns-in-Canon-clause-served g c = rw c.in-Canon.is (λ heads. absurd (false≢true heads))
+
+pub returns-in-Translate-clause-served : goal.returns-in-Translate-clause-served
+returns-in-Translate-clause-served g c = rw c.in-Translate.is (λ heads. absurd (false≢true heads))
+
+pub returns-in-Check-clause-served : goal.returns-in-Check-clause-served
+returns-in-Check-clause-served g c = rw c.in-Check.is (λ heads. absurd (false≢true heads))
+
+pub returns-in-Serve-clause-served : goal.returns-in-Serve-clause-served
+returns-in-Serve-clause-served g c = rw c.in-Serve.is (λ heads. absurd (false≢true heads))
+
+pub returns-in-Gen-clause-served : goal.returns-in-Gen-clause-served
+returns-in-Gen-clause-served g c = rw c.in-Gen.is (λ heads. absurd (false≢true heads))
+
+pub returns-in-Canon-clause-unread : goal.returns-in-Canon-clause-unread
+returns-in-Canon-clause-unread g c = rw c.in-Canon.is (λ none. absurd (false≢true (sym none)))
+
+pub returns-in-Translate-clause-unread : goal.returns-in-Translate-clause-unread
+returns-in-Translate-clause-unread g c = rw c.in-Translate.is (λ none. absurd (false≢true (sym none)))
+
+pub returns-in-Resolve-clause-unread : goal.returns-in-Resolve-clause-unread
+returns-in-Resolve-clause-unread g c = rw c.in-Resolve.is (λ none. absurd (false≢true (sym none)))
+
+pub returns-in-Serve-clause-unserved : goal.returns-in-Serve-clause-unserved
+returns-in-Serve-clause-unserved g c = rw c.in-Serve.is (λ none. absurd (false≢true (sym none)))

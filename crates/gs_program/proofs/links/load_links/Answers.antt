@@ -1,4 +1,4 @@
-use Rattle.std.proofs.Common.{refl, []}
+use Rattle.std.proofs.Common.{refl, [], arith}
 use Rattle.std.specs.Prelude.{Ok}
 use Rattle.gs_program.specs.declared.file_kind.FileKind.TheVariants.{Links}
 use Rattle.gs_program.specs.Loads.{IsNoLink}
@@ -12,3 +12,18 @@ returns-in-None-clause-loaded g c =
 
 pub returns-in-None-clause-opened : goal.returns-in-None-clause-opened
 returns-in-None-clause-opened g c = rw c.in-None.is (adds_none (g.F.Files.opened c.args.files.now))
+
+pub returns-in-Some-clause-told : goal.returns-in-Some-clause-told
+returns-in-Some-clause-told g c = c.load_named.ensures.told
+
+pub returns-in-Some-clause-counts : goal.returns-in-Some-clause-counts
+returns-in-Some-clause-counts g c = c.load_named.ensures.counts
+
+pub returns-in-None-clause-told : goal.returns-in-None-clause-told
+returns-in-None-clause-told g c = refl
+
+pub returns-in-None-clause-counts : goal.returns-in-None-clause-counts
+returns-in-None-clause-counts g c = omega arith
+
+pub returns-in-None-clause-unopened : goal.returns-in-None-clause-unopened
+returns-in-None-clause-unopened g c = λ none. refl

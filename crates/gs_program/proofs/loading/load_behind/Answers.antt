@@ -1,4 +1,4 @@
-use Rattle.std.proofs.Common.{option_to_list}
+use Rattle.std.proofs.Common.{option_to_list, arith, ◌∙◌}
 use Rattle.gs_program.specs.Loads.{GivesLinks, PrefixesGive}
 use Rattle.gs_program.specs.Requests.{names_last, told_files, told_name, told_request}
 use Rattle.gs_program.proofs.FileLoads.{loads_on, not_loaded}
@@ -29,3 +29,15 @@ returns-in-Err-clause-loaded g c =
 pub returns-in-Err-clause-opened : goal.returns-in-Err-clause-opened
 returns-in-Err-clause-opened g c =
     opens_front (option_to_list (told_name c.args.request.files.prefixes)) (names_last (told_files c.args.request.files)) _ _ c.in-Err.ensures.opened
+
+pub returns-in-Ok-clause-told : goal.returns-in-Ok-clause-told
+returns-in-Ok-clause-told g c = c.load_with_links.ensures.told ∙ c.in-Ok.ensures.told
+
+pub returns-in-Ok-clause-counts : goal.returns-in-Ok-clause-counts
+returns-in-Ok-clause-counts g c = omega (arith, c.in-Ok.ensures.counts, c.load_with_links.ensures.counts)
+
+pub returns-in-Err-clause-told : goal.returns-in-Err-clause-told
+returns-in-Err-clause-told g c = c.in-Err.ensures.told
+
+pub returns-in-Err-clause-counts : goal.returns-in-Err-clause-counts
+returns-in-Err-clause-counts g c = c.in-Err.ensures.counts

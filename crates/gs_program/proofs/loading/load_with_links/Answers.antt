@@ -1,4 +1,4 @@
-use Rattle.std.proofs.Common.{List, option_to_list, subst}
+use Rattle.std.proofs.Common.{List, option_to_list, subst, arith, ◌∙◌}
 use Rattle.std.specs.Prelude.{Err, Ok}
 use Rattle.gs_ai.specs.declared.row.AiRow.{AiRow}
 use Rattle.gs_program.specs.Loads.{GivesSettings, LinksGive, LoadedBy}
@@ -40,3 +40,15 @@ returns-in-Err-clause-loaded g c =
 pub returns-in-Err-clause-opened : goal.returns-in-Err-clause-opened
 returns-in-Err-clause-opened g c =
     opens_front (option_to_list (told_name c.args.request.files.links)) (option_to_list (told_name c.args.request.files.describe)) _ _ c.in-Err.ensures.opened
+
+pub returns-in-Ok-clause-told : goal.returns-in-Ok-clause-told
+returns-in-Ok-clause-told g c = c.load_last.ensures.told ∙ c.in-Ok.ensures.told
+
+pub returns-in-Ok-clause-counts : goal.returns-in-Ok-clause-counts
+returns-in-Ok-clause-counts g c = omega (arith, c.in-Ok.ensures.counts, c.load_last.ensures.counts)
+
+pub returns-in-Err-clause-told : goal.returns-in-Err-clause-told
+returns-in-Err-clause-told g c = c.in-Err.ensures.told
+
+pub returns-in-Err-clause-counts : goal.returns-in-Err-clause-counts
+returns-in-Err-clause-counts g c = c.in-Err.ensures.counts

@@ -12,3 +12,21 @@ returns-in-Ok-clause-loaded g c =
 pub returns-in-Err-clause-loaded : goal.returns-in-Err-clause-loaded
 returns-in-Err-clause-loaded g c =
     file_unloaded (g.F.Files.files c.args.files.now) Prefixes JudgesPrefixes c.args.name.now (g.F.Files.faults c.args.files.now) (g.F.Files.faults c.read_named.new.files) c.in-Err.unloaded c.in-Err.ensures.read
+
+pub returns-in-Ok-clause-told : goal.returns-in-Ok-clause-told
+returns-in-Ok-clause-told g c = c.read_named.ensures.told
+
+pub returns-in-Ok-clause-counts : goal.returns-in-Ok-clause-counts
+returns-in-Ok-clause-counts g c = c.read_named.ensures.counts
+
+pub returns-in-Ok-clause-opened : goal.returns-in-Ok-clause-opened
+returns-in-Ok-clause-opened g c = c.read_named.ensures.opened
+
+pub returns-in-Err-clause-told : goal.returns-in-Err-clause-told
+returns-in-Err-clause-told g c = c.read_named.ensures.told
+
+pub returns-in-Err-clause-counts : goal.returns-in-Err-clause-counts
+returns-in-Err-clause-counts g c = c.read_named.ensures.counts
+
+pub returns-in-Err-clause-opened : goal.returns-in-Err-clause-opened
+returns-in-Err-clause-opened g c = c.read_named.ensures.opened
