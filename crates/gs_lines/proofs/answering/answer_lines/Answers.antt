@@ -88,7 +88,7 @@ pub returns-in-Failed-clause-output_counts : goal.returns-in-Failed-clause-outpu
 returns-in-Failed-clause-output_counts g c = c.loop-out.invariant.output_counts
 
 pub returns-in-Got-eq0-clause-write_fault : goal.returns-in-Got-eq0-clause-write_fault
-returns-in-Got-eq0-clause-write_fault g c = 
+returns-in-Got-eq0-clause-write_fault g c =
     rw c.status_after.ensures
     (fault_at_end c.loop-out.refused c.write_answers-last.result c.write_answers-last.ensures.fault (rises_later _ _ _ c.loop-out.invariant.output_counts))
 
