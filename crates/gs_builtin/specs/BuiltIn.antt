@@ -21,6 +21,9 @@ use Rattle.gs_builtin.specs.declared.encoding.Identity.{Identity}
 use Rattle.gs_builtin.specs.declared.encoding.Partition.{Partition}
 use Rattle.gs_builtin.specs.declared.encoding.RestForm.{RestForm}
 use Rattle.gs_builtin.specs.declared.encoding.RestForm.TheVariants.{Digits, Number, Characters}
+use Rattle.gs_builtin.specs.declared.encoding_line.EncodingLine.{EncodingLine}
+use Rattle.gs_builtin.specs.declared.encoding_line.ItemLine.{ItemLine}
+use Rattle.gs_builtin.specs.declared.encoding_line.ItemLine.TheVariants as item_line
 use Rattle.gs_document.specs.declared.field.Field.{Field}
 use Rattle.gs_document.specs.declared.field.Field.TheVariants.{Filter, Gcp, Rest, Serial}
 use Rattle.gs_document.specs.Items.{FieldItem}
@@ -183,6 +186,18 @@ encoding name kind header width rest serial after = record { name = name; kind =
 abbrev pub zeros : ℕ → Item
 zeros n = Lit (replicate n 0)
 
+-- the item that a line of the code tells, where there is one
+abbrev pub item_told : ItemLine → Option Item
+item_told item_line.Nothing = None
+item_told (item_line.Number bits most) = Some (Num bits most)
+item_told (item_line.Characters hi bits) = Some (Ascii7 1 hi bits)
+item_told (item_line.Fill a b) = Some (Fill a b)
+item_told (item_line.Zeros n) = Some (zeros n)
+
+-- the encoding that a line of the code tells
+abbrev pub encoding_told : EncodingLine → Encoding
+encoding_told l = encoding l.name.now l.kind.now l.header l.width l.rest (item_told l.serial) (item_told l.after)
+
 -- the encodings of trade items, logistic units and locations
 unfoldable pub item_encodings : List Encoding
 item_encodings =
@@ -227,6 +242,15 @@ rest_in_bits (Digits d) n bits = if d - n == 0 then (None, zeros bits) else (Som
 rest_in_bits Number n bits = (Some Rest, Num bits (2 ^ bits - 1))
 rest_in_bits Characters n bits = (Some Rest, Ascii7 1 (30 - n) bits)
 
+-- header, filter, partition and prefix
+abbrev pub binary_head : ℕ → Partition → List FieldItem
+binary_head header p =
+    (None, Lit (bits_of 8 header)) ∷ (Some Filter, Num 3 7) ∷ (None, Lit (bits_of 3 p.number)) ∷ (Some Gcp, NumPad p.bits p.digits) ∷ []
+
+-- rest, serial, and the zeros at the end
+abbrev pub binary_tail : Encoding → Partition → List FieldItem
+binary_tail e p = rest_in_bits e.rest p.digits (e.width - p.bits) ∷ of_field (Some Serial) e.serial ++ of_field None e.after
+
 -- header, filter, partition, prefix, rest, serial, and the zeros at the end
 abbrev pub binary_items : Encoding → Partition → List FieldItem
 binary_items e p =
@@ -254,6 +278,15 @@ behind_prefix (Some field, rest) serial = dotted Rest rest ++ flat_map (dotted S
 abbrev pub in_text_too : FieldItem → FieldItem
 in_text_too i = (i.0, in_text i.1)
 
+-- `urn:epc:tag:ENCODING:`, filter and prefix
+abbrev pub tag_head : List ℕ → ℕ → List FieldItem
+tag_head name digits =
+    (None, Lit (codes "urn:epc:tag:" ++ name ++ codes ":")) ∷ (Some Filter, Int 7) ∷ (None, Lit (codes ".")) ∷ (Some Gcp, Pad digits) ∷ []
+
+-- rest and serial of a tag URI
+abbrev pub tag_tail : Encoding → Partition → List FieldItem
+tag_tail e p = behind_prefix (in_text_too (rest_in_bits e.rest p.digits (e.width - p.bits))) (option_map in_text e.serial)
+
 -- `urn:epc:tag:ENCODING:`, filter, prefix, rest and serial
 abbrev pub tag_items : Encoding → Partition → List FieldItem
 tag_items e p =
@@ -263,6 +296,14 @@ tag_items e p =
 -- the pure identity of a kind: its name, what the rest is, and the serial
 abbrev pub identity : List ℕ → RestForm → Option Item → Identity
 identity name rest serial = record { name = name; rest = rest; serial = serial }
+
+-- the pure identity with a serial of at most so many characters, where it has one
+abbrev pub identity_with : List ℕ → RestForm → Option ℕ → Identity
+identity_with name rest longest = identity name rest (option_map (Esc 1) longest)
+
+-- the pure identity that a line of the code tells
+abbrev pub identity_told : Bor (List ℕ) × RestForm × Option ℕ → Identity
+identity_told l = identity_with l.0.now l.1 l.2
 
 -- the pure identities of all kinds
 unfoldable pub identities : List Identity
@@ -336,6 +377,10 @@ rest_fits Characters bits = true
 -- with each length of the prefix
 abbrev pub rests_fit : Encoding → Bool
 rests_fit e = list_all (λ (p : Partition). rest_fits e.rest (e.width - p.bits)) partitions
+
+-- the options of these encodings and identities: binary, tag, pure
+abbrev pub options_of : List Encoding → List Identity → List OptionRow × List OptionRow × List OptionRow
+options_of these those = (flat_map binary_rows these, flat_map tag_rows these, flat_map pure_rows those)
 
 -- the document of the application identifiers, the kinds, and the options of these encodings and identities
 abbrev pub document_of : List Encoding → List Identity → Document

@@ -267,22 +267,29 @@ fn add_company(alloc: Global, rows: &mut Vec<AiRow>) -> Result<(), Memory>
     )
 }
 
-/// The built-in application identifiers.
+/// Appends the built-in application identifiers.
 #[tactic(auto, unfolding(crate::specs::BuiltIn::builtin_ais))]
+fn add_all(alloc: Global, rows: &mut Vec<AiRow>) -> Result<(), Memory>
+    ensures { OnOk result (rows.new.items ≡ rows.old.items ++ builtin_ais) }
+{
+    add_items(alloc, rows)?;
+    add_dates(alloc, rows)?;
+    add_variants(alloc, rows)?;
+    add_additional(alloc, rows)?;
+    add_weights(alloc, rows)?;
+    add_shipments(alloc, rows)?;
+    add_parties(alloc, rows)?;
+    add_locations(alloc, rows)?;
+    add_assets(alloc, rows)?;
+    add_agreed(alloc, rows)?;
+    add_company(alloc, rows)
+}
+
+/// The built-in application identifiers.
 pub(crate) fn builtin_ais(alloc: Global) -> Result<List<AiRow>, Memory>
     ensures { IfOk result (λ rows. rows ≡ builtin_ais) }
 {
     let mut rows = Vec::new(alloc);
-    add_items(alloc, &mut rows)?;
-    add_dates(alloc, &mut rows)?;
-    add_variants(alloc, &mut rows)?;
-    add_additional(alloc, &mut rows)?;
-    add_weights(alloc, &mut rows)?;
-    add_shipments(alloc, &mut rows)?;
-    add_parties(alloc, &mut rows)?;
-    add_locations(alloc, &mut rows)?;
-    add_assets(alloc, &mut rows)?;
-    add_agreed(alloc, &mut rows)?;
-    add_company(alloc, &mut rows)?;
+    add_all(alloc, &mut rows)?;
     Ok(List::from_vec(rows))
 }

@@ -1,11 +1,11 @@
-ghost use Rattle.std.specs.Prelude.{◌≡◌, ◌∷◌, ◌++◌, [], IfOk, OnOk, replicate};
-ghost use Rattle.gs_builtin.specs.BuiltIn.{asset_encodings, document_encodings, encoding, encodings, identities, identity, item_encodings, zeros};
+ghost use Rattle.std.specs.Prelude.{◌≡◌, ◌++◌, IfOk, OnOk, map, replicate};
+ghost use Rattle.gs_builtin.specs.BuiltIn.{asset_encodings, document_encodings, encoding_told, encodings, identities, identity_told, identity_with, item_encodings, item_told, zeros};
 
 use crate::encoding::RestForm::{Characters, Digits, Number};
 use crate::encoding::{Encoding, Identity, Partition, RestForm};
+use crate::encoding_line::{EncodingLine, ItemLine};
 use gs_chars::{List, Memory, Text};
 use gs_grammar::Item;
-use gs_grammar::Item::{Ascii7, Esc, Fill, Num};
 use std::alloc::Global;
 
 /// A row of the partition table for each line: the digits of the prefix, its number, and its bits.
@@ -34,38 +34,60 @@ pub(crate) fn zeros(alloc: Global, n: u8) -> Result<Item, Memory>
     Ok(Item::Lit(Text::from_vec(bits)))
 }
 
-/// Appends an encoding.
-fn push_encoding(
+/// The item that a line tells, where there is one.
+fn item_of(alloc: Global, line: ItemLine) -> Result<Option<Item>, Memory>
+    ensures { IfOk result (λ item. item ≡ item_told line) }
+{
+    match line {
+        ItemLine::Nothing => Ok(None),
+        ItemLine::Number(bits, max) => Ok(Some(Item::Num { bits, max })),
+        ItemLine::Characters(hi, bits) => Ok(Some(Item::Ascii7 { lo: 1, hi, bits })),
+        ItemLine::Fill(a, b) => Ok(Some(Item::Fill { a, b })),
+        ItemLine::Zeros(n) => Ok(Some(zeros(alloc, n)?)),
+    }
+}
+
+/// The encoding that a line tells.
+fn encoding_of(alloc: Global, line: &EncodingLine<'_>) -> Result<Encoding, Memory>
+    ensures { IfOk result (λ row. row ≡ encoding_told line.now) }
+{
+    Ok(Encoding {
+        name: Text::from_bytes(alloc, line.name)?,
+        kind: Text::from_bytes(alloc, line.kind)?,
+        header: line.header,
+        width: line.width,
+        rest: line.rest,
+        serial: item_of(alloc, line.serial)?,
+        after: item_of(alloc, line.after)?,
+    })
+}
+
+/// Appends an encoding for each line.
+fn push_encodings(
     alloc: Global,
     rows: &mut Vec<Encoding>,
-    name: &[u8],
-    kind: &[u8],
-    header: u8,
-    width: u8,
-    rest: RestForm,
-    serial: Option<Item>,
-    after: Option<Item>,
+    lines: &[EncodingLine<'_>],
 ) -> Result<(), Memory>
-    ensures { OnOk result (rows.new.items ≡ rows.old.items
-        ++ encoding name.now kind.now header width rest serial after ∷ []) }
+    ensures { OnOk result (rows.new.items ≡ rows.old.items ++ map encoding_told lines.now) }
 {
-    let row = Encoding {
-        name: Text::from_bytes(alloc, name)?,
-        kind: Text::from_bytes(alloc, kind)?,
-        header,
-        width,
-        rest,
-        serial,
-        after,
-    };
-    rows.push(row)?;
+    for line in lines {
+        rows.push(encoding_of(alloc, line)?)?;
+    }
     Ok(())
 }
 
-/// Appends a row for each line.
-macro_rules! push_encodings {
-    ($alloc:ident, $rows:ident; $($name:literal $kind:literal $header:literal, $width:literal $rest:expr, $serial:expr, $after:expr;)*) => {
-        $(push_encoding($alloc, $rows, $name, $kind, $header, $width, $rest, $serial, $after)?;)*
+/// A line for each row: name, kind, header, the bits of prefix and rest, the rest, the serial, and the zeros at the end.
+macro_rules! lines {
+    ($($name:literal $kind:literal $header:literal, $width:literal $rest:expr, $serial:expr, $after:expr;)*) => {
+        [$(EncodingLine {
+            name: $name,
+            kind: $kind,
+            header: $header,
+            width: $width,
+            rest: $rest,
+            serial: $serial,
+            after: $after,
+        }),*]
     };
 }
 
@@ -74,14 +96,17 @@ macro_rules! push_encodings {
 fn add_item_encodings(alloc: Global, rows: &mut Vec<Encoding>) -> Result<(), Memory>
     ensures { OnOk result (rows.new.items ≡ rows.old.items ++ item_encodings) }
 {
-    push_encodings! { alloc, rows;
-        b"sgtin-96" b"sgtin" 0x30, 44 Digits(13), Some(Num { bits: 38, max: 274_877_906_943 }), None;
-        b"sgtin-198" b"sgtin" 0x36, 44 Digits(13), Some(Ascii7 { lo: 1, hi: 20, bits: 140 }), Some(Fill { a: 2, b: 10 });
-        b"sscc-96" b"sscc" 0x31, 58 Digits(17), None, Some(zeros(alloc, 24)?);
-        b"sgln-96" b"sgln" 0x32, 41 Digits(12), Some(Num { bits: 41, max: 2_199_023_255_551 }), None;
-        b"sgln-195" b"sgln" 0x39, 41 Digits(12), Some(Ascii7 { lo: 1, hi: 20, bits: 140 }), Some(Fill { a: 5, b: 13 });
-    }
-    Ok(())
+    push_encodings(
+        alloc,
+        rows,
+        &lines! {
+            b"sgtin-96" b"sgtin" 0x30, 44 Digits(13), ItemLine::Number(38, 274_877_906_943), ItemLine::Nothing;
+            b"sgtin-198" b"sgtin" 0x36, 44 Digits(13), ItemLine::Characters(20, 140), ItemLine::Fill(2, 10);
+            b"sscc-96" b"sscc" 0x31, 58 Digits(17), ItemLine::Nothing, ItemLine::Zeros(24);
+            b"sgln-96" b"sgln" 0x32, 41 Digits(12), ItemLine::Number(41, 2_199_023_255_551), ItemLine::Nothing;
+            b"sgln-195" b"sgln" 0x39, 41 Digits(12), ItemLine::Characters(20, 140), ItemLine::Fill(5, 13);
+        },
+    )
 }
 
 /// The encodings of assets.
@@ -89,13 +114,16 @@ fn add_item_encodings(alloc: Global, rows: &mut Vec<Encoding>) -> Result<(), Mem
 fn add_asset_encodings(alloc: Global, rows: &mut Vec<Encoding>) -> Result<(), Memory>
     ensures { OnOk result (rows.new.items ≡ rows.old.items ++ asset_encodings) }
 {
-    push_encodings! { alloc, rows;
-        b"grai-96" b"grai" 0x33, 44 Digits(12), Some(Num { bits: 38, max: 274_877_906_943 }), None;
-        b"grai-170" b"grai" 0x37, 44 Digits(12), Some(Ascii7 { lo: 1, hi: 16, bits: 112 }), Some(Fill { a: 6, b: 6 });
-        b"giai-96" b"giai" 0x34, 82 Number, None, None;
-        b"giai-202" b"giai" 0x38, 188 Characters, None, Some(Fill { a: 6, b: 6 });
-    }
-    Ok(())
+    push_encodings(
+        alloc,
+        rows,
+        &lines! {
+            b"grai-96" b"grai" 0x33, 44 Digits(12), ItemLine::Number(38, 274_877_906_943), ItemLine::Nothing;
+            b"grai-170" b"grai" 0x37, 44 Digits(12), ItemLine::Characters(16, 112), ItemLine::Fill(6, 6);
+            b"giai-96" b"giai" 0x34, 82 Number, ItemLine::Nothing, ItemLine::Nothing;
+            b"giai-202" b"giai" 0x38, 188 Characters, ItemLine::Nothing, ItemLine::Fill(6, 6);
+        },
+    )
 }
 
 /// The encodings of documents and services.
@@ -103,46 +131,65 @@ fn add_asset_encodings(alloc: Global, rows: &mut Vec<Encoding>) -> Result<(), Me
 fn add_document_encodings(alloc: Global, rows: &mut Vec<Encoding>) -> Result<(), Memory>
     ensures { OnOk result (rows.new.items ≡ rows.old.items ++ document_encodings) }
 {
-    push_encodings! { alloc, rows;
-        b"gdti-96" b"gdti" 0x2C, 41 Digits(12), Some(Num { bits: 41, max: 2_199_023_255_551 }), None;
-        b"gdti-174" b"gdti" 0x3E, 41 Digits(12), Some(Ascii7 { lo: 1, hi: 17, bits: 119 }), Some(Fill { a: 2, b: 2 });
-        b"gsrn-96" b"gsrn" 0x2D, 58 Digits(17), None, Some(zeros(alloc, 24)?);
-    }
-    Ok(())
+    push_encodings(
+        alloc,
+        rows,
+        &lines! {
+            b"gdti-96" b"gdti" 0x2C, 41 Digits(12), ItemLine::Number(41, 2_199_023_255_551), ItemLine::Nothing;
+            b"gdti-174" b"gdti" 0x3E, 41 Digits(12), ItemLine::Characters(17, 119), ItemLine::Fill(2, 2);
+            b"gsrn-96" b"gsrn" 0x2D, 58 Digits(17), ItemLine::Nothing, ItemLine::Zeros(24);
+        },
+    )
+}
+
+/// Appends the encodings, in their order.
+#[tactic(auto, unfolding(crate::specs::BuiltIn::encodings))]
+fn add_encodings(alloc: Global, rows: &mut Vec<Encoding>) -> Result<(), Memory>
+    ensures { OnOk result (rows.new.items ≡ rows.old.items ++ encodings) }
+{
+    add_item_encodings(alloc, rows)?;
+    add_asset_encodings(alloc, rows)?;
+    add_document_encodings(alloc, rows)
 }
 
 /// The encodings, in their order.
-#[tactic(auto, unfolding(crate::specs::BuiltIn::encodings))]
 pub(crate) fn encodings(alloc: Global) -> Result<List<Encoding>, Memory>
     ensures { IfOk result (λ rows. rows ≡ encodings) }
 {
     let mut rows = Vec::new(alloc);
-    add_item_encodings(alloc, &mut rows)?;
-    add_asset_encodings(alloc, &mut rows)?;
-    add_document_encodings(alloc, &mut rows)?;
+    add_encodings(alloc, &mut rows)?;
     Ok(List::from_vec(rows))
 }
 
-/// Appends the pure identity of a kind.
-fn push_identity(
+/// The pure identity of a kind, the most characters of its serial given, where it has one.
+fn identity_of(
     alloc: Global,
-    rows: &mut Vec<Identity>,
     name: &[u8],
     rest: RestForm,
-    serial: Option<Item>,
-) -> Result<(), Memory>
-    ensures { OnOk result (rows.new.items ≡ rows.old.items ++ identity name.now rest serial ∷ []) }
+    longest: Option<u8>,
+) -> Result<Identity, Memory>
+    ensures { IfOk result (λ row. row ≡ identity_with name.now rest longest) }
 {
     let name = Text::from_bytes(alloc, name)?;
-    rows.push(Identity { name, rest, serial })?;
-    Ok(())
+    let serial = match longest {
+        Some(hi) => Some(Item::Esc { lo: 1, hi }),
+        None => None,
+    };
+    Ok(Identity { name, rest, serial })
 }
 
-/// Appends a row for each line.
-macro_rules! push_identities {
-    ($alloc:ident, $rows:ident; $($name:literal $rest:expr, $serial:expr;)*) => {
-        $(push_identity($alloc, &mut $rows, $name, $rest, $serial)?;)*
-    };
+/// The pure identities of these lines: the name of each, the rest, and the most characters of the serial, where there is one.
+fn identities_of(
+    alloc: Global,
+    lines: &[(&[u8], RestForm, Option<u8>)],
+) -> Result<List<Identity>, Memory>
+    ensures { IfOk result (λ rows. rows ≡ map identity_told lines.now) }
+{
+    let mut rows = Vec::new(alloc);
+    for (name, rest, longest) in lines {
+        rows.push(identity_of(alloc, name, *rest, *longest)?)?;
+    }
+    Ok(List::from_vec(rows))
 }
 
 /// The pure identities of the kinds, in their order.
@@ -150,15 +197,16 @@ macro_rules! push_identities {
 pub(crate) fn identities(alloc: Global) -> Result<List<Identity>, Memory>
     ensures { IfOk result (λ rows. rows ≡ identities) }
 {
-    let mut rows = Vec::new(alloc);
-    push_identities! { alloc, rows;
-        b"sgtin" Digits(13), Some(Esc { lo: 1, hi: 20 });
-        b"sscc" Digits(17), None;
-        b"sgln" Digits(12), Some(Esc { lo: 1, hi: 20 });
-        b"grai" Digits(12), Some(Esc { lo: 1, hi: 16 });
-        b"giai" Characters, None;
-        b"gdti" Digits(12), Some(Esc { lo: 1, hi: 17 });
-        b"gsrn" Digits(17), None;
-    }
-    Ok(List::from_vec(rows))
+    identities_of(
+        alloc,
+        &[
+            (b"sgtin", Digits(13), Some(20)),
+            (b"sscc", Digits(17), None),
+            (b"sgln", Digits(12), Some(20)),
+            (b"grai", Digits(12), Some(16)),
+            (b"giai", Characters, None),
+            (b"gdti", Digits(12), Some(17)),
+            (b"gsrn", Digits(17), None),
+        ],
+    )
 }

@@ -1,7 +1,8 @@
-ghost use Rattle.std.specs.Prelude.{◌≡◌, ◌≤◌, ◌-◌, ◌^◌, ◌∷◌, ◌++◌, [], IfOk, IsTrue, OnOk, codes, map};
+ghost use Rattle.std.specs.Prelude.{◌≡◌, ◌≤◌, ◌-◌, ◌^◌, ◌∷◌, ◌++◌, [], IfOk, IsTrue, OnOk, Some, codes, map, option_to_list};
+ghost use Rattle.std.specs.List.{flat_map};
 ghost use Rattle.gs_bits.specs.Bits.{bits_of};
 ghost use Rattle.gs_grammar.specs.declared.item.Item.TheVariants.{Lit};
-ghost use Rattle.gs_builtin.specs.BuiltIn.{Gains, behind_prefix, binary_items, dotted, rest_fits, in_text, in_text_too, of_field, pure_items, rest_in_bits, tag_items, there};
+ghost use Rattle.gs_builtin.specs.BuiltIn.{Gains, behind_prefix, binary_head, binary_items, binary_tail, dotted, rest_fits, in_text, in_text_too, of_field, pure_items, rest_in_bits, tag_head, tag_items, tag_tail, there};
 
 use crate::builtin_encodings::zeros;
 use crate::encoding::{Encoding, Identity, Partition, RestForm};
@@ -9,6 +10,18 @@ use gs_chars::{List, Memory, Text};
 use gs_document::{Field, FieldItem};
 use gs_grammar::Item;
 use std::alloc::Global;
+
+/// Appends an item of a field, or of none.
+fn push_item(
+    items: &mut Vec<Option<FieldItem>>,
+    field: Option<Field>,
+    item: Item,
+) -> Result<(), Memory>
+    ensures { OnOk result (Gains items.old.items items.new.items (there (field, item))) }
+{
+    items.push(Some((field, item)))?;
+    Ok(())
+}
 
 /// Appends a literal of the lowest bits of a number, so many, the highest first.
 #[tactic(auto, unfolding(gs_bits::specs::Bits::bits_of))]
@@ -27,8 +40,7 @@ fn add_bits(
         left -= 1;
         bits.push(number >> left & 1)?;
     }
-    items.push(Some((None, Item::Lit(Text::from_vec(bits)))))?;
-    Ok(())
+    push_item(items, None, Item::Lit(Text::from_vec(bits)))
 }
 
 /// Appends a literal of the text.
@@ -36,22 +48,32 @@ fn add_literal(alloc: Global, items: &mut Vec<Option<FieldItem>>, text: &[u8]) -
     ensures { OnOk result (Gains items.old.items items.new.items (there (None, Lit text.now))) }
 {
     let text = Text::from_bytes(alloc, text)?;
-    items.push(Some((None, Item::Lit(text))))?;
-    Ok(())
+    push_item(items, None, Item::Lit(text))
 }
 
-/// Begins a URI's items with a literal of its beginning up to the name, and the name and a colon.
-fn begun(alloc: Global, beginning: &[u8], name: &Text) -> Result<Vec<Option<FieldItem>>, Memory>
-    ensures { IfOk result (λ items. items.items
-        ≡ there (None, Lit (beginning.now ++ name.now ++ codes ":")) ∷ []) }
+/// Appends a text, a name and a colon.
+fn extend_with_name(text: &mut Vec<u8>, beginning: &[u8], name: &Text) -> Result<(), Memory>
+    ensures { OnOk result (text.new.items ≡ text.old.items ++ beginning.now ++ name.now ++ codes ":") }
 {
-    let mut text = Vec::new(alloc);
     text.extend_from_slice(beginning)?;
     text.extend_from_slice(name.as_bytes())?;
     text.extend_from_slice(b":")?;
-    let mut items = Vec::new(alloc);
-    items.push(Some((None, Item::Lit(Text::from_vec(text)))))?;
-    Ok(items)
+    Ok(())
+}
+
+/// Appends a literal of a URI's beginning up to the name, and the name and a colon.
+fn add_beginning(
+    alloc: Global,
+    items: &mut Vec<Option<FieldItem>>,
+    beginning: &[u8],
+    name: &Text,
+) -> Result<(), Memory>
+    ensures { OnOk result (Gains items.old.items items.new.items
+        (there (None, Lit (beginning.now ++ name.now ++ codes ":")))) }
+{
+    let mut text = Vec::new(alloc);
+    extend_with_name(&mut text, beginning, name)?;
+    push_item(items, None, Item::Lit(Text::from_vec(text)))
 }
 
 /// The greatest number of so many bits.
@@ -145,10 +167,10 @@ fn add(
 ) -> Result<(), Memory>
     ensures { OnOk result (items.new.items ≡ items.old.items ++ map there (of_field field item)) }
 {
-    if let Some(item) = item {
-        items.push(Some((field, item)))?;
+    match item {
+        Some(item) => push_item(items, field, item),
+        None => Ok(()),
     }
-    Ok(())
 }
 
 /// Appends a dot and the item of a field.
@@ -161,8 +183,35 @@ fn add_dotted(
     ensures { OnOk result (items.new.items ≡ items.old.items ++ map there (dotted field item)) }
 {
     add_literal(alloc, items, b".")?;
-    items.push(Some((Some(field), item)))?;
-    Ok(())
+    push_item(items, Some(field), item)
+}
+
+/// Appends the item of the serial behind a dot, where there is one.
+fn add_serial(
+    alloc: Global,
+    items: &mut Vec<Option<FieldItem>>,
+    serial: Option<Item>,
+) -> Result<(), Memory>
+    ensures { OnOk result (items.new.items
+        ≡ items.old.items ++ map there (flat_map (dotted Field.Serial) (option_to_list serial))) }
+{
+    match serial {
+        Some(serial) => add_dotted(alloc, items, Field::Serial, serial),
+        None => Ok(()),
+    }
+}
+
+/// Appends what follows the prefix in a text, where the rest has no digits.
+fn add_behind_dots(
+    alloc: Global,
+    items: &mut Vec<Option<FieldItem>>,
+    serial: Option<Item>,
+) -> Result<(), Memory>
+    ensures { OnOk result (items.new.items ≡ items.old.items
+        ++ there (None, Lit (codes "..")) ∷ map there (of_field (Some Field.Serial) serial)) }
+{
+    add_literal(alloc, items, b"..")?;
+    add(items, Some(Field::Serial), serial)
 }
 
 /// Appends what follows the prefix in a text.
@@ -174,16 +223,61 @@ fn add_behind_prefix(
 ) -> Result<(), Memory>
     ensures { OnOk result (items.new.items ≡ items.old.items ++ map there (behind_prefix rest serial)) }
 {
-    let (field, rest) = rest;
-    if field.is_none() {
-        add_literal(alloc, items, b"..")?;
-        return add(items, Some(Field::Serial), serial);
+    match rest {
+        (None, _) => add_behind_dots(alloc, items, serial),
+        (Some(_), rest) => {
+            add_dotted(alloc, items, Field::Rest, rest)?;
+            add_serial(alloc, items, serial)
+        }
     }
-    add_dotted(alloc, items, Field::Rest, rest)?;
-    match serial {
-        Some(serial) => add_dotted(alloc, items, Field::Serial, serial),
-        None => Ok(()),
-    }
+}
+
+/// The rest of a text beside a prefix of so many digits, where on the bit level it has so many bits.
+fn rest_in_text(alloc: Global, rest: RestForm, digits: u8, bits: u8) -> Result<FieldItem, Memory>
+    requires { IsTrue (rest_fits rest bits) }
+    ensures { IfOk result (λ item. item ≡ in_text_too (rest_in_bits rest digits bits)) }
+{
+    let (field, item) = rest_in_bits(alloc, rest, digits, bits)?;
+    Ok((field, in_text(item)))
+}
+
+/// Appends the items of an encoding on the bit level up to the prefix.
+fn add_binary_head(
+    alloc: Global,
+    items: &mut Vec<Option<FieldItem>>,
+    header: u8,
+    partition: Partition,
+) -> Result<(), Memory>
+    ensures { OnOk result (items.new.items ≡ items.old.items ++ map there (binary_head header partition)) }
+{
+    add_bits(alloc, items, 8, header)?;
+    push_item(items, Some(Field::Filter), Item::Num { bits: 3, max: 7 })?;
+    add_bits(alloc, items, 3, partition.number)?;
+    let prefix = Item::NumPad {
+        bits: partition.bits,
+        n: partition.digits,
+    };
+    push_item(items, Some(Field::Gcp), prefix)
+}
+
+/// Appends the items of an encoding on the bit level behind the prefix.
+fn add_binary_tail(
+    alloc: Global,
+    items: &mut Vec<Option<FieldItem>>,
+    encoding: &Encoding,
+    partition: Partition,
+) -> Result<(), Memory>
+    requires { IsTrue (rest_fits encoding.now.rest (encoding.now.width - partition.bits)) }
+    ensures { OnOk result (items.new.items
+        ≡ items.old.items ++ map there (binary_tail encoding.now partition)) }
+{
+    let bits = encoding.width.saturating_sub(partition.bits);
+    let (field, rest) = rest_in_bits(alloc, encoding.rest, partition.digits, bits)?;
+    push_item(items, field, rest)?;
+    let serial = copy_of_some(alloc, &encoding.serial)?;
+    add(items, Some(Field::Serial), serial)?;
+    let after = copy_of_some(alloc, &encoding.after)?;
+    add(items, None, after)
 }
 
 /// The items of an encoding on the bit level.
@@ -195,25 +289,41 @@ pub(crate) fn binary_items(
     requires { IsTrue (rest_fits encoding.now.rest (encoding.now.width - partition.bits)) }
     ensures { IfOk result (λ items. items ≡ map there (binary_items encoding.now partition)) }
 {
-    let rest_bits = encoding.width.saturating_sub(partition.bits);
-    let prefix = Item::NumPad {
-        bits: partition.bits,
-        n: partition.digits,
-    };
     let mut items = Vec::new(alloc);
-    add_bits(alloc, &mut items, 8, encoding.header)?;
-    items.push(Some((Some(Field::Filter), Item::Num { bits: 3, max: 7 })))?;
-    add_bits(alloc, &mut items, 3, partition.number)?;
-    items.push(Some((Some(Field::Gcp), prefix)))?;
-    let rest = rest_in_bits(alloc, encoding.rest, partition.digits, rest_bits)?;
-    items.push(Some(rest))?;
-    add(
-        &mut items,
-        Some(Field::Serial),
-        copy_of_some(alloc, &encoding.serial)?,
-    )?;
-    add(&mut items, None, copy_of_some(alloc, &encoding.after)?)?;
+    add_binary_head(alloc, &mut items, encoding.header, partition)?;
+    add_binary_tail(alloc, &mut items, encoding, partition)?;
     Ok(List::from_vec(items))
+}
+
+/// Appends the items of an encoding as a tag URI up to the prefix.
+fn add_tag_head(
+    alloc: Global,
+    items: &mut Vec<Option<FieldItem>>,
+    name: &Text,
+    n: u8,
+) -> Result<(), Memory>
+    ensures { OnOk result (items.new.items ≡ items.old.items ++ map there (tag_head name.now n)) }
+{
+    add_beginning(alloc, items, b"urn:epc:tag:", name)?;
+    push_item(items, Some(Field::Filter), Item::Int { max: 7 })?;
+    add_literal(alloc, items, b".")?;
+    push_item(items, Some(Field::Gcp), Item::Pad { n })
+}
+
+/// Appends the items of an encoding as a tag URI behind the prefix.
+fn add_tag_tail(
+    alloc: Global,
+    items: &mut Vec<Option<FieldItem>>,
+    encoding: &Encoding,
+    partition: Partition,
+) -> Result<(), Memory>
+    requires { IsTrue (rest_fits encoding.now.rest (encoding.now.width - partition.bits)) }
+    ensures { OnOk result (items.new.items ≡ items.old.items ++ map there (tag_tail encoding.now partition)) }
+{
+    let bits = encoding.width.saturating_sub(partition.bits);
+    let rest = rest_in_text(alloc, encoding.rest, partition.digits, bits)?;
+    let serial = copy_of_some(alloc, &encoding.serial)?.map(in_text);
+    add_behind_prefix(alloc, items, rest, serial)
 }
 
 /// The items of an encoding as a tag URI.
@@ -225,16 +335,28 @@ pub(crate) fn tag_items(
     requires { IsTrue (rest_fits encoding.now.rest (encoding.now.width - partition.bits)) }
     ensures { IfOk result (λ items. items ≡ map there (tag_items encoding.now partition)) }
 {
-    let n = partition.digits;
-    let rest_bits = encoding.width.saturating_sub(partition.bits);
-    let mut items = begun(alloc, b"urn:epc:tag:", &encoding.name)?;
-    items.push(Some((Some(Field::Filter), Item::Int { max: 7 })))?;
-    add_literal(alloc, &mut items, b".")?;
-    items.push(Some((Some(Field::Gcp), Item::Pad { n })))?;
-    let serial = copy_of_some(alloc, &encoding.serial)?.map(in_text);
-    let (field, rest) = rest_in_bits(alloc, encoding.rest, n, rest_bits)?;
-    add_behind_prefix(alloc, &mut items, (field, in_text(rest)), serial)?;
+    let mut items = Vec::new(alloc);
+    add_tag_head(alloc, &mut items, &encoding.name, partition.digits)?;
+    add_tag_tail(alloc, &mut items, encoding, partition)?;
     Ok(List::from_vec(items))
+}
+
+/// Appends the items of a kind as a pure identity URI.
+fn add_pure(
+    alloc: Global,
+    items: &mut Vec<Option<FieldItem>>,
+    identity: &Identity,
+    partition: Partition,
+) -> Result<(), Memory>
+    ensures { OnOk result (items.new.items
+        ≡ items.old.items ++ map there (pure_items identity.now partition)) }
+{
+    let n = partition.digits;
+    add_beginning(alloc, items, b"urn:epc:id:", &identity.name)?;
+    push_item(items, Some(Field::Gcp), Item::Pad { n })?;
+    let rest = rest_in_text(alloc, identity.rest, n, 0)?;
+    let serial = copy_of_some(alloc, &identity.serial)?;
+    add_behind_prefix(alloc, items, rest, serial)
 }
 
 /// The items of a kind as a pure identity URI.
@@ -245,11 +367,7 @@ pub(crate) fn pure_items(
 ) -> Result<List<Option<FieldItem>>, Memory>
     ensures { IfOk result (λ items. items ≡ map there (pure_items identity.now partition)) }
 {
-    let n = partition.digits;
-    let mut items = begun(alloc, b"urn:epc:id:", &identity.name)?;
-    items.push(Some((Some(Field::Gcp), Item::Pad { n })))?;
-    let serial = copy_of_some(alloc, &identity.serial)?;
-    let (field, rest) = rest_in_bits(alloc, identity.rest, n, 0)?;
-    add_behind_prefix(alloc, &mut items, (field, in_text(rest)), serial)?;
+    let mut items = Vec::new(alloc);
+    add_pure(alloc, &mut items, identity, partition)?;
     Ok(List::from_vec(items))
 }

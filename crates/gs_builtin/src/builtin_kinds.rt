@@ -1,22 +1,35 @@
 ghost use Rattle.std.specs.Prelude.{◌≡◌, IfOk, map};
-ghost use Rattle.gs_builtin.specs.BuiltIn.{builtin_kinds, kind_told};
+ghost use Rattle.gs_builtin.specs.BuiltIn.{builtin_kinds, kind, kind_told};
 
 use gs_chars::{List, Memory, Text};
 use gs_document::KindRow;
 use std::alloc::Global;
 
-/// The kinds of these lines: the name of each, the code of its key, the digits before the prefix, and where the serial stands.
+/// A kind: its name, the code of its key, the digits before the prefix, and where the serial stands.
+fn kind_of(
+    alloc: Global,
+    name: &[u8],
+    key: &[u8],
+    lead: u64,
+    serial: &[u8],
+) -> Result<KindRow, Memory>
+    ensures { IfOk result (λ row. row ≡ kind name.now key.now lead serial.now) }
+{
+    Ok(KindRow {
+        name: Text::from_bytes(alloc, name)?,
+        key: Text::from_bytes(alloc, key)?,
+        lead,
+        serial: Text::from_bytes(alloc, serial)?,
+    })
+}
+
+/// The kinds of these lines.
 fn kinds_of(alloc: Global, lines: &[(&[u8], &[u8], u64, &[u8])]) -> Result<List<KindRow>, Memory>
     ensures { IfOk result (λ rows. rows ≡ map kind_told lines.now) }
 {
     let mut rows = Vec::new(alloc);
     for (name, key, lead, serial) in lines {
-        rows.push(KindRow {
-            name: Text::from_bytes(alloc, name)?,
-            key: Text::from_bytes(alloc, key)?,
-            lead: *lead,
-            serial: Text::from_bytes(alloc, serial)?,
-        })?;
+        rows.push(kind_of(alloc, name, key, *lead, serial)?)?;
     }
     Ok(List::from_vec(rows))
 }

@@ -1,6 +1,6 @@
-ghost use Rattle.std.specs.Prelude.{◌≡◌, ◌∷◌, ◌++◌, [], IfOk, IsTrue, OnOk, List, map};
+ghost use Rattle.std.specs.Prelude.{◌≡◌, ◌-◌, ◌∷◌, ◌++◌, [], IfOk, IsTrue, OnOk, List, map};
 ghost use Rattle.std.specs.List.{flat_map, list_all};
-ghost use Rattle.gs_builtin.specs.BuiltIn.{Gains, binary_rows, rests_fit, option_row, pure_rows, row_with, tag_rows};
+ghost use Rattle.gs_builtin.specs.BuiltIn.{Gains, binary_row, binary_rows, rest_fits, rests_fit, pure_row, pure_rows, row_with, tag_row, tag_rows};
 
 use crate::builtin_encodings::PARTITIONS;
 use crate::builtin_items::{binary_items, pure_items, tag_items};
@@ -31,23 +31,59 @@ fn push(
     Ok(())
 }
 
+/// Appends the binary option of an encoding for a length of the prefix.
+fn push_binary(
+    alloc: Global,
+    rows: &mut Vec<OptionRow>,
+    encoding: &Encoding,
+    partition: Partition,
+) -> Result<(), Memory>
+    requires { IsTrue (rest_fits encoding.now.rest (encoding.now.width - partition.bits)) }
+    ensures { OnOk result (Gains rows.old.items rows.new.items (binary_row encoding.now partition)) }
+{
+    let items = binary_items(alloc, encoding, partition)?;
+    let kind = encoding.kind.as_bytes();
+    push(
+        alloc,
+        rows,
+        kind,
+        encoding.name.as_bytes(),
+        partition,
+        items,
+    )
+}
+
 /// Appends the binary options of an encoding.
 fn add_binary(alloc: Global, rows: &mut Vec<OptionRow>, encoding: &Encoding) -> Result<(), Memory>
     requires { IsTrue (rests_fit encoding.now) }
     ensures { OnOk result (rows.new.items ≡ rows.old.items ++ binary_rows encoding.now) }
 {
     for partition in &PARTITIONS {
-        let items = binary_items(alloc, encoding, *partition)?;
-        push(
-            alloc,
-            rows,
-            encoding.kind.as_bytes(),
-            encoding.name.as_bytes(),
-            *partition,
-            items,
-        )?;
+        push_binary(alloc, rows, encoding, *partition)?;
     }
     Ok(())
+}
+
+/// Appends the tag option of an encoding for a length of the prefix.
+fn push_tag(
+    alloc: Global,
+    rows: &mut Vec<OptionRow>,
+    encoding: &Encoding,
+    partition: Partition,
+) -> Result<(), Memory>
+    requires { IsTrue (rest_fits encoding.now.rest (encoding.now.width - partition.bits)) }
+    ensures { OnOk result (Gains rows.old.items rows.new.items (tag_row encoding.now partition)) }
+{
+    let items = tag_items(alloc, encoding, partition)?;
+    let kind = encoding.kind.as_bytes();
+    push(
+        alloc,
+        rows,
+        kind,
+        encoding.name.as_bytes(),
+        partition,
+        items,
+    )
 }
 
 /// Appends the tag options of an encoding.
@@ -56,17 +92,22 @@ fn add_tag(alloc: Global, rows: &mut Vec<OptionRow>, encoding: &Encoding) -> Res
     ensures { OnOk result (rows.new.items ≡ rows.old.items ++ tag_rows encoding.now) }
 {
     for partition in &PARTITIONS {
-        let items = tag_items(alloc, encoding, *partition)?;
-        push(
-            alloc,
-            rows,
-            encoding.kind.as_bytes(),
-            encoding.name.as_bytes(),
-            *partition,
-            items,
-        )?;
+        push_tag(alloc, rows, encoding, *partition)?;
     }
     Ok(())
+}
+
+/// Appends the pure option of a kind for a length of the prefix.
+fn push_pure(
+    alloc: Global,
+    rows: &mut Vec<OptionRow>,
+    identity: &Identity,
+    partition: Partition,
+) -> Result<(), Memory>
+    ensures { OnOk result (Gains rows.old.items rows.new.items (pure_row identity.now partition)) }
+{
+    let items = pure_items(alloc, identity, partition)?;
+    push(alloc, rows, identity.name.as_bytes(), b"", partition, items)
 }
 
 /// Appends the pure options of a kind.
@@ -74,15 +115,7 @@ fn add_pure(alloc: Global, rows: &mut Vec<OptionRow>, identity: &Identity) -> Re
     ensures { OnOk result (rows.new.items ≡ rows.old.items ++ pure_rows identity.now) }
 {
     for partition in &PARTITIONS {
-        let items = pure_items(alloc, identity, *partition)?;
-        push(
-            alloc,
-            rows,
-            identity.name.as_bytes(),
-            b"",
-            *partition,
-            items,
-        )?;
+        push_pure(alloc, rows, identity, *partition)?;
     }
     Ok(())
 }

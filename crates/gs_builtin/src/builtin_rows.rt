@@ -1,15 +1,30 @@
 ghost use Rattle.std.specs.Prelude.{◌≡◌, IfOk, IsTrue};
 ghost use Rattle.std.specs.List.{list_all};
-ghost use Rattle.gs_builtin.specs.BuiltIn.{builtin_document, document_of, rests_fit};
+ghost use Rattle.gs_builtin.specs.BuiltIn.{builtin_document, document_of, options_of, rests_fit};
 
 use crate::builtin_ais::builtin_ais;
 use crate::builtin_encodings::{encodings, identities};
 use crate::builtin_kinds::builtin_kinds;
 use crate::builtin_options::{binary_options, pure_options, tag_options};
 use crate::encoding::{Encoding, Identity};
-use gs_chars::Memory;
-use gs_document::Document;
+use gs_chars::{List, Memory};
+use gs_document::{Document, OptionRow};
 use std::alloc::Global;
+
+/// The options of these encodings and identities: binary, tag, pure.
+fn options_of(
+    alloc: Global,
+    encodings: &[Encoding],
+    identities: &[Identity],
+) -> Result<(List<OptionRow>, List<OptionRow>, List<OptionRow>), Memory>
+    requires { IsTrue (list_all rests_fit encodings.now) }
+    ensures { IfOk result (λ options. options ≡ options_of encodings.now identities.now) }
+{
+    let binary = binary_options(alloc, encodings)?;
+    let tag = tag_options(alloc, encodings)?;
+    let pure = pure_options(alloc, identities)?;
+    Ok((binary, tag, pure))
+}
 
 /// The document of the application identifiers, the kinds, and the options of these encodings and identities.
 fn document_of(
@@ -20,13 +35,16 @@ fn document_of(
     requires { IsTrue (list_all rests_fit encodings.now) }
     ensures { IfOk result (λ document. document ≡ document_of encodings.now identities.now) }
 {
+    let ais = builtin_ais(alloc)?;
+    let kinds = builtin_kinds(alloc)?;
+    let (binary, tag, pure) = options_of(alloc, encodings, identities)?;
     Ok(Document {
         version: 1,
-        ais: builtin_ais(alloc)?,
-        kinds: builtin_kinds(alloc)?,
-        binary: binary_options(alloc, encodings)?,
-        tag: tag_options(alloc, encodings)?,
-        pure: pure_options(alloc, identities)?,
+        ais,
+        kinds,
+        binary,
+        tag,
+        pure,
     })
 }
 

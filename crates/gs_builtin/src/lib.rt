@@ -27,5 +27,6 @@ mod builtin_kinds;
 mod builtin_options;
 mod builtin_rows;
 mod encoding;
+mod encoding_line;
 
 pub use builtin_rows::builtin_document;

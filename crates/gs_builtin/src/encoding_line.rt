@@ -1,0 +1,28 @@
+use crate::encoding::RestForm;
+
+/// An item, or none, written in a line.
+#[derive(Clone, Copy)]
+pub(crate) enum ItemLine {
+    /// No item.
+    Nothing,
+    /// A number in so many bits, and the greatest.
+    Number(u8, u64),
+    /// At least one character, at most so many, in so many bits.
+    Characters(u8, u16),
+    /// So many zeros, or so many.
+    Fill(u8, u8),
+    /// So many zeros.
+    Zeros(u8),
+}
+
+/// An encoding, written in a line.
+#[derive(Clone, Copy)]
+pub(crate) struct EncodingLine<'a> {
+    pub name: &'a [u8],
+    pub kind: &'a [u8],
+    pub header: u8,
+    pub width: u8,
+    pub rest: RestForm,
+    pub serial: ItemLine,
+    pub after: ItemLine,
+}
