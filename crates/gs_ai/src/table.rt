@@ -16,11 +16,21 @@ use std::marker::Model;
 
 /// A table of application identifiers, which contracts see as the list of its rows. Its rows keep the rules that
 /// `AiTable::new` asks for.
-#[derive(Drop)]
 pub struct AiTable {
     rows: List<AiRow>,
     starts: List<List<usize>>,
     predefined: Predefined,
+}
+
+// by hand, so that a function that drops one calls this one: a derived drop is written out at each of its exits
+impl Drop for AiTable {
+    fn drop(self) {
+        let AiTable {
+            rows: _,
+            starts: _,
+            predefined: _,
+        } = self;
+    }
 }
 
 impl Model for AiTable {

@@ -1,11 +1,16 @@
 -- The judgement of the levels of a set.
-use Rattle.std.proofs.Common.{◌≡◌, ◌⊎◌, ℕ, zero, suc, ◌<◌, true, false, List, [], ◌∷◌, Some, length, slice_get, refl, inl, inr, arith}
+use Rattle.std.proofs.Common.{◌≡◌, ◌⊎◌, ℕ, zero, suc, ◌<◌, true, false, List, [], ◌∷◌, Some, length, map, slice_get, refl, inl, inr, arith}
 use Rattle.std.specs.Prelude.{Result, Ok, Err}
 use Rattle.std.proofs.lemmas.List.{length-map}
 use Rattle.std.proofs.lemmas.Option.{slice_get_within}
+use Rattle.gs_ai.specs.declared.row.AiRow.{AiRow}
+use Rattle.gs_ai.specs.Tables.{table_faults}
 use Rattle.gs_document.specs.declared.document.Document.{Document}
+use Rattle.gs_document.specs.declared.document.KindRow.{KindRow}
+use Rattle.gs_document.specs.declared.document.OptionRow.{OptionRow}
 use Rattle.gs_document.specs.declared.fault.LoadFault.{LoadFault}
 use Rattle.gs_document.specs.declared.fault.LoadFault.TheVariants.{Json, Version, Limit, Ai, BadKind, BadItem, Mismatch, Duplicate, Ambiguous, Memory}
+use Rattle.gs_document.specs.declared.kind.Kind.{Kind}
 use Rattle.gs_document.specs.declared.level_name.LevelName.{LevelName}
 use Rattle.gs_document.specs.declared.level_name.LevelName.TheVariants.{Binary, Tag, Pure}
 use Rattle.gs_document.specs.Documents.{is_bits}
@@ -14,9 +19,11 @@ use Rattle.gs_grammar.specs.Levels.{LevelForm, OptionForm, item_lists}
 use Rattle.gs_grammar.proofs.DecidedShares.{share_decided}
 use Rattle.gs_grammar.proofs.WordLaws.{all_items}
 use Rattle.gs_tables.specs.declared.level_table.LevelTable.{LevelTable}
-use Rattle.gs_tables.specs.Judged.{AreClear, AreClearBefore, AreJudged, IsClear, IsFirstAmbiguous, IsLevelJudged, Judged, by_name, levels_of}
-use Rattle.gs_tables.specs.Tables.{IsAnswer, IsShaped, TableRows, level_of, level_rows, row_refusals, set_of}
+use Rattle.gs_tables.specs.declared.level_tables.LevelTables.{LevelTables}
+use Rattle.gs_tables.specs.Judged.{AreClear, AreClearBefore, AreJudged, AreOfRows, IsClear, IsFirstAmbiguous, IsLevelJudged, Judged, by_name, levels_of, levels_of_rows}
+use Rattle.gs_tables.specs.Tables.{IsAnswer, IsShaped, TableRows, level_of, level_rows, limit_refusals, row_refusals, rule_refusals, kind_of, set_of}
 use Rattle.gs_tables.proofs.KeptSets.{as_many_said, options_kept}
+use Rattle.gs_tables.proofs.SetLemmas.{others_refused, rules_kept, set_made}
 use Rattle.gs_tables.proofs.RuledRefusals.{ruled_first, ruled_of_document}
 
 -- ---- the levels of a set, judged by a law
@@ -124,6 +131,32 @@ judged_levels document binary tag pure (BadKind i) none b t p h = absurd h
 judged_levels document binary tag pure (BadItem level i k) none b t p h = absurd h
 judged_levels document binary tag pure (Mismatch level i) none b t p h = absurd h
 judged_levels document binary tag pure (Duplicate level j i) none b t p h = absurd h
+
+-- the levels that rows make are judged as those that are made of them
+pub judged_made : (kinds : List KindRow) (binary tag pure : List OptionRow) (made : LevelTables) (answer : Result (Unit {0}) LoadFault) → AreOfRows kinds binary tag pure made → AreJudged (by_name made.binary.level made.tag.level made.pure.level) answer → AreJudged (levels_of_rows kinds binary tag pure) answer
+judged_made kinds binary tag pure made answer of_rows h = rw (of_rows.0, of_rows.1, of_rows.2) at h
+
+-- what is refused by a rule, or by the judgement of the levels
+pub levels_refused : (document : Document) (ais : List AiRow) (e : LoadFault) → limit_refusals document ≡ [] → (map Ai (table_faults document.ais) ≡ []) × (ais ≡ document.ais)
+    → (slice_get (rule_refusals ais document.kinds document.binary document.tag document.pure) 0 ≡ Some e)
+    ⊎ ((rule_refusals ais document.kinds document.binary document.tag document.pure ≡ [])
+    × AreJudged (levels_of_rows document.kinds document.binary document.tag document.pure) (Err e))
+    → Judged (IsAnswer (row_refusals document) (set_of document)) (Err e)
+levels_refused document ais e limits table (inl first) = judged_rule document e (others_refused document ais e limits table first)
+levels_refused document ais e limits table (inr h) =
+    judged_levels document (level_of document.kinds Binary document.binary) (level_of document.kinds Tag document.tag) (level_of document.kinds Pure document.pure) e
+    (rules_kept document ais limits table h.0) refl refl refl h.1
+
+-- the set of what is made of the rows of a document
+pub set_judged : (document : Document) (ais : List AiRow) (kinds : List Kind) (made : LevelTables) → limit_refusals document ≡ [] → (map Ai (table_faults document.ais) ≡ []) × (ais ≡ document.ais)
+    → rule_refusals ais document.kinds document.binary document.tag document.pure ≡ [] → AreClear (levels_of_rows document.kinds document.binary document.tag document.pure)
+    → kinds ≡ map kind_of document.kinds → AreOfRows document.kinds document.binary document.tag document.pure made
+    → Judged (IsAnswer (row_refusals document) (set_of document)) (Ok (record { ais = ais; kinds = kinds; binary = made.binary; tag = made.tag; pure = made.pure }))
+set_judged document ais kinds made limits table none clear k of_rows =
+    let set : TableRows = record { ais = ais; kinds = kinds; binary = made.binary; tag = made.tag; pure = made.pure } in
+    let is = set_made document ais set limits table none refl k of_rows.0 of_rows.1 of_rows.2 in
+    let cleared : AreClear (levels_of (set_of document)) = moved_clear _ _ _ (set_of document) refl refl refl clear in
+    (is, rw is.1 cleared)
 
 -- the rules' answers are those to bytes, once their levels are judged too
 pub judged_as : (Ruled Other : Result TableRows LoadFault → Type 0) → ((answer : Result TableRows LoadFault) → Ruled answer → Other answer) → (answer : Result TableRows LoadFault) → Judged Ruled answer → Judged Other answer

@@ -20,9 +20,9 @@ use Rattle.gs_tables.specs.declared.form.KeyForm.{KeyForm}
 use Rattle.gs_tables.specs.Forms.{form_at, key_form}
 use Rattle.gs_tables.specs.KeptRules.{AreKept, KeptOption}
 use Rattle.gs_tables.specs.Rules.{has_name}
-use Rattle.gs_tables.specs.Tables.{IsShaped, TableRows, info_of, items_alone, items_there, kind_of, kinds_refusals, level_of, level_refusals, level_rows, limit_refusals, option_form, options_of, row_refusals, set_of}
+use Rattle.gs_tables.specs.Tables.{IsShaped, TableRows, info_of, items_alone, items_there, kind_of, kinds_refusals, level_of, level_refusals, level_rows, limit_refusals, option_form, options_of, row_refusals, rule_refusals, set_of}
 use Rattle.gs_tables.proofs.KeptRows.{kind_at, placed, row_at}
-use Rattle.gs_tables.proofs.SetLemmas.{others, sound}
+use Rattle.gs_tables.proofs.SetLemmas.{sound}
 
 -- ---- the rows of a document
 
@@ -30,8 +30,8 @@ use Rattle.gs_tables.proofs.SetLemmas.{others, sound}
 no_refusals : (document : Document) (level : LevelName) → row_refusals document ≡ [] → (kinds_refusals document.ais document.kinds ≡ []) × (level_refusals document.ais document.kinds level (options_of level document) ≡ [])
 unfolding row_refusals
 no_refusals document level none =
-    let rows = none_behind (limit_refusals document) (map Ai (table_faults document.ais) ++ others document.ais document.kinds document.binary document.tag document.pure) none in
-    let kept = sound document.ais document.kinds document.binary document.tag document.pure (none_behind (map Ai (table_faults document.ais)) (others document.ais document.kinds document.binary document.tag document.pure) rows) in
+    let rows = none_behind (limit_refusals document) (map Ai (table_faults document.ais) ++ rule_refusals document.ais document.kinds document.binary document.tag document.pure) none in
+    let kept = sound document.ais document.kinds document.binary document.tag document.pure (none_behind (map Ai (table_faults document.ais)) (rule_refusals document.ais document.kinds document.binary document.tag document.pure) rows) in
     (kept.kinds_kept, by level kept.binary_kept kept.tag_kept kept.pure_kept)
   where
     by : (level : LevelName) → level_refusals document.ais document.kinds Binary document.binary ≡ [] → level_refusals document.ais document.kinds Tag document.tag ≡ [] → level_refusals document.ais document.kinds Pure document.pure ≡ [] → level_refusals document.ais document.kinds level (options_of level document) ≡ []

@@ -10,15 +10,10 @@ use Rattle.gs_document.specs.declared.document.OptionRow.{OptionRow}
 use Rattle.gs_document.specs.declared.fault.LoadFault.{LoadFault}
 use Rattle.gs_document.specs.declared.fault.LoadFault.TheVariants.{Json, Version, Limit, Ai, BadKind, BadItem, Mismatch, Duplicate, Ambiguous, Memory}
 use Rattle.gs_document.specs.declared.level_name.LevelName.TheVariants.{Binary, Tag, Pure}
-use Rattle.gs_tables.specs.Tables.{IsAnswer, IsFirst, TableRows, refuse_if, refusals, kind_of, kinds_refusals, level_of, level_refusals, limit_refusals, row_refusals, set_of}
+use Rattle.gs_tables.specs.Tables.{IsAnswer, IsFirst, TableRows, refuse_if, refusals, kind_of, kinds_refusals, level_of, level_refusals, limit_refusals, row_refusals, rule_refusals, set_of}
 use Rattle.gs_document.specs.Readings.{Holds, IsFormRefusal}
 use Rattle.gs_tables.specs.Shapes.{LoadAnswer, Shape}
 use Rattle.gs_tables.proofs.RefusalLists.{refused, refused_behind}
-
--- the refusals of the kinds and of the options
-abbrev pub others : List AiRow → List KindRow → List OptionRow → List OptionRow → List OptionRow → List LoadFault
-others ais kinds binary tag pure =
-    kinds_refusals ais kinds ++ (level_refusals ais kinds Binary binary ++ (level_refusals ais kinds Tag tag ++ level_refusals ais kinds Pure pure))
 
 -- rows without a refusal
 pub record Sound (ais : List AiRow) (kinds : List KindRow) (binary tag pure : List OptionRow) : Type 0 where
@@ -27,7 +22,7 @@ pub record Sound (ais : List AiRow) (kinds : List KindRow) (binary tag pure : Li
   pub tag_kept : level_refusals ais kinds Tag tag ≡ []
   pub pure_kept : level_refusals ais kinds Pure pure ≡ []
 
-pub sound : (ais : List AiRow) (kinds : List KindRow) (binary tag pure : List OptionRow) → others ais kinds binary tag pure ≡ [] → Sound ais kinds binary tag pure
+pub sound : (ais : List AiRow) (kinds : List KindRow) (binary tag pure : List OptionRow) → rule_refusals ais kinds binary tag pure ≡ [] → Sound ais kinds binary tag pure
 sound ais kinds binary tag pure none =
     let levels = none_behind (kinds_refusals ais kinds) (level_refusals ais kinds Binary binary ++ (level_refusals ais kinds Tag tag ++ level_refusals ais kinds Pure pure)) none in
     let texts = none_behind (level_refusals ais kinds Binary binary) (level_refusals ais kinds Tag tag ++ level_refusals ais kinds Pure pure) levels in
@@ -43,34 +38,34 @@ sound ais kinds binary tag pure none =
 pub limit_refused : (document : Document) (e : LoadFault) → slice_get (limit_refusals document) 0 ≡ Some e → IsAnswer (row_refusals document) (set_of document) (Err e)
 unfolding row_refusals
 limit_refused document e h =
-    refused (limit_refusals document ++ (map Ai (table_faults document.ais) ++ others document.ais document.kinds document.binary document.tag document.pure)) (set_of document) e
-    (first_of_front (limit_refusals document) (map Ai (table_faults document.ais) ++ others document.ais document.kinds document.binary document.tag document.pure) e h)
+    refused (limit_refusals document ++ (map Ai (table_faults document.ais) ++ rule_refusals document.ais document.kinds document.binary document.tag document.pure)) (set_of document) e
+    (first_of_front (limit_refusals document) (map Ai (table_faults document.ais) ++ rule_refusals document.ais document.kinds document.binary document.tag document.pure) e h)
 
 pub ais_refused : (document : Document) (e : LoadFault) → limit_refusals document ≡ [] → IsAnswer (map Ai (table_faults document.ais)) document.ais (Err e) → IsAnswer (row_refusals document) (set_of document) (Err e)
 unfolding row_refusals
 ais_refused document e none h =
-    refused_behind (limit_refusals document) (map Ai (table_faults document.ais)) (others document.ais document.kinds document.binary document.tag document.pure) document.ais (set_of document) e none h
+    refused_behind (limit_refusals document) (map Ai (table_faults document.ais)) (rule_refusals document.ais document.kinds document.binary document.tag document.pure) document.ais (set_of document) e none h
 
 pub others_refused : (document : Document) (ais : List AiRow) (e : LoadFault) → limit_refusals document ≡ [] → (map Ai (table_faults document.ais) ≡ []) × (ais ≡ document.ais)
-    → slice_get (others ais document.kinds document.binary document.tag document.pure) 0 ≡ Some e → IsAnswer (row_refusals document) (set_of document) (Err e)
+    → slice_get (rule_refusals ais document.kinds document.binary document.tag document.pure) 0 ≡ Some e → IsAnswer (row_refusals document) (set_of document) (Err e)
 unfolding row_refusals
 others_refused document ais e none table h =
-    refused (limit_refusals document ++ (map Ai (table_faults document.ais) ++ others document.ais document.kinds document.binary document.tag document.pure)) (set_of document) e
-    (first_of_back (limit_refusals document) (map Ai (table_faults document.ais) ++ others document.ais document.kinds document.binary document.tag document.pure) e none
-    (first_of_back (map Ai (table_faults document.ais)) (others document.ais document.kinds document.binary document.tag document.pure) e table.0 (rw table.1 at h)))
+    refused (limit_refusals document ++ (map Ai (table_faults document.ais) ++ rule_refusals document.ais document.kinds document.binary document.tag document.pure)) (set_of document) e
+    (first_of_back (limit_refusals document) (map Ai (table_faults document.ais) ++ rule_refusals document.ais document.kinds document.binary document.tag document.pure) e none
+    (first_of_back (map Ai (table_faults document.ais)) (rule_refusals document.ais document.kinds document.binary document.tag document.pure) e table.0 (rw table.1 at h)))
 
 -- ---- the set
 
 pub rules_kept : (document : Document) (ais : List AiRow) → limit_refusals document ≡ [] → (map Ai (table_faults document.ais) ≡ []) × (ais ≡ document.ais)
-    → others ais document.kinds document.binary document.tag document.pure ≡ [] → row_refusals document ≡ []
+    → rule_refusals ais document.kinds document.binary document.tag document.pure ≡ [] → row_refusals document ≡ []
 unfolding row_refusals
 rules_kept document ais limits table rest =
-    let rest' : others document.ais document.kinds document.binary document.tag document.pure ≡ [] = rw table.1 at rest in
-    none_of_both (limit_refusals document) (map Ai (table_faults document.ais) ++ others document.ais document.kinds document.binary document.tag document.pure) limits
-    (none_of_both (map Ai (table_faults document.ais)) (others document.ais document.kinds document.binary document.tag document.pure) table.0 rest')
+    let rest' : rule_refusals document.ais document.kinds document.binary document.tag document.pure ≡ [] = rw table.1 at rest in
+    none_of_both (limit_refusals document) (map Ai (table_faults document.ais) ++ rule_refusals document.ais document.kinds document.binary document.tag document.pure) limits
+    (none_of_both (map Ai (table_faults document.ais)) (rule_refusals document.ais document.kinds document.binary document.tag document.pure) table.0 rest')
 
 pub set_made : (document : Document) (ais : List AiRow) (set : TableRows) → limit_refusals document ≡ [] → (map Ai (table_faults document.ais) ≡ []) × (ais ≡ document.ais)
-    → others ais document.kinds document.binary document.tag document.pure ≡ []
+    → rule_refusals ais document.kinds document.binary document.tag document.pure ≡ []
     → set.ais ≡ ais → set.kinds ≡ map kind_of document.kinds → set.binary ≡ level_of document.kinds Binary document.binary
     → set.tag ≡ level_of document.kinds Tag document.tag → set.pure ≡ level_of document.kinds Pure document.pure
     → (row_refusals document ≡ []) × (set ≡ set_of document)

@@ -1,13 +1,16 @@
 -- Which levels of a set are ambiguous: none of a set that is loaded, and the first of one that is refused. After TDT 2.0,
 -- section 3 (levels and options); that no level is ambiguous, and the order, are this project's own.
-use Rattle.std.specs.Prelude.{◌≡◌, ℕ, List, Result, Ok, Err}
+use Rattle.std.specs.Prelude.{◌≡◌, ◌⊎◌, ℕ, List, [], Some, slice_get, Result, Ok, Err}
+use Rattle.gs_document.specs.declared.document.KindRow.{KindRow}
+use Rattle.gs_document.specs.declared.document.OptionRow.{OptionRow}
 use Rattle.gs_document.specs.declared.fault.LoadFault.{LoadFault}
 use Rattle.gs_document.specs.declared.fault.LoadFault.TheVariants.{Ambiguous, Memory}
 use Rattle.gs_document.specs.declared.level_name.LevelName.{LevelName}
 use Rattle.gs_document.specs.declared.level_name.LevelName.TheVariants.{Binary, Tag, Pure}
 use Rattle.gs_grammar.specs.Ambiguity.{IsUnambiguous, ShowsFirstShare}
 use Rattle.gs_grammar.specs.Levels.{LevelForm, item_lists}
-use Rattle.gs_tables.specs.Tables.{IsShaped, TableRows, level_rows}
+use Rattle.gs_tables.specs.declared.level_tables.LevelTables.{LevelTables}
+use Rattle.gs_tables.specs.Tables.{IsShaped, TableRows, level_of, level_rows}
 
 -- the levels of a set, by their names
 abbrev pub levels_of : TableRows → LevelName → LevelForm
@@ -65,3 +68,18 @@ AreJudged levels (Ok _) = AreClear levels
 AreJudged levels (Err (Ambiguous name i j text)) = IsFirstAmbiguous levels name i j text
 AreJudged levels (Err Memory) = Unit {0}
 AreJudged levels (Err _) = ⊥
+
+-- the levels that rows make
+abbrev pub levels_of_rows : List KindRow → (binary tag pure : List OptionRow) → LevelName → LevelForm
+levels_of_rows kinds binary tag pure = by_name (level_of kinds Binary binary).level (level_of kinds Tag tag).level (level_of kinds Pure pure).level
+
+-- the tables of the levels are those that rows make
+abbrev pub AreOfRows : List KindRow → (binary tag pure : List OptionRow) → LevelTables → Type 0
+AreOfRows kinds binary tag pure made =
+    (made.binary ≡ level_of kinds Binary binary) × (made.tag ≡ level_of kinds Tag tag) × (made.pure ≡ level_of kinds Pure pure)
+
+-- The answer of what is made of rows, by the refusals of the rules and the levels that the rows make: the first refusal; where
+-- there is none, the judgement of the levels; and where none of them is ambiguous, what is made.
+abbrev pub RuledAnswer : {X : Type 0} → List LoadFault → (LevelName → LevelForm) → (X → Type 0) → Result X LoadFault → Type 0
+RuledAnswer refusals levels Made (Ok made) = (refusals ≡ []) × AreClear levels × Made made
+RuledAnswer refusals levels Made (Err e) = (slice_get refusals 0 ≡ Some e) ⊎ ((refusals ≡ []) × AreJudged levels (Err e))

@@ -124,6 +124,12 @@ kinds_refusals ais kinds = flat_map (kind_refusals ais kinds) (enumerate_from 0 
 unfoldable pub level_refusals : List AiRow → List KindRow → LevelName → List OptionRow → List LoadFault
 level_refusals ais kinds level rows = flat_map (option_refusals ais kinds level rows) (enumerate_from 0 rows)
 
+-- the refusals of the kinds and of the options, in their order
+abbrev pub rule_refusals : List AiRow → List KindRow → List OptionRow → List OptionRow → List OptionRow → List LoadFault
+rule_refusals ais kinds binary tag pure =
+    kinds_refusals ais kinds
+    ++ (level_refusals ais kinds Binary binary ++ (level_refusals ais kinds Tag tag ++ level_refusals ais kinds Pure pure))
+
 -- all refusals of the rows, in the order in which they are reported
 unfoldable pub row_refusals : Document → List LoadFault
 row_refusals document =

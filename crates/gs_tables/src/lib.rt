@@ -29,6 +29,7 @@ mod field_items;
 mod form;
 mod forms;
 mod indexed_info;
+mod judging;
 mod kind_rules;
 mod laws;
 mod level_table;

@@ -2,7 +2,7 @@ ghost use Rattle.std.specs.Prelude.{◌≡◌, ◌==◌, ◌||◌, ◌++◌, not
 ghost use Rattle.std.specs.List.{flat_map, enumerate_from};
 ghost use Rattle.gs_tables.specs.Rules.{is_kind};
 ghost use Rattle.gs_document.specs.Documents.{is_bits};
-ghost use Rattle.gs_tables.specs.Tables.{IsFirst, has_long, kind_refusals, kinds_refusals, level_refusals, limit_refusals, more_than, option_refusals, refuse_if};
+ghost use Rattle.gs_tables.specs.Tables.{IsFirst, has_long, kind_refusals, kinds_refusals, level_refusals, limit_refusals, more_than, option_refusals, refuse_if, rule_refusals};
 
 use crate::kind_rules::is_kind;
 use crate::option_rules::check_option;
@@ -73,10 +73,7 @@ pub(crate) fn check_rows(
     tag: &[OptionRow],
     pure: &[OptionRow],
 ) -> Result<(), LoadFault>
-    ensures { IsFirst (kinds_refusals ais.now kinds.now
-        ++ (level_refusals ais.now kinds.now LevelName.Binary binary.now
-        ++ (level_refusals ais.now kinds.now LevelName.Tag tag.now
-        ++ level_refusals ais.now kinds.now LevelName.Pure pure.now))) result }
+    ensures { IsFirst (rule_refusals ais.now kinds.now binary.now tag.now pure.now) result }
 {
     check_kinds(ais, kinds)?;
     check_level(ais, kinds, LevelName::Binary, binary)?;

@@ -4,11 +4,11 @@ ghost use Rattle.gs_tables.specs.Tables.{level_rows, IsShaped, IsAnswer, row_ref
 ghost use Rattle.gs_tables.specs.Numbers.{numbers_of};
 ghost use Rattle.gs_tables.specs.Shapes.{LoadAnswer};
 
-use crate::ambiguity::judge_levels;
+use crate::judging::judged_parts;
 use crate::level_table::LevelTable;
 use crate::level_tables::{LevelTables, OptionRows};
-use crate::make::{make_ais, make_kinds, make_levels};
-use crate::rules::{check_limits, check_rows, check_version};
+use crate::make::make_ais;
+use crate::rules::{check_limits, check_version};
 use gs_ai::AiTable;
 use gs_chars::List;
 use gs_document::{Document, Kind, LevelName, LoadFault, OptInfo, read_document};
@@ -78,22 +78,7 @@ impl TableSet {
         } = document;
         let options = OptionRows { binary, tag, pure };
         let ais = make_ais(alloc, ais)?;
-        let rows = kinds.items();
-        check_rows(
-            &ais,
-            rows,
-            options.binary.items(),
-            options.tag.items(),
-            options.pure.items(),
-        )?;
-        let levels = make_levels(alloc, &ais, rows, options)?;
-        judge_levels(
-            alloc,
-            &levels.binary.level,
-            &levels.tag.level,
-            &levels.pure.level,
-        )?;
-        let kinds = make_kinds(alloc, &ais, kinds)?;
+        let (kinds, levels) = judged_parts(alloc, &ais, kinds, options)?;
         Ok(TableSet { ais, kinds, levels })
     }
 
