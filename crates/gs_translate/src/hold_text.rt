@@ -2,6 +2,7 @@ ghost use Rattle.std.specs.Prelude.{◌≡◌, ◌++◌, OnOk, codes};
 ghost use Rattle.gs_translate.specs.Reasons.{field_text, held_text, hold_text, missing_text};
 
 use crate::field_name::FieldName;
+use crate::words::append_word;
 use gs_chars::Memory;
 use gs_grammar::Why;
 use gs_tables::Field;
@@ -11,9 +12,9 @@ pub(crate) fn append_missing(out: &mut Vec<u8>, name: FieldName) -> Result<(), M
     ensures { OnOk result (out.new.items ≡ out.old.items ++ (codes "missing " ++ missing_text name)) }
 {
     match name {
-        FieldName::Gcp => Ok(out.extend_from_slice(b"missing gcp")?),
-        FieldName::Serial => Ok(out.extend_from_slice(b"missing serial")?),
-        FieldName::Filter => Ok(out.extend_from_slice(b"missing filter")?),
+        FieldName::Gcp => append_word(out, b"missing gcp"),
+        FieldName::Serial => append_word(out, b"missing serial"),
+        FieldName::Filter => append_word(out, b"missing filter"),
     }
 }
 
@@ -45,8 +46,8 @@ fn why_word(why: Why) -> &'static [u8]
 pub(crate) fn append_hold(out: &mut Vec<u8>, field: Field, why: Why) -> Result<(), Memory>
     ensures { OnOk result (out.new.items ≡ out.old.items ++ hold_text field why) }
 {
-    out.extend_from_slice(b"hold ")?;
-    out.extend_from_slice(field_name(field))?;
-    out.push(b' ')?;
-    Ok(out.extend_from_slice(why_word(why))?)
+    append_word(out, b"hold ")?;
+    append_word(out, field_name(field))?;
+    append_word(out, b" ")?;
+    append_word(out, why_word(why))
 }

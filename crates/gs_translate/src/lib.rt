@@ -42,6 +42,7 @@ mod tagging;
 mod target;
 mod translating;
 mod translation_laws;
+mod words;
 mod write_reasons;
 
 pub use answering::answer;

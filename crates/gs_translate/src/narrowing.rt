@@ -1,9 +1,8 @@
-ghost use Rattle.std.specs.Prelude.{◌≡◌, find, true};
+ghost use Rattle.std.specs.Prelude.{◌≡◌, find};
 ghost use Rattle.std.specs.Option.{option_copied};
 ghost use Rattle.gs_ident.specs.Identities.{IsMadeWith};
-ghost use Rattle.gs_translate.specs.Targets.{has_key, kept, key_and_serial, narrowed};
+ghost use Rattle.gs_translate.specs.Targets.{has_key, key_and_serial, narrowed};
 
-use crate::meaning::Meaning;
 use gs_ident::{Identity, Pair};
 use gs_tables::{Kind, SerialAt, TableSet};
 
@@ -25,7 +24,7 @@ fn kind_of<'a>(set: &'a TableSet, key: &Pair) -> Option<&'a Kind>
 }
 
 /// The identity of which only the key is kept, by the kind of the key.
-fn narrowed(set: &TableSet, identity: Identity) -> Identity
+pub(crate) fn narrowed(set: &TableSet, identity: Identity) -> Identity
     requires { IsMadeWith set.now.ais identity }
     ensures narrowed { result ≡ narrowed set.now identity }
     ensures with_table { IsMadeWith set.now.ais result }
@@ -35,25 +34,5 @@ fn narrowed(set: &TableSet, identity: Identity) -> Identity
     match kind_of(set, identity.key()) {
         Some(kind) => key_and_serial(&kind.serial, identity),
         None => identity.key_alone(),
-    }
-}
-
-/// The meaning with the key alone, and its serial where that has an element of its own. No pair is copied.
-pub(crate) fn narrow(set: &TableSet, meaning: Meaning) -> Meaning
-    requires { IsMadeWith set.now.ais meaning.identity }
-    ensures narrowed { result ≡ kept set.now true meaning }
-    ensures with_table { IsMadeWith set.now.ais result.identity }
-{
-    let Meaning {
-        identity,
-        gcp,
-        filter,
-        encoding,
-    } = meaning;
-    Meaning {
-        identity: narrowed(set, identity),
-        gcp,
-        filter,
-        encoding,
     }
 }

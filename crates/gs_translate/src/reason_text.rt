@@ -1,8 +1,9 @@
 ghost use Rattle.std.specs.Prelude.{◌≡◌, ◌++◌, OnOk};
-ghost use Rattle.gs_translate.specs.Reasons.{element_text, epc_text, hex_text, ident_text, placed, reason_text, value_text};
+ghost use Rattle.gs_translate.specs.Reasons.{element_text, epc_text, hex_text, ident_text, reason_text, value_text};
 
 use crate::hold_text::{append_hold, append_missing};
 use crate::reason::Reason;
+use crate::words::{append_place, append_placed, append_word};
 use gs_ai::{ElementFault, ElementWhy, ValueFault};
 use gs_bits::HexFault;
 use gs_chars::{Memory, Text};
@@ -15,18 +16,18 @@ pub fn append_reason(alloc: Global, out: &mut Vec<u8>, reason: &Reason) -> Resul
     ensures { OnOk result (out.new.items ≡ out.old.items ++ reason_text reason.now) }
 {
     match reason {
-        Reason::Long => Ok(out.extend_from_slice(b"long")?),
+        Reason::Long => append_word(out, b"long"),
         Reason::Epc(fault) => append_epc(alloc, out, *fault),
         Reason::Element(fault) => append_element(alloc, out, *fault),
-        Reason::NotHttp => Ok(out.extend_from_slice(b"http")?),
-        Reason::NoKeyPath => Ok(out.extend_from_slice(b"path")?),
+        Reason::NotHttp => append_word(out, b"http"),
+        Reason::NoKeyPath => append_word(out, b"path"),
         Reason::Ident(fault) => append_ident(out, fault),
-        Reason::NoKind => Ok(out.extend_from_slice(b"kind")?),
+        Reason::NoKind => append_word(out, b"kind"),
         Reason::Extra(code) => append_code(out, b"extra ", code),
         Reason::Missing(name) => append_missing(out, *name),
-        Reason::NoOption => Ok(out.extend_from_slice(b"option")?),
+        Reason::NoOption => append_word(out, b"option"),
         Reason::CannotHold(field, why) => append_hold(out, *field, *why),
-        Reason::Memory => Ok(out.extend_from_slice(b"memory")?),
+        Reason::Memory => append_word(out, b"memory"),
     }
 }
 
@@ -36,8 +37,8 @@ fn append_epc(alloc: Global, out: &mut Vec<u8>, fault: EpcFault) -> Result<(), M
 {
     match fault {
         EpcFault::Hex(fault) => append_hex(alloc, out, fault),
-        EpcFault::NoReading => Ok(out.extend_from_slice(b"reading")?),
-        EpcFault::Memory => Ok(out.extend_from_slice(b"memory")?),
+        EpcFault::NoReading => append_word(out, b"reading"),
+        EpcFault::Memory => append_word(out, b"memory"),
     }
 }
 
@@ -46,8 +47,8 @@ fn append_hex(alloc: Global, out: &mut Vec<u8>, fault: HexFault) -> Result<(), M
     ensures { OnOk result (out.new.items ≡ out.old.items ++ hex_text fault) }
 {
     match fault {
-        HexFault::OddDigits => Ok(out.extend_from_slice(b"odd")?),
-        HexFault::Full => Ok(out.extend_from_slice(b"full")?),
+        HexFault::OddDigits => append_word(out, b"odd"),
+        HexFault::Full => append_word(out, b"full"),
         HexFault::BadDigit(place) => append_placed(alloc, out, b"digit", place),
     }
 }
@@ -63,6 +64,14 @@ fn append_element(alloc: Global, out: &mut Vec<u8>, fault: ElementFault) -> Resu
     }
 }
 
+/// Appends that a value has a wrong character, the place of its code, and the place of the character in the value.
+fn append_char(alloc: Global, out: &mut Vec<u8>, at: usize, place: usize) -> Result<(), Memory>
+    ensures { OnOk result (out.new.items ≡ out.old.items ++ value_text at (ValueFault.Char place)) }
+{
+    append_placed(alloc, out, b"char", at)?;
+    append_place(alloc, out, place)
+}
+
 /// Appends why a value is none of its code, and the place of the code.
 fn append_value(
     alloc: Global,
@@ -75,22 +84,10 @@ fn append_value(
     match fault {
         ValueFault::Unknown => append_placed(alloc, out, b"unknown", at),
         ValueFault::Length => append_placed(alloc, out, b"length", at),
-        ValueFault::Char(place) => {
-            append_placed(alloc, out, b"char", at)?;
-            append_placed(alloc, out, b"", place)
-        }
+        ValueFault::Char(place) => append_char(alloc, out, at, place),
         ValueFault::Check => append_placed(alloc, out, b"check", at),
         ValueFault::Date => append_placed(alloc, out, b"date", at),
     }
-}
-
-/// Appends a word, a blank and a place.
-fn append_placed(alloc: Global, out: &mut Vec<u8>, word: &[u8], place: usize) -> Result<(), Memory>
-    ensures { OnOk result (out.new.items ≡ out.old.items ++ placed word.now place) }
-{
-    let place = format!(in alloc; " {place}")?;
-    out.extend_from_slice(word)?;
-    Ok(out.extend_from_slice(place.as_bytes())?)
 }
 
 /// Appends why elements have no identity, as it is printed.
@@ -99,9 +96,9 @@ pub fn append_ident(out: &mut Vec<u8>, fault: &IdentFault) -> Result<(), Memory>
 {
     match fault {
         IdentFault::Repeat(code) => append_code(out, b"repeat ", code),
-        IdentFault::NoKey => Ok(out.extend_from_slice(b"key")?),
+        IdentFault::NoKey => append_word(out, b"key"),
         IdentFault::TwoKeys(code) => append_code(out, b"keys ", code),
-        IdentFault::Memory => Ok(out.extend_from_slice(b"memory")?),
+        IdentFault::Memory => append_word(out, b"memory"),
     }
 }
 
@@ -109,6 +106,6 @@ pub fn append_ident(out: &mut Vec<u8>, fault: &IdentFault) -> Result<(), Memory>
 fn append_code(out: &mut Vec<u8>, word: &[u8], code: &Text) -> Result<(), Memory>
     ensures { OnOk result (out.new.items ≡ out.old.items ++ (word.now ++ code.now)) }
 {
-    out.extend_from_slice(word)?;
-    Ok(out.extend_from_slice(code.as_bytes())?)
+    append_word(out, word)?;
+    append_word(out, code.as_bytes())
 }

@@ -2,7 +2,6 @@ ghost use Rattle.gs_translate.specs.Steps.{UnlessMemory};
 ghost use Rattle.gs_translate.specs.Translations.{AreInOrder, IsTranslation};
 
 use crate::form::Form;
-use crate::narrowing::narrow;
 use crate::options::Options;
 use crate::reading::read;
 use crate::reason::Reason;
@@ -45,6 +44,6 @@ pub fn translate(
     if !options.keys_only {
         return spell(alloc, set, prefixes, options, to, &meaning);
     }
-    let meaning = narrow(set, meaning);
+    let meaning = meaning.narrow(set);
     spell(alloc, set, prefixes, options, to, &meaning)
 }
