@@ -2,13 +2,14 @@
 use Rattle.std.proofs.Common.{◌≡◌, ℕ, zero, suc, ◌+◌, ◌<◌, ◌≤◌, Bool, true, false, if◌then◌else◌, List, [], ◌∷◌, length, position, Option, Some, None, option_map, slice_get, get_or, refl, sym, ap, ◌∙◌, arith}
 use Rattle.std.specs.Prelude.{IfSome, slice_set, zip}
 use Rattle.std.specs.List.{find}
-use Rattle.std.specs.Option.{option_and_then}
+use Rattle.std.specs.Option.{option_and_then, option_map_or}
 use Rattle.std.proofs.lemmas.Option.{slice_get_past}
 use Rattle.gs_grammar.specs.Words.{decimal_value}
 use Rattle.gs_document.specs.declared.field.Field.{Field}
 use Rattle.gs_document.specs.declared.field.Field.TheVariants.{Filter, Gcp, Rest, Serial}
 use Rattle.gs_tables.specs.Rules.{is_field}
-use Rattle.gs_epc.specs.Epcs.{filter_of, value_at, value_of}
+use Rattle.gs_document.specs.declared.opt_info.OptInfo.{OptInfo}
+use Rattle.gs_epc.specs.Epcs.{KeepsOthers, epc_of, filter_of, value_at, value_of}
 use Rattle.gs_epc.specs.Filters.{IsFilter}
 use Rattle.gs_ai.proofs.Searches.{position-cons, position_some, read_at}
 
@@ -108,3 +109,21 @@ others_kept field fields values k value place other fails =
     let at = position_some (is_field field) fields k (sym place) in
     let same = named field at.0 at.2 in
     kept (is_field other) fields values k at.0 value at.1 (ap (is_field other) same ∙ fails)
+
+-- ---- what an option says, its values taken out one after the other
+
+pub epc_taken : (info : OptInfo) (fields : List (Option Field)) (given values a1 b1 a2 b2 a3 : List (List ℕ)) (encoding : List ℕ) (filter : Option ℕ) (prefix rest serial : List ℕ)
+    → fields ≡ info.fields → encoding ≡ info.encoding → values ≡ given → filter ≡ filter_of fields values
+    → a1 ≡ given → prefix ≡ value_of Gcp fields a1 → KeepsOthers Gcp fields a1 b1
+    → a2 ≡ b1 → rest ≡ value_of Rest fields a2 → KeepsOthers Rest fields a2 b2
+    → a3 ≡ b2 → serial ≡ value_of Serial fields a3
+    → record { kind = info.kind; encoding = encoding; filter = filter; gcp = info.gcp; prefix = prefix; rest = rest; serial = serial } ≡ epc_of info given
+epc_taken info fields given values a1 b1 a2 b2 a3 encoding filter prefix rest serial of e at f first p kept second r kept' third s =
+    let rest_at : value_at Rest fields a2 ≡ value_at Rest fields given = ap (value_at Rest fields) second ∙ kept Rest refl ∙ ap (value_at Rest fields) first in
+    let serial_at : value_at Serial fields a3 ≡ value_at Serial fields given =
+    ap (value_at Serial fields) third ∙ kept' Serial refl ∙ ap (value_at Serial fields) second ∙ kept Serial refl ∙ ap (value_at Serial fields) first in
+    let f' : filter ≡ filter_of fields given = rw at at f in
+    let p' : prefix ≡ value_of Gcp fields given = rw first at p in
+    let r' : rest ≡ value_of Rest fields given = r ∙ ap (λ (o : Option (List ℕ)). option_map_or (λ value. value) o []) rest_at in
+    let s' : serial ≡ value_of Serial fields given = s ∙ ap (λ (o : Option (List ℕ)). option_map_or (λ value. value) o []) serial_at in
+    rw (e, rw of at f', rw of at p', rw of at r', rw of at s') refl

@@ -1,5 +1,5 @@
 -- What one candidate writes, or does not hold.
-use Rattle.std.proofs.Common.{◌≡◌, ℕ, ◌%◌, ◌==◌, ◌&&◌, not, true, List, length, map, Option, Some, None, slice_get, get_or, refl, sym, ap, ◌∙◌, arith, inl, inr}
+use Rattle.std.proofs.Common.{◌≡◌, ℕ, ◌%◌, ◌<◌, ◌==◌, ◌&&◌, not, true, List, length, map, Option, Some, None, slice_get, get_or, refl, sym, ap, ◌∙◌, arith, inl, inr}
 use Rattle.std.specs.Option.{option_map}
 use Rattle.std.proofs.lemmas.Bool.Decides.{nat_tests}
 use Rattle.std.proofs.lemmas.List.{length-map}
@@ -64,6 +64,17 @@ option_read set level epc i candidate form options option same rows read =
     let mapped : option_map (λ (o : OptionForm). o.items) (slice_get options i) ≡ Some candidate.items = sym (slice_get-map (λ (o : OptionForm). o.items) options i) ∙ lists in
     let both : Some option.items ≡ Some candidate.items = rw here at mapped in
     cc
+
+-- the level has as many options, and says of as many
+pub option_low : (set : TableRows) (level : LevelName) (epc : Epc) (i : ℕ) (candidate : Candidate set level epc i) (form : LevelForm) (options : List OptionForm) → form ≡ (level_rows level set).level → options ≡ form.options → i < length options
+option_low set level epc i candidate form options same rows =
+    let lists : slice_get (map (λ (o : OptionForm). o.items) options) i ≡ Some candidate.items = rw (rows, same) candidate.of_level in
+    let within = slice_get_within (map (λ (o : OptionForm). o.items) options) i candidate.items lists in
+    let count = length-map options (λ (o : OptionForm). o.items) in
+    omega arith
+
+pub info_low : (set : TableRows) (level : LevelName) (epc : Epc) (i : ℕ) (candidate : Candidate set level epc i) (infos : List OptInfo) → infos ≡ (level_rows level set).info → i < length infos
+info_low set level epc i candidate infos rows = slice_get_within infos i candidate.info (rw rows candidate.said)
 
 info_read : (set : TableRows) (level : LevelName) (epc : Epc) (i : ℕ) (candidate : Candidate set level epc i) (infos : List OptInfo) (info : OptInfo) → infos ≡ (level_rows level set).info → info ≡ get_or infos i info → info ≡ candidate.info
 info_read set level epc i candidate infos info rows read =

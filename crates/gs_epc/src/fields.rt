@@ -47,20 +47,30 @@ fn take_value(alloc: Global, field: Field, fields: &[Option<Field>], values: &mu
     }
 }
 
+/// What an option says by the values of its items, which are moved out, with a copy of the name of its encoding.
+fn taken(alloc: Global, info: &OptInfo, encoding: Text, values: &mut [Text]) -> Epc
+    requires encoding { encoding ≡ info.now.encoding }
+    requires filter { IfSome (value_at Field.Filter info.now.fields values.now) IsFilter }
+    ensures { result ≡ epc_of info.now values.old }
+{
+    let fields = info.fields.items();
+    Epc {
+        kind: info.kind,
+        encoding,
+        filter: filter_of(fields, values),
+        gcp: info.gcp,
+        prefix: take_value(alloc, Field::Gcp, fields, values),
+        rest: take_value(alloc, Field::Rest, fields, values),
+        serial: take_value(alloc, Field::Serial, fields, values),
+    }
+}
+
 /// What an option says by the values of its items. The one refusal is want of memory.
 pub(crate) fn epc_of(alloc: Global, info: &OptInfo, values: List<Text>) -> Result<Epc, Memory>
     requires { IfSome (value_at Field.Filter info.now.fields values) IsFilter }
     ensures { IfOk result (λ epc. epc ≡ epc_of info.now values) }
 {
-    let fields = info.fields.items();
     let mut values = values.into_vec();
-    Ok(Epc {
-        kind: info.kind,
-        encoding: info.encoding.copy(alloc)?,
-        filter: filter_of(fields, &values),
-        gcp: info.gcp,
-        prefix: take_value(alloc, Field::Gcp, fields, &mut values),
-        rest: take_value(alloc, Field::Rest, fields, &mut values),
-        serial: take_value(alloc, Field::Serial, fields, &mut values),
-    })
+    let encoding = info.encoding.copy(alloc)?;
+    Ok(taken(alloc, info, encoding, &mut values))
 }

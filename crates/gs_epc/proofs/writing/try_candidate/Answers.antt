@@ -1,6 +1,28 @@
-use Rattle.std.proofs.Common.{refl}
-use Rattle.gs_epc.proofs.Tries.{holds_all, is_read, leaves_out, of_bytes, one_each, refuses_at}
+use Rattle.std.proofs.Common.{arith, refl}
+use Rattle.std.proofs.lemmas.Result.{err_from_is_err_and}
+use Rattle.gs_epc.proofs.Tries.{holds_all, info_low, is_read, leaves_out, of_bytes, one_each, option_low, refuses_at}
 use Rattle.gs_epc.proofs.writing.try_candidate.Goals as goal
+
+pub offset_bounds-info-i : goal.offset_bounds-info-i
+offset_bounds-info-i c =
+    let low = info_low _ _ _ _ c.requires.candidate c.info.result.now c.info.ensures.rows in
+    omega arith
+
+pub bounds-info-i : goal.bounds-info-i
+bounds-info-i c = info_low _ _ _ _ c.requires.candidate c.info.result.now c.info.ensures.rows
+
+pub returns-in_err-values : goal.returns-in_err-values
+returns-in_err-values c = λ candidate.
+    let p = err_from_is_err_and c.from_residual.result c.from_residual.ensures.1 in
+    rw (p.1, p.2) tt
+
+pub offset_bounds-options-i : goal.offset_bounds-options-i
+offset_bounds-options-i c =
+    let low = option_low _ _ _ _ c.requires.candidate _ c.options.result.now c.level.ensures.rows c.options.ensures.options in
+    omega arith
+
+pub bounds-options-i : goal.bounds-options-i
+bounds-options-i c = option_low _ _ _ _ c.requires.candidate _ c.options.result.now c.level.ensures.rows c.options.ensures.options
 
 pub write_option-requires-clause-one_each : goal.write_option-requires-clause-one_each
 write_option-requires-clause-one_each c =
