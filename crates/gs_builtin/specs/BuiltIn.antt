@@ -139,6 +139,14 @@ company_ais =
     attribute (codes "95") (part.Set 90) ∷ attribute (codes "96") (part.Set 90) ∷ attribute (codes "97") (part.Set 90)
     ∷ attribute (codes "98") (part.Set 90) ∷ attribute (codes "99") (part.Set 90) ∷ []
 
+-- the rows of goods: what and how many they are, their dates and weights
+abbrev pub goods_ais : List AiRow
+goods_ais = item_ais ++ date_ais ++ variant_ais ++ additional_ais ++ weight_ais
+
+-- the other rows: where goods go and come from, assets and services, and what is agreed
+abbrev pub other_ais : List AiRow
+other_ais = shipment_ais ++ party_ais ++ location_ais ++ asset_ais ++ agreed_ais ++ company_ais
+
 -- all rows, in ascending order of their codes
 unfoldable pub builtin_ais : List AiRow
 builtin_ais =

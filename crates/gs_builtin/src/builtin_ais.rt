@@ -1,5 +1,5 @@
 ghost use Rattle.std.specs.Prelude.{◌≡◌, ◌++◌, IfOk, OnOk, map};
-ghost use Rattle.gs_builtin.specs.BuiltIn.{additional_ais, agreed_ais, ai_row, asset_ais, builtin_ais, company_ais, date_ais, item_ais, location_ais, party_ais, row_of, shipment_ais, told, variant_ais, weight_ais};
+ghost use Rattle.gs_builtin.specs.BuiltIn.{additional_ais, agreed_ais, ai_row, asset_ais, builtin_ais, company_ais, date_ais, goods_ais, item_ais, location_ais, other_ais, party_ais, row_of, shipment_ais, told, variant_ais, weight_ais};
 
 use crate::ai_line::AiLine;
 use crate::ai_line::AiLine::{Attribute, Key, Qualifier};
@@ -267,22 +267,36 @@ fn add_company(alloc: Global, rows: &mut Vec<AiRow>) -> Result<(), Memory>
     )
 }
 
-/// Appends the built-in application identifiers.
-#[tactic(auto, unfolding(crate::specs::BuiltIn::builtin_ais))]
-fn add_all(alloc: Global, rows: &mut Vec<AiRow>) -> Result<(), Memory>
-    ensures { OnOk result (rows.new.items ≡ rows.old.items ++ builtin_ais) }
+/// Appends the application identifiers of goods: what and how many they are, their dates and weights.
+fn add_goods(alloc: Global, rows: &mut Vec<AiRow>) -> Result<(), Memory>
+    ensures { OnOk result (rows.new.items ≡ rows.old.items ++ goods_ais) }
 {
     add_items(alloc, rows)?;
     add_dates(alloc, rows)?;
     add_variants(alloc, rows)?;
     add_additional(alloc, rows)?;
-    add_weights(alloc, rows)?;
+    add_weights(alloc, rows)
+}
+
+/// Appends the other ones: where goods go and come from, assets and services, and what is agreed.
+fn add_others(alloc: Global, rows: &mut Vec<AiRow>) -> Result<(), Memory>
+    ensures { OnOk result (rows.new.items ≡ rows.old.items ++ other_ais) }
+{
     add_shipments(alloc, rows)?;
     add_parties(alloc, rows)?;
     add_locations(alloc, rows)?;
     add_assets(alloc, rows)?;
     add_agreed(alloc, rows)?;
     add_company(alloc, rows)
+}
+
+/// Appends the built-in application identifiers.
+#[tactic(auto, unfolding(crate::specs::BuiltIn::builtin_ais))]
+fn add_all(alloc: Global, rows: &mut Vec<AiRow>) -> Result<(), Memory>
+    ensures { OnOk result (rows.new.items ≡ rows.old.items ++ builtin_ais) }
+{
+    add_goods(alloc, rows)?;
+    add_others(alloc, rows)
 }
 
 /// The built-in application identifiers.
