@@ -26,6 +26,11 @@ back_within form trail symbols place number cuts b = came_within form trail symb
 pub trail_within : (form : AutoForm) (trail : List Entry) (symbols : List ℕ) (number : ℕ) → IsTrail form trail symbols number → number < length trail
 trail_within form trail symbols number t = came_within form trail symbols (length symbols) number t.came
 
+-- the entry that the last one was reached from
+pub before_within : (form : AutoForm) (trail : List Entry) (symbols : List ℕ) (place number : ℕ) (cuts : List ℕ) → Back form trail symbols place number cuts → 0 < place → (entry_at trail number).back < length trail
+before_within form trail symbols zero number cuts b some = absurd (omega arith)
+before_within form trail symbols (suc n) number cuts b some = came_within form trail symbols n (entry_at trail number).back b.came.1
+
 drop_all : (symbols : List ℕ) → drop (length symbols) symbols ≡ []
 drop_all [] = refl
 drop_all (s ∷ symbols) = drop_all symbols

@@ -1,12 +1,35 @@
 -- What the loops of the trail keep.
-use Rattle.std.proofs.Common.{◌≡◌, ℕ, ◌<◌, ◌≤◌, ◌+◌, List, [], ◌∷◌, ◌++◌, length, get_or, drop, suc, refl, sym, ◌∙◌, ap, arith, length-append, add-one}
+use Rattle.std.proofs.Common.{◌≡◌, ℕ, ◌<◌, ◌≤◌, ◌+◌, true, false, List, [], ◌∷◌, ◌++◌, length, get_or, drop, suc, refl, sym, ◌∙◌, ap, arith, length-append, add-one}
 use Rattle.std.proofs.lemmas.List.{get_or_append_left, append-nil, append_assoc, get_or_default}
 use Rattle.std.proofs.Math.Seq.{drop-cons}
 use Rattle.gs_machine.specs.declared.edge.Edge.{Edge}
 use Rattle.gs_machine.specs.Walks.{edges_at}
 use Rattle.gs_level.specs.declared.trail.Entry.{Entry}
-use Rattle.gs_level.specs.Trails.{successors, layer, entry_at}
+use Rattle.gs_level.specs.Trails.{leads_with, successors, layer, entry_at}
 use Rattle.gs_level.proofs.Dropped.{none_left}
+
+-- the edges that are left, from one of them on
+edges_left : (edges : List Edge) (symbol back i : ℕ) (d : Edge) → i < length edges → successors (drop i edges) symbol back ≡ successors (get_or edges i d ∷ drop (i + 1) edges) symbol back
+edges_left edges symbol back i d low =
+    let cut : drop i edges ≡ get_or edges i d ∷ drop (i + 1) edges = rw add-one (drop-cons edges i d low) in
+    ap (λ (es : List Edge). successors es symbol back) cut
+
+pub one_leads : (edges : List Edge) (symbol back i : ℕ) (d : Edge) (base trail new : List Entry) → i < length edges → trail ++ successors (drop i edges) symbol back ≡ base → leads_with (get_or edges i d) symbol ≡ true → new ≡ trail ++ record { state = (get_or edges i d).to; back = back } ∷ [] → new ++ successors (drop (i + 1) edges) symbol back ≡ base
+one_leads edges symbol back i d base trail new low h leads e =
+    let entry : Entry = record { state = (get_or edges i d).to; back = back } in
+    let rest : List Entry = successors (drop (i + 1) edges) symbol back in
+    let here : successors (get_or edges i d ∷ drop (i + 1) edges) symbol back ≡ entry ∷ rest = rw leads refl in
+    ap (λ (xs : List Entry). xs ++ rest) e ∙ append_assoc trail (entry ∷ []) rest ∙ ap (λ (xs : List Entry). trail ++ xs) (sym (edges_left edges symbol back i d low ∙ here)) ∙ h
+
+pub one_passed : (edges : List Edge) (symbol back i : ℕ) (d : Edge) (base trail : List Entry) → i < length edges → trail ++ successors (drop i edges) symbol back ≡ base → leads_with (get_or edges i d) symbol ≡ false → trail ++ successors (drop (i + 1) edges) symbol back ≡ base
+one_passed edges symbol back i d base trail low h leads =
+    let here : successors (get_or edges i d ∷ drop (i + 1) edges) symbol back ≡ successors (drop (i + 1) edges) symbol back = rw leads refl in
+    ap (λ (xs : List Entry). trail ++ xs) (sym (edges_left edges symbol back i d low ∙ here)) ∙ h
+
+pub all_over : (edges : List Edge) (symbol back i : ℕ) (base trail : List Entry) → trail ++ successors (drop i edges) symbol back ≡ base ++ successors edges symbol back → length edges ≤ i → trail ≡ base ++ successors edges symbol back
+all_over edges symbol back i base trail h high =
+    let none : drop i edges ≡ [] = none_left edges i high in
+    sym (append-nil trail) ∙ ap (λ (es : List Edge). trail ++ successors es symbol back) (sym none) ∙ h
 
 -- the entries so far, where those before a number of the first ones were gone over
 pub record SoMany (table : List (List Edge)) (symbol from : ℕ) (first trail : List Entry) (number : ℕ) : Type 0 where
