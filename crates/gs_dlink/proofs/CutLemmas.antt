@@ -1,13 +1,14 @@
 -- Texts that are cut at the first or the last byte that passes a test, and the pieces between such bytes.
 use Rattle.std.proofs.Common.{◌≡◌, ℕ, zero, suc, ◌+◌, ◌-◌, ◌<◌, ◌≤◌, ◌==◌, not, Bool, true, false, cond, List, [], ◌∷◌, ◌++◌, length, get_or, take, drop, Option, Some, None, refl, sym, ap, ◌∙◌, arith, inl, inr, if◌then◌else◌, drop-cons, take-append-drop, add-one, append-nil, append_assoc, length-drop}
 use Rattle.std.specs.List.{after_first, before_first, list_any, position_or_len}
+use Rattle.std.specs.Prelude.{option_and_then}
 use Rattle.std.specs.Option.{MatchOption, unwrap_or}
 use Rattle.std.proofs.lemmas.Bool.Decides.{nat_tests}
 use Rattle.std.proofs.lemmas.List.{get_or-drop}
 use Rattle.std.proofs.lemmas.List.Sums.{position_or_len_is}
 use Rattle.memchr.specs.Find.{IsFirstByte, IsLastByte, NoneAfter, Nowhere, Passes}
 use Rattle.gs_chars.proofs.TruthsAndLists.{false_from, or_second, true_or_false}
-use Rattle.gs_dlink.specs.Uris.{LastSlash, NoSlash, is_slash, part_pairs, pieces_behind, query_pairs, query_parts, segments, separates_parts, Written}
+use Rattle.gs_dlink.specs.Uris.{LastSlash, NoSlash, authority_end, authority_from, ends_authority, is_slash, scheme_end, part_pairs, pieces_behind, query_pairs, query_parts, segments, separates_parts, Written}
 
 -- ---- what the searches of `memchr` give
 
@@ -217,3 +218,26 @@ module _ (test : ℕ → Bool) where
   any_drop [] (suc n) h = refl
   any_drop (c ∷ a) zero h = h
   any_drop (c ∷ a) (suc n) h = any_drop a n (or_second (test c) (list_any test a) h)
+
+-- ---- the authority behind a scheme
+
+pub no_scheme : (text : List ℕ) → None ≡ scheme_end text → None ≡ authority_end text
+unfolding authority_end
+no_scheme text h = ap (option_and_then (authority_from text)) h
+
+behind_scheme : (text : List ℕ) (n : ℕ) → Some n ≡ scheme_end text → authority_from text n ≡ authority_end text
+unfolding authority_end
+behind_scheme text n h = ap (option_and_then (authority_from text)) h
+
+pub no_authority : (text : List ℕ) (n len : ℕ) → Some n ≡ scheme_end text → len ≡ position_or_len ends_authority (drop n text) → len ≡ 0 → None ≡ authority_end text
+no_authority text n len scheme place none =
+    let own : None ≡ authority_from text n = rw (sym place ∙ none) refl in
+    own ∙ behind_scheme text n scheme
+
+pub some_authority : (text : List ℕ) (n len : ℕ) → Some n ≡ scheme_end text → len ≡ position_or_len ends_authority (drop n text) → (len ≡ 0 → ⊥) → Some (n + len) ≡ authority_end text
+some_authority text n len scheme place some =
+    let own : Some (n + len) ≡ authority_from text n = rw (← place, not_zero len some) refl in
+    own ∙ behind_scheme text n scheme
+  where
+    not_zero : (k : ℕ) → (k ≡ 0 → ⊥) → (k == 0) ≡ false
+    not_zero k h = grind (arith, nat_tests)

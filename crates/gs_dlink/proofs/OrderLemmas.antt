@@ -1,11 +1,21 @@
 -- Codes in the order of a list, and escapes, one after the other.
-use Rattle.std.proofs.Common.{◌≡◌, ℕ, zero, suc, ◌+◌, ◌≤◌, ◌<◌, ◌==◌, ◌&&◌, ◌||◌, not, Bool, true, false, List, [], ◌∷◌, length, get_or, drop, bytes_eq, refl, sym, ap, ◌∙◌, arith, add-one, drop-cons, true≢false}
+use Rattle.std.proofs.Common.{◌≡◌, ℕ, zero, suc, ◌+◌, ◌≤◌, ◌<◌, ◌==◌, ◌&&◌, ◌||◌, not, Bool, true, false, List, [], ◌∷◌, length, get_or, drop, map, bytes_eq, refl, sym, ap, ◌∙◌, arith, add-one, drop-cons, true≢false}
 use Rattle.std.proofs.lemmas.Bool.Decides.{nat_tests}
+use Rattle.std.proofs.lemmas.Option.{slice_get-map, slice_get_past}
+use Rattle.gs_chars.proofs.TruthsAndLists.{read_at}
+use Rattle.gs_dlink.specs.declared.written.WrittenPair.{WrittenPair}
 use Rattle.gs_dlink.specs.Paths.{codes_of, is_code_at, is_in_order}
 use Rattle.gs_dlink.specs.Uris.{Written}
-use Rattle.gs_dlink.specs.Values.{are_escapes, begins_hex}
+use Rattle.gs_dlink.specs.Values.{are_escapes, begins_hex, written_of}
 
 -- ---- codes
+
+-- the code at an index, and none behind the end
+pub code_there : (pairs : List WrittenPair) (i : ℕ) (code : List ℕ) (pair : WrittenPair) (r : Bool) → i < length pairs → pair ≡ get_or pairs i pair → r ≡ bytes_eq code pair.code.now → r ≡ is_code_at (map written_of pairs) i code
+code_there pairs i code pair r low read e = e ∙ rw (slice_get-map written_of pairs i, read_at pairs i pair low read) refl
+
+pub none_there : (pairs : List WrittenPair) (i : ℕ) (code : List ℕ) → length pairs ≤ i → false ≡ is_code_at (map written_of pairs) i code
+none_there pairs i code high = rw (slice_get-map written_of pairs i, slice_get_past pairs i high) refl
 
 step_true : (first : List ℕ) (list : List (List ℕ)) (pairs : List Written) (n : ℕ) → is_code_at pairs n first ≡ true → is_in_order (first ∷ list) (codes_of (drop n pairs)) ≡ is_in_order list (codes_of (drop (n + 1) pairs))
 step_true first list [] n h = absurd (true≢false (sym h))

@@ -65,7 +65,7 @@ fn scheme_end(text: &[u8]) -> Option<usize>
 }
 
 /// The place behind the authority of a text that begins with `http://` or `https://` and an authority.
-#[tactic(auto, unfolding(crate::specs::Uris::authority_end))]
+#[tactic(auto)]
 fn authority_end(text: &[u8]) -> Option<usize>
     ensures end { result ≡ authority_end text.now }
     ensures within { IfSome result (λ end. end ≤ length text.now) }

@@ -16,7 +16,7 @@ use Rattle.gs_ai.specs.Tables.{is_code, is_empty, KeepsRules}
 use Rattle.gs_ai.specs.Values.{value_fault}
 use Rattle.gs_ai.proofs.RowLemmas.{code_digits, code_long}
 use Rattle.gs_ai.proofs.ValueLemmas.{code_of_row, value_in_set82}
-use Rattle.gs_element.specs.Bracketed.{bracketed_element, bracketed_fault, closed_code, code_front, front_fault, is_cut, value_before, written_value, IsBracketedElement}
+use Rattle.gs_element.specs.Bracketed.{bracketed_element, bracketed_fault, closed_code, code_front, front_fault, is_cut, is_escape, value_before, written_character, written_value, IsBracketedElement}
 use Rattle.gs_element.proofs.JoinLemmas.{IsBlocked, IsGreedy, IsTold}
 
 -- ---- codes
@@ -65,6 +65,41 @@ value_none (c ∷ d ∷ after) cut = rw cut refl
 value_one : (c : ℕ) (text : List ℕ) → (c == 40) ≡ false → (c == 92) ≡ false → value_before (c ∷ text) ≡ c ∷ value_before text
 value_one c [] other plain = rw other refl
 value_one c (d ∷ text) other plain = rw (other, plain) refl
+
+-- ---- the next character of a value
+
+equal_number : (a b : ℕ) → (a == b) ≡ true → a ≡ b
+equal_number a b h = grind (arith, nat_tests)
+
+other_number : (a b : ℕ) → (a ≡ b → ⊥) → (a == b) ≡ false
+other_number a b h = grind (arith, nat_tests)
+
+pub none_next : (text : List ℕ) → length text ≡ 0 → (value_before text ≡ []) × (is_cut text ≡ true)
+none_next [] none = (refl, refl)
+none_next (c ∷ text) none = absurd (omega arith)
+
+pub bracket_next : (text : List ℕ) (c : ℕ) (rest : List ℕ) → text ≡ c ∷ rest → c ≡ 40 → (value_before text ≡ []) × (is_cut text ≡ true)
+bracket_next text c rest e is =
+    let whole : text ≡ 40 ∷ rest = e ∙ ap (λ (x : ℕ). x ∷ rest) is in
+    let cut : is_cut text ≡ true = rw whole refl in
+    (value_none text cut, cut)
+
+pub some_behind : (c : ℕ) (rest : List ℕ) → is_escape c rest ≡ true → 1 ≤ length rest
+some_behind c [] h = absurd (true≢false (sym h))
+some_behind c (d ∷ rest) h = omega arith
+
+pub escape_next : (text : List ℕ) (c : ℕ) (rest left : List ℕ) → text ≡ c ∷ rest → is_escape c rest ≡ true → left ≡ drop 1 rest → (value_before text ≡ 40 ∷ value_before left) × (text ≡ 92 ∷ 40 ∷ left)
+escape_next text c [] left e h l = absurd (true≢false (sym h))
+escape_next text c (d ∷ rest) left e h l =
+    let first : c ≡ 92 = equal_number c 92 (and_first (c == 92) (d == 40) h) in
+    let second : d ≡ 40 = equal_number d 40 (and_second (c == 92) (d == 40) h) in
+    let whole : text ≡ 92 ∷ 40 ∷ rest = e ∙ ap (λ (x : ℕ). x ∷ d ∷ rest) first ∙ ap (λ (x : ℕ). 92 ∷ x ∷ rest) second in
+    let same : left ≡ rest = l in
+    rw (whole, same) (refl, refl)
+
+pub plain_next : (text : List ℕ) (c : ℕ) (rest : List ℕ) → text ≡ c ∷ rest → (c ≡ 40 → ⊥) → is_escape c rest ≡ false → (value_before text ≡ c ∷ value_before rest) × (text ≡ written_character c ++ rest)
+plain_next text c [] e other plain = let o = other_number c 40 other in rw e (rw o (refl, refl))
+plain_next text c (d ∷ rest) e other plain = let o = other_number c 40 other in rw e (rw (o, plain) (refl, refl))
 
 -- what is written of a value is read as the value
 pub value_told : (value after : List ℕ) → are_in_set82 value ≡ true → is_cut after ≡ true → value_before (written_value value ++ after) ≡ value

@@ -4,7 +4,7 @@ use Rattle.std.specs.List.{before_first}
 use Rattle.std.specs.Option.{option_and_then, option_map_or}
 use Rattle.std.proofs.Math.Seq.{drop-append_seam, take-append_seam}
 use Rattle.std.proofs.lemmas.Bool.Decides.{nat_tests}
-use Rattle.std.proofs.lemmas.List.{length-drop, length-take, take_all, take-append-drop}
+use Rattle.std.proofs.lemmas.List.{length-take, take-append-drop}
 use Rattle.std.proofs.lemmas.List.Sums.{take_while-cons}
 use Rattle.gs_chars.specs.Characters.{are_digits, are_in_set82, is_digit, is_in_set82}
 use Rattle.gs_chars.proofs.TruthsAndLists.{and_first, and_second, equal_bytes, false_from, read_at, same_bytes, true_or_false}
@@ -226,11 +226,8 @@ module _ (rows : List AiRow) (rules : KeepsRules rows) where
   pub judged : (text : List ℕ) (index : ℕ) (row : AiRow) (code after value : List ℕ) → IsFrontRow text index row → code ≡ row.code → after ≡ drop (length row.code) text → value ≡ raw_value code after → raw_value_fault rows text ≡ row_fault rows index value
   judged text index row code after value is c a v = rw (is.found, is.at, v, c, a) refl
 
-  take_rest : {X : Type 0} (n : ℕ) (xs : List X) → take (length xs - n) (drop n xs) ≡ drop n xs
-  take_rest n xs = take_all (length xs - n) (drop n xs) (omega (arith, length-drop n xs))
-
   -- what is cut at that row
-  pub cut_at : (text : List ℕ) (index : ℕ) (row : AiRow) (code after value rest : List ℕ) → IsFrontRow text index row → code ≡ row.code → after ≡ drop (length row.code) text → value ≡ raw_value code after → row_fault rows index value ≡ None → rest ≡ without_separator (take (length after - length value) (drop (length value) after)) → IsCutFrom rows text code value rest
+  pub cut_at : (text : List ℕ) (index : ℕ) (row : AiRow) (code after value rest : List ℕ) → IsFrontRow text index row → code ≡ row.code → after ≡ drop (length row.code) text → value ≡ raw_value code after → row_fault rows index value ≡ None → rest ≡ without_separator (drop (length value) after) → IsCutFrom rows text code value rest
   cut_at text index row code after value rest is c a v fits r =
       let behind : after ≡ drop (length code) text = a ∙ ap (λ (x : List ℕ). drop (length x) text) (sym c) in
       record {
@@ -239,7 +236,7 @@ module _ (rows : List AiRow) (rules : KeepsRules rows) where
         code_is = c;
         value_is = v ∙ ap (raw_value code) behind;
         fits = let f = rw is.at at fits in rw c f;
-        rest_is = r ∙ ap without_separator (take_rest (length value) after) ∙ ap (λ (x : List ℕ). without_separator (drop (length value) x)) behind;
+        rest_is = r ∙ ap (λ (x : List ℕ). without_separator (drop (length value) x)) behind;
       }
 
   -- ---- faults
@@ -371,6 +368,19 @@ module _ (rows : List AiRow) (rules : KeepsRules rows) where
 pub front_fault : (rows : List AiRow) (text : List ℕ) (fault : ValueFault) → 0 < length text → raw_value_fault rows text ≡ Some fault → raw_fault rows text ≡ Some (record { at = 0; why = Value fault })
 front_fault rows [] fault some e = absurd (omega arith)
 front_fault rows (c ∷ text) fault some e = rw e refl
+
+-- the value that is cut is a part of what is behind the code
+pub value_within : (code after value : List ℕ) → value ≡ raw_value code after → length value ≤ length after
+value_within code after value e = rw e (by (predefined_length code))
+  where
+    few : (n : ℕ) (xs : List ℕ) → length (take n xs) ≤ length xs
+    few zero xs = omega arith
+    few (suc n) [] = omega arith
+    few (suc n) (x ∷ xs) = omega (arith, few n xs)
+
+    by : (r : Option ℕ) → length (option_map_or (λ n. take (n - length code) after) r (before_first (λ c. c == 29) after)) ≤ length after
+    by None = few _ after
+    by (Some n) = few (n - length code) after
 
 -- ---- the predefined length by the row of a code
 

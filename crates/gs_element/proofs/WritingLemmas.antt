@@ -1,6 +1,7 @@
 -- What is written of pairs, and that it is read as these pairs.
-use Rattle.std.proofs.Common.{◌≡◌, ℕ, ◌+◌, ◌<◌, Bool, true, if◌then◌else◌, List, [], ◌∷◌, ◌++◌, length, take, get_or, Option, Some, None, is_some, is_none, All, refl, sym, ap, subst, ◌∙◌, append_assoc, append-nil, ◌⊎◌, inl, inr, IsSome}
-use Rattle.std.proofs.lemmas.List.{take_more}
+use Rattle.std.proofs.Common.{◌≡◌, ℕ, ◌+◌, ◌<◌, ◌≤◌, Bool, true, if◌then◌else◌, List, [], ◌∷◌, ◌++◌, length, take, get_or, Option, Some, None, is_some, is_none, All, refl, sym, ap, subst, ◌∙◌, append_assoc, append-nil, ◌⊎◌, inl, inr, IsSome}
+use Rattle.std.proofs.lemmas.Grind.{flat_map-append}
+use Rattle.std.proofs.lemmas.List.{take_all, take_more}
 use Rattle.std.proofs.lemmas.List.Elements.{All-cons, All-head, All-nil, All-tail}
 use Rattle.gs_ai.specs.declared.pair.Pair.{Pair}
 use Rattle.gs_ai.specs.declared.row.AiRow.{AiRow}
@@ -9,7 +10,7 @@ use Rattle.gs_ai.specs.Tables.{KeepsRules}
 use Rattle.gs_ai.proofs.ValueLemmas.{code_of_row, predefined_kept}
 use Rattle.gs_ident.specs.Elements.{Elements, pairs_of}
 use Rattle.gs_ident.specs.Identities.{IsInOrder, IsMadeWith}
-use Rattle.gs_element.specs.Bracketed.{bracketed_text, is_cut, IsBracketed, IsBracketedElement}
+use Rattle.gs_element.specs.Bracketed.{bracketed_text, is_cut, written_character, written_value, IsBracketed, IsBracketedElement}
 use Rattle.gs_element.specs.Joins.{Joined}
 use Rattle.gs_element.specs.Raw.{body_of, raw_text, separator, IsRaw, IsRawElement}
 use Rattle.gs_element.specs.Writing.{last_open, raw_behind, separator_of}
@@ -46,6 +47,25 @@ one_written u pairs i pair base out closed coded new low read e f g h =
 
 pub one_open : (u : Bool) (pairs : List Pair) (i : ℕ) (pair : Pair) → i < length pairs → pair ≡ get_or pairs i pair → is_none (predefined_length pair.code) ≡ last_open u (take (i + 1) pairs)
 one_open u pairs i pair low read = sym (ap (last_open u) (taken pairs i pair low read) ∙ last_open-append u (take i pairs) (pair ∷ []))
+
+pub all_behind : (u : Bool) (pairs : List Pair) (i : ℕ) (base out : List ℕ) → length pairs ≤ i → out ≡ base ++ raw_behind u (take i pairs) → out ≡ base ++ raw_behind u pairs
+all_behind u pairs i base out high e = e ∙ ap (λ (x : List Pair). base ++ raw_behind u x) (take_all i pairs high)
+
+pub all_open : (u : Bool) (pairs : List Pair) (i : ℕ) (last : Bool) → length pairs ≤ i → last ≡ last_open u (take i pairs) → last ≡ last_open u pairs
+all_open u pairs i last high e = e ∙ ap (last_open u) (take_all i pairs high)
+
+-- ---- character by character
+
+pub value_more : (value : List ℕ) (i : ℕ) (base out new : List ℕ) → i < length value → out ≡ base ++ written_value (take i value) → new ≡ out ++ written_character (get_or value i 0) → new ≡ base ++ written_value (take (i + 1) value)
+value_more value i base out new low e f =
+    let done : List ℕ = written_value (take i value) in
+    let one : List ℕ = written_character (get_or value i 0) in
+    let more : written_value (take (i + 1) value) ≡ done ++ one =
+    ap written_value (take_more value i 0 low) ∙ flat_map-append written_character (take i value) (get_or value i 0 ∷ []) ∙ ap (λ (x : List ℕ). done ++ x) (append-nil one) in
+    f ∙ ap (λ (x : List ℕ). x ++ one) e ∙ append_assoc base done one ∙ ap (λ (x : List ℕ). base ++ x) (sym more)
+
+pub value_whole : (value : List ℕ) (i : ℕ) (base out : List ℕ) → length value ≤ i → out ≡ base ++ written_value (take i value) → out ≡ base ++ written_value value
+value_whole value i base out high e = e ∙ ap (λ (x : List ℕ). base ++ written_value x) (take_all i value high)
 
 -- ---- the whole text
 

@@ -1,6 +1,6 @@
 -- Element strings as they are printed below a symbol, each code in brackets: GS1 General Specifications, section 4
 -- (human readable interpretation). The backslash before a bracket of a value is this project's own.
-use Rattle.std.specs.Prelude.{◌≡◌, ℕ, Bool, true, ◌==◌, ◌&&◌, not, List, [], ◌∷◌, ◌++◌, length, drop, take_while, Option, Some, None, if◌then◌else◌}
+use Rattle.std.specs.Prelude.{◌≡◌, ℕ, Bool, true, false, ◌==◌, ◌&&◌, not, List, [], ◌∷◌, ◌++◌, length, drop, take_while, Option, Some, None, if◌then◌else◌}
 use Rattle.std.specs.List.{flat_map}
 use Rattle.std.specs.Option.{option_map}
 use Rattle.gs_chars.specs.Characters.{is_digit}
@@ -60,6 +60,11 @@ value_before (c ∷ d ∷ text) =
     if c == 40 then []
     else if c == 92 && d == 40 then 40 ∷ value_before text
     else c ∷ value_before (d ∷ text)
+
+-- the character is a backslash, and an opening bracket follows it
+abbrev pub is_escape : ℕ → List ℕ → Bool
+is_escape c [] = false
+is_escape c (d ∷ _) = c == 92 && d == 40
 
 -- the code and what follows its closing bracket, which is the first character of what is behind the code
 abbrev pub closed_code : List ℕ → List ℕ → Option (List ℕ × List ℕ)

@@ -2,7 +2,7 @@ ghost use Rattle.std.specs.Prelude.{◌≡◌, ◌≤◌, length, ◌∷◌, ◌
 ghost use Rattle.std.specs.List.{prefix_len};
 ghost use Rattle.std.specs.Option.{option_map};
 ghost use Rattle.gs_chars.specs.Characters.{is_digit};
-ghost use Rattle.gs_element.specs.Bracketed.{closed_code, code_front, is_cut, value_before, written_character, written_value};
+ghost use Rattle.gs_element.specs.Bracketed.{closed_code, code_front, is_cut, is_escape, value_before, written_character, written_value};
 
 use gs_chars::{Memory, Text};
 
@@ -45,6 +45,16 @@ struct Next<'a> {
     rest: &'a [u8],
 }
 
+/// Whether the character is a backslash before an opening bracket.
+fn is_escape(character: u8, behind: &[u8]) -> bool
+    ensures { result ≡ is_escape character behind.now }
+{
+    match behind {
+        [next, ..] => character == b'\\' && *next == b'(',
+        [] => false,
+    }
+}
+
 /// The next character of a value, and `None` where the value ends: at the end of the text, or at an opening bracket
 /// without a backslash before it. A backslash before an opening bracket is no character.
 fn next_character(text: &[u8]) -> Option<Next<'_>>
@@ -53,17 +63,23 @@ fn next_character(text: &[u8]) -> Option<Next<'_>>
     ensures text { IfSome result (λ next. text.now ≡ written_character next.character ++ next.rest.now) }
     ensures none { IfNone result ((value_before text.now ≡ []) × (is_cut text.now ≡ true)) }
 {
-    match text {
-        [] | [b'(', ..] => None,
-        [b'\\', b'(', rest @ ..] => Some(Next {
+    let Some((character, rest)) = text.split_first() else {
+        return None;
+    };
+    if *character == b'(' {
+        return None;
+    }
+    if is_escape(*character, rest) {
+        let rest = rest.split_at(1).1;
+        return Some(Next {
             character: b'(',
             rest,
-        }),
-        [character, rest @ ..] => Some(Next {
-            character: *character,
-            rest,
-        }),
+        });
     }
+    Some(Next {
+        character: *character,
+        rest,
+    })
 }
 
 /// Appends the value up to the next opening bracket that has no backslash before it, or the end, and answers what is left.

@@ -83,7 +83,7 @@ fn cut_element<'a>(table: &AiTable, text: &'a [u8]) -> Result<Cut<'a>, ValueFaul
     if let Err(fault) = table.row_value_ok(row, value) {
         return Err(fault);
     }
-    let rest = without_separator(&after[value.len()..]);
+    let rest = without_separator(after.split_at(value.len()).1);
     Ok(Cut { code, value, rest })
 }
 

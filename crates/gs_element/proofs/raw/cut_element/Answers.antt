@@ -3,7 +3,7 @@ use Rattle.std.specs.Option.{option_and_then}
 use Rattle.gs_ai.specs.declared.row.AiRow.{AiRow}
 use Rattle.gs_ai.specs.Predefined.{predefined_length}
 use Rattle.gs_ai.proofs.Searches.{find_none}
-use Rattle.gs_element.proofs.RawLemmas.{cut_at, front_row, judged}
+use Rattle.gs_element.proofs.RawLemmas.{cut_at, front_row, judged, value_within}
 use Rattle.gs_element.proofs.raw.cut_element.Goals as goal
 
 pub returns-in_default-clause-fault : goal.returns-in_default-clause-fault
@@ -36,4 +36,10 @@ returns-clause-cut c =
     let own = c.as_bytes.ensures ∙ ap (λ (r : AiRow). r.code) (sym c.index-rows-row.is) in
     let front = rw own at c.split_at.ensures.front in
     let back = rw own at c.split_at.ensures.back in
-    cut_at c.args.table.now c.rows.ensures.kept c.args.text.now c.in-Some.row c.index-rows-row.result c.split_at.result.0.now c.split_at.result.1.now c.cut_value-value.result.now c.without_separator-rest.result.now row (front ∙ sym row.front) back c.cut_value-value.ensures c.in_default-row_value_ok.ensures.ok c.without_separator-rest.ensures
+    cut_at c.args.table.now c.rows.ensures.kept c.args.text.now c.in-Some.row c.index-rows-row.result c.split_at.result.0.now c.split_at.result.1.now c.cut_value-value.result.now c.without_separator-rest.result.now row (front ∙ sym row.front) back c.cut_value-value.ensures c.in_default-row_value_ok.ensures.ok (rw c.split_at-2.ensures.back at c.without_separator-rest.ensures)
+
+pub bounds-rows-row : goal.bounds-rows-row
+bounds-rows-row c = rw c.rows.ensures.rows c.in-Some.ensures.within
+
+pub split_at-requires-2 : goal.split_at-requires-2
+split_at-requires-2 c = value_within c.split_at.result.0.now c.split_at.result.1.now c.cut_value-value.result.now c.cut_value-value.ensures
