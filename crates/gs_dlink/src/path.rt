@@ -1,4 +1,4 @@
-ghost use Rattle.std.specs.Prelude.{◌≡◌, ◌+◌, ◌<◌, ◌^◌, ◌∷◌, [], true, All, IfOk, IfSome, MatchOption, None, Some, map, option_map, length, reverse};
+ghost use Rattle.std.specs.Prelude.{◌≡◌, ◌+◌, ◌<◌, ◌^◌, ◌∷◌, [], true, All, IfOk, MatchOption, None, Some, map, length, reverse};
 ghost use Rattle.gs_ai.specs.Tables.{is_key_of};
 ghost use Rattle.gs_dlink.specs.Paths.{codes_of, is_code_at, is_in_order, key_path, listed_of, path_where, path_or};
 ghost use Rattle.gs_dlink.specs.Uris.{LastSlash, NoSlash, segments};
@@ -8,7 +8,6 @@ use crate::written::WrittenPair;
 use gs_ai::AiTable;
 use gs_chars::{Memory, Text};
 use memchr::memrchr;
-use std::alloc::Global;
 
 /// The place of the last slash.
 #[tactic(auto, using(crate::proofs::CutLemmas::slash_answer))]
@@ -83,7 +82,7 @@ fn with_key<'a>(
 
 /// Writes the pairs of the key path in which the path ends, and answers whether there is one: the segments are looked at from
 /// the end, two at a time, up to the code of a key.
-fn write_key_path<'a>(
+pub(crate) fn write_key_path<'a>(
     table: &AiTable,
     pairs: &mut Vec<WrittenPair<'a>>,
     at: usize,
@@ -119,21 +118,4 @@ fn write_key_path<'a>(
         pairs.push(pair)?;
         front = &before[..code];
     }
-}
-
-/// The pairs of the key path in which the path ends.
-pub(crate) fn key_path<'a>(
-    alloc: Global,
-    table: &AiTable,
-    at: usize,
-    path: &'a [u8],
-) -> Result<Option<Vec<WrittenPair<'a>>>, Memory>
-    requires { at + length path.now < 2 ^ 63 }
-    ensures path { IfOk result (λ pairs. option_map (λ found. map written_of found.items) pairs
-        ≡ key_path table.now (segments at path.now)) }
-    ensures placed { IfOk result (λ pairs. IfSome pairs (λ found. All (IsPlaced table.now) found.items)) }
-{
-    let mut pairs = Vec::new(alloc);
-    let found = write_key_path(table, &mut pairs, at, path)?;
-    if found { Ok(Some(pairs)) } else { Ok(None) }
 }
