@@ -1,4 +1,4 @@
-ghost use Rattle.std.specs.Prelude.{◌≡◌, ◌++◌, [], All, IfOk, is_none};
+ghost use Rattle.std.specs.Prelude.{◌≡◌, ◌++◌, All, IfOk, is_none};
 ghost use Rattle.gs_ai.specs.Predefined.{predefined_length};
 ghost use Rattle.gs_ident.specs.Elements.{pairs_of};
 ghost use Rattle.gs_ident.specs.Identities.{IsInOrder, IsMadeWith};
@@ -56,21 +56,6 @@ fn write_elements(
     Ok(last)
 }
 
-/// Writes the elements of an identity that was made with the table to an empty text.
-fn write_parts(table: &AiTable, out: &mut Vec<u8>, identity: &Identity) -> Result<(), Memory>
-    requires made { IsMadeWith table.now identity.now }
-    requires empty { out.old.items ≡ [] }
-    ensures { IfOk result (λ _. out.new.items ≡ raw_text (pairs_of identity.now)) }
-{
-    let key = identity.key();
-    out.extend_from_slice(key.code.as_bytes())?;
-    out.extend_from_slice(key.value.as_bytes())?;
-    let unclosed = is_open(table, key);
-    let unclosed = write_elements(table, out, unclosed, identity.qualifiers())?;
-    write_elements(table, out, unclosed, identity.attributes())?;
-    Ok(())
-}
-
 /// The element string of the identity, in the order of its pairs: code and value of each, and an FNC1 (the byte 29) behind one
 /// that has no predefined length and is not the last (GS1 General Specifications, section 7.8). Nothing stands in front. The
 /// one refusal is want of memory. The identity is one that `make` of gs_ident gave by this table.
@@ -79,7 +64,12 @@ pub fn write_raw(alloc: Global, table: &AiTable, identity: &Identity) -> Result<
     ensures { IfOk result (λ text. text ≡ raw_text (pairs_of identity.now)) }
 {
     let mut out = Vec::with_capacity(alloc, identity.room())?;
-    write_parts(table, &mut out, identity)?;
+    let key = identity.key();
+    out.extend_from_slice(key.code.as_bytes())?;
+    out.extend_from_slice(key.value.as_bytes())?;
+    let unclosed = is_open(table, key);
+    let unclosed = write_elements(table, &mut out, unclosed, identity.qualifiers())?;
+    write_elements(table, &mut out, unclosed, identity.attributes())?;
     Ok(Text::from_vec(out))
 }
 
@@ -127,21 +117,14 @@ fn write_pairs(out: &mut Vec<u8>, pairs: &[Pair]) -> Result<(), Memory>
     Ok(())
 }
 
-/// Appends each pair of an identity.
-fn write_all_pairs(out: &mut Vec<u8>, identity: &Identity) -> Result<(), Memory>
-    ensures { IfOk result (λ _. out.new.items ≡ out.old.items ++ bracketed_text (pairs_of identity.now)) }
-{
-    write_pair(out, identity.key())?;
-    write_pairs(out, identity.qualifiers())?;
-    write_pairs(out, identity.attributes())
-}
-
 /// The element string of the identity in the printed form, in the order of its pairs: each code in brackets, and its value
 /// with `\(` for an opening bracket. The one refusal is want of memory.
 pub fn write_bracketed(alloc: Global, identity: &Identity) -> Result<Text, Memory>
     ensures { IfOk result (λ text. text ≡ bracketed_text (pairs_of identity.now)) }
 {
     let mut out = Vec::with_capacity(alloc, identity.room())?;
-    write_all_pairs(&mut out, identity)?;
+    write_pair(&mut out, identity.key())?;
+    write_pairs(&mut out, identity.qualifiers())?;
+    write_pairs(&mut out, identity.attributes())?;
     Ok(Text::from_vec(out))
 }

@@ -1,5 +1,5 @@
 -- The machines of the options of a level.
-use Rattle.std.specs.Prelude.{◌≡◌, ◌≤◌, ℕ, List, [], ◌∷◌, ◌++◌, Some, length, slice_get}
+use Rattle.std.specs.Prelude.{◌≡◌, ◌≤◌, ℕ, List, Some, length, slice_get}
 use Rattle.gs_grammar.specs.Levels.{OptionForm, KeepBounds}
 use Rattle.gs_machine.specs.Machines.{AutoForm, IsMachine, states_of}
 use Rattle.gs_compile.specs.ItemTables.{machine_of, most_states}
@@ -18,10 +18,6 @@ pub record IsMachineOf (form : AutoForm) (option : OptionForm) : Type 0 where
 pub record FitEach {X : Type 0} (Fitting : X → OptionForm → Type 0) (xs : List X) (options : List OptionForm) : Type 0 where
   pub count : length xs ≡ length options
   pub each : (k : ℕ) (x : X) (option : OptionForm) → slice_get xs k ≡ Some x → slice_get options k ≡ Some option → Fitting x option
-
--- one that fits the option stands behind the others
-abbrev pub HasPushed : {X : Type 0} → (X → OptionForm → Type 0) → List X → List X → OptionForm → Type 0
-HasPushed {X} Fitting old new option = (x : X) × Fitting x option × (new ≡ old ++ x ∷ [])
 
 -- the machines are those of the options, one for each, in the same order
 abbrev pub AreMachinesOf : List AutoForm → List OptionForm → Type 0

@@ -1,4 +1,4 @@
-ghost use Rattle.std.specs.Prelude.{◌≡◌, [], OnOk, IfOk};
+ghost use Rattle.std.specs.Prelude.{◌≡◌, OnOk, IfOk};
 ghost use Rattle.gs_compile.specs.Places.{is_border};
 ghost use Rattle.gs_level.specs.Trails.{IsTrail, AreCuts, with_cut};
 
@@ -29,30 +29,6 @@ fn push_cut(
     Ok(())
 }
 
-/// Writes the cuts of the accepting run whose last entry has this number, from the last one back.
-fn write_cuts(
-    cuts: &mut Vec<usize>,
-    machine: &Auto,
-    trail: &[Entry],
-    number: usize,
-    symbols: &[u8],
-) -> Result<(), Memory>
-    requires trail { IsTrail machine.now trail.now symbols.now number }
-    requires empty { cuts.old.items ≡ [] }
-    ensures { OnOk result (AreCuts machine.now symbols.now cuts.new.items) }
-{
-    let borders = machine.borders();
-    let mut entry = number;
-    let mut place = symbols.len();
-    push_cut(cuts, borders, trail[entry].state, place)?;
-    while place > 0 {
-        entry = trail[entry].back;
-        place -= 1;
-        push_cut(cuts, borders, trail[entry].state, place)?;
-    }
-    Ok(())
-}
-
 /// The cuts of the accepting run whose last entry has this number.
 pub fn cuts_of(
     alloc: Global,
@@ -64,7 +40,15 @@ pub fn cuts_of(
     requires { IsTrail machine.now trail.now symbols.now number }
     ensures { IfOk result (λ cuts. AreCuts machine.now symbols.now cuts.items) }
 {
-    let mut cuts = Vec::with_capacity(alloc, machine.borders().len())?;
-    write_cuts(&mut cuts, machine, trail, number, symbols)?;
+    let borders = machine.borders();
+    let mut cuts = Vec::with_capacity(alloc, borders.len())?;
+    let mut entry = number;
+    let mut place = symbols.len();
+    push_cut(&mut cuts, borders, trail[entry].state, place)?;
+    while place > 0 {
+        entry = trail[entry].back;
+        place -= 1;
+        push_cut(&mut cuts, borders, trail[entry].state, place)?;
+    }
     Ok(cuts)
 }

@@ -1,5 +1,5 @@
-ghost use Rattle.std.specs.Prelude.{IfOk, OnOk};
-ghost use Rattle.gs_level.specs.OptionMachines.{IsMachineOf, AreMachinesOf, HasPushed};
+ghost use Rattle.std.specs.Prelude.{IfOk};
+ghost use Rattle.gs_level.specs.OptionMachines.{IsMachineOf, AreMachinesOf};
 
 use gs_chars::{List, Memory};
 use gs_compile::compile;
@@ -16,22 +16,13 @@ fn machine_of(alloc: Global, option: &Opt) -> Result<Auto, Memory>
     compile(alloc, option)
 }
 
-/// Puts the machine of an option behind the others.
-fn push_machine(alloc: Global, machines: &mut Vec<Auto>, option: &Opt) -> Result<(), Memory>
-    ensures { OnOk result (HasPushed IsMachineOf machines.old.items machines.new.items option.now) }
-{
-    let machine = machine_of(alloc, option)?;
-    machines.push(machine)?;
-    Ok(())
-}
-
 /// The machine of each option, in their order.
 pub fn machines_of(alloc: Global, options: &[Opt]) -> Result<List<Auto>, Memory>
     ensures { IfOk result (λ machines. AreMachinesOf machines options.now) }
 {
     let mut machines = Vec::with_capacity(alloc, options.len())?;
     for option in options {
-        push_machine(alloc, &mut machines, option)?;
+        machines.push(machine_of(alloc, option)?)?;
     }
     Ok(List::from_vec(machines))
 }

@@ -1,8 +1,7 @@
-ghost use Rattle.std.specs.Prelude.{◌≡◌, ◌≤◌, ◌<◌, ◌+◌, All, IfOk, OnOk, [], length};
+ghost use Rattle.std.specs.Prelude.{◌≡◌, ◌≤◌, ◌<◌, ◌+◌, All, IfOk, [], length};
 ghost use Rattle.gs_grammar.specs.Items.{IsItem, size_of_all};
 ghost use Rattle.gs_grammar.specs.Limits.{most_symbols};
-ghost use Rattle.gs_level.specs.Guides.{HasLiteral, BeginAll, AreGroupsFrom, AreProbesOf, IsProbeOf};
-ghost use Rattle.gs_level.specs.OptionMachines.{HasPushed};
+ghost use Rattle.gs_level.specs.Guides.{HasLiteral, BeginAll, AreGroupsFrom, AreProbesOf};
 
 use crate::guides::{Group, Probe};
 use gs_chars::{List, Memory, Text};
@@ -50,13 +49,11 @@ fn probe_of(alloc: Global, items: &[Item]) -> Result<Probe, Memory>
     })
 }
 
-/// Puts the probe of an option behind the others.
-fn push_probe(alloc: Global, probes: &mut Vec<Probe>, option: &Opt) -> Result<(), Memory>
-    ensures { OnOk result (HasPushed IsProbeOf probes.old.items probes.new.items option.now) }
+/// The probe of an option.
+fn probe_of_option(alloc: Global, option: &Opt) -> Result<Probe, Memory>
+    ensures { IfOk result (λ probe. HasLiteral option.now.items probe.place probe.literal) }
 {
-    let probe = probe_of(alloc, option.items())?;
-    probes.push(probe)?;
-    Ok(())
+    probe_of(alloc, option.items())
 }
 
 /// The probe of each option, in their order.
@@ -65,7 +62,7 @@ pub fn probes_of(alloc: Global, options: &[Opt]) -> Result<List<Probe>, Memory>
 {
     let mut probes = Vec::with_capacity(alloc, options.len())?;
     for option in options {
-        push_probe(alloc, &mut probes, option)?;
+        probes.push(probe_of_option(alloc, option)?)?;
     }
     Ok(List::from_vec(probes))
 }

@@ -8,8 +8,7 @@ loop-option-init c = none_yet IsProbeOf _ _ c.in_ok-probes.ensures.items
 
 pub loop-option-preserved : goal.loop-option-preserved
 loop-option-preserved c =
-    let pushed = c.in_ok-push_probe.ensures in
-    one_more IsProbeOf c.loop-option.probes.items _ c.args.options.now c.loop-option.option-index pushed.0 c.option-item.result c.loop-option.invariant c.loop-option-test.true c.option-item.is pushed.1 pushed.2
+    one_more IsProbeOf c.loop-option.probes.items _ c.args.options.now c.loop-option.option-index c.in_ok-probe_of_option.field-0 c.option-item.result c.loop-option.invariant c.loop-option-test.true c.option-item.is c.in_ok-probe_of_option.ensures c.in_ok-push.ensures.items
 
 pub returns : goal.returns
 returns c = fit_all IsProbeOf _ _ _ _ c.loop-option.invariant (grind arith) c.from_vec.ensures
