@@ -6,7 +6,7 @@ use Rattle.gs_chars.proofs.TruthsAndLists.{and_first, and_second, equal_bytes, o
 use Rattle.gs_ai.specs.declared.row.AiRow.{AiRow}
 use Rattle.gs_ai.specs.Tables.{KeepsRules, is_key_of}
 use Rattle.gs_ai.specs.Values.{has_code}
-use Rattle.gs_dlink.specs.Paths.{IsKeyPath, codes_of, is_in_order, is_key_path, key_path, listed_of, paired, path_or, path_where}
+use Rattle.gs_dlink.specs.Paths.{IsKeyPath, codes_of, is_in_order, is_key_path, key_path, listed_of, paired, path_or}
 use Rattle.gs_dlink.specs.Uris.{LastSlash, NoSlash, Piece, Written, segments}
 use Rattle.gs_dlink.proofs.CutLemmas.{few_taken, length_take, no_segments, rest_taken, segments_last}
 
@@ -236,6 +236,5 @@ behind_last old new all x e t = let whole : all ≡ x ∷ reverse old = t ∙ tu
 pub ordered_path : (table : List AiRow) (key : Written) (pairs : List Written) → is_key_of table key.code ≡ true → is_in_order (listed_of table key.code) (codes_of pairs) ≡ true → Some (key ∷ pairs) ≡ path_or table (Some (key ∷ pairs)) None
 ordered_path table key pairs is ordered = rw (is, ordered) refl
 
--- the same, or none, by the answer whether the pairs are in order
-pub judged_path : (table : List AiRow) (key : Written) (pairs : List Written) (found : Bool) → is_key_of table key.code ≡ true → found ≡ is_in_order (listed_of table key.code) (codes_of pairs) → path_where found (key ∷ pairs) ≡ path_or table (Some (key ∷ pairs)) None
-judged_path table key pairs found is ordered = rw (is, ordered) refl
+pub no_ordered_path : (table : List AiRow) (key : Written) (pairs : List Written) → is_key_of table key.code ≡ true → is_in_order (listed_of table key.code) (codes_of pairs) ≡ false → None ≡ path_or table (Some (key ∷ pairs)) None
+no_ordered_path table key pairs is ordered = rw (is, ordered) refl

@@ -1,13 +1,14 @@
 -- The answer to a path with its query, by the places at which it is cut, and to a link by the place behind its authority.
 use Rattle.std.proofs.Common.{◌≡◌, ℕ, ◌+◌, ◌≤◌, true, false, List, ◌++◌, length, take, drop, Option, Some, None, All, refl, sym, ap, ◌∙◌, inl, inr}
-use Rattle.std.specs.Prelude.{Ok, Err}
+use Rattle.std.specs.Prelude.{Result, Ok, Err}
 use Rattle.std.specs.List.{position_or_len}
 use Rattle.gs_chars.proofs.TruthsAndLists.{true_or_false}
 use Rattle.gs_ai.specs.declared.pair.Pair.{Pair}
 use Rattle.gs_ai.specs.declared.row.AiRow.{AiRow}
 use Rattle.gs_ident.specs.Identities.{IsInOrder}
+use Rattle.gs_dlink.specs.declared.fault.LinkFault.{LinkFault}
 use Rattle.gs_dlink.specs.declared.fault.LinkFault.TheVariants.{NotHttp, NoKeyPath}
-use Rattle.gs_dlink.specs.Answers.{by_key_path, is_rooted, link_answer, target_answer, written_answer}
+use Rattle.gs_dlink.specs.Answers.{OrMemory, by_key_path, is_rooted, link_answer, target_answer, written_answer}
 use Rattle.gs_dlink.specs.Paths.{key_path}
 use Rattle.gs_dlink.specs.Uris.{authority_end, is_byte, path_of, query_of, query_pairs, segments, Written}
 use Rattle.gs_dlink.proofs.CutLemmas.{length_take}
@@ -31,14 +32,15 @@ module _ (table : List AiRow) (at : ℕ) (text : List ℕ) (hash end : ℕ) (h :
   unfolding target_answer
   no_key_path rooted none = let g = rw path_is at rooted in let k = rw path_is at none in rw (g, ← k) refl
 
-  pub pairs_written : (found all : List Written) (rest : List ℕ) → end ≤ length (take hash text) → is_rooted path ≡ true → Some found ≡ key_path table (segments at path) → rest ≡ drop (end + 1) (take hash text) → all ≡ found ++ query_pairs (at + end + 1) rest → written_answer table all ≡ target_answer table at text
+  pub pairs_found : (found all : List Written) (rest : List ℕ) (result : Result (List Pair) LinkFault) → end ≤ length (take hash text) → is_rooted path ≡ true → Some found ≡ key_path table (segments at path) → rest ≡ drop (end + 1) (take hash text) → all ≡ found ++ query_pairs (at + end + 1) rest → OrMemory result (written_answer table all) → OrMemory result (target_answer table at text)
   unfolding target_answer
-  pairs_written found all rest within rooted some behind both =
+  pairs_found found all rest result within rooted some behind both answer =
       let g = rw path_is at rooted in
       let k = rw path_is at some in
       let size : length (path_of text) ≡ end = ap length (sym path_is) ∙ length_take end (take hash text) within in
       let query : rest ≡ query_of text = behind ∙ query_is in
-      rw (g, ← k, size, both, query) refl
+      let own = rw (both, query) at answer in
+      rw (g, ← k, size) own
 
 pub link_by : (table : List AiRow) (text : List ℕ) (at : ℕ) → Some at ≡ authority_end text → link_answer table text ≡ target_answer table at (drop at text)
 unfolding link_answer

@@ -44,10 +44,6 @@ abbrev pub by_authority : List AiRow → List ℕ → Option ℕ → Result (Lis
 by_authority table text None = Err NotHttp
 by_authority table text (Some at) = target_answer table at (drop at text)
 
--- the answer by the pairs that are written, where the path ends in a key path
-abbrev pub by_written : List AiRow → Bool → List Written → Result (List Pair) LinkFault
-by_written table found written = if found then written_answer table written else Err NoKeyPath
-
 -- the pairs of a link, or its first fault
 unfoldable pub link_answer : List AiRow → List ℕ → Result (List Pair) LinkFault
 link_answer table text = by_authority table text (authority_end text)

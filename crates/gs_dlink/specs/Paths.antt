@@ -49,10 +49,6 @@ abbrev pub path_or : List AiRow → Option (List Written) → Option (List Writt
 path_or table None other = other
 path_or table (Some pairs) other = if is_key_path table pairs then Some pairs else other
 
--- the pairs where they are a key path
-abbrev pub path_where : Bool → List Written → Option (List Written)
-path_where found pairs = if found then Some pairs else None
-
 -- the key path in which the segments end, where they end in one
 unfoldable pub key_path : List AiRow → List Piece → Option (List Written)
 key_path table [] = None

@@ -1,6 +1,6 @@
-ghost use Rattle.std.specs.Prelude.{◌≡◌, ◌+◌, ◌<◌, ◌^◌, ◌∷◌, [], true, All, IfOk, MatchOption, None, Some, map, length, reverse};
+ghost use Rattle.std.specs.Prelude.{◌≡◌, ◌+◌, ◌<◌, ◌^◌, ◌∷◌, true, All, IfOk, IfSome, MatchOption, None, Some, map, option_map, length, reverse};
 ghost use Rattle.gs_ai.specs.Tables.{is_key_of};
-ghost use Rattle.gs_dlink.specs.Paths.{codes_of, is_code_at, is_in_order, key_path, listed_of, path_where, path_or};
+ghost use Rattle.gs_dlink.specs.Paths.{codes_of, is_code_at, is_in_order, key_path, listed_of, path_or};
 ghost use Rattle.gs_dlink.specs.Uris.{LastSlash, NoSlash, segments};
 ghost use Rattle.gs_dlink.specs.Values.{IsPlaced, written_of};
 
@@ -8,6 +8,7 @@ use crate::written::WrittenPair;
 use gs_ai::AiTable;
 use gs_chars::{Memory, Text};
 use memchr::memrchr;
+use std::alloc::Global;
 
 /// The place of the last slash.
 #[tactic(auto, using(crate::proofs::CutLemmas::slash_answer))]
@@ -62,48 +63,52 @@ fn listed<'a>(table: &'a AiTable, key: &WrittenPair<'_>) -> &'a [Text]
     }
 }
 
-/// Puts the key in front of the pairs behind it, which come last pair first, and answers whether all are a key path.
+/// The key path of a key and of the pairs behind it, last pair first, where they are one.
 fn with_key<'a>(
     table: &AiTable,
     key: WrittenPair<'a>,
-    pairs: &mut Vec<WrittenPair<'a>>,
-) -> Result<bool, Memory>
+    pairs: Vec<WrittenPair<'a>>,
+) -> Result<Option<Vec<WrittenPair<'a>>>, Memory>
     requires is_key { is_key_of table.now key.code.now ≡ true }
     requires key_placed { IsPlaced table.now key }
-    requires placed { All (IsPlaced table.now) pairs.old.items }
-    ensures path { IfOk result (λ found. path_where found (map written_of pairs.new.items)
-        ≡ path_or table.now (Some (written_of key.entry ∷ map written_of (reverse pairs.old.items))) None) }
-    ensures placed { IfOk result (λ _. All (IsPlaced table.now) pairs.new.items) }
+    requires placed { All (IsPlaced table.now) pairs.items }
+    ensures path { IfOk result (λ found. option_map (λ path. map written_of path.items) found
+        ≡ path_or table.now (Some (written_of key.entry ∷ map written_of (reverse pairs.entry.items))) None) }
+    ensures placed { IfOk result (λ found. IfSome found (λ path. All (IsPlaced table.now) path.items)) }
 {
-    pairs.push(key)?;
-    pairs.reverse();
-    Ok(are_in_order(listed(table, &key), &pairs[1..]))
+    let mut path = pairs;
+    path.push(key)?;
+    path.reverse();
+    if !are_in_order(listed(table, &key), &path[1..]) {
+        return Ok(None);
+    }
+    Ok(Some(path))
 }
 
-/// Writes the pairs of the key path in which the path ends, and answers whether there is one: the segments are looked at from
-/// the end, two at a time, up to the code of a key.
-pub(crate) fn write_key_path<'a>(
+/// The pairs of the key path in which the path ends: the segments are looked at from the end, two at a time, up to the code
+/// of a key.
+pub(crate) fn key_path<'a>(
+    alloc: Global,
     table: &AiTable,
-    pairs: &mut Vec<WrittenPair<'a>>,
     at: usize,
     path: &'a [u8],
-) -> Result<bool, Memory>
-    requires within { at + length path.now < 2 ^ 63 }
-    requires empty { pairs.old.items ≡ [] }
-    ensures path { IfOk result (λ found. path_where found (map written_of pairs.new.items)
+) -> Result<Option<Vec<WrittenPair<'a>>>, Memory>
+    requires { at + length path.now < 2 ^ 63 }
+    ensures path { IfOk result (λ pairs. option_map (λ found. map written_of found.items) pairs
         ≡ key_path table.now (segments at path.now)) }
-    ensures placed { IfOk result (λ _. All (IsPlaced table.now) pairs.new.items) }
+    ensures placed { IfOk result (λ pairs. IfSome pairs (λ found. All (IsPlaced table.now) found.items)) }
 {
     // For the proof alone: the rows keep the rules.
     let _ = table.rows();
+    let mut pairs = Vec::new(alloc);
     let mut front = path;
     loop {
         let Some(value) = last_slash(front) else {
-            return Ok(false);
+            return Ok(None);
         };
         let before = &front[..value];
         let Some(code) = last_slash(before) else {
-            return Ok(false);
+            return Ok(None);
         };
         let name = &before[code + 1..];
         let pair = WrittenPair {

@@ -1,18 +1,18 @@
-ghost use Rattle.std.specs.Prelude.{◌≡◌, ◌≢◌, All, ◌+◌, ◌<◌, ◌≤◌, ◌^◌, IfOk, IfErr, IfSome, IsTrue, Some, [], map, length};
+ghost use Rattle.std.specs.Prelude.{◌≡◌, ◌≢◌, All, ◌+◌, ◌<◌, ◌≤◌, ◌^◌, IfOk, IfErr, IfSome, IsTrue, Some, map, length};
 ghost use Rattle.std.specs.Char.{to_ascii_lowercase};
 ghost use Rattle.gs_ident.specs.Identities.{IsInOrder};
-ghost use Rattle.gs_dlink.specs.Answers.{IsLink, IsTarget, OrMemory, by_written, is_rooted, link_fault, target_answer, target_fault, written_answer};
+ghost use Rattle.gs_dlink.specs.Answers.{IsLink, IsTarget, OrMemory, is_rooted, link_fault, target_answer, target_fault, written_answer};
 ghost use Rattle.gs_dlink.specs.Uris.{authority_end, has_scheme, scheme_end};
 ghost use Rattle.gs_dlink.specs.Values.{IsPlaced, written_of};
 
 use crate::cuts::{authority_len, place_of};
 use crate::fault::LinkFault;
-use crate::path::write_key_path;
+use crate::path::key_path;
 use crate::query::{behind, push_query};
 use crate::value::read_pair;
 use crate::written::WrittenPair;
 use gs_ai::{AiTable, Pair};
-use gs_chars::{List, Memory};
+use gs_chars::List;
 use std::alloc::Global;
 
 /// The pairs that a link names: those of its key path, then those of its query (GS1 Digital Link URI Syntax, section 3). The
@@ -65,7 +65,6 @@ fn scheme_end(text: &[u8]) -> Option<usize>
 }
 
 /// The place behind the authority of a text that begins with `http://` or `https://` and an authority.
-#[tactic(auto)]
 fn authority_end(text: &[u8]) -> Option<usize>
     ensures end { result ≡ authority_end text.now }
     ensures within { IfSome result (λ end. end ≤ length text.now) }
@@ -85,44 +84,22 @@ fn is_rooted(path: &[u8]) -> bool
     }
 }
 
-/// Writes the pairs of a path with its query that stand at a place in the whole text, and answers whether the path ends in a
-/// key path.
-fn write_target<'a>(
-    table: &AiTable,
-    pairs: &mut Vec<WrittenPair<'a>>,
-    at: usize,
-    text: &'a [u8],
-) -> Result<bool, Memory>
-    requires within { at + length text.now < 2 ^ 63 }
-    requires empty { pairs.old.items ≡ [] }
-    ensures answer { IfOk result (λ found. by_written table.now found (map written_of pairs.new.items)
-        ≡ target_answer table.now at text.now) }
-    ensures placed { IfOk result (λ _. All (IsPlaced table.now) pairs.new.items) }
+/// The pairs of a path with its query that stand at a place in the whole text, or the first fault.
+#[tactic(auto, unfolding(crate::specs::Answers::target_answer))]
+fn read_at(alloc: Global, table: &AiTable, at: usize, text: &[u8]) -> Result<List<Pair>, LinkFault>
+    requires { at + length text.now < 2 ^ 63 }
+    ensures { OrMemory result (target_answer table.now at text.now) }
 {
     let text = &text[..place_of(text, b'#')];
     let end = place_of(text, b'?');
     let path = &text[..end];
     if !is_rooted(path) {
-        return Ok(false);
-    }
-    let found = write_key_path(table, pairs, at, path)?;
-    if !found {
-        return Ok(false);
-    }
-    push_query(table, pairs, at + end + 1, behind(text, end))?;
-    Ok(true)
-}
-
-/// The pairs of a path with its query that stand at a place in the whole text, or the first fault.
-fn read_at(alloc: Global, table: &AiTable, at: usize, text: &[u8]) -> Result<List<Pair>, LinkFault>
-    requires { at + length text.now < 2 ^ 63 }
-    ensures { OrMemory result (target_answer table.now at text.now) }
-{
-    let mut written = Vec::new(alloc);
-    let found = write_target(table, &mut written, at, text)?;
-    if !found {
         return Err(LinkFault::NoKeyPath);
     }
+    let Some(mut written) = key_path(alloc, table, at, path)? else {
+        return Err(LinkFault::NoKeyPath);
+    };
+    push_query(table, &mut written, at + end + 1, behind(text, end))?;
     read_pairs(alloc, table, written.as_slice())
 }
 

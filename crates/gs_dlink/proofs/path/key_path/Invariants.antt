@@ -1,7 +1,7 @@
 use Rattle.std.proofs.Common.{All, length, map, reverse}
 use Rattle.gs_dlink.specs.Values.{IsPlaced, written_of}
 use Rattle.gs_dlink.proofs.KeyPaths.{Walked}
-use Rattle.gs_dlink.proofs.path.write_key_path.Given as goal
+use Rattle.gs_dlink.proofs.path.key_path.Given as goal
 
 abbrev pub invariant-loop-value : goal.invariant-loop-value
 invariant-loop-value l = record {

@@ -3,7 +3,7 @@ use Rattle.std.proofs.lemmas.List.Elements.{All-push}
 use Rattle.gs_dlink.specs.Values.{IsPlaced, written_of}
 use Rattle.gs_dlink.proofs.CutLemmas.{rest_taken}
 use Rattle.gs_dlink.proofs.KeyPaths.{key_found, none_left, one_left, one_pair_more, pushed}
-use Rattle.gs_dlink.proofs.path.write_key_path.Goals as goal
+use Rattle.gs_dlink.proofs.path.key_path.Goals as goal
 
 pub returns-in_default-clause-path : goal.returns-in_default-clause-path
 returns-in_default-clause-path c =
