@@ -3,9 +3,15 @@ ghost use Rattle.std.specs.Prelude.{◌≡◌};
 use std::marker::Model;
 
 /// A list of items, a thin type over a `Vec` that contracts see as the list of its items.
-#[derive(Drop)]
 pub struct List<T> {
     items: Vec<T>,
+}
+
+// by hand, so that a function that drops a list calls this: a derived drop is written out at each of its exits
+impl<T: Drop> Drop for List<T> {
+    fn drop(self) {
+        let List { items: _ } = self;
+    }
 }
 
 impl<T> Model for List<T> {
