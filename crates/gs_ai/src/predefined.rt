@@ -16,7 +16,7 @@ const LENGTHS: [usize; 22] = [
 ];
 
 /// The starts of predefined length, as rows.
-#[derive(Debug, Drop)]
+#[derive(Drop)]
 pub struct Predefined {
     starts: Rows<22>,
 }

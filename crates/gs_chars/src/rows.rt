@@ -4,7 +4,7 @@ ghost use Rattle.std.specs.List.Sorted.{IsStrictlyIncreasing};
 use std::marker::Model;
 
 /// A strictly ascending array of keys, which contracts see as the list of them.
-#[derive(Debug, Drop)]
+#[derive(Drop)]
 pub struct Rows<const N: usize> {
     keys: [u32; N],
 }

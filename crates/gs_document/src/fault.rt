@@ -45,7 +45,7 @@ pub enum LoadFault {
 }
 
 /// Why an item is not read.
-#[derive(Clone, Copy, Debug)]
+#[derive(Clone, Copy)]
 pub enum ItemFault {
     /// It is no item of the level.
     Bad,
