@@ -1,5 +1,8 @@
 ghost use Rattle.std.specs.Prelude.{◌≡◌};
+ghost use Rattle.std.specs.Process.{exit_status};
 ghost use Rattle.gs_lines.specs.Statuses.{number_of};
+
+use std::process::ExitCode;
 
 /// How a run ends.
 #[derive(Clone, Copy, Debug)]
@@ -37,5 +40,12 @@ impl Status {
             Status::InputLong => 6,
             Status::Memory => 9,
         }
+    }
+
+    /// The end of the process with the number of the status.
+    pub fn exit_code(self) -> ExitCode
+        ensures { exit_status result ≡ number_of self }
+    {
+        ExitCode::from(self.number())
     }
 }

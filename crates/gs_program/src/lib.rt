@@ -1,7 +1,7 @@
 //! The program: what its words ask for, the files that they name, its commands, and whole runs.
 //!
 //! - `run` is the call that `main` of tdl makes: arguments, files, input and output in, a status out. Its clauses are what the
-//!   README guarantees.
+//!   README guarantees. `words_behind` gives the arguments of a process without the program's name.
 //!
 //! # Example
 //!
@@ -45,6 +45,8 @@ mod running;
 mod tables;
 mod translated_lines;
 mod translating;
+mod words;
 
 pub use gs_lines::Status;
 pub use running::run;
+pub use words::words_behind;

@@ -1,15 +1,13 @@
 //! `tdl` translates GS1 identities: each line of the input is answered by the canonical link of what it names.
 #![tactic(auto)]
 
-mod ending;
-mod words;
-
-use ending::{NO_WORDS, exit_code};
 use gs_port::{HostFiles, StdinSource, StdoutSink, TcpDoor};
-use gs_program::{Status, run};
+use gs_program::{Status, run, words_behind};
 use std::process::ExitCode;
 use std::{env, io};
-use words::words_behind;
+
+/// The status where the words cannot be had.
+const NO_WORDS: u8 = 8;
 
 /// The name that the program was called by, and the words behind it.
 fn all_words(rt: &HostRuntime) -> io::Result<Vec<String>> {
@@ -24,7 +22,7 @@ fn main(rt: HostRuntime) -> ExitCode {
     let words = match all_words(&rt) {
         Ok(words) => words,
         Err(refusal) if refusal.kind() == io::ErrorKind::OutOfMemory => {
-            return exit_code(Status::Memory);
+            return Status::Memory.exit_code();
         }
         Err(_) => return ExitCode::from(NO_WORDS),
     };
@@ -32,12 +30,13 @@ fn main(rt: HostRuntime) -> ExitCode {
     let mut input = StdinSource::new(rt.stdin());
     let mut output = StdoutSink::new(rt.stdout());
     let mut door = TcpDoor::new(rt);
-    exit_code(run(
+    run(
         rt.alloc(),
         words_behind(words.as_slice()),
         &mut files,
         &mut input,
         &mut output,
         &mut door,
-    ))
+    )
+    .exit_code()
 }
