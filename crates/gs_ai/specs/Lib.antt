@@ -1,3 +1,4 @@
+pub mod BuiltInAis
 pub mod Parts
 pub mod Predefined
 pub mod Tables

@@ -19,8 +19,6 @@
 //! - Of the GS1 General Specifications it has the application identifiers that are met most; tables/gs1.json has more.
 #![tactic(auto)]
 
-mod ai_line;
-mod builtin_ais;
 mod builtin_encodings;
 mod builtin_items;
 mod builtin_kinds;

@@ -1,10 +1,11 @@
 ghost use Rattle.std.specs.Prelude.{◌≡◌, ◌++◌, IfOk, OnOk, map};
-ghost use Rattle.gs_builtin.specs.BuiltIn.{additional_ais, agreed_ais, ai_row, asset_ais, builtin_ais, company_ais, date_ais, goods_ais, item_ais, location_ais, other_ais, party_ais, row_of, shipment_ais, told, variant_ais, weight_ais};
+ghost use Rattle.gs_ai.specs.BuiltInAis.{additional_ais, agreed_ais, ai_row, asset_ais, builtin_ais, company_ais, date_ais, goods_ais, item_ais, location_ais, other_ais, party_ais, row_of, shipment_ais, told, variant_ais, weight_ais};
 
 use crate::ai_line::AiLine;
 use crate::ai_line::AiLine::{Attribute, Key, Qualifier};
-use gs_ai::Part::{Date, Num, NumCheck, NumUpTo, Set, SetOpt, Zero};
-use gs_ai::{AiRow, Part, Role};
+use crate::part::Part::{Date, Num, NumCheck, NumUpTo, Set, SetOpt, Zero};
+use crate::part::{Part, Role};
+use crate::row::AiRow;
 use gs_chars::{List, Memory, Text};
 use std::alloc::Global;
 
@@ -70,7 +71,7 @@ fn push_rows(alloc: Global, rows: &mut Vec<AiRow>, lines: &[AiLine<'_>]) -> Resu
 }
 
 /// Logistic units, trade items and lots.
-#[tactic(auto, unfolding(crate::specs::BuiltIn::item_ais))]
+#[tactic(auto, unfolding(crate::specs::BuiltInAis::item_ais))]
 fn add_items(alloc: Global, rows: &mut Vec<AiRow>) -> Result<(), Memory>
     ensures { OnOk result (rows.new.items ≡ rows.old.items ++ item_ais) }
 {
@@ -87,7 +88,7 @@ fn add_items(alloc: Global, rows: &mut Vec<AiRow>) -> Result<(), Memory>
 }
 
 /// Dates.
-#[tactic(auto, unfolding(crate::specs::BuiltIn::date_ais))]
+#[tactic(auto, unfolding(crate::specs::BuiltInAis::date_ais))]
 fn add_dates(alloc: Global, rows: &mut Vec<AiRow>) -> Result<(), Memory>
     ensures { OnOk result (rows.new.items ≡ rows.old.items ++ date_ais) }
 {
@@ -106,7 +107,7 @@ fn add_dates(alloc: Global, rows: &mut Vec<AiRow>) -> Result<(), Memory>
 }
 
 /// Variants, serials and counts.
-#[tactic(auto, unfolding(crate::specs::BuiltIn::variant_ais))]
+#[tactic(auto, unfolding(crate::specs::BuiltInAis::variant_ais))]
 fn add_variants(alloc: Global, rows: &mut Vec<AiRow>) -> Result<(), Memory>
     ensures { OnOk result (rows.new.items ≡ rows.old.items ++ variant_ais) }
 {
@@ -124,7 +125,7 @@ fn add_variants(alloc: Global, rows: &mut Vec<AiRow>) -> Result<(), Memory>
 }
 
 /// Additional identifications, documents and extensions of locations.
-#[tactic(auto, unfolding(crate::specs::BuiltIn::additional_ais))]
+#[tactic(auto, unfolding(crate::specs::BuiltInAis::additional_ais))]
 fn add_additional(alloc: Global, rows: &mut Vec<AiRow>) -> Result<(), Memory>
     ensures { OnOk result (rows.new.items ≡ rows.old.items ++ additional_ais) }
 {
@@ -143,7 +144,7 @@ fn add_additional(alloc: Global, rows: &mut Vec<AiRow>) -> Result<(), Memory>
 }
 
 /// Net weights.
-#[tactic(auto, unfolding(crate::specs::BuiltIn::weight_ais))]
+#[tactic(auto, unfolding(crate::specs::BuiltInAis::weight_ais))]
 fn add_weights(alloc: Global, rows: &mut Vec<AiRow>) -> Result<(), Memory>
     ensures { OnOk result (rows.new.items ≡ rows.old.items ++ weight_ais) }
 {
@@ -162,7 +163,7 @@ fn add_weights(alloc: Global, rows: &mut Vec<AiRow>) -> Result<(), Memory>
 }
 
 /// Orders, consignments and shipments.
-#[tactic(auto, unfolding(crate::specs::BuiltIn::shipment_ais))]
+#[tactic(auto, unfolding(crate::specs::BuiltInAis::shipment_ais))]
 fn add_shipments(alloc: Global, rows: &mut Vec<AiRow>) -> Result<(), Memory>
     ensures { OnOk result (rows.new.items ≡ rows.old.items ++ shipment_ais) }
 {
@@ -179,7 +180,7 @@ fn add_shipments(alloc: Global, rows: &mut Vec<AiRow>) -> Result<(), Memory>
 }
 
 /// Parties that goods are sent, billed or bought for.
-#[tactic(auto, unfolding(crate::specs::BuiltIn::party_ais))]
+#[tactic(auto, unfolding(crate::specs::BuiltInAis::party_ais))]
 fn add_parties(alloc: Global, rows: &mut Vec<AiRow>) -> Result<(), Memory>
     ensures { OnOk result (rows.new.items ≡ rows.old.items ++ party_ais) }
 {
@@ -196,7 +197,7 @@ fn add_parties(alloc: Global, rows: &mut Vec<AiRow>) -> Result<(), Memory>
 }
 
 /// Locations, and parties by themselves.
-#[tactic(auto, unfolding(crate::specs::BuiltIn::location_ais))]
+#[tactic(auto, unfolding(crate::specs::BuiltInAis::location_ais))]
 fn add_locations(alloc: Global, rows: &mut Vec<AiRow>) -> Result<(), Memory>
     ensures { OnOk result (rows.new.items ≡ rows.old.items ++ location_ais) }
 {
@@ -213,7 +214,7 @@ fn add_locations(alloc: Global, rows: &mut Vec<AiRow>) -> Result<(), Memory>
 }
 
 /// Assets and services.
-#[tactic(auto, unfolding(crate::specs::BuiltIn::asset_ais))]
+#[tactic(auto, unfolding(crate::specs::BuiltInAis::asset_ais))]
 fn add_assets(alloc: Global, rows: &mut Vec<AiRow>) -> Result<(), Memory>
     ensures { OnOk result (rows.new.items ≡ rows.old.items ++ asset_ais) }
 {
@@ -232,7 +233,7 @@ fn add_assets(alloc: Global, rows: &mut Vec<AiRow>) -> Result<(), Memory>
 }
 
 /// What partners agree on, and the first that companies use for themselves.
-#[tactic(auto, unfolding(crate::specs::BuiltIn::agreed_ais))]
+#[tactic(auto, unfolding(crate::specs::BuiltInAis::agreed_ais))]
 fn add_agreed(alloc: Global, rows: &mut Vec<AiRow>) -> Result<(), Memory>
     ensures { OnOk result (rows.new.items ≡ rows.old.items ++ agreed_ais) }
 {
@@ -250,7 +251,7 @@ fn add_agreed(alloc: Global, rows: &mut Vec<AiRow>) -> Result<(), Memory>
 }
 
 /// What companies use for themselves.
-#[tactic(auto, unfolding(crate::specs::BuiltIn::company_ais))]
+#[tactic(auto, unfolding(crate::specs::BuiltInAis::company_ais))]
 fn add_company(alloc: Global, rows: &mut Vec<AiRow>) -> Result<(), Memory>
     ensures { OnOk result (rows.new.items ≡ rows.old.items ++ company_ais) }
 {
@@ -291,7 +292,7 @@ fn add_others(alloc: Global, rows: &mut Vec<AiRow>) -> Result<(), Memory>
 }
 
 /// Appends the built-in application identifiers.
-#[tactic(auto, unfolding(crate::specs::BuiltIn::builtin_ais))]
+#[tactic(auto, unfolding(crate::specs::BuiltInAis::builtin_ais))]
 fn add_all(alloc: Global, rows: &mut Vec<AiRow>) -> Result<(), Memory>
     ensures { OnOk result (rows.new.items ≡ rows.old.items ++ builtin_ais) }
 {
@@ -299,8 +300,9 @@ fn add_all(alloc: Global, rows: &mut Vec<AiRow>) -> Result<(), Memory>
     add_others(alloc, rows)
 }
 
-/// The built-in application identifiers.
-pub(crate) fn builtin_ais(alloc: Global) -> Result<List<AiRow>, Memory>
+/// The rows of the built-in application identifiers, in ascending order of their codes, or out of memory. They are those of GS1
+/// General Specifications, section 3, that are met most.
+pub fn builtin_ais(alloc: Global) -> Result<List<AiRow>, Memory>
     ensures { IfOk result (λ rows. rows ≡ builtin_ais) }
 {
     let mut rows = Vec::new(alloc);

@@ -1,4 +1,4 @@
-use gs_ai::Part;
+use crate::part::Part;
 
 /// A row of an application identifier, written in a line.
 #[derive(Clone, Copy)]
