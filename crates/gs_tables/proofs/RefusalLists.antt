@@ -1,5 +1,6 @@
 -- The first refusal of rows as an answer.
-use Rattle.std.proofs.Common.{◌≡◌, ℕ, true, false, List, [], ◌++◌, take, Some, slice_get, refl}
+use Rattle.std.proofs.Common.{◌≡◌, ◌≢◌, ◌==◌, ℕ, not, true, false, List, [], ◌∷◌, ◌++◌, map, take, Some, slice_get, refl, ap, arith}
+use Rattle.std.proofs.lemmas.Bool.Decides.{nat_tests}
 use Rattle.std.specs.Prelude.{Result, Ok, Err}
 use Rattle.gs_chars.proofs.TruthsAndLists.{first_of_front}
 use Rattle.gs_ai.specs.declared.row.AiRow.{AiRow}
@@ -7,9 +8,18 @@ use Rattle.gs_document.specs.declared.document.KindRow.{KindRow}
 use Rattle.gs_document.specs.declared.fault.LoadFault.{LoadFault}
 use Rattle.gs_document.specs.declared.fault.LoadFault.TheVariants.{Json, Version, Limit, Ai, BadKind, BadItem, Mismatch, Duplicate, Ambiguous, Memory}
 use Rattle.gs_tables.specs.Rules.{is_kind}
-use Rattle.gs_tables.specs.Tables.{IsAnswer, IsFirst, kind_refusals}
+use Rattle.gs_tables.specs.Tables.{IsAnswer, IsFirst, kind_refusals, refuse_if}
 
 -- ---- answers by refusals
+
+-- the first of a list, and of what is made of its elements
+pub first_mapped : {A B : Type 0} (f : A → B) (xs : List A) (x : A) → slice_get xs 0 ≡ Some x → slice_get (map f xs) 0 ≡ Some (f x)
+first_mapped f [] x h = cc
+first_mapped f (y ∷ ys) x h = let e : y ≡ x = cc in ap (λ z. Some (f z)) e
+
+-- another version is refused
+pub version_first : (version : ℕ) → version ≢ 1 → slice_get (refuse_if (not (version == 1)) Version) 0 ≡ Some Version
+version_first version other = grind (arith, nat_tests)
 
 -- the first of two lists of refusals, one after the other
 pub first_in_front : (a b : List LoadFault) (e : LoadFault) → IsFirst a (Err e) → IsFirst (a ++ b) (Err e)

@@ -1,5 +1,6 @@
 ghost use Rattle.std.specs.Prelude.{◌≡◌, bytes_eq};
 ghost use Rattle.std.specs.List.{list_any};
+ghost use Rattle.gs_ai.specs.Tables.{is_key};
 ghost use Rattle.gs_tables.specs.Forms.{serial_at};
 ghost use Rattle.gs_tables.specs.Rules.{are_visible, fits_key, has_key, has_name, is_characters, is_kind, is_lead, is_new_name, is_serial_of};
 
@@ -81,11 +82,22 @@ fn is_serial_of(ais: &AiTable, row: &AiRow, form: KeyForm, serial: &[u8]) -> boo
     !has_tail && lists(row, serial) && is_characters(ais, serial)
 }
 
+/// Whether the row is that of a key.
+fn is_of_key(row: &AiRow) -> bool
+    ensures { result ≡ is_key row.now.role }
+{
+    match row.role {
+        Role::Key => true,
+        Role::Qualifier => false,
+        Role::Attribute | Role::Other => false,
+    }
+}
+
 /// Whether the row of the key has a form that a kind can have, which the lead digits and the serial fit.
 fn fits_key(ais: &AiTable, row: &AiRow, kind: &KindRow) -> bool
     ensures { result ≡ fits_key ais.now row.now kind.now }
 {
-    if !matches!(row.role, Role::Key) {
+    if !is_of_key(row) {
         return false;
     }
     match key_form(row.parts.items()) {

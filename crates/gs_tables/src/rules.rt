@@ -2,6 +2,7 @@ ghost use Rattle.std.specs.Prelude.{◌≡◌, ◌==◌, ◌||◌, ◌++◌, not
 ghost use Rattle.std.specs.List.{flat_map, enumerate_from};
 ghost use Rattle.gs_tables.specs.Rules.{is_kind};
 ghost use Rattle.gs_document.specs.Documents.{is_bits};
+ghost use Rattle.gs_document.specs.Limits.{most_rows};
 ghost use Rattle.gs_tables.specs.Tables.{IsFirst, has_long, kind_refusals, kinds_refusals, level_refusals, limit_refusals, more_than, option_refusals, refuse_if, rule_refusals};
 
 use crate::kind_rules::is_kind;
@@ -30,6 +31,13 @@ fn has_long(rows: &[OptionRow]) -> bool
     rows.iter().any(|row| row.items.items().len() > MOST_ITEMS)
 }
 
+/// Whether there are more application identifiers than there may be.
+fn has_many_ais(document: &Document) -> bool
+    ensures { result ≡ more_than most_rows document.now.ais }
+{
+    document.ais.items().len() > MOST_ROWS
+}
+
 /// The first of the limits of the numbers of rows that is passed.
 #[tactic(auto, unfolding(crate::specs::Tables::limit_refusals))]
 pub(crate) fn check_limits(document: &Document) -> Result<(), LoadFault>
@@ -38,7 +46,7 @@ pub(crate) fn check_limits(document: &Document) -> Result<(), LoadFault>
     let binary = document.binary.items();
     let tag = document.tag.items();
     let pure = document.pure.items();
-    if document.ais.items().len() > MOST_ROWS {
+    if has_many_ais(document) {
         return Err(LoadFault::Limit(LimitName::Ais));
     }
     if document.kinds.items().len() > MOST_KINDS {
