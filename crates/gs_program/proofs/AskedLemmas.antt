@@ -1,5 +1,5 @@
 -- What was done of what is asked, by how its files were loaded and what its command did.
-use Rattle.std.proofs.Common.{◌≡◌, ◌≢◌, ◌⊎◌, inl, inr, ℕ, ◌+◌, ◌≤◌, false, List, [], Option, refl, ap, arith}
+use Rattle.std.proofs.Common.{◌≡◌, ◌≢◌, ◌⊎◌, inl, inr, ℕ, ◌+◌, ◌≤◌, false, List, [], Option, refl, sym, ap, ◌∙◌}
 use Rattle.std.specs.Prelude.{Result, Ok, Err}
 use Rattle.gs_lines.specs.declared.status.Status.{Status}
 use Rattle.gs_gen.proofs.OneCount.{some_generated}
@@ -9,22 +9,23 @@ use Rattle.gs_lines.specs.Printing.{IsInitialPart, PrintedAs}
 use Rattle.gs_lines.specs.Statuses.{OnAnswered, OnCutShort, OnReadFault, OnRefused, OnWriteFault, OnWritten, is_answered, is_cut_short, is_read_fault, is_written}
 use Rattle.gs_lines.proofs.StatusLemmas.{when_map}
 use Rattle.gs_port.specs.Connections.{Finished}
-use Rattle.gs_port.specs.Contents.{append_known}
+use Rattle.gs_port.specs.Contents.{append_known, append_nothing}
 use Rattle.gs_port.specs.Counts.{Rises}
 use Rattle.gs_tables.specs.Judged.{IsLoaded}
 use Rattle.gs_translate.specs.Steps.{HasSome}
 use Rattle.gs_program.specs.declared.command.Command.{Command}
 use Rattle.gs_program.specs.declared.command.Command.TheVariants.{Canon, Translate, Check, Resolve, Serve, Gen}
 use Rattle.gs_program.specs.declared.loading.Loaded.{Loaded}
+use Rattle.gs_program.specs.declared.loading.Unloaded.{Unloaded}
 use Rattle.gs_program.specs.declared.loading.Unloaded.TheVariants as unloaded
 use Rattle.gs_program.specs.declared.refusal.Refusal.{Refusal}
-use Rattle.gs_program.specs.Asking.{AskedRan}
+use Rattle.gs_program.specs.Asking.{AskedRan, Reports}
 use Rattle.gs_program.specs.Commands.{reads_input}
 use Rattle.gs_program.specs.Loads.{FilesGive, LoadedBy, Stop, missing, refused}
 use Rattle.gs_program.specs.Ran.{BeginsOne, CommandCause, CommandRan, Moment}
 use Rattle.gs_program.specs.Refusals.{refused_line}
 use Rattle.gs_program.specs.Requests.{Asked, Values}
-use Rattle.gs_program.specs.Runs.{AskedEnded, AskedRun, Counts, World, none_finished, ran, some_finished, stopped, stops}
+use Rattle.gs_program.specs.Runs.{AskedEnded, AskedRun, Counts, World, WritesAfterFault, none_finished, ran, some_finished, stopped, stops}
 use Rattle.gs_program.specs.Works.{CommandEnded, CommandRun, Doorway, Leaves, LeavesOutput, Outcome, canonizing, counts_line, input_limit, outcome_of, site_of, translating}
 use Rattle.gs_program.proofs.LineLemmas.{translated_some}
 use Rattle.gs_program.proofs.LoadLemmas.{files_some}
@@ -146,7 +147,7 @@ asked_by asked world before now output status.ReadFault written begun read write
 asked_by asked world before now output status.WriteFault written begun read write refusal done some long usage files inputs outputs = record { written = tt; begun = begun; finished = none_finished refl; read_fault = tt; write_fault = write; refusal = tt; to_end = tt; long = tt; few = λ lines. takes_nothing (input_limit + 1) world.input; file_counts = files; input_counts = same_count _ _ inputs; output_counts = outputs; no_usage = usage }
 asked_by asked world before now output status.Memory written begun read write refusal done some long usage files inputs outputs = record { written = tt; begun = begun; finished = none_finished refl; read_fault = tt; write_fault = tt; refusal = tt; to_end = tt; long = tt; few = λ lines. takes_nothing (input_limit + 1) world.input; file_counts = files; input_counts = same_count _ _ inputs; output_counts = outputs; no_usage = usage }
 
-pub asked_of_refusal : (asked : Asked) (world : World) (before now : Counts) (refusal : Refusal) (output : List ℕ) (s : Status) → FilesGive world.files asked (Err (refused refusal)) → PrintedAs status.Refused (refused_line refusal) output s → OnWriteFault s (Rises before.output_faults now.output_faults) → before.file_faults ≤ now.file_faults → before.input_faults ≡ now.input_faults → before.output_faults ≤ now.output_faults → AskedRan asked world before now world.input (outcome_of output s)
+asked_of_refusal : (asked : Asked) (world : World) (before now : Counts) (refusal : Refusal) (output : List ℕ) (s : Status) → FilesGive world.files asked (Err (refused refusal)) → PrintedAs status.Refused (refused_line refusal) output s → OnWriteFault s (Rises before.output_faults now.output_faults) → before.file_faults ≤ now.file_faults → before.input_faults ≡ now.input_faults → before.output_faults ≤ now.output_faults → AskedRan asked world before now world.input (outcome_of output s)
 asked_of_refusal asked world before now refusal output s gives printed write files inputs outputs = by (printed_case status.Refused (refused_line refusal) output s printed)
   where
     by : PrintedCase status.Refused (refused_line refusal) output s → AskedRan asked world before now world.input (outcome_of output s)
@@ -155,7 +156,7 @@ asked_of_refusal asked world before now refusal output s gives printed write fil
     by (no_memory e p) = rw e (asked_by asked world before now output status.Memory tt (begins_refusal asked world refusal output gives p) tt tt tt (λ e. cc) (λ e. cc) (λ e. cc) (λ e. cc) files inputs outputs)
 
 -- a refusal that is printed is no read fault
-pub no_read_fault : (fact : Type 0) (line output : List ℕ) (s : Status) → PrintedAs status.Refused line output s → OnReadFault s fact
+no_read_fault : (fact : Type 0) (line output : List ℕ) (s : Status) → PrintedAs status.Refused line output s → OnReadFault s fact
 no_read_fault fact line output s printed = by (printed_case status.Refused line output s printed)
   where
     by : PrintedCase status.Refused line output s → OnReadFault s fact
@@ -165,16 +166,16 @@ no_read_fault fact line output s printed = by (printed_case status.Refused line 
 
 -- ---- nothing was loaded
 
-pub asked_of_fault : (asked : Asked) (world : World) (before now : Counts) → LoadedBy (FilesGive world.files asked) before.file_faults now.file_faults (Err unloaded.ReadFault) → before.file_faults ≤ now.file_faults → before.input_faults ≡ now.input_faults → before.output_faults ≡ now.output_faults → AskedRan asked world before now world.input (outcome_of [] status.ReadFault)
+asked_of_fault : (asked : Asked) (world : World) (before now : Counts) → LoadedBy (FilesGive world.files asked) before.file_faults now.file_faults (Err unloaded.ReadFault) → before.file_faults ≤ now.file_faults → before.input_faults ≡ now.input_faults → before.output_faults ≤ now.output_faults → AskedRan asked world before now world.input (outcome_of [] status.ReadFault)
 asked_of_fault asked world before now cause files inputs outputs =
-    asked_by asked world before now [] status.ReadFault tt (begins_nothing asked world) cause tt tt (λ e. cc) (λ e. cc) (λ e. cc) (λ e. cc) files inputs (omega arith)
+    asked_by asked world before now [] status.ReadFault tt (begins_nothing asked world) cause tt tt (λ e. cc) (λ e. cc) (λ e. cc) (λ e. cc) files inputs outputs
 
-pub asked_of_memory : (asked : Asked) (world : World) (before now : Counts) → before.file_faults ≤ now.file_faults → before.input_faults ≡ now.input_faults → before.output_faults ≡ now.output_faults → AskedRan asked world before now world.input (outcome_of [] status.Memory)
+asked_of_memory : (asked : Asked) (world : World) (before now : Counts) → before.file_faults ≤ now.file_faults → before.input_faults ≡ now.input_faults → before.output_faults ≤ now.output_faults → AskedRan asked world before now world.input (outcome_of [] status.Memory)
 asked_of_memory asked world before now files inputs outputs =
-    asked_by asked world before now [] status.Memory tt (begins_nothing asked world) tt tt tt (λ e. cc) (λ e. cc) (λ e. cc) (λ e. cc) files inputs (omega arith)
+    asked_by asked world before now [] status.Memory tt (begins_nothing asked world) tt tt tt (λ e. cc) (λ e. cc) (λ e. cc) (λ e. cc) files inputs outputs
 
 -- the line of a refusal answers nothing
-pub refusal_answered : (fact : Type 0) (line output : List ℕ) (s : Status) → PrintedAs status.Refused line output s → OnAnswered s fact
+refusal_answered : (fact : Type 0) (line output : List ℕ) (s : Status) → PrintedAs status.Refused line output s → OnAnswered s fact
 refusal_answered fact line output s p = by (printed_case status.Refused line output s p)
   where
     by : PrintedCase status.Refused line output s → OnAnswered s fact
@@ -182,10 +183,36 @@ refusal_answered fact line output s p = by (printed_case status.Refused line out
     by (fault e p) = rw e tt
     by (no_memory e p) = rw e tt
 
-pub refusal_unanswered : (line output : List ℕ) (s : Status) → PrintedAs status.Refused line output s → is_answered s ≡ false
+refusal_unanswered : (line output : List ℕ) (s : Status) → PrintedAs status.Refused line output s → is_answered s ≡ false
 refusal_unanswered line output s p = by (printed_case status.Refused line output s p)
   where
     by : PrintedCase status.Refused line output s → is_answered s ≡ false
     by (whole e f) = ap is_answered e
     by (fault e p) = ap is_answered e
     by (no_memory e p) = ap is_answered e
+
+-- ---- what is not loaded is reported
+
+pub reports_unanswered : (why : Unloaded) (s : Status) (held held' : Option (List ℕ)) → Reports why s held held' → is_answered s ≡ false
+reports_unanswered (unloaded.Refused refusal) s held held' r = refusal_unanswered (refused_line refusal) r.0 s r.2
+reports_unanswered unloaded.ReadFault s held held' r = ap is_answered r.0
+reports_unanswered unloaded.Memory s held held' r = ap is_answered r.0
+
+pub reports_answered : (fact : Type 0) (why : Unloaded) (s : Status) (held held' : Option (List ℕ)) → Reports why s held held' → OnAnswered s fact
+reports_answered fact (unloaded.Refused refusal) s held held' r = refusal_answered fact (refused_line refusal) r.0 s r.2
+reports_answered fact unloaded.ReadFault s held held' r = rw r.0 tt
+reports_answered fact unloaded.Memory s held held' r = rw r.0 tt
+
+-- nothing was written after a read fault
+pub reports_nothing : (Same Counted : Type 0) (IsEnded : List ℕ → Type 0) (why : Unloaded) (s : Status) (held held' : Option (List ℕ)) → Same → Reports why s held held' → OnReadFault s (WritesAfterFault Same Counted held held' IsEnded)
+reports_nothing Same Counted IsEnded (unloaded.Refused refusal) s held held' same r = no_read_fault _ (refused_line refusal) r.0 s r.2
+reports_nothing Same Counted IsEnded unloaded.ReadFault s held held' same r = rw r.0 (inl (same, ([], r.1 ∙ sym (append_nothing held), refl)))
+reports_nothing Same Counted IsEnded unloaded.Memory s held held' same r = rw r.0 tt
+
+pub asked_of_report : (asked : Asked) (world : World) (before now : Counts) (why : Unloaded) (s : Status) (held held' : Option (List ℕ)) → LoadedBy (FilesGive world.files asked) before.file_faults now.file_faults (Err why) → Reports why s held held' → OnWriteFault s (Rises before.output_faults now.output_faults) → before.file_faults ≤ now.file_faults → before.input_faults ≡ now.input_faults → before.output_faults ≤ now.output_faults → Appends held held' (λ output. AskedRan asked world before now world.input (outcome_of output s))
+asked_of_report asked world before now (unloaded.Refused refusal) s held held' gives r write files inputs outputs =
+    (r.0, r.1, asked_of_refusal asked world before now refusal r.0 s gives r.2 write files inputs outputs)
+asked_of_report asked world before now unloaded.ReadFault s held held' cause r write files inputs outputs =
+    ([], r.1 ∙ sym (append_nothing held), rw r.0 (asked_of_fault asked world before now cause files inputs outputs))
+asked_of_report asked world before now unloaded.Memory s held held' gives r write files inputs outputs =
+    ([], r.1 ∙ sym (append_nothing held), rw r.0 (asked_of_memory asked world before now files inputs outputs))

@@ -1,13 +1,18 @@
 -- What was done of what is asked.
 use Rattle.std.specs.Prelude.{◌≡◌, ◌≢◌, ◌⊎◌, ℕ, ◌+◌, ◌≤◌, true, List, Option, Err}
-use Rattle.gs_lines.specs.declared.status.Status.TheVariants.{Usage}
+use Rattle.gs_lines.specs.declared.status.Status.{Status}
+use Rattle.gs_lines.specs.declared.status.Status.TheVariants.{Memory, ReadFault, Usage}
 use Rattle.gs_lines.specs.Inputs.{IsAtEnd, TakesAtMost, TakesMoreThan}
 use Rattle.gs_lines.specs.Statuses.{OnAnswered, OnCutShort, OnInputLong, OnReadFault, OnRefused, OnWriteFault, OnWritten}
 use Rattle.gs_port.specs.Counts.{Rises}
+use Rattle.gs_program.specs.declared.loading.Unloaded.{Unloaded}
+use Rattle.gs_program.specs.declared.loading.Unloaded.TheVariants as unloaded
+use Rattle.gs_program.specs.declared.loading.Unloaded.TheVariants.{Refused}
 use Rattle.gs_program.specs.declared.refusal.Refusal.{Refusal}
 use Rattle.gs_program.specs.Commands.{answers_lines}
 use Rattle.gs_program.specs.Loads.{FilesGive, missing, refused}
 use Rattle.gs_program.specs.Ran.{BeginsOne}
+use Rattle.gs_program.specs.Refusals.{PrintsRefusal}
 use Rattle.gs_program.specs.Requests.{Asked}
 use Rattle.gs_program.specs.Runs.{AskedFinished, AskedRun, Counts, World}
 use Rattle.gs_program.specs.Works.{Outcome, input_limit}
@@ -33,3 +38,9 @@ pub record AskedRan (asked : Asked) (world : World) (before now : Counts) (left 
   pub input_counts : before.input_faults ≤ now.input_faults
   pub output_counts : before.output_faults ≤ now.output_faults
   pub no_usage : outcome.status ≢ Usage
+
+-- what is written of files that are not loaded, and how a run ends: the line of a refused file, or nothing
+abbrev pub Reports : Unloaded → Status → Option (List ℕ) → Option (List ℕ) → Type 0
+Reports (Refused refusal) ending held held' = PrintsRefusal refusal ending held held'
+Reports unloaded.ReadFault ending held held' = (ending ≡ ReadFault) × (held' ≡ held)
+Reports unloaded.Memory ending held held' = (ending ≡ Memory) × (held' ≡ held)

@@ -1,5 +1,6 @@
 ghost use Rattle.std.specs.Prelude.{◌≡◌, ◌∷◌, IfSome, IfNone, Some, map, string_bytes};
 ghost use Rattle.gs_program.specs.CommandReads.{canon_of, command_by, command_of, form_named, gen_of, target_named, told_split, translation_of};
+ghost use Rattle.gs_program.specs.Commands.{form_word, target_word};
 ghost use Rattle.gs_program.specs.Requests.{Asks, AsksNothing, NotInOrder, WordsInOrder, told_request, told_words};
 
 use crate::command::Command;
@@ -18,57 +19,68 @@ pub struct Split<'a> {
     pub behind: &'a [String],
 }
 
+/// The word of a form.
+fn form_word(form: Form) -> &'static str
+    ensures { result.now ≡ form_word form }
+{
+    match form {
+        Form::Hex => "hex",
+        Form::Tag => "tag",
+        Form::Pure => "pure",
+        Form::Raw => "raw",
+        Form::Bracketed => "bracketed",
+        Form::Link => "link",
+    }
+}
+
+/// The word of a form that texts are translated to.
+fn target_word(target: Target) -> &'static str
+    ensures { result.now ≡ target_word target }
+{
+    match target {
+        Target::Hex => "hex",
+        Target::Tag => "tag",
+        Target::Pure => "pure",
+        Target::Raw => "raw",
+        Target::Bracketed => "bracketed",
+        Target::Link => "link",
+        Target::Canon => "canon",
+    }
+}
+
 /// The form of a word.
 fn form_named(word: &str) -> Option<Form>
     ensures { result ≡ form_named word.now }
 {
-    if word == "hex" {
-        return Some(Form::Hex);
-    }
-    if word == "tag" {
-        return Some(Form::Tag);
-    }
-    if word == "pure" {
-        return Some(Form::Pure);
-    }
-    if word == "raw" {
-        return Some(Form::Raw);
-    }
-    if word == "bracketed" {
-        return Some(Form::Bracketed);
-    }
-    if word == "link" {
-        return Some(Form::Link);
-    }
-    None
+    [
+        Form::Hex,
+        Form::Tag,
+        Form::Pure,
+        Form::Raw,
+        Form::Bracketed,
+        Form::Link,
+    ]
+    .iter()
+    .find(|form| word == form_word(**form))
+    .copied()
 }
 
 /// The form of a word that texts are translated to.
 fn target_named(word: &str) -> Option<Target>
     ensures { result ≡ target_named word.now }
 {
-    if word == "hex" {
-        return Some(Target::Hex);
-    }
-    if word == "tag" {
-        return Some(Target::Tag);
-    }
-    if word == "pure" {
-        return Some(Target::Pure);
-    }
-    if word == "raw" {
-        return Some(Target::Raw);
-    }
-    if word == "bracketed" {
-        return Some(Target::Bracketed);
-    }
-    if word == "link" {
-        return Some(Target::Link);
-    }
-    if word == "canon" {
-        return Some(Target::Canon);
-    }
-    None
+    [
+        Target::Hex,
+        Target::Tag,
+        Target::Pure,
+        Target::Raw,
+        Target::Bracketed,
+        Target::Link,
+        Target::Canon,
+    ]
+    .iter()
+    .find(|target| word == target_word(**target))
+    .copied()
 }
 
 /// The command `canon` of the word of a form, and the words behind it.

@@ -2,7 +2,7 @@ ghost use Rattle.std.specs.Prelude.{◌≡◌, ◌≤◌, [], false, true};
 ghost use Rattle.gs_lines.specs.Statuses.{OnReadFault, OnRefused, OnWriteFault};
 ghost use Rattle.gs_port.specs.Counts.{Rises};
 ghost use Rattle.gs_translate.specs.Translations.{AreInOrder};
-ghost use Rattle.gs_program.specs.Asking.{AskedRan};
+ghost use Rattle.gs_program.specs.Asking.{AskedRan, Reports};
 ghost use Rattle.gs_program.specs.Commands.{answers_heads, reads_input, uses_door};
 ghost use Rattle.gs_program.specs.Loads.{OpensFirst};
 ghost use Rattle.gs_program.specs.Ranges.{is_vocabulary};
@@ -30,6 +30,19 @@ fn print_refusal<K: Sink>(alloc: Global, refusal: &Refusal, output: &mut K) -> S
     match refused_line(alloc, refusal) {
         Ok(line) => print_line(output, line.as_slice(), Status::Refused),
         Err(Memory) => Status::Memory,
+    }
+}
+
+/// Writes the line of a refused file, and nothing where a file is not there or cannot be read.
+fn report<K: Sink>(alloc: Global, unloaded: &Unloaded, output: &mut K) -> Status
+    ensures written { Reports unloaded.now result (K.held output.old) (K.held output.new) }
+    ensures fault { OnWriteFault result (Rises (K.faults output.old) (K.faults output.new)) }
+    ensures counts { K.faults output.old ≤ K.faults output.new }
+{
+    match unloaded {
+        Unloaded::Refused(refusal) => print_refusal(alloc, refusal, output),
+        Unloaded::ReadFault => Status::ReadFault,
+        Unloaded::Memory => Status::Memory,
     }
 }
 
@@ -80,8 +93,6 @@ pub fn run_request<F: Files, S: Source, K: Sink, D: Door>(
             output,
             door,
         ),
-        Err(Unloaded::Refused(refusal)) => print_refusal(alloc, &refusal, output),
-        Err(Unloaded::ReadFault) => Status::ReadFault,
-        Err(Unloaded::Memory) => Status::Memory,
+        Err(unloaded) => report(alloc, &unloaded, output),
     }
 }

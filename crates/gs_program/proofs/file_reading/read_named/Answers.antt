@@ -26,3 +26,6 @@ returns-in-Err-Failed-clause-counts g c = c.read_file.ensures.counts
 
 pub returns-in-Err-Failed-clause-opened : goal.returns-in-Err-Failed-clause-opened
 returns-in-Err-Failed-clause-opened g c = c.read_file.ensures.named
+
+pub returns-in-Err-Failed-clause-read : goal.returns-in-Err-Failed-clause-read
+returns-in-Err-Failed-clause-read g c = rw c.in-Err-Failed.field-0-is at c.in-Err-Failed.ensures.failed
