@@ -86,11 +86,7 @@ fn is_serial_of(ais: &AiTable, row: &AiRow, form: KeyForm, serial: &[u8]) -> boo
 fn is_of_key(row: &AiRow) -> bool
     ensures { result ≡ is_key row.now.role }
 {
-    match row.role {
-        Role::Key => true,
-        Role::Qualifier => false,
-        Role::Attribute | Role::Other => false,
-    }
+    matches!(row.role, Role::Key)
 }
 
 /// Whether the row of the key has a form that a kind can have, which the lead digits and the serial fit.
