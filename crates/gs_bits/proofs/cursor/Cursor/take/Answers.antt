@@ -1,4 +1,4 @@
-use Rattle.std.proofs.Common.{◌+◌, ◌≤◌, ◌∙◌, sym, ap, length, take, arith, length-drop}
+use Rattle.std.proofs.Common.{◌+◌, ◌≤◌, ◌∙◌, sym, ap, length, take, refl, arith, length-drop}
 use Rattle.gs_bits.specs.Bits.{number_of}
 use Rattle.gs_bits.specs.Packed.{packed_bits}
 use Rattle.gs_bits.proofs.PackedBits.{length-packed, within_packed}
@@ -18,3 +18,6 @@ returns-clause-number g c =
     let within : cursor.at + c.args.n ≤ cursor.len = omega arith in
     c.number_in-number.ensures ∙ ap number_of (sym (within_packed cursor.at c.args.n cursor.len cursor.bytes.now within))
     ∙ ap (λ bits. number_of (take c.args.n bits)) c.self.view_is
+
+pub returns-then-self-n-clause-stays : goal.returns-then-self-n-clause-stays
+returns-then-self-n-clause-stays g c = refl
