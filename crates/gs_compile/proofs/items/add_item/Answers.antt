@@ -7,3 +7,10 @@ pub returns-in-Int : goal.returns-in-Int
 returns-in-Int c =
     let small : c.in-Int.max < 2 ^ 64 = omega arith in
     ok_follows _ _ (λ new. int_added _ _ _ new c.in-Int.is small) c.add_numeral.result c.add_numeral.ensures
+
+pub returns-in-Fill : goal.returns-in-Fill
+returns-in-Fill c =
+    ok_follows _ _ (λ new e. rw c.in-Fill.is (rw (c.from-in-Fill.ensures, c.from-in-Fill-2.ensures) at e)) c.add_fill.result c.add_fill.ensures
+
+pub returns-in-Pad : goal.returns-in-Pad
+returns-in-Pad c = ok_follows _ _ (λ new e. rw c.in-Pad.is (rw c.from.ensures at e)) c.add_run.result c.add_run.ensures
