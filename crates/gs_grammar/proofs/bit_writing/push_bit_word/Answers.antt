@@ -19,3 +19,6 @@ push_decimal-requires g c =
 
 pub returns-in-NumPad : goal.returns-in-NumPad
 returns-in-NumPad g c = rw (bits_written _ _ _ c.in-NumPad.is) c.push_decimal.ensures
+
+pub returns-in-Fill : goal.returns-in-Fill
+returns-in-Fill g c = rw c.in-Fill.is (rw c.from-in-Fill.ensures at c.push_zeros-in-Fill.ensures)
