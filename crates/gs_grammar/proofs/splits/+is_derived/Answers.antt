@@ -1,5 +1,5 @@
-use Rattle.std.proofs.Common.{refl, arith}
-use Rattle.gs_grammar.proofs.Cuts.{nil_derived, last_found, cut_derived, no_split, none_below, not_derived, never_derived, none_first, first_item}
+use Rattle.std.proofs.Common.{refl, arith, rules}
+use Rattle.gs_grammar.proofs.Cuts.{nil_derived, last_found, cut_derived, no_split, none_below, not_derived, never_derived, none_first, first_item, other_items}
 use Rattle.gs_grammar.proofs.splits.+is_derived.Goals as goal
 
 pub returns-in_default : goal.returns-in_default
@@ -27,3 +27,12 @@ loop-cut-preserved t c =
 
 pub returns : goal.returns
 returns t c = never_derived _ _ _ _ _ _ (first_item _ _ _ c.in-Some.ensures.cases.0 c.requires) c.in-Some.ensures.cases.0 c.loop-cut.invariant (grind arith) c.loop-cut-test.false
+
+pub is_word-requires : goal.is_word-requires
+is_word-requires t c = first_item _ _ _ c.in-Some.ensures.cases.0 c.requires
+
+pub is_word-requires-in-loop-cut : goal.is_word-requires-in-loop-cut
+is_word-requires-in-loop-cut t c = first_item _ _ _ c.in-Some.ensures.cases.0 c.requires
+
+pub is_derived-requires : goal.is_derived-requires
+is_derived-requires t c = (search rules, other_items _ _ _ c.in-Some.ensures.cases.0 c.requires)
