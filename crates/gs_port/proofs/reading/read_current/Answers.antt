@@ -73,3 +73,6 @@ returns-clause-count g c = c.loop-block.invariant.count
 
 pub returns-clause-counts : goal.returns-clause-counts
 returns-clause-counts g c = omega (arith, c.loop-block.invariant.count)
+
+pub returns-clause-over_length : goal.returns-clause-over_length
+returns-clause-over_length g c = rw c.from_vec-2.ensures (omega (arith, c.len.ensures))

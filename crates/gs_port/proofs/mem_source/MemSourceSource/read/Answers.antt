@@ -35,3 +35,12 @@ returns-clause-plan c = rw (← c.self.view_is) c.next_fails.ensures.after
 
 pub returns-clause-same_most : goal.returns-clause-same_most
 returns-clause-same_most c = rw (← c.self.view_is) refl
+
+pub returns-then-next_fails-clause-end : goal.returns-then-next_fails-clause-end
+returns-then-next_fails-clause-end c = tt
+
+pub returns-then-next_fails-clause-most : goal.returns-then-next_fails-clause-most
+returns-then-next_fails-clause-most c = tt
+
+pub returns-then-next_fails-clause-unplanned : goal.returns-then-next_fails-clause-unplanned
+returns-then-next_fails-clause-unplanned c = tt
