@@ -40,7 +40,9 @@ fn word_of_two(
     ensures found { IfFound result (λ word. BothAccept m.now n.now word.items) }
     ensures none { IfNotFound result (NoneInCommon m.now n.now) }
 {
-    make_ready(dead, m, n)?;
+    let Ok(()) = make_ready(dead, m, n) else {
+        return Err(Memory);
+    };
     search(alloc, m, n, m.start(), n.start(), dead)
 }
 
