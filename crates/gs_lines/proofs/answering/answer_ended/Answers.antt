@@ -11,3 +11,8 @@ returns-clause-held g c =
     let buffer = c.args.buffer.now in
     let lines : c.ended-lines.result.now ≡ ended_lines buffer = c.ended-lines.ensures ∙ ap ended_lines c.bytes.ensures in
     c.hold_from.ensures ∙ ap (λ w. take most_held (drop (length w) buffer)) lines ∙ ap (take most_held) (behind_ended buffer)
+
+pub returns-clause-written : goal.returns-clause-written
+returns-clause-written g c =
+    let lines : c.ended-lines.result.now ≡ ended_lines c.args.buffer.now = c.ended-lines.ensures ∙ ap ended_lines c.bytes.ensures in
+    rw lines at c.write_answers-answering.ensures.written
