@@ -7,8 +7,9 @@ use Rattle.gs_links.specs.Choices.{chosen, is_candidate}
 use Rattle.gs_links.specs.Documents.{linked}
 use Rattle.gs_links.specs.declared.link.Link.{Link}
 use Rattle.gs_links.specs.declared.link.Want.TheVariants.{Relation as RelationOf}
+use Rattle.gs_http.specs.declared.wish.Wish.{Wish}
 use Rattle.gs_http.specs.declared.wish.Wish.TheVariants.{Linkset, Relation}
-use Rattle.gs_http.specs.Answers.{by_links, choices, linkset, redirect, text_of}
+use Rattle.gs_http.specs.Answers.{by_links, choices, linkset, not_found, redirect, text_of}
 use Rattle.gs_http.specs.Wishes.{want_of}
 
 pub same_want : (links : List Link) (identity : Elements) (name : List ℕ) (lent : Bor (List ℕ)) → lent.now ≡ name → chosen links identity (RelationOf lent) ≡ chosen links identity (want_of (Relation name))
@@ -19,6 +20,10 @@ there : (links : List Link) (i : ℕ) → i < length links → (link : Link) × 
 there [] i low = absurd (omega arith)
 there (link ∷ links) zero low = (link, refl)
 there (link ∷ links) (suc i) low = there links i (omega arith)
+
+pub no_links : (links : List Link) (numbers : List ℕ) (wish : Wish) → length numbers ≡ 0 → not_found ≡ by_links wish (linked links numbers)
+no_links links [] wish none = refl
+no_links links (i ∷ numbers) wish none = absurd (omega arith)
 
 pub one_link : (links : List Link) (numbers : List ℕ) (link : Link) (name : List ℕ) → length numbers ≡ 1 → slice_get links (slice_index_or numbers 0 0) ≡ Some link → redirect link.target.href ≡ by_links (Relation name) (linked links numbers)
 one_link links [] link name one at = absurd (omega arith)
