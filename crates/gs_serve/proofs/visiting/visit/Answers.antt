@@ -20,3 +20,6 @@ pub returns-in-Failed-clause-did : goal.returns-in-Failed-clause-did
 returns-in-Failed-clause-did g c =
     visited_none c.args.site.now _ _ (ap (λ (a : Aside). a.waiting) c.in-Failed.ensures.aside) (ap (λ (a : Aside). a.finished) c.in-Failed.ensures.aside)
     c.in-Failed.ensures.same_reads c.in-Failed.ensures.same_writes
+
+pub returns-in-Closed-clause-own_count : goal.returns-in-Closed-clause-own_count
+returns-in-Closed-clause-own_count g c = ap (λ (a : Aside). a.faults) c.in-Closed.ensures.aside
