@@ -1,5 +1,6 @@
-use Rattle.std.proofs.Common.{[], refl, sym, ap, inr}
+use Rattle.std.proofs.Common.{[], ◌∙◌, arith, refl, sym, ap, inr}
 use Rattle.gs_port.specs.Connections.{Aside}
+use Rattle.gs_port.specs.Counts.{counted}
 use Rattle.gs_port.specs.Contents.{append_nothing}
 use Rattle.gs_lines.specs.declared.status.Status.TheVariants.{ReadFault, Memory}
 use Rattle.gs_serve.proofs.RunLemmas.{nothing_served, run_failed, run_over, run_short}
@@ -52,3 +53,96 @@ returns-in-Memory-serve_all-clause-ran g c =
     let aside = c.in-Opened.ensures.aside in
     let first = visited_none c.args.site.now before opened (ap (λ (a : Aside). a.waiting) aside) (ap (λ (a : Aside). a.finished) aside) c.in-Opened.ensures.same_reads c.in-Opened.ensures.same_writes in
     ([], sym (append_nothing (g.K.Sink.held c.args.output.now)), run_short c.args.site.now c.args.count before opened now first c.in-Memory-serve_all.ensures.did)
+
+pub returns-in-Failed-clause-closed : goal.returns-in-Failed-clause-closed
+returns-in-Failed-clause-closed g c = c.in-Failed.ensures.same_current ∙ c.requires
+
+pub returns-in-Failed-clause-write_fault : goal.returns-in-Failed-clause-write_fault
+returns-in-Failed-clause-write_fault g c = tt
+
+pub returns-in-Failed-clause-door_count : goal.returns-in-Failed-clause-door_count
+returns-in-Failed-clause-door_count g c = ap (λ (a : Aside). a.faults) c.in-Failed.ensures.aside
+
+pub returns-in-Failed-clause-door_counts : goal.returns-in-Failed-clause-door_counts
+returns-in-Failed-clause-door_counts g c = c.in-Failed.ensures.counts
+
+pub returns-in-Failed-clause-output_counts : goal.returns-in-Failed-clause-output_counts
+returns-in-Failed-clause-output_counts g c = omega arith
+
+pub returns-in-Failed-clause-same_ends : goal.returns-in-Failed-clause-same_ends
+returns-in-Failed-clause-same_ends g c = c.in-Failed.ensures.same_ends
+
+pub returns-in-Memory-clause-closed : goal.returns-in-Memory-clause-closed
+returns-in-Memory-clause-closed g c = c.in-Memory.ensures.same_current ∙ c.requires
+
+pub returns-in-Memory-clause-write_fault : goal.returns-in-Memory-clause-write_fault
+returns-in-Memory-clause-write_fault g c = tt
+
+pub returns-in-Memory-clause-read_fault : goal.returns-in-Memory-clause-read_fault
+returns-in-Memory-clause-read_fault g c = tt
+
+pub returns-in-Memory-clause-door_count : goal.returns-in-Memory-clause-door_count
+returns-in-Memory-clause-door_count g c = ap (λ (a : Aside). a.faults) c.in-Memory.ensures.aside
+
+pub returns-in-Memory-clause-door_counts : goal.returns-in-Memory-clause-door_counts
+returns-in-Memory-clause-door_counts g c = c.in-Memory.ensures.counts
+
+pub returns-in-Memory-clause-output_counts : goal.returns-in-Memory-clause-output_counts
+returns-in-Memory-clause-output_counts g c = omega arith
+
+pub returns-in-Memory-clause-same_ends : goal.returns-in-Memory-clause-same_ends
+returns-in-Memory-clause-same_ends g c = c.in-Memory.ensures.same_ends
+
+pub returns-in-Over-clause-closed : goal.returns-in-Over-clause-closed
+returns-in-Over-clause-closed g c = c.in-Over.ensures.closed
+
+pub returns-in-Over-clause-door_counts : goal.returns-in-Over-clause-door_counts
+returns-in-Over-clause-door_counts g c = omega (arith, c.in-Over.ensures.own_counts, c.in-Opened.ensures.counts)
+
+pub returns-in-Over-clause-same_ends : goal.returns-in-Over-clause-same_ends
+returns-in-Over-clause-same_ends g c = c.in-Over.ensures.same_ends ∙ c.in-Opened.ensures.same_ends
+
+pub returns-in-Over-clause-write_fault : goal.returns-in-Over-clause-write_fault
+returns-in-Over-clause-write_fault g c = c.print_tally.ensures.fault
+
+pub returns-in-Over-clause-output_counts : goal.returns-in-Over-clause-output_counts
+returns-in-Over-clause-output_counts g c = c.print_tally.ensures.counts
+
+pub returns-in-Failed-serve_all-clause-closed : goal.returns-in-Failed-serve_all-clause-closed
+returns-in-Failed-serve_all-clause-closed g c = c.in-Failed-serve_all.ensures.closed
+
+pub returns-in-Failed-serve_all-clause-door_counts : goal.returns-in-Failed-serve_all-clause-door_counts
+returns-in-Failed-serve_all-clause-door_counts g c = omega (arith, c.in-Failed-serve_all.ensures.own_counts, c.in-Opened.ensures.counts)
+
+pub returns-in-Failed-serve_all-clause-same_ends : goal.returns-in-Failed-serve_all-clause-same_ends
+returns-in-Failed-serve_all-clause-same_ends g c = c.in-Failed-serve_all.ensures.same_ends ∙ c.in-Opened.ensures.same_ends
+
+pub returns-in-Failed-serve_all-clause-write_fault : goal.returns-in-Failed-serve_all-clause-write_fault
+returns-in-Failed-serve_all-clause-write_fault g c = tt
+
+pub returns-in-Failed-serve_all-clause-output_counts : goal.returns-in-Failed-serve_all-clause-output_counts
+returns-in-Failed-serve_all-clause-output_counts g c = omega arith
+
+pub returns-in-Failed-serve_all-clause-door_count : goal.returns-in-Failed-serve_all-clause-door_count
+returns-in-Failed-serve_all-clause-door_count g c = c.in-Failed-serve_all.ensures.own_count ∙ ap (λ (a : Aside). counted a.faults) c.in-Opened.ensures.aside
+
+pub returns-in-Memory-serve_all-clause-closed : goal.returns-in-Memory-serve_all-clause-closed
+returns-in-Memory-serve_all-clause-closed g c = c.in-Memory-serve_all.ensures.closed
+
+pub returns-in-Memory-serve_all-clause-door_counts : goal.returns-in-Memory-serve_all-clause-door_counts
+returns-in-Memory-serve_all-clause-door_counts g c = omega (arith, c.in-Memory-serve_all.ensures.own_counts, c.in-Opened.ensures.counts)
+
+pub returns-in-Memory-serve_all-clause-same_ends : goal.returns-in-Memory-serve_all-clause-same_ends
+returns-in-Memory-serve_all-clause-same_ends g c = c.in-Memory-serve_all.ensures.same_ends ∙ c.in-Opened.ensures.same_ends
+
+pub returns-in-Memory-serve_all-clause-write_fault : goal.returns-in-Memory-serve_all-clause-write_fault
+returns-in-Memory-serve_all-clause-write_fault g c = tt
+
+pub returns-in-Memory-serve_all-clause-output_counts : goal.returns-in-Memory-serve_all-clause-output_counts
+returns-in-Memory-serve_all-clause-output_counts g c = omega arith
+
+pub returns-in-Memory-serve_all-clause-read_fault : goal.returns-in-Memory-serve_all-clause-read_fault
+returns-in-Memory-serve_all-clause-read_fault g c = tt
+
+pub returns-in-Memory-serve_all-clause-door_count : goal.returns-in-Memory-serve_all-clause-door_count
+returns-in-Memory-serve_all-clause-door_count g c = c.in-Memory-serve_all.ensures.own_count ∙ ap (λ (a : Aside). a.faults) c.in-Opened.ensures.aside
