@@ -1,10 +1,14 @@
-use Rattle.std.proofs.Common.{Bool, true, false, ℕ, ◌≤◌, [], sym, arith}
+use Rattle.std.proofs.Common.{◌≡◌, ◌≢◌, Bool, true, false, ℕ, ◌≤◌, [], refl, sym, ap, ◌∙◌, arith}
 use Rattle.gs_port.specs.Contents.{append_nothing}
 use Rattle.gs_port.specs.Counts.{Rises}
 use Rattle.gs_lines.specs.declared.answering.Answering.{Answering}
 use Rattle.gs_lines.specs.declared.answering.Answering.TheVariants.{Whole, SinkFault, Memory}
 use Rattle.gs_lines.specs.Answering.{OnSinkFault, status_at_end}
-use Rattle.gs_lines.specs.Statuses.{OnWriteFault}
+use Rattle.gs_lines.specs.Statuses.{OnWriteFault, is_input_long, is_read_fault, is_refusal, is_usage}
+use Rattle.gs_lines.specs.declared.status.Status.TheVariants.{Usage, Refused}
+use Rattle.gs_lines.specs.declared.status.Status.{Status}
+use Rattle.std.proofs.lemmas.Bool.{false≢true}
+use Rattle.gs_lines.proofs.StatusLemmas.{when_always}
 use Rattle.gs_lines.proofs.ProgressLemmas.{after_end, after_limit, after_read_fault, after_want, after_write_fault, at_most, more_than_limit, progress_held, progress_more, progress_start, writes_nothing}
 use Rattle.gs_lines.proofs.answering.answer_lines.Goals as goal
 
@@ -21,6 +25,24 @@ fault_at_end true SinkFault a f = f a
 fault_at_end false SinkFault a f = f a
 fault_at_end true Memory a f = tt
 fault_at_end false Memory a f = tt
+
+-- a status that is not that of the words, nor that of a file
+no_usage : (status : Status) → is_usage status ≡ false → status ≢ Usage
+no_usage status other is = false≢true (sym other ∙ ap is_usage is)
+
+no_refusal : (status : Status) → is_refusal status ≡ false → status ≢ Refused
+no_refusal status other is = false≢true (sym other ∙ ap is_refusal is)
+
+-- which statuses the end of an input has not
+ends_in : (earlier : Bool) (last : Answering)
+    → (status_at_end earlier last ≢ Usage) × (status_at_end earlier last ≢ Refused) × (is_input_long (status_at_end earlier last) ≡ false) × (is_read_fault (status_at_end earlier last) ≡ false)
+ends_in true (Whole refused) = (no_usage _ refl, no_refusal _ refl, refl, refl)
+ends_in false (Whole true) = (no_usage _ refl, no_refusal _ refl, refl, refl)
+ends_in false (Whole false) = (no_usage _ refl, no_refusal _ refl, refl, refl)
+ends_in true SinkFault = (no_usage _ refl, no_refusal _ refl, refl, refl)
+ends_in false SinkFault = (no_usage _ refl, no_refusal _ refl, refl, refl)
+ends_in true Memory = (no_usage _ refl, no_refusal _ refl, refl, refl)
+ends_in false Memory = (no_usage _ refl, no_refusal _ refl, refl, refl)
 
 pub returns-in_default-clause-written : goal.returns-in_default-clause-written
 returns-in_default-clause-written g c = ([], sym (append_nothing _), writes_nothing _ _ _ _)
@@ -122,3 +144,105 @@ returns-in-SinkFault-clause-write_fault g c = rises_later _ _ _ c.loop-out.invar
 pub returns-in-Got-eq0-clause-few : goal.returns-in-Got-eq0-clause-few
 returns-in-Got-eq0-clause-few g c =
     at_most _ _ _ _ _ _ _ _ _ _ _ c.loop-out.invariant.progress c.in-Got-eq0.ensures.moved (omega (arith, c.in-Got-eq0.field-0-test))
+
+pub returns-in_default-clause-read_to_end : goal.returns-in_default-clause-read_to_end
+returns-in_default-clause-read_to_end g c = tt
+
+pub returns-in_default-clause-input_long : goal.returns-in_default-clause-input_long
+returns-in_default-clause-input_long g c = tt
+
+pub returns-in_default-clause-read_fault : goal.returns-in_default-clause-read_fault
+returns-in_default-clause-read_fault g c = tt
+
+pub returns-in_default-clause-write_fault : goal.returns-in_default-clause-write_fault
+returns-in_default-clause-write_fault g c = tt
+
+pub returns-in_default-clause-no_usage : goal.returns-in_default-clause-no_usage
+returns-in_default-clause-no_usage g c = no_usage _ refl
+
+pub returns-in_default-clause-no_refusal : goal.returns-in_default-clause-no_refusal
+returns-in_default-clause-no_refusal g c = no_refusal _ refl
+
+pub returns-in-Failed-clause-read_to_end : goal.returns-in-Failed-clause-read_to_end
+returns-in-Failed-clause-read_to_end g c = tt
+
+pub returns-in-Failed-clause-input_long : goal.returns-in-Failed-clause-input_long
+returns-in-Failed-clause-input_long g c = tt
+
+pub returns-in-Failed-clause-write_fault : goal.returns-in-Failed-clause-write_fault
+returns-in-Failed-clause-write_fault g c = tt
+
+pub returns-in-Failed-clause-no_usage : goal.returns-in-Failed-clause-no_usage
+returns-in-Failed-clause-no_usage g c = no_usage _ refl
+
+pub returns-in-Failed-clause-no_refusal : goal.returns-in-Failed-clause-no_refusal
+returns-in-Failed-clause-no_refusal g c = no_refusal _ refl
+
+pub returns-in-Got-clause-read_to_end : goal.returns-in-Got-clause-read_to_end
+returns-in-Got-clause-read_to_end g c = tt
+
+pub returns-in-Got-clause-read_fault : goal.returns-in-Got-clause-read_fault
+returns-in-Got-clause-read_fault g c = tt
+
+pub returns-in-Got-clause-write_fault : goal.returns-in-Got-clause-write_fault
+returns-in-Got-clause-write_fault g c = tt
+
+pub returns-in-Got-clause-no_usage : goal.returns-in-Got-clause-no_usage
+returns-in-Got-clause-no_usage g c = no_usage _ refl
+
+pub returns-in-Got-clause-no_refusal : goal.returns-in-Got-clause-no_refusal
+returns-in-Got-clause-no_refusal g c = no_refusal _ refl
+
+pub returns-in-SinkFault-clause-read_to_end : goal.returns-in-SinkFault-clause-read_to_end
+returns-in-SinkFault-clause-read_to_end g c = tt
+
+pub returns-in-SinkFault-clause-input_long : goal.returns-in-SinkFault-clause-input_long
+returns-in-SinkFault-clause-input_long g c = tt
+
+pub returns-in-SinkFault-clause-read_fault : goal.returns-in-SinkFault-clause-read_fault
+returns-in-SinkFault-clause-read_fault g c = tt
+
+pub returns-in-SinkFault-clause-no_usage : goal.returns-in-SinkFault-clause-no_usage
+returns-in-SinkFault-clause-no_usage g c = no_usage _ refl
+
+pub returns-in-SinkFault-clause-no_refusal : goal.returns-in-SinkFault-clause-no_refusal
+returns-in-SinkFault-clause-no_refusal g c = no_refusal _ refl
+
+pub returns-in-Memory-clause-read_to_end : goal.returns-in-Memory-clause-read_to_end
+returns-in-Memory-clause-read_to_end g c = tt
+
+pub returns-in-Memory-clause-input_long : goal.returns-in-Memory-clause-input_long
+returns-in-Memory-clause-input_long g c = tt
+
+pub returns-in-Memory-clause-read_fault : goal.returns-in-Memory-clause-read_fault
+returns-in-Memory-clause-read_fault g c = tt
+
+pub returns-in-Memory-clause-write_fault : goal.returns-in-Memory-clause-write_fault
+returns-in-Memory-clause-write_fault g c = tt
+
+pub returns-in-Memory-clause-no_usage : goal.returns-in-Memory-clause-no_usage
+returns-in-Memory-clause-no_usage g c = no_usage _ refl
+
+pub returns-in-Memory-clause-no_refusal : goal.returns-in-Memory-clause-no_refusal
+returns-in-Memory-clause-no_refusal g c = no_refusal _ refl
+
+pub returns-in_default-clause-input_counts : goal.returns-in_default-clause-input_counts
+returns-in_default-clause-input_counts g c = omega arith
+
+pub returns-in_default-clause-output_counts : goal.returns-in_default-clause-output_counts
+returns-in_default-clause-output_counts g c = omega arith
+
+pub returns-in-Got-eq0-clause-no_usage : goal.returns-in-Got-eq0-clause-no_usage
+returns-in-Got-eq0-clause-no_usage g c = rw c.status_after.ensures (ends_in c.loop-out.refused c.write_answers-last.result).0
+
+pub returns-in-Got-eq0-clause-no_refusal : goal.returns-in-Got-eq0-clause-no_refusal
+returns-in-Got-eq0-clause-no_refusal g c = rw c.status_after.ensures (ends_in c.loop-out.refused c.write_answers-last.result).1
+
+pub returns-in-Got-eq0-clause-input_long : goal.returns-in-Got-eq0-clause-input_long
+returns-in-Got-eq0-clause-input_long g c = rw (c.status_after.ensures, (ends_in c.loop-out.refused c.write_answers-last.result).2) tt
+
+pub returns-in-Got-eq0-clause-read_fault : goal.returns-in-Got-eq0-clause-read_fault
+returns-in-Got-eq0-clause-read_fault g c = rw (c.status_after.ensures, (ends_in c.loop-out.refused c.write_answers-last.result).3) tt
+
+pub returns-in-Got-eq0-clause-read_to_end : goal.returns-in-Got-eq0-clause-read_to_end
+returns-in-Got-eq0-clause-read_to_end g c = when_always _ (c.in-Got-eq0.ensures.end c.in-Got-eq0.field-0-test)
