@@ -1,4 +1,5 @@
-use Rattle.std.proofs.Common.{◌≡◌, ◌≤◌, ◌+◌, ◌-◌, ◌∙◌, ◌++◌, length, take, refl, arith}
+use Rattle.std.proofs.Common.{◌≡◌, ◌≤◌, ◌+◌, ◌-◌, ◌∙◌, ◌++◌, length, take, ap, refl, arith}
+use Rattle.gs_port.specs.Counts.{counted}
 use Rattle.gs_port.proofs.Readings.{all_read, piece_taken, read_further, read_within, room_kept}
 use Rattle.gs_port.proofs.reading.read_current.Goals as goal
 
@@ -76,3 +77,36 @@ returns-clause-counts g c = omega (arith, c.loop-block.invariant.count)
 
 pub returns-clause-over_length : goal.returns-clause-over_length
 returns-clause-over_length g c = rw c.from_vec-2.ensures (omega (arith, c.len.ensures))
+
+pub returns-in-Got-eq0-clause-over : goal.returns-in-Got-eq0-clause-over
+returns-in-Got-eq0-clause-over g c = tt
+
+pub returns-in-Got-eq0-clause-over_length : goal.returns-in-Got-eq0-clause-over_length
+returns-in-Got-eq0-clause-over_length g c = tt
+
+pub returns-in-Got-eq0-clause-failed : goal.returns-in-Got-eq0-clause-failed
+returns-in-Got-eq0-clause-failed g c = tt
+
+pub returns-in-Failed-clause-whole : goal.returns-in-Failed-clause-whole
+returns-in-Failed-clause-whole g c = tt
+
+pub returns-in-Failed-clause-within : goal.returns-in-Failed-clause-within
+returns-in-Failed-clause-within g c = tt
+
+pub returns-in-Failed-clause-over : goal.returns-in-Failed-clause-over
+returns-in-Failed-clause-over g c = tt
+
+pub returns-in-Failed-clause-over_length : goal.returns-in-Failed-clause-over_length
+returns-in-Failed-clause-over_length g c = tt
+
+pub returns-clause-whole : goal.returns-clause-whole
+returns-clause-whole g c = tt
+
+pub returns-clause-within : goal.returns-clause-within
+returns-clause-within g c = tt
+
+pub returns-clause-failed : goal.returns-clause-failed
+returns-clause-failed g c = tt
+
+pub returns-in-Failed-clause-count : goal.returns-in-Failed-clause-count
+returns-in-Failed-clause-count g c = c.in-Failed.ensures.count ∙ ap counted c.loop-block.invariant.count

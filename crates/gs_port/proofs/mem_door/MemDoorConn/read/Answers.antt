@@ -1,4 +1,5 @@
-use Rattle.std.proofs.Common.{refl, arith}
+use Rattle.std.proofs.Common.{◌∙◌, refl, sym, arith}
+use Rattle.std.proofs.lemmas.Bool.{false≢true}
 use Rattle.gs_port.proofs.mem_door.MemDoorConn.read.Goals as goal
 
 pub returns-then-next_fails-clause-failed : goal.returns-then-next_fails-clause-failed
@@ -51,3 +52,42 @@ returns-clause-same_aside c = rw (← c.self.view_is) refl
 
 pub returns-clause-same_most : goal.returns-clause-same_most
 returns-clause-same_most c = rw (← c.self.view_is) refl
+
+pub returns-then-next_fails-clause-within : goal.returns-then-next_fails-clause-within
+returns-then-next_fails-clause-within c = tt
+
+pub returns-then-next_fails-clause-moved : goal.returns-then-next_fails-clause-moved
+returns-then-next_fails-clause-moved c = tt
+
+pub returns-then-next_fails-clause-taken : goal.returns-then-next_fails-clause-taken
+returns-then-next_fails-clause-taken c = tt
+
+pub returns-then-next_fails-clause-end : goal.returns-then-next_fails-clause-end
+returns-then-next_fails-clause-end c = tt
+
+pub returns-then-next_fails-clause-most : goal.returns-then-next_fails-clause-most
+returns-then-next_fails-clause-most c = tt
+
+pub returns-then-next_fails-clause-unplanned : goal.returns-then-next_fails-clause-unplanned
+returns-then-next_fails-clause-unplanned c = tt
+
+pub returns-then-next_fails-clause-planned : goal.returns-then-next_fails-clause-planned
+returns-then-next_fails-clause-planned c = rw (← c.self.view_is) (c.next_fails.ensures.answer.0 c.if-next_fails.true)
+
+pub returns-clause-unmoved : goal.returns-clause-unmoved
+returns-clause-unmoved c = tt
+
+pub returns-clause-none_taken : goal.returns-clause-none_taken
+returns-clause-none_taken c = tt
+
+pub returns-clause-failed : goal.returns-clause-failed
+returns-clause-failed c = tt
+
+pub returns-clause-planned : goal.returns-clause-planned
+returns-clause-planned c = tt
+
+pub returns-clause-unplanned : goal.returns-clause-unplanned
+returns-clause-unplanned c = rw (← c.self.view_is) (λ fails. false≢true (sym c.if-next_fails.false ∙ c.next_fails.ensures.answer.1 fails))
+
+pub returns-clause-stays_open : goal.returns-clause-stays_open
+returns-clause-stays_open c = refl

@@ -33,3 +33,21 @@ returns-then-next_fails-clause-same_most c = rw (← c.self.view_is) refl
 
 pub returns-then-next_fails-clause-stays_open : goal.returns-then-next_fails-clause-stays_open
 returns-then-next_fails-clause-stays_open c = rw (← c.self.view_is) at c.requires.current
+
+pub returns-then-next_fails-clause-within : goal.returns-then-next_fails-clause-within
+returns-then-next_fails-clause-within c = tt
+
+pub returns-then-next_fails-clause-some : goal.returns-then-next_fails-clause-some
+returns-then-next_fails-clause-some c = tt
+
+pub returns-then-next_fails-clause-appended : goal.returns-then-next_fails-clause-appended
+returns-then-next_fails-clause-appended c = tt
+
+pub returns-then-next_fails-clause-most : goal.returns-then-next_fails-clause-most
+returns-then-next_fails-clause-most c = tt
+
+pub returns-then-next_fails-clause-unplanned : goal.returns-then-next_fails-clause-unplanned
+returns-then-next_fails-clause-unplanned c = tt
+
+pub returns-then-next_fails-clause-planned : goal.returns-then-next_fails-clause-planned
+returns-then-next_fails-clause-planned c = rw (← c.self.view_is) (c.next_fails.ensures.answer.0 c.if-next_fails.true)
