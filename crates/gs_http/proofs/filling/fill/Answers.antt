@@ -1,4 +1,5 @@
-use Rattle.std.proofs.Common.{◌∙◌, arith}
+use Rattle.std.proofs.Common.{◌∙◌, ap, sym, arith}
+use Rattle.gs_port.specs.Counts.{counted}
 use Rattle.gs_http.proofs.Readings.{reads_further}
 use Rattle.gs_http.proofs.filling.fill.Goals as goal
 
@@ -133,3 +134,24 @@ returns-in-NoRoom-clause-counts g c = omega (arith, c.filling.invariant.count, c
 
 pub returns-in-NoRoom-clause-count : goal.returns-in-NoRoom-clause-count
 returns-in-NoRoom-clause-count g c = c.in-NoRoom.ensures.count ∙ c.filling.invariant.count
+
+pub returns-in-NotRead-clause-begins : goal.returns-in-NotRead-clause-begins
+returns-in-NotRead-clause-begins g c = tt
+
+pub returns-in-NoRoom-clause-begins : goal.returns-in-NoRoom-clause-begins
+returns-in-NoRoom-clause-begins g c = tt
+
+pub returns-in-NotRead-clause-few : goal.returns-in-NotRead-clause-few
+returns-in-NotRead-clause-few g c = rw c.in-NotRead.ensures.comes c.filling.invariant.few
+
+pub returns-in-NoRoom-clause-few : goal.returns-in-NoRoom-clause-few
+returns-in-NoRoom-clause-few g c = rw c.in-NoRoom.ensures.comes c.filling.invariant.few
+
+pub returns-in-End-clause-few : goal.returns-in-End-clause-few
+returns-in-End-clause-few g c = rw c.in-End.ensures.comes.0 c.filling.invariant.few
+
+pub returns-in-NotRead-clause-count : goal.returns-in-NotRead-clause-count
+returns-in-NotRead-clause-count g c = c.in-NotRead.ensures.count ∙ ap counted c.filling.invariant.count
+
+pub returns-in-End-clause-count : goal.returns-in-End-clause-count
+returns-in-End-clause-count g c = c.in-End.ensures.count ∙ c.filling.invariant.count ∙ sym (c.at_end.ensures.count (g.C.Conn.reads c.args.conn.now))
