@@ -1,6 +1,13 @@
-use Rattle.std.proofs.Common.{arith}
+use Rattle.std.proofs.Common.{◌≡◌, ◌∙◌, ◌==◌, ℕ, List, [], ◌∷◌, true, length, refl, sym, arith}
+use Rattle.std.proofs.lemmas.Bool.Decides.{nat_tests}
+use Rattle.gs_lines.proofs.OutputLemmas.{front_all}
 use Rattle.gs_lines.proofs.WriteLemmas.{appends_begins, appends_more, appends_part, appends_start}
 use Rattle.gs_lines.proofs.answering.write_answers.Goals as goal
+
+-- nothing is left where the length is none
+none_left : (rest : List ℕ) → (length rest == 0) ≡ true → rest ≡ []
+none_left [] empty = refl
+none_left (c ∷ rest) empty = absurd (grind (arith, nat_tests))
 
 pub loop-rest-init : goal.loop-rest-init
 loop-rest-init g c = record { written = appends_start _ _; counts = omega arith }
@@ -44,3 +51,16 @@ pub returns-in-SinkFault-clause-fault : goal.returns-in-SinkFault-clause-fault
 returns-in-SinkFault-clause-fault g c =
     let rises = c.in-SinkFault.ensures.fault in
     omega (arith, c.loop-rest.invariant.counts)
+
+pub returns-in_default-clause-fault : goal.returns-in_default-clause-fault
+returns-in_default-clause-fault g c = tt
+
+pub returns-in-Memory-clause-fault : goal.returns-in-Memory-clause-fault
+returns-in-Memory-clause-fault g c = tt
+
+pub returns-clause-fault : goal.returns-clause-fault
+returns-clause-fault g c = tt
+
+pub returns-clause-written : goal.returns-clause-written
+returns-clause-written g c =
+    let w = c.loop-rest.invariant.written in (w.0, w.1, front_all c.args.bytes.now c.loop-rest.rest.now w.0 c.loop-rest.refused (none_left c.loop-rest.rest.now (sym c.is_empty.ensures ∙ c.loop-rest-test.false)) w.2)
