@@ -40,9 +40,7 @@ fn word_of_two(
     ensures found { IfFound result (λ word. BothAccept m.now n.now word.items) }
     ensures none { IfNotFound result (NoneInCommon m.now n.now) }
 {
-    let Ok(()) = make_ready(dead, m, n) else {
-        return Err(Memory);
-    };
+    make_ready(dead, m, n)?;
     search(alloc, m, n, m.start(), n.start(), dead)
 }
 

@@ -2,6 +2,3 @@ use Rattle.gs_ambig.proofs.checking.word_of_two.Goals as goal
 
 pub returns-clause-none : goal.returns-clause-none
 returns-clause-none c = rw (← c.start.ensures.start, ← c.start-2.ensures.start) c.search.ensures.none
-
-pub returns-in_default-clause-none : goal.returns-in_default-clause-none
-returns-in_default-clause-none c = tt
