@@ -1,13 +1,14 @@
 -- The first fault of an object, entry by entry and name by name.
-use Rattle.std.proofs.Common.{◌≡◌, ℕ, ◌+◌, ◌<◌, ◌≤◌, false, List, [], ◌∷◌, ◌++◌, length, get_or, drop, map, Ok, Err, String, Global, string_bytes, refl, sym, ap, ◌∙◌}
+use Rattle.std.proofs.Common.{◌≡◌, ℕ, ◌+◌, ◌<◌, ◌≤◌, false, List, [], ◌∷◌, ◌++◌, length, get_or, drop, map, Option, Some, Result, Ok, Err, String, Global, string_bytes, refl, sym, ap, ◌∙◌}
 use Rattle.std.specs.List.{flat_map}
 use Rattle.std.specs.Map.{keys_of}
 use Rattle.std.proofs.lemmas.List.{drop_all, drop_more}
+use Rattle.serde_json.specs.Data.{Members}
 use Rattle.serde_json.specs.View.{members_view}
 use Rattle.serde_json.specs.declared.value.Value.{Value as Tree}
 use Rattle.gs_json.specs.Answers.{OrMemory}
 use Rattle.gs_json.specs.Places.{member_place}
-use Rattle.gs_json.specs.Shapes.{first_fault, is_named, unknown_among, unknown_faults}
+use Rattle.gs_json.specs.Shapes.{IsFirst, entry_faults, first_fault, is_named, members_faults, unknown_among, unknown_faults}
 use Rattle.gs_json.specs.declared.fault.JsonFault.{JsonFault}
 use Rattle.gs_json.specs.declared.fault.JsonFault.TheVariants.{Syntax, Lacks, Kind, Unknown, Memory}
 use Rattle.gs_json.specs.declared.plan.Entry.{Entry}
@@ -46,3 +47,8 @@ entries_from faults plan i entry within here =
 
 pub entries_end : (faults : Entry → List JsonFault) (plan : List Entry) (i : ℕ) → length plan ≤ i → flat_map faults (drop i plan) ≡ []
 entries_end faults plan i h = ap (flat_map faults) (drop_all i plan h)
+
+-- where no entry has a fault, the first is that of the names
+pub names_only : (place : List ℕ) (plan : List Entry) (own : Members) (o : Option Members) (result : Result Unit JsonFault) → Some own ≡ o → flat_map (entry_faults place own) plan ≡ []
+    → IsFirst result (unknown_faults place plan own) → IsFirst result (members_faults place plan o)
+names_only place plan own o result found none h = rw (← found, none) h
