@@ -24,3 +24,6 @@ returns-clause-answer c =
     let size = counted (view c.args.array.now.tree) c.args.count c.requires in
     let few : length (items_of (view c.args.array.now.tree)) ≤ c.loop-i.i = rw size (omega (arith, c.loop-i-test.false)) in
     rw c.from_vec.ensures (items_read context_faults context_of c.args.array.now.place (items_of (view c.args.array.now.tree)) c.loop-i.contexts.items c.loop-i.i c.loop-i.invariant.0 few)
+
+pub returns-clause-shape : goal.returns-clause-shape
+returns-clause-shape c = rw c.from_vec.ensures c.loop-i.invariant.1
