@@ -1,3 +1,4 @@
+pub mod Copied
 pub mod Ascents
 pub mod Parts
 pub mod ReadLemmas
