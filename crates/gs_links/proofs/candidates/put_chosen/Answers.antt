@@ -1,7 +1,8 @@
 use Rattle.std.proofs.Common.{◌<◌, [], ◌∷◌, ◌++◌, length, get_or, sym, ap, ◌∙◌, arith}
-use Rattle.std.proofs.lemmas.List.{length-set, take_more_set}
+use Rattle.std.proofs.lemmas.List.{length-set, take_all, take_more_set}
 use Rattle.gs_chars.proofs.TruthsAndLists.{read_at}
 use Rattle.gs_links.specs.Choices.{is_chosen}
+use Rattle.gs_links.specs.Index.{passing}
 use Rattle.gs_links.proofs.ChoiceLemmas.{get_at, one_more}
 use Rattle.gs_links.proofs.IndexLemmas.{passing_less, passing_more}
 use Rattle.gs_links.proofs.candidates.put_chosen.Goals as goal
@@ -29,3 +30,11 @@ loop-k-preserved c =
       take_more_set c.loop-k.out c.loop-k.count i room ∙ ap (λ ks. ks ++ i ∷ []) c.loop-k.invariant.2 ∙ sym more,
       length-set c.loop-k.out c.loop-k.count i ∙ size,
     )
+
+pub returns-clause-count : goal.returns-clause-count
+returns-clause-count c =
+    c.loop-k.invariant.1 ∙ ap (λ ks. length (passing c.args.links.now (is_chosen c.args.identity.now c.args.want c.args.depth) ks)) (take_all c.loop-k.k c.args.numbers.now c.loop-k-test.false)
+
+pub returns-clause-numbers : goal.returns-clause-numbers
+returns-clause-numbers c =
+    c.loop-k.invariant.2 ∙ ap (passing c.args.links.now (is_chosen c.args.identity.now c.args.want c.args.depth)) (take_all c.loop-k.k c.args.numbers.now c.loop-k-test.false)
