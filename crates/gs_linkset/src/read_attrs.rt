@@ -53,10 +53,7 @@ fn read_language(alloc: Global, object: &Node<'_>) -> Result<Option<Text>, Memor
     ensures shape { IfOk result (λ language. IfSome language (λ language. is_utf8 language ≡ true)) }
 {
     match member_of(alloc, object, "language")? {
-        Some(member) => {
-            let language = own_text(alloc, &member)?;
-            Ok(language)
-        }
+        Some(member) => own_text(alloc, &member),
         None => Ok(Some(Text::from_bytes(alloc, b"")?)),
     }
 }
