@@ -1,9 +1,10 @@
 ghost use Rattle.std.specs.Prelude.{◌≡◌, false, true};
 
 use gs_port::{
-    AcceptAnswer, Conn, Door, FileFault, HostFiles, OpenAnswer, ReadAnswer, Sink, Source,
-    StdinSource, StdoutSink, TcpDoor, Whole, WriteAnswer, read_file, write_whole,
+    AcceptAnswer, Conn, Door, FileFault, OpenAnswer, ReadAnswer, Sink, Source, Whole, WriteAnswer,
+    read_file, write_whole,
 };
+use gs_system::{HostFiles, StdinSource, StdoutSink, TcpDoor};
 use std::alloc::Global;
 use std::fs;
 use std::io::{Read, Write};

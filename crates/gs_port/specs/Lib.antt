@@ -3,7 +3,4 @@ pub mod Connections
 pub mod Contents
 pub mod Counts
 pub mod Files
-pub mod Folder
-pub mod Gate
 pub mod Memory
-pub mod System

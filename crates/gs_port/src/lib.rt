@@ -2,10 +2,9 @@
 //!
 //! - `Source`, `Sink`, `Files`, `Conn` and `Door` are the traits that every other crate reads and writes through. Each has a
 //!   count of faults, which rises by one at each call that fails and at nothing else.
-//! - `MemSource`, `MemSink`, `MemFiles` and `MemDoor` are objects in memory, of which calls fail by a plan; `Pair` makes one
-//!   connection of a source and a sink.
-//! - `StdinSource`, `StdoutSink`, `HostFiles` and `TcpDoor` are the system's. `read_file` and `write_whole` read and write
-//!   whole things.
+//! - `MemSource` and `MemSink` are a source and a sink in memory, of which calls fail by a `CallPlan`; `Pair` makes one
+//!   connection of a source and a sink. Files and a door in memory are those of gs_memory; the system's objects, of gs_system.
+//! - `read_file` and `write_whole` read and write whole things.
 //!
 //! # Example
 //!
@@ -26,36 +25,27 @@
 mod conn;
 mod door;
 mod files;
-mod host_files;
-mod mem_door;
-mod mem_files;
 mod mem_sink;
 mod mem_source;
-mod mem_stream;
 mod opened_names;
 mod pair;
 mod plan;
 mod reading;
 mod sink;
 mod source;
-mod stdio;
-mod system;
-mod tcp_door;
 mod transfer;
 mod whole;
 
 pub use conn::Conn;
 pub use door::{AcceptAnswer, Door};
 pub use files::{Files, OpenAnswer};
-pub use host_files::HostFiles;
-pub use mem_door::MemDoor;
-pub use mem_files::MemFiles;
 pub use mem_sink::MemSink;
 pub use mem_source::MemSource;
+pub use opened_names::OpenedNames;
 pub use pair::Pair;
+pub use plan::CallPlan;
 pub use reading::{FileFault, read_file};
 pub use sink::{Sink, WriteAnswer};
 pub use source::{ReadAnswer, Source};
-pub use stdio::{StdinSource, StdoutSink};
-pub use tcp_door::TcpDoor;
+pub use transfer::copy_front;
 pub use whole::{Whole, write_whole};

@@ -7,7 +7,7 @@ use std::marker::Model;
 
 /// The names that were opened, in order, until memory was wanting for one: from then on they are told no more.
 #[derive(Drop)]
-pub(crate) struct OpenedNames {
+pub struct OpenedNames {
     alloc: Global,
     names: Option<List<Text>>,
 }
@@ -31,7 +31,7 @@ fn with_name(alloc: Global, names: List<Text>, name: &str) -> Result<List<Text>,
 
 impl OpenedNames {
     /// No names.
-    pub(crate) fn new(alloc: Global) -> OpenedNames
+    pub fn new(alloc: Global) -> OpenedNames
         ensures { result ≡ Some [] }
     {
         OpenedNames {
@@ -41,7 +41,7 @@ impl OpenedNames {
     }
 
     /// Adds a name.
-    pub(crate) fn add(&mut self, name: &str)
+    pub fn add(&mut self, name: &str)
         ensures { AddsNames self.old (name.now ∷ []) self.new }
     {
         let told = self.names.take();

@@ -5,7 +5,7 @@ use std::marker::Model;
 
 /// Which calls of an object in memory fail: those whose numbers, from 0, are listed.
 #[derive(Drop)]
-pub(crate) struct CallPlan {
+pub struct CallPlan {
     fails: Vec<u64>,
     next: u64,
 }
@@ -20,14 +20,14 @@ impl Model for CallPlan {
 
 impl CallPlan {
     /// The plan before the first call.
-    pub(crate) fn new(fails: Vec<u64>) -> CallPlan
+    pub fn new(fails: Vec<u64>) -> CallPlan
         ensures { result ≡ uncalled fails.items }
     {
         CallPlan { fails, next: 0 }
     }
 
     /// Counts a call, and answers whether it is one that fails.
-    pub(crate) fn next_fails(&mut self) -> bool
+    pub fn next_fails(&mut self) -> bool
         ensures answer { IsTrue result ↔ FailsNow self.old }
         ensures after { self.new ≡ after_call self.old }
     {

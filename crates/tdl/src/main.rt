@@ -1,8 +1,8 @@
 //! `tdl` translates GS1 identities: each line of the input is answered by the canonical link of what it names.
 #![tactic(auto)]
 
-use gs_port::{HostFiles, StdinSource, StdoutSink, TcpDoor};
 use gs_program::{Status, run, words_behind};
+use gs_system::{HostFiles, StdinSource, StdoutSink, TcpDoor};
 use std::process::ExitCode;
 use std::{env, io};
 

@@ -5,7 +5,8 @@ ghost use Rattle.std.specs.Prelude.{◌≡◌, ◌<◌, IfOk, false, is_some};
 use crate::case::{Refusal, arg, behind, number, numbers_of, push, text_of};
 use crate::words::said;
 use gs_chars::Text;
-use gs_port::{MemDoor, MemFiles, MemSink, MemSource};
+use gs_memory::{MemDoor, MemFiles};
+use gs_port::{MemSink, MemSource};
 use std::alloc::Global;
 
 /// The part of the arguments of a number, of those that `/` divides.

@@ -9,9 +9,9 @@ ghost use Rattle.std.specs.Prelude.{◌≡◌, false, true, is_some};
 
 use crate::outside::write_word;
 use gs_chars::Text;
+use gs_memory::MemDoor;
 use gs_port::{
-    AcceptAnswer, Conn, Door, MemDoor, MemSink, MemSource, OpenAnswer, Pair, ReadAnswer,
-    WriteAnswer,
+    AcceptAnswer, Conn, Door, MemSink, MemSource, OpenAnswer, Pair, ReadAnswer, WriteAnswer,
 };
 use std::alloc::Global;
 use vector_cases::{

@@ -10,9 +10,10 @@ ghost use Rattle.std.specs.Prelude.{◌<◌};
 
 use crate::connections;
 use gs_chars::Text;
+use gs_memory::MemFiles;
 use gs_port::{
-    FileFault, Files, MemFiles, MemSink, MemSource, OpenAnswer, ReadAnswer, Sink, Source,
-    WriteAnswer, read_file, write_whole,
+    FileFault, Files, MemSink, MemSource, OpenAnswer, ReadAnswer, Sink, Source, WriteAnswer,
+    read_file, write_whole,
 };
 use std::alloc::Global;
 use vector_cases::{

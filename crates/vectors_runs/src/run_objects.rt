@@ -3,7 +3,8 @@
 ghost use Rattle.std.specs.Prelude.{◌≡◌, IfOk, false, is_some};
 
 use gs_chars::Text;
-use gs_port::{MemDoor, MemFiles, MemSink, MemSource};
+use gs_memory::{MemDoor, MemFiles};
+use gs_port::{MemSink, MemSource};
 use gs_program::{Status, run};
 use std::alloc::Global;
 use vector_cases::{Refusal, door_of, files_of, section, sink_of, source_of};

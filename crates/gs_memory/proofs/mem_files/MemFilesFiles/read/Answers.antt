@@ -1,0 +1,51 @@
+use Rattle.std.proofs.Common.{refl, arith, ◌≡◌, ◌∙◌, Some, ap, sym}
+use Rattle.gs_port.proofs.Pieces.{front_moved}
+use Rattle.gs_memory.specs.Objects.{MemFolder}
+use Rattle.gs_memory.specs.Folder.{bytes_at, rest_of, told_files}
+use Rattle.gs_memory.proofs.mem_files.MemFilesFiles.read.Goals as goal
+
+pub returns-clause-moved : goal.returns-clause-moved
+returns-clause-moved c =
+    let files = told_files c.self.inside.files.items in
+    let bytes : c.contents_at.result.now ≡ bytes_at files c.in-Some.place.file = c.contents_at.ensures ∙ ap (λ all. bytes_at (told_files all) c.in-Some.place.file) c.as_slice.ensures.value in
+    let current = ap (λ (folder : MemFolder). folder.current) (sym c.self.view_is) ∙ ap (rest_of files) c.in-Some.is in
+    current ∙ ap Some (front_moved (bytes_at files c.in-Some.place.file) c.copy_front-moved.new.buf c.in-Some.place.at c.copy_front-moved.result (rw bytes at c.copy_front-moved.ensures.front))
+
+pub returns-then-next_fails-clause-failed : goal.returns-then-next_fails-clause-failed
+returns-then-next_fails-clause-failed c = rw (← c.self.view_is) (omega (arith, c.saturating_add-self-inside.ensures))
+
+pub returns-then-next_fails-clause-counts : goal.returns-then-next_fails-clause-counts
+returns-then-next_fails-clause-counts c = rw (← c.self.view_is) (omega (arith, c.saturating_add-self-inside.ensures))
+
+pub returns-then-next_fails-clause-count : goal.returns-then-next_fails-clause-count
+returns-then-next_fails-clause-count c = rw (← c.self.view_is) c.saturating_add-self-inside.ensures
+
+pub returns-then-next_fails-clause-plan : goal.returns-then-next_fails-clause-plan
+returns-then-next_fails-clause-plan c = rw (← c.self.view_is) c.next_fails.ensures.after
+
+pub returns-then-next_fails-clause-unmoved : goal.returns-then-next_fails-clause-unmoved
+returns-then-next_fails-clause-unmoved c = rw (← c.self.view_is) refl
+
+pub returns-then-next_fails-clause-files : goal.returns-then-next_fails-clause-files
+returns-then-next_fails-clause-files c = rw (← c.self.view_is) refl
+
+pub returns-then-next_fails-clause-same_names : goal.returns-then-next_fails-clause-same_names
+returns-then-next_fails-clause-same_names c = rw (← c.self.view_is) refl
+
+pub returns-then-next_fails-clause-stays_open : goal.returns-then-next_fails-clause-stays_open
+returns-then-next_fails-clause-stays_open c = rw (← c.self.view_is) at c.requires.current
+
+pub returns-clause-counts : goal.returns-clause-counts
+returns-clause-counts c = rw (← c.self.view_is) (omega arith)
+
+pub returns-clause-count : goal.returns-clause-count
+returns-clause-count c = rw (← c.self.view_is) refl
+
+pub returns-clause-plan : goal.returns-clause-plan
+returns-clause-plan c = rw (← c.self.view_is) c.next_fails.ensures.after
+
+pub returns-clause-files : goal.returns-clause-files
+returns-clause-files c = rw (← c.self.view_is) refl
+
+pub returns-clause-same_names : goal.returns-clause-same_names
+returns-clause-same_names c = rw (← c.self.view_is) refl

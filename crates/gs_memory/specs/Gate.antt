@@ -1,0 +1,57 @@
+-- What a door in memory tells.
+use Rattle.std.specs.Prelude.{ℕ, ◌+◌, ◌≤◌, false, List, [], Option, Some, None, Vec, length, map, option_map, slice_index_or, vec_capacity}
+use Rattle.std.specs.declared.alloc.Global.{Global}
+use Rattle.gs_port.specs.Connections.{Aside, Finished, after_accept, after_finish_of}
+use Rattle.gs_port.specs.Memory.{uncalled}
+use Rattle.gs_memory.specs.Objects.{MemConnection, MemGate}
+use Rattle.gs_port.specs.declared.door.AcceptAnswer.{AcceptAnswer}
+
+-- the bytes of each input
+abbrev pub told_inputs : List (Vec ℕ Global) → List (List ℕ)
+told_inputs inputs = map (λ input. input.items) inputs
+
+-- a door with these inputs that was not opened yet
+abbrev pub shut_gate : List (List ℕ) → ℕ → List ℕ → MemGate
+shut_gate inputs most fails = record { opened = false; waiting = inputs; current = None; finished = []; most = most; plan = uncalled fails; faults = 0; reads = 0; writes = 0; reads_then = 0; writes_then = 0 }
+
+-- how many connections are open
+abbrev pub number_open : Option MemConnection → ℕ
+number_open None = 0
+number_open (Some stream) = 1
+
+-- a finished connection: what was read of this one and written to it, and how far the counts rose
+abbrev pub ended_with : MemConnection → ℕ → ℕ → Finished
+ended_with stream reads writes =
+    record { read = Some stream.taken; written = Some stream.kept; reads = reads; writes = writes }
+
+-- the list of the finished connections has room for the open one and for those that wait
+abbrev pub HasRoom : {A : Type 0} → Vec Finished Global → Option MemConnection → List A → Type 0
+HasRoom finished current waiting = length finished.items + number_open current + length waiting ≤ vec_capacity finished
+
+-- what is left of the open connection
+abbrev pub left_of : MemGate → Option (List ℕ)
+left_of gate = option_map (λ stream. stream.rest) gate.current
+
+-- what was read of the open connection
+abbrev pub taken_of : MemGate → Option (List ℕ)
+taken_of gate = option_map (λ stream. stream.taken) gate.current
+
+-- what was written to the open connection
+abbrev pub held_of : MemGate → Option (List ℕ)
+held_of gate = option_map (λ stream. stream.kept) gate.current
+
+-- what reads and writes leave as it was
+abbrev pub aside_of : MemGate → Aside
+aside_of gate = record { faults = gate.faults; opened = gate.opened; waiting = Some gate.waiting; finished = Some gate.finished; reads_then = gate.reads_then; writes_then = gate.writes_then }
+
+-- the same after an accept
+abbrev pub aside_after_accept : AcceptAnswer → MemGate → Aside
+aside_after_accept answer gate = after_accept answer gate.reads gate.writes (aside_of gate)
+
+-- the same after the open connection was finished
+abbrev pub aside_after_finish : MemGate → Aside
+aside_after_finish gate = after_finish_of (taken_of gate) (held_of gate) gate.reads gate.writes (aside_of gate)
+
+-- what was written to the finished connection with the number
+abbrev pub written_at : List Finished → ℕ → Option (List ℕ)
+written_at finished i = (slice_index_or finished i (record { read = None; written = None; reads = 0; writes = 0 })).written
