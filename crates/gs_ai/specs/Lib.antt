@@ -1,4 +1,3 @@
-pub mod BuiltInAis
 pub mod Parts
 pub mod Predefined
 pub mod Tables

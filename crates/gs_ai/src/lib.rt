@@ -2,7 +2,6 @@
 //!
 //! - `AiTable` holds the rows, of which no code begins another; `find` gives the row of a code, `begins` the one that a text
 //!   begins with.
-//! - `builtin_ais` gives the rows that are met most.
 //! - `value_ok` says whether a value is one of the row of a code, or what is the first thing wrong with it.
 //!
 //! # Example
@@ -21,8 +20,6 @@
 //!   must stand together, and no list of values, as of countries or currencies.
 #![tactic(auto)]
 
-mod ai_line;
-mod builtin;
 mod faults;
 mod form;
 mod pair;
@@ -34,7 +31,6 @@ mod starts;
 mod table;
 mod value;
 
-pub use builtin::builtin_ais;
 pub use faults::{AiFault, ElementFault, ElementWhy, ValueFault};
 pub use pair::Pair;
 pub use part::{Part, Role};

@@ -2,11 +2,11 @@ ghost use Rattle.std.specs.Prelude.{◌≡◌, IfOk, IsTrue};
 ghost use Rattle.std.specs.List.{list_all};
 ghost use Rattle.gs_builtin.specs.BuiltIn.{builtin_document, document_of, options_of, rests_fit};
 
+use crate::builtin_codes::builtin_ais;
 use crate::builtin_encodings::{encodings, identities};
 use crate::builtin_kinds::builtin_kinds;
 use crate::builtin_options::{binary_options, pure_options, tag_options};
 use crate::encoding::{Encoding, Identity};
-use gs_ai::builtin_ais;
 use gs_chars::{List, Memory};
 use gs_document::{Document, OptionRow};
 use std::alloc::Global;

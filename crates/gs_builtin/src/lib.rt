@@ -1,6 +1,6 @@
 //! The built-in rows: the application identifiers, the kinds, and the options of each encoding.
 //!
-//! - `builtin_document` gives them as one document, as if it had been read.
+//! - `builtin_document` gives them as one document, as if it had been read; `builtin_ais` those of the application identifiers.
 //!
 //! # Example
 //!
@@ -19,6 +19,8 @@
 //! - Of the GS1 General Specifications it has the application identifiers that are met most; tables/gs1.json has more.
 #![tactic(auto)]
 
+mod ai_line;
+mod builtin_codes;
 mod builtin_encodings;
 mod builtin_items;
 mod builtin_kinds;
@@ -27,4 +29,5 @@ mod builtin_rows;
 mod encoding;
 mod encoding_line;
 
+pub use builtin_codes::builtin_ais;
 pub use builtin_rows::builtin_document;

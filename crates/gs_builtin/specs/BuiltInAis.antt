@@ -2,8 +2,8 @@
 -- this project's own.
 use Rattle.std.specs.Prelude.{ℕ, Bool, true, false, List, [], ◌∷◌, ◌++◌, map, codes}
 use Rattle.std.specs.Borrow.{Bor}
-use Rattle.gs_ai.specs.declared.ai_line.AiLine.{AiLine}
-use Rattle.gs_ai.specs.declared.ai_line.AiLine.TheVariants as line
+use Rattle.gs_builtin.specs.declared.ai_line.AiLine.{AiLine}
+use Rattle.gs_builtin.specs.declared.ai_line.AiLine.TheVariants as line
 use Rattle.gs_ai.specs.declared.part.Part.{Part}
 use Rattle.gs_ai.specs.declared.part.Part.TheVariants as part
 use Rattle.gs_ai.specs.declared.part.Role.{Role}

@@ -1,11 +1,10 @@
 ghost use Rattle.std.specs.Prelude.{◌≡◌, ◌++◌, IfOk, OnOk, map};
-ghost use Rattle.gs_ai.specs.BuiltInAis.{additional_ais, agreed_ais, ai_row, asset_ais, builtin_ais, company_ais, date_ais, goods_ais, item_ais, location_ais, other_ais, party_ais, row_of, shipment_ais, told, variant_ais, weight_ais};
+ghost use Rattle.gs_builtin.specs.BuiltInAis.{additional_ais, agreed_ais, ai_row, asset_ais, builtin_ais, company_ais, date_ais, goods_ais, item_ais, location_ais, other_ais, party_ais, row_of, shipment_ais, told, variant_ais, weight_ais};
 
 use crate::ai_line::AiLine;
 use crate::ai_line::AiLine::{Attribute, Key, Qualifier};
-use crate::part::Part::{Date, Num, NumCheck, NumUpTo, Set, SetOpt, Zero};
-use crate::part::{Part, Role};
-use crate::row::AiRow;
+use gs_ai::Part::{Date, Num, NumCheck, NumUpTo, Set, SetOpt, Zero};
+use gs_ai::{AiRow, Part, Role};
 use gs_chars::{List, Memory, Text};
 use std::alloc::Global;
 

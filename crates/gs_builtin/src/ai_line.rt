@@ -1,4 +1,4 @@
-use crate::part::Part;
+use gs_ai::Part;
 
 /// A row of an application identifier, written in a line.
 #[derive(Clone, Copy)]

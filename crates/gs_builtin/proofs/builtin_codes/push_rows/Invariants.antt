@@ -1,6 +1,6 @@
 use Rattle.std.proofs.Common.{◌≡◌, ◌++◌, map, take}
-use Rattle.gs_ai.specs.BuiltInAis.{row_of}
-use Rattle.gs_ai.proofs.builtin.push_rows.Given as goal
+use Rattle.gs_builtin.specs.BuiltInAis.{row_of}
+use Rattle.gs_builtin.proofs.builtin_codes.push_rows.Given as goal
 
 abbrev pub invariant-loop-line : goal.invariant-loop-line
 invariant-loop-line l = l.rows.items ≡ l.fn.rows.items ++ map row_of (take l.line-index l.lines)
