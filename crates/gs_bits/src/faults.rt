@@ -1,25 +1,18 @@
-use thiserror::Error;
-
 /// There is no room for the bits.
-#[derive(Clone, Copy, Debug, Error)]
-#[error("no room for the bits")]
+#[derive(Clone, Copy, Debug)]
 pub struct Full;
 
 /// Fewer bits are left than were asked for.
-#[derive(Clone, Copy, Debug, Error)]
-#[error("fewer bits are left")]
+#[derive(Clone, Copy, Debug)]
 pub struct Short;
 
 /// Why a text is no hexadecimal text of the bits of a buffer.
-#[derive(Clone, Copy, Debug, Error)]
+#[derive(Clone, Copy, Debug)]
 pub enum HexFault {
     /// The text has an odd number of bytes.
-    #[error("an odd number of digits")]
     OddDigits,
     /// The text has more digits than the buffer holds, two to a byte.
-    #[error("more digits than there is room for")]
     Full,
     /// The byte at this place, from 0, is the first that is no digit.
-    #[error("no digit at {0}")]
     BadDigit(usize),
 }
