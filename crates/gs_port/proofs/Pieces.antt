@@ -1,5 +1,5 @@
 -- Pieces of a list, moved one after the other.
-use Rattle.std.proofs.Common.{◌≡◌, ◌+◌, ◌-◌, ◌∙◌, ℕ, List, ◌++◌, Option, length, take, drop, ap, sym}
+use Rattle.std.proofs.Common.{◌≡◌, ◌<◌, ◌+◌, ◌-◌, ◌∙◌, ◌↔◌, ℕ, List, [], ◌∷◌, ◌++◌, Option, length, min, take, drop, ap, sym, refl, arith}
 use Rattle.std.proofs.Math.Seq.{take-add}
 use Rattle.std.proofs.lemmas.List.{take_rest, take-append-drop, drop-drop}
 use Rattle.gs_port.specs.Contents.{append_known, append_twice}
@@ -19,3 +19,8 @@ front_taken items room at n e =
 pub appended_further : (before now after : Option (List ℕ)) (bytes : List ℕ) (done n : ℕ) → now ≡ append_known before (take done bytes) → after ≡ append_known now (take n (take (length bytes - done) (drop done bytes))) → after ≡ append_known before (take (done + n) bytes)
 appended_further before now after bytes done n h k =
     k ∙ ap (λ rest. append_known now (take n rest)) (take_rest bytes done) ∙ ap (λ known. append_known known (take n (drop done bytes))) h ∙ append_twice before (take done bytes) (take n (drop done bytes)) ∙ ap (append_known before) (sym (take-add done n bytes))
+
+-- of a list of which some may be moved into some room, none is moved exactly where it is empty
+pub zero_at_end : (most room n : ℕ) (rest : List ℕ) → 0 < most → 0 < room → n ≡ min (min most room) (length rest) → (n ≡ 0) ↔ (rest ≡ [])
+zero_at_end most room n [] a b e = (λ _. refl, λ _. omega (arith, e))
+zero_at_end most room n (x ∷ rest) a b e = (λ none. absurd (omega (arith, a, b, e, none)), λ none. absurd (let none : x ∷ rest ≡ [] = none in cc))

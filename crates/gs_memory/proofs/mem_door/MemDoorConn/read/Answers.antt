@@ -1,5 +1,6 @@
-use Rattle.std.proofs.Common.{◌∙◌, refl, sym, arith}
+use Rattle.std.proofs.Common.{◌∙◌, Some, ap, refl, sym, arith}
 use Rattle.std.proofs.lemmas.Bool.{false≢true}
+use Rattle.gs_port.proofs.Pieces.{zero_at_end}
 use Rattle.gs_memory.proofs.mem_door.MemDoorConn.read.Goals as goal
 
 pub returns-then-next_fails-clause-failed : goal.returns-then-next_fails-clause-failed
@@ -91,3 +92,25 @@ returns-clause-unplanned c = rw (← c.self.view_is) (λ fails. false≢true (sy
 
 pub returns-clause-stays_open : goal.returns-clause-stays_open
 returns-clause-stays_open c = refl
+
+pub returns-clause-same_held : goal.returns-clause-same_held
+returns-clause-same_held c = rw (← c.self.view_is) (rw (sym c.take.ensures.value ∙ c.in-Some.is) (ap Some c.read-moved.ensures.same_kept))
+
+pub returns-clause-within : goal.returns-clause-within
+returns-clause-within c = omega (arith, c.read-moved.ensures.number)
+
+pub returns-clause-most : goal.returns-clause-most
+returns-clause-most c = rw (← c.self.view_is) (rw (sym c.take.ensures.value ∙ c.in-Some.is) c.read-moved.ensures.number)
+
+pub returns-clause-end : goal.returns-clause-end
+returns-clause-end c =
+    rw (← c.self.view_is) (rw (sym c.take.ensures.value ∙ c.in-Some.is) (zero_at_end _ _ _ _ c.self.invariant.0 (rw c.read-moved.auto.buf c.requires.room) c.read-moved.ensures.number))
+
+pub returns-clause-moved : goal.returns-clause-moved
+returns-clause-moved c = rw (← c.self.view_is) (rw (sym c.take.ensures.value ∙ c.in-Some.is) (ap Some c.read-moved.ensures.moved))
+
+pub returns-clause-taken : goal.returns-clause-taken
+returns-clause-taken c = rw (← c.self.view_is) (rw (sym c.take.ensures.value ∙ c.in-Some.is) (ap Some c.read-moved.ensures.taken))
+
+pub invariant_of-self-2 : goal.invariant_of-self-2
+invariant_of-self-2 c = (c.self.invariant.0, rw (sym c.take.ensures.value ∙ c.in-Some.is) at c.self.invariant.1)

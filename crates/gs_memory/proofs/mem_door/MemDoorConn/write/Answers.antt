@@ -1,4 +1,4 @@
-use Rattle.std.proofs.Common.{refl, arith}
+use Rattle.std.proofs.Common.{◌∙◌, Some, ap, refl, sym, arith}
 use Rattle.gs_memory.proofs.mem_door.MemDoorConn.write.Goals as goal
 
 pub returns-then-next_fails-clause-failed : goal.returns-then-next_fails-clause-failed
@@ -51,3 +51,33 @@ returns-then-next_fails-clause-unplanned c = tt
 
 pub returns-then-next_fails-clause-planned : goal.returns-then-next_fails-clause-planned
 returns-then-next_fails-clause-planned c = rw (← c.self.view_is) (c.next_fails.ensures.answer.0 c.if-next_fails.true)
+
+pub invariant_of-self : goal.invariant_of-self
+invariant_of-self c = c.self.invariant
+
+pub invariant_of-self-2 : goal.invariant_of-self-2
+invariant_of-self-2 c = (c.self.invariant.0, rw (sym c.take.ensures.value ∙ c.in-Some.is) at c.self.invariant.1)
+
+pub returns-clause-same_left : goal.returns-clause-same_left
+returns-clause-same_left c = rw (← c.self.view_is) (rw (sym c.take.ensures.value ∙ c.in-Some.is) (ap Some c.write-written.ensures.same_rest))
+
+pub returns-clause-same_taken : goal.returns-clause-same_taken
+returns-clause-same_taken c = rw (← c.self.view_is) (rw (sym c.take.ensures.value ∙ c.in-Some.is) (ap Some c.write-written.ensures.same_taken))
+
+pub returns-clause-same_reads : goal.returns-clause-same_reads
+returns-clause-same_reads c = rw (← c.self.view_is) refl
+
+pub returns-clause-same_most : goal.returns-clause-same_most
+returns-clause-same_most c = rw (← c.self.view_is) refl
+
+pub returns-clause-same_aside : goal.returns-clause-same_aside
+returns-clause-same_aside c = rw (← c.self.view_is) refl
+
+pub returns-clause-counts : goal.returns-clause-counts
+returns-clause-counts c = rw (← c.self.view_is) (omega arith)
+
+pub returns-clause-plan : goal.returns-clause-plan
+returns-clause-plan c = rw (← c.self.view_is) c.next_fails.ensures.after
+
+pub returns-clause-stays_open : goal.returns-clause-stays_open
+returns-clause-stays_open c = refl

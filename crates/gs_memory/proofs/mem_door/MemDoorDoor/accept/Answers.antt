@@ -124,3 +124,15 @@ returns-in-None-clause-unplanned c = tt
 
 pub returns-in-None-clause-close_unplanned : goal.returns-in-None-clause-close_unplanned
 returns-in-None-clause-close_unplanned c = rw (← c.self.view_is) (λ fails. false≢true (sym c.if-next_fails.false ∙ c.next_fails.ensures.answer.1 fails))
+
+pub invariant_of-self : goal.invariant_of-self
+invariant_of-self c = c.self.invariant
+
+pub returns-then-next_fails-clause-not_accepted : goal.returns-then-next_fails-clause-not_accepted
+returns-then-next_fails-clause-not_accepted c = rw (← c.self.view_is) at c.requires.none_open
+
+pub returns-then-next_fails-clause-aside : goal.returns-then-next_fails-clause-aside
+returns-then-next_fails-clause-aside c = rw (← c.self.view_is) (rw c.saturating_add-self-inside.ensures refl)
+
+pub returns-in-None-clause-not_accepted : goal.returns-in-None-clause-not_accepted
+returns-in-None-clause-not_accepted c = rw (← c.self.view_is) at c.requires.none_open

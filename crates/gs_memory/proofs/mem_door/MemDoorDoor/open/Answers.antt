@@ -60,3 +60,24 @@ returns-clause-counts c = rw (← c.self.view_is) (omega arith)
 
 pub returns-clause-plan : goal.returns-clause-plan
 returns-clause-plan c = rw (← c.self.view_is) c.next_fails.ensures.after
+
+pub invariant_of-self : goal.invariant_of-self
+invariant_of-self c = c.self.invariant
+
+pub invariant_of-self-2 : goal.invariant_of-self-2
+invariant_of-self-2 c = c.self.invariant
+
+pub returns-then-next_fails-clause-opened : goal.returns-then-next_fails-clause-opened
+returns-then-next_fails-clause-opened c = tt
+
+pub returns-then-next_fails-clause-not_opened : goal.returns-then-next_fails-clause-not_opened
+returns-then-next_fails-clause-not_opened c = rw (← c.self.view_is) refl
+
+pub returns-then-next_fails-clause-aside : goal.returns-then-next_fails-clause-aside
+returns-then-next_fails-clause-aside c = rw (← c.self.view_is) (rw c.saturating_add-self-inside.ensures refl)
+
+pub returns-then-next_fails-clause-planned : goal.returns-then-next_fails-clause-planned
+returns-then-next_fails-clause-planned c = rw (← c.self.view_is) (c.next_fails.ensures.answer.0 c.if-next_fails.true)
+
+pub returns-then-next_fails-clause-unplanned : goal.returns-then-next_fails-clause-unplanned
+returns-then-next_fails-clause-unplanned c = tt

@@ -1,3 +1,4 @@
+use Rattle.std.proofs.lemmas.Bool.{false≢true}
 use Rattle.std.proofs.Common.{refl, arith, ◌≡◌, ◌∙◌, Some, ap, sym}
 use Rattle.gs_port.proofs.Pieces.{front_moved}
 use Rattle.gs_memory.specs.Objects.{MemFolder}
@@ -49,3 +50,39 @@ returns-clause-files c = rw (← c.self.view_is) refl
 
 pub returns-clause-same_names : goal.returns-clause-same_names
 returns-clause-same_names c = rw (← c.self.view_is) refl
+
+pub invariant_of-self : goal.invariant_of-self
+invariant_of-self c = c.self.invariant
+
+pub returns-then-next_fails-clause-within : goal.returns-then-next_fails-clause-within
+returns-then-next_fails-clause-within c = tt
+
+pub returns-then-next_fails-clause-moved : goal.returns-then-next_fails-clause-moved
+returns-then-next_fails-clause-moved c = tt
+
+pub returns-then-next_fails-clause-end : goal.returns-then-next_fails-clause-end
+returns-then-next_fails-clause-end c = tt
+
+pub returns-then-next_fails-clause-most : goal.returns-then-next_fails-clause-most
+returns-then-next_fails-clause-most c = tt
+
+pub returns-then-next_fails-clause-unplanned : goal.returns-then-next_fails-clause-unplanned
+returns-then-next_fails-clause-unplanned c = tt
+
+pub returns-then-next_fails-clause-planned : goal.returns-then-next_fails-clause-planned
+returns-then-next_fails-clause-planned c = rw (← c.self.view_is) (c.next_fails.ensures.answer.0 c.if-next_fails.true)
+
+pub returns-clause-unmoved : goal.returns-clause-unmoved
+returns-clause-unmoved c = tt
+
+pub returns-clause-failed : goal.returns-clause-failed
+returns-clause-failed c = tt
+
+pub returns-clause-planned : goal.returns-clause-planned
+returns-clause-planned c = tt
+
+pub returns-clause-unplanned : goal.returns-clause-unplanned
+returns-clause-unplanned c = rw (← c.self.view_is) (λ fails. false≢true (sym c.if-next_fails.false ∙ c.next_fails.ensures.answer.1 fails))
+
+pub returns-clause-within : goal.returns-clause-within
+returns-clause-within c = omega (arith, c.copy_front-moved.ensures.number)
