@@ -9,14 +9,13 @@ use Rattle.std.specs.Cmp.Lexicographic.{slice_cmp}
 use Rattle.std.specs.List.{AllByRecursion}
 use Rattle.std.specs.List.Sorted.{IsStrictlySortedBy}
 use Rattle.std.specs.Map.{keys_of, lookup}
-use Rattle.serde_json.specs.Data.{Data, Items, null, boolean, number, string, array, object}
+use Rattle.serde_json.specs.Data.{Data, Items, Members, null, boolean, number, string, array, object}
 use Rattle.serde_json.specs.Events.{items_len}
-use Rattle.serde_json.specs.Find.{as_array, as_object, at, get_item, get_member}
+use Rattle.serde_json.specs.Find.{as_array, as_object, at, get, get_item, get_member}
 use Rattle.serde_json.specs.View.{view, items_view, members_view}
 use Rattle.serde_json.specs.declared.value.Value.{Value as Tree}
 use Rattle.serde_json.proofs.Views.{get_item_within, items_len-items_view, member_later, view-lookup}
-use Rattle.gs_json.specs.Answers.{AscendByBytes, asked, count_of, items_count, member_at, names_of, names_of_members}
-use Rattle.gs_json.specs.Places.{member_place}
+use Rattle.gs_json.specs.Answers.{AscendByBytes, asked, count_of, items_count, names_of, names_of_members}
 
 -- the items of an array
 pub counted : (d : Data) (items : List Tree) → Some (items_view items) ≡ as_array d → count_of d ≡ Some (length items)
@@ -47,20 +46,23 @@ pub member_found : (entries : List (String Global × Tree)) (name : List ℕ) (f
     → get_member name (members_view entries) ≡ option_map view found
 member_found entries name found h = sym (ap (option_map view) h ∙ view-lookup name entries)
 
-pub maybe_some : (d : Data) (place name key : List ℕ) (entries : List (String Global × Tree)) (v : Tree)
-    → Some (members_view entries) ≡ as_object d → slice_cmp nat_cmp name key ≡ Equal
-    → Some v ≡ lookup (is_at (λ k. slice_cmp nat_cmp name (string_bytes k))) entries
-    → Ok (Some (view v, member_place place key)) ≡ asked place (option_map (member_at place name) (as_object d))
-maybe_some d place name key entries v h same found =
-    let one : name ≡ key = same_text name key same in
-    rw (← h, member_found entries name (Some v) found, one) refl
+get_of_members : (d : Data) (name : List ℕ) (own : Members) → Some own ≡ as_object d → get name d ≡ get_member name own
+get_of_members null name own h = cc h
+get_of_members (boolean b) name own h = cc h
+get_of_members (number n) name own h = cc h
+get_of_members (string s) name own h = cc h
+get_of_members (array items) name own h = cc h
+get_of_members (object ms) name own h = let same : ms ≡ own = cc in ap (get_member name) same
 
-pub maybe_none : (d : Data) (place name : List ℕ) (entries : List (String Global × Tree))
-    → Some (members_view entries) ≡ as_object d
+pub find_some : (d : Data) (name : List ℕ) (entries : List (String Global × Tree)) (v : Tree) → Some (members_view entries) ≡ as_object d
+    → Some v ≡ lookup (is_at (λ k. slice_cmp nat_cmp name (string_bytes k))) entries
+    → Some (view v) ≡ get name d
+find_some d name entries v h found = sym (get_of_members d name (members_view entries) h ∙ member_found entries name (Some v) found)
+
+pub find_none : (d : Data) (name : List ℕ) (entries : List (String Global × Tree)) → Some (members_view entries) ≡ as_object d
     → None ≡ lookup (is_at (λ k. slice_cmp nat_cmp name (string_bytes k))) entries
-    → Ok None ≡ asked place (option_map (member_at place name) (as_object d))
-maybe_none d place name entries h found =
-    rw (← h, member_found entries name None found) refl
+    → None ≡ get name d
+find_none d name entries h found = sym (get_of_members d name (members_view entries) h ∙ member_found entries name None found)
 
 -- the names of the members are the keys
 pub names_are_keys : (entries : List (String Global × Tree)) → names_of_members (members_view entries) ≡ map string_bytes (keys_of entries)

@@ -16,8 +16,8 @@ use std::marker::Model;
 
 /// A part of a document, lent by it, with its place. Contracts see the tree of the part and its JSON Pointer (RFC 6901).
 pub struct Node<'a> {
-    value: &'a Value,
-    place: Place<'a>,
+    pub(crate) value: &'a Value,
+    pub(crate) place: Place<'a>,
 }
 
 // by hand, so that a function that drops one calls this one: a derived drop is written out at each of its exits
@@ -68,16 +68,10 @@ impl<'a> Node<'a> {
     pub fn maybe(&self, alloc: Global, name: &str) -> Result<Option<Node<'a>>, JsonFault>
         ensures { OrMemory (result_map (option_map seen) result) (maybe_of self.now name.now) }
     {
-        let value: &'a Value = self.value;
-        let Some(map) = value.as_object() else {
-            return Err(self.other_kind(alloc));
-        };
-        match map.get_key_value(name) {
-            Some((key, value)) => Ok(Some(Node {
-                value,
-                place: self.place.member(alloc, key.as_str())?,
-            })),
-            None => Ok(None),
+        if self.value.is_object() {
+            Ok(self.find(alloc, name)?)
+        } else {
+            Err(self.other_kind(alloc))
         }
     }
 
@@ -116,8 +110,8 @@ impl<'a> Node<'a> {
         ensures answer { OrMemory result (asked self.now.place (count_of (view self.now.tree))) }
         ensures items { IfOk result (λ count. count ≡ items_count (view self.now.tree)) }
     {
-        match self.value.as_array() {
-            Some(items) => Ok(items.len()),
+        match self.items_len() {
+            Some(count) => Ok(count),
             None => Err(self.other_kind(alloc)),
         }
     }

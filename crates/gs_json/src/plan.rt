@@ -1,4 +1,8 @@
-use gs_chars::Text;
+ghost use Rattle.std.specs.Prelude.{◌≡◌, IfOk, map};
+ghost use Rattle.gs_json.specs.Plans.{entry_of};
+
+use gs_chars::{List, Memory, Text};
+use std::alloc::Global;
 
 /// What a member must be.
 #[derive(Clone, Copy)]
@@ -26,4 +30,20 @@ pub struct Entry {
     pub required: bool,
     /// What it must be.
     pub sort: Sort,
+}
+
+/// The plan of these members: the name of each, whether the object must have it, and what it must be. The one refusal is
+/// want of memory.
+pub fn plan_of(alloc: Global, members: &[(&[u8], bool, Sort)]) -> Result<List<Entry>, Memory>
+    ensures { IfOk result (λ plan. plan ≡ map entry_of members.now) }
+{
+    let mut plan = Vec::new(alloc);
+    for (name, required, sort) in members {
+        plan.push(Entry {
+            name: Text::from_bytes(alloc, name)?,
+            required: *required,
+            sort: *sort,
+        })?;
+    }
+    Ok(List::from_vec(plan))
 }

@@ -2,7 +2,6 @@
 use Rattle.std.proofs.Common.{◌≡◌, ℕ, zero, suc, ◌+◌, ◌≤◌, List, [], ◌∷◌, ◌++◌, length, take, map, Some, None, slice_get, refl, ap, arith, inl, inr}
 use Rattle.std.specs.Prelude.{Result, Ok, Err}
 use Rattle.std.specs.List.{flat_map, enumerate_from}
-use Rattle.std.proofs.lemmas.List.{map-append}
 use Rattle.gs_chars.proofs.TruthsAndLists.{nil_parts}
 use Rattle.gs_json.specs.Answers.{OrMemory as JsonOrMemory}
 use Rattle.gs_json.specs.Shapes.{first_fault}
@@ -101,9 +100,6 @@ take_one (y ∷ ys) (suc i) x at = ap (λ zs. y ∷ zs) (take_one ys i x at)
 
 pub take_next : {X : Type 0} (xs : List X) (i : ℕ) (x : X) → slice_get xs i ≡ Some x → take (i + 1) xs ≡ take i xs ++ x ∷ []
 take_next xs i x at = let next : i + 1 ≡ suc i = omega arith in rw next (take_one xs i x at)
-
-pub mapped_more : {X Y : Type 0} (f : X → Y) (xs : List X) (i : ℕ) (x : X) (ys : List Y) (y : Y) (zs : List Y) → slice_get xs i ≡ Some x → ys ≡ map f (take i xs) → y ≡ f x → zs ≡ ys ++ y ∷ [] → zs ≡ map f (take (i + 1) xs)
-mapped_more f xs i x ys y zs at so_far own e = rw (e, so_far, own, take_next xs i x at, map-append) refl
 
 pub mapped_all : {X Y : Type 0} (f : X → Y) (xs : List X) (i : ℕ) (ys : List Y) → length xs ≤ i → ys ≡ map f (take i xs) → ys ≡ map f xs
 mapped_all f xs i ys all so_far = rw (take_all xs i all) at so_far

@@ -1,11 +1,9 @@
 -- The document in JSON of a list of company prefix lengths, this project's own profile: its form, and its entries.
-use Rattle.std.specs.Prelude.{◌≡◌, ℕ, ◌==◌, true, if◌then◌else◌, List, [], ◌∷◌, ◌++◌, map, codes, Option, Some, IfSome, option_and_then, option_map, unwrap_or}
+use Rattle.std.specs.Prelude.{ℕ, ◌==◌, true, if◌then◌else◌, List, [], ◌∷◌, ◌++◌, map, codes, option_and_then, unwrap_or}
 use Rattle.std.specs.List.{flat_map, enumerate_from}
 use Rattle.std.specs.Option.{option_map_or}
 use Rattle.serde_json.specs.Data.{Data, Items, no_items, item}
-use Rattle.serde_json.specs.Find.{as_array, as_number, as_object, as_str, as_u64, at, get}
-use Rattle.serde_json.specs.View.{view}
-use Rattle.gs_json.specs.Parts.{Part}
+use Rattle.serde_json.specs.Find.{as_array, as_number, as_object, as_str, as_u64, get}
 use Rattle.gs_json.specs.Places.{item_place, member_place}
 use Rattle.gs_json.specs.Shapes.{members_faults}
 use Rattle.gs_json.specs.declared.fault.JsonFault.{JsonFault}
@@ -36,21 +34,9 @@ list_of (item d items) = d ∷ list_of items
 abbrev pub items_in : Data → List Data
 items_in d = option_map_or list_of (as_array d) []
 
--- what was found is what stands at the member of a name, where there is one
-abbrev pub IsMember : Part → List ℕ → Option Part → Type 0
-IsMember object name found = option_map (λ part. view part.tree) found ≡ get name (view object.tree)
-
--- what was found stands at the place of the member of a name
-abbrev pub IsAtMember : Part → List ℕ → Option Part → Type 0
-IsAtMember object name found = IfSome found (λ part. part.place ≡ member_place object.place name)
-
 -- a member of an object, which is empty or 0 where it is not there
 abbrev pub text_in : List ℕ → Data → List ℕ
 text_in name d = unwrap_or (option_and_then as_str (get name d)) []
-
--- a number, 0 where this is none
-abbrev pub own_number : Data → ℕ
-own_number d = unwrap_or (option_and_then as_u64 (as_number d)) 0
 
 -- the number of a member, 0 where there is none
 abbrev pub number_in : List ℕ → Data → ℕ
@@ -80,10 +66,6 @@ form_faults d = members_faults [] list_plan (as_object d) ++ (version_faults d +
 -- the entries of a document
 abbrev pub entry_of : Data → PrefixEntry
 entry_of d = record { prefix = text_in (codes "prefix") d; length = number_in (codes "length") d }
-
--- an entry is what the item of an array at a number is
-abbrev pub IsEntryAt : ℕ → Data → PrefixEntry → Type 0
-IsEntryAt i whole entry = (d : Data) × (Some d ≡ at i whole) × (entry ≡ entry_of d)
 
 -- the entries of an array
 abbrev pub entries_of : Data → List PrefixEntry

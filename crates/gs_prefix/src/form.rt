@@ -2,44 +2,38 @@ ghost use Rattle.std.specs.Prelude.{◌≡◌, [], IfOk};
 ghost use Rattle.serde_json.specs.View.{view};
 ghost use Rattle.gs_json.specs.Shapes.{shape_faults};
 ghost use Rattle.gs_prefix.specs.Answers.{IsFirst, of_json};
-ghost use Rattle.gs_prefix.specs.Documents.{array_faults, entries_faults, entry_plan, form_faults, items_in, list_plan, must, version_faults};
+ghost use Rattle.gs_prefix.specs.Documents.{array_faults, entries_faults, entry_plan, form_faults, items_in, list_plan, version_faults};
 
 use crate::fault::PrefixFault;
-use crate::members::{count_of, member_of, number_in};
-use gs_chars::{Memory, Text};
-use gs_json::{Entry, JsonFault, Node, Sort};
+use crate::members::number_in;
+use gs_chars::{List, Memory, Text};
+use gs_json::{Entry, JsonFault, Node, Sort, plan_of};
 use std::alloc::Global;
 
-/// A member that an object must have.
-fn must(alloc: Global, name: &[u8], sort: Sort) -> Result<Entry, Memory>
-    ensures { IfOk result (λ entry. entry ≡ must name.now sort) }
-{
-    let name = Text::from_bytes(alloc, name)?;
-    Ok(Entry {
-        name,
-        required: true,
-        sort,
-    })
-}
-
 /// The members of the document.
-fn list_plan(alloc: Global) -> Result<Vec<Entry>, Memory>
-    ensures { IfOk result (λ plan. plan.items ≡ list_plan) }
+fn list_plan(alloc: Global) -> Result<List<Entry>, Memory>
+    ensures { IfOk result (λ plan. plan ≡ list_plan) }
 {
-    let mut plan = Vec::new(alloc);
-    plan.push(must(alloc, b"version", Sort::Number)?)?;
-    plan.push(must(alloc, b"prefixes", Sort::Array)?)?;
-    Ok(plan)
+    plan_of(
+        alloc,
+        &[
+            (b"version", true, Sort::Number),
+            (b"prefixes", true, Sort::Array),
+        ],
+    )
 }
 
 /// The members of an entry.
-fn entry_plan(alloc: Global) -> Result<Vec<Entry>, Memory>
-    ensures { IfOk result (λ plan. plan.items ≡ entry_plan) }
+fn entry_plan(alloc: Global) -> Result<List<Entry>, Memory>
+    ensures { IfOk result (λ plan. plan ≡ entry_plan) }
 {
-    let mut plan = Vec::new(alloc);
-    plan.push(must(alloc, b"prefix", Sort::Text)?)?;
-    plan.push(must(alloc, b"length", Sort::Number)?)?;
-    Ok(plan)
+    plan_of(
+        alloc,
+        &[
+            (b"prefix", true, Sort::Text),
+            (b"length", true, Sort::Number),
+        ],
+    )
 }
 
 /// A fault of JSON, with want of memory as its own.
@@ -66,7 +60,7 @@ fn judge_object(alloc: Global, object: &Node<'_>, plan: &[Entry]) -> Result<(), 
 fn judge_version(alloc: Global, root: &Node<'_>) -> Result<(), PrefixFault>
     ensures { IsFirst result (version_faults (view root.now.tree)) }
 {
-    if number_in(alloc, root, "version")? == 1 {
+    if number_in(root.value(), "version") == 1 {
         return Ok(());
     }
     let place = Text::from_bytes(alloc, b"/version")?;
@@ -78,7 +72,7 @@ fn judge_items(alloc: Global, array: &Node<'_>) -> Result<(), PrefixFault>
     ensures { IsFirst result (array_faults array.now.place (items_in (view array.now.tree))) }
 {
     let plan = entry_plan(alloc)?;
-    judge_by(alloc, array, plan.as_slice())
+    judge_by(alloc, array, plan.items())
 }
 
 /// The first fault of the entries of an array by the plan of an entry, entry by entry.
@@ -87,7 +81,7 @@ fn judge_by(alloc: Global, array: &Node<'_>, plan: &[Entry]) -> Result<(), Prefi
     requires { plan.now ≡ entry_plan }
     ensures { IsFirst result (array_faults array.now.place (items_in (view array.now.tree))) }
 {
-    let count = count_of(alloc, array)?;
+    let count = array.items_len().unwrap_or(0);
     for i in 0..count {
         let Ok(entry) = array.item(alloc, i) else {
             return Err(PrefixFault::Memory);
@@ -103,7 +97,7 @@ fn judge_entries(alloc: Global, root: &Node<'_>) -> Result<(), PrefixFault>
     requires { root.now.place ≡ [] }
     ensures { IsFirst result (entries_faults (view root.now.tree)) }
 {
-    match member_of(alloc, root, "prefixes")? {
+    match root.find(alloc, "prefixes")? {
         Some(array) => judge_items(alloc, &array),
         None => Ok(()),
     }
@@ -115,7 +109,7 @@ pub(crate) fn judge_form(alloc: Global, root: &Node<'_>) -> Result<(), PrefixFau
     ensures { IsFirst result (form_faults (view root.now.tree)) }
 {
     let plan = list_plan(alloc)?;
-    judge_object(alloc, root, plan.as_slice())?;
+    judge_object(alloc, root, plan.items())?;
     judge_version(alloc, root)?;
     judge_entries(alloc, root)
 }

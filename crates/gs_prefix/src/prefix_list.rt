@@ -66,7 +66,7 @@ impl PrefixList {
         ensures { OrMemory result (document_answer (view root.now.tree)) }
     {
         judge_form(alloc, root)?;
-        let entries = read_entries(alloc, root)?;
+        let entries = read_entries(alloc, root.value())?;
         PrefixList::of_entries(alloc, entries.as_slice())
     }
 

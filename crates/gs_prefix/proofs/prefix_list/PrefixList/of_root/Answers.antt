@@ -11,4 +11,4 @@ returns-in_err-judge_form c =
 pub returns : goal.returns
 returns c =
     entries_answer (view c.args.root.now.tree) c.in_ok-entries.entries.items c.in_ok-judge_form.field-0 c.of_entries.result
-    c.in_ok-judge_form.ensures c.in_ok-entries.ensures (rw c.as_slice.ensures.value at c.of_entries.ensures)
+    c.in_ok-judge_form.ensures (rw c.value.ensures at c.in_ok-entries.ensures) (rw c.as_slice.ensures.value at c.of_entries.ensures)
