@@ -1,10 +1,9 @@
 -- Table documents in JSON, this project's own profile: the form of a document, and its rows.
-use Rattle.std.specs.Borrow.{Bor}
-use Rattle.std.specs.Prelude.{◌≡◌, ◌≢◌, ℕ, Bool, true, false, List, [], ◌∷◌, ◌++◌, codes, Option, Some, option_and_then, unwrap_or}
+use Rattle.std.specs.Prelude.{◌≡◌, ◌≢◌, ℕ, Bool, true, false, List, [], ◌∷◌, ◌++◌, codes, Option, option_and_then, unwrap_or}
 use Rattle.std.specs.List.{flat_map, enumerate_from}
 use Rattle.std.specs.Option.{option_map_or}
 use Rattle.serde_json.specs.Data.{Data, Items, no_items, item}
-use Rattle.serde_json.specs.Find.{as_array, as_bool, as_number, as_object, as_str, as_u64, at, get}
+use Rattle.serde_json.specs.Find.{as_array, as_bool, as_number, as_object, as_str, as_u64, get}
 use Rattle.gs_json.specs.Places.{item_place, member_place}
 use Rattle.gs_json.specs.Shapes.{members_faults}
 use Rattle.gs_json.specs.declared.fault.JsonFault.{JsonFault}
@@ -33,10 +32,6 @@ must name sort = record { name = name; required = true; sort = sort }
 -- a member that may be there
 abbrev pub may : List ℕ → Sort → Entry
 may name sort = record { name = name; required = false; sort = sort }
-
--- the member of a name, with whether it must be there, and what it must be
-abbrev pub entry_of : Bor (List ℕ) × Bool × Sort → Entry
-entry_of member = record { name = member.0.now; required = member.1; sort = member.2 }
 
 -- the members of the document, and of each row: those that must be there, then those that may
 abbrev pub document_plan : List Entry
@@ -101,14 +96,6 @@ is_bits Pure = false
 abbrev pub text_in : List ℕ → Data → List ℕ
 text_in name d = unwrap_or (option_and_then as_str (get name d)) []
 
--- the number that this is, and 0 of what is no number
-abbrev pub number_of : Data → ℕ
-number_of d = unwrap_or (option_and_then as_u64 (as_number d)) 0
-
--- the truth value that this is, and false of what is none
-abbrev pub truth_of : Data → Bool
-truth_of d = unwrap_or (as_bool d) false
-
 -- the number of a member, 0 where there is none
 abbrev pub number_in : List ℕ → Data → ℕ
 number_in name d = unwrap_or (option_and_then as_u64 (option_and_then as_number (get name d))) 0
@@ -122,10 +109,6 @@ abbrev pub Each : {X Y : Type 0} → (X → Y → Type 0) → List X → List Y 
 Each Is [] [] = Unit {0}
 Each Is (x ∷ xs) (y ∷ ys) = Is x y × Each Is xs ys
 Each Is _ _ = ⊥
-
--- the item of an array at a number is what the second says
-abbrev pub IsReadAt : {X : Type 0} → (Data → X → Type 0) → ℕ → Data → X → Type 0
-IsReadAt Is i d x = (item : Data) × ((Some item ≡ at i d) × Is item x)
 
 -- the text that this is, and the empty one of what is no text
 abbrev pub text_of : Data → List ℕ

@@ -89,6 +89,10 @@ no_field item = option_map (λ i. (None, i)) item
 abbrev pub both : Option ℕ → Option ℕ → (ℕ → ℕ → Item) → Option Item
 both a b make = option_and_then (λ x. option_map (λ y. make x y) b) a
 
+-- the text of a literal, in an array of two parts
+abbrev pub literal_text : Data → Option (List ℕ)
+literal_text d = if items_count d == 2 then text_arg 1 d else None
+
 -- `["lit", TEXT]`
 abbrev pub literal : Data → Option FieldItem
 literal d = sized 2 d (no_field (option_map Lit (text_arg 1 d)))

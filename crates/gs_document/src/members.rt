@@ -1,91 +1,79 @@
-ghost use Rattle.std.specs.Prelude.{◌≡◌, IfOk, IfSome, option_map};
-ghost use Rattle.serde_json.specs.Find.{get};
+ghost use Rattle.std.specs.Prelude.{◌≡◌, IfOk, map};
 ghost use Rattle.serde_json.specs.View.{view};
-ghost use Rattle.gs_json.specs.Places.{member_place};
-ghost use Rattle.gs_document.specs.Documents.{number_in, number_of, text_in, text_of, truth_in, truth_of};
+ghost use Rattle.gs_json.specs.Answers.{items_count};
+ghost use Rattle.gs_document.specs.Documents.{items_in, number_in, rows_in, text_in, text_of, truth_in};
 
 use gs_chars::{Memory, Text};
-use gs_json::{JsonFault, Node};
+use serde_json::Value;
 use std::alloc::Global;
 
-/// The member of a name, where there is one.
-#[tactic(auto, using(crate::proofs::Parts::get_by_members))]
-pub(crate) fn member_of<'a>(
-    alloc: Global,
-    node: &Node<'a>,
-    name: &str,
-) -> Result<Option<Node<'a>>, Memory>
-    ensures part { IfOk result (λ member. option_map (λ part. view part.tree) member
-        ≡ get name.now (view node.now.tree)) }
-    ensures place { IfOk result (λ member. IfSome member (λ part. part.place
-        ≡ member_place node.now.place name.now)) }
+/// The text that this is, and the empty one of what is no text.
+pub(crate) fn str_of(value: &Value) -> &str
+    ensures { result.now ≡ text_of (view value.now) }
 {
-    match node.maybe(alloc, name) {
-        Ok(member) => Ok(member),
-        Err(JsonFault::Memory) => Err(Memory),
-        Err(_) => Ok(None),
-    }
+    value.as_str().unwrap_or("")
 }
 
-/// The text that this is, and the empty one of what is no text.
-pub(crate) fn text_of(alloc: Global, node: &Node<'_>) -> Result<Text, Memory>
-    ensures { IfOk result (λ text. text ≡ text_of (view node.now.tree)) }
+/// The text of the member of a name, and the empty one where there is none.
+pub(crate) fn str_in<'a>(object: &'a Value, name: &str) -> &'a str
+    ensures { result.now ≡ text_in name.now (view object.now) }
 {
-    match node.text(alloc) {
-        Ok(text) => Ok(text),
-        Err(JsonFault::Memory) => Err(Memory),
-        Err(_) => Text::from_bytes(alloc, b""),
+    match object.get(name) {
+        Some(member) => member.as_str().unwrap_or(""),
+        None => "",
     }
 }
 
 /// The text of the member of a name, and the empty one where there is none.
-pub(crate) fn text_in(alloc: Global, node: &Node<'_>, name: &str) -> Result<Text, Memory>
-    ensures { IfOk result (λ text. text ≡ text_in name.now (view node.now.tree)) }
+pub(crate) fn text_in(alloc: Global, object: &Value, name: &str) -> Result<Text, Memory>
+    ensures { IfOk result (λ text. text ≡ text_in name.now (view object.now)) }
 {
-    match member_of(alloc, node, name)? {
-        Some(member) => text_of(alloc, &member),
-        None => Text::from_bytes(alloc, b""),
-    }
-}
-
-/// The number that this is, and 0 of what is no number.
-fn number_of(alloc: Global, node: &Node<'_>) -> Result<u64, Memory>
-    ensures { IfOk result (λ number. number ≡ number_of (view node.now.tree)) }
-{
-    match node.number(alloc) {
-        Ok(number) => Ok(number),
-        Err(JsonFault::Memory) => Err(Memory),
-        Err(_) => Ok(0),
-    }
+    Text::from_bytes(alloc, str_in(object, name).as_bytes())
 }
 
 /// The number of the member of a name, and 0 where there is none.
-pub(crate) fn number_in(alloc: Global, node: &Node<'_>, name: &str) -> Result<u64, Memory>
-    ensures { IfOk result (λ number. number ≡ number_in name.now (view node.now.tree)) }
+pub(crate) fn number_in(object: &Value, name: &str) -> u64
+    ensures { result ≡ number_in name.now (view object.now) }
 {
-    match member_of(alloc, node, name)? {
-        Some(member) => number_of(alloc, &member),
-        None => Ok(0),
-    }
-}
-
-/// The truth value that this is, and false of what is none.
-fn truth_of(alloc: Global, node: &Node<'_>) -> Result<bool, Memory>
-    ensures { IfOk result (λ truth. truth ≡ truth_of (view node.now.tree)) }
-{
-    match node.truth(alloc) {
-        Ok(truth) => Ok(truth),
-        Err(JsonFault::Memory) => Err(Memory),
-        Err(_) => Ok(false),
+    match object.get(name) {
+        Some(member) => member.as_u64().unwrap_or(0),
+        None => 0,
     }
 }
 
 /// The truth value of the member of a name, and false where there is none.
-pub(crate) fn truth_in(alloc: Global, node: &Node<'_>, name: &str) -> Result<bool, Memory>
-    ensures { IfOk result (λ truth. truth ≡ truth_in name.now (view node.now.tree)) }
+pub(crate) fn truth_in(object: &Value, name: &str) -> bool
+    ensures { result ≡ truth_in name.now (view object.now) }
 {
-    match member_of(alloc, node, name)? {
-        Some(member) => truth_of(alloc, &member),
-        None => Ok(false),
+    match object.get(name) {
+        Some(member) => member.as_bool().unwrap_or(false),
+        None => false,
+    }
+}
+
+/// The items of an array, and none of what is no array.
+fn items_in(array: &Value) -> &[Value]
+    ensures { map view result.now ≡ items_in (view array.now) }
+{
+    match array.as_array() {
+        Some(items) => items.as_slice(),
+        None => &[],
+    }
+}
+
+/// The number of items of an array, and 0 of what is no array.
+pub(crate) fn items_len(array: &Value) -> usize
+    ensures { result ≡ items_count (view array.now) }
+{
+    items_in(array).len()
+}
+
+/// The items of the array that is the member of a name, and none where there is no such array.
+pub(crate) fn rows_in<'a>(object: &'a Value, name: &str) -> &'a [Value]
+    ensures { map view result.now ≡ rows_in name.now (view object.now) }
+{
+    match object.get(name) {
+        Some(array) => items_in(array),
+        None => &[],
     }
 }

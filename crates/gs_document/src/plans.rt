@@ -1,24 +1,9 @@
-ghost use Rattle.std.specs.Prelude.{◌≡◌, IfOk, map};
-ghost use Rattle.gs_document.specs.Documents.{ai_plan, document_plan, entry_of, kind_plan, option_plan};
+ghost use Rattle.std.specs.Prelude.{◌≡◌, IfOk};
+ghost use Rattle.gs_document.specs.Documents.{ai_plan, document_plan, kind_plan, option_plan};
 
-use gs_chars::{List, Memory, Text};
-use gs_json::{Entry, Sort};
+use gs_chars::{List, Memory};
+use gs_json::{Entry, Sort, plan_of};
 use std::alloc::Global;
-
-/// The plan of these members: the name of each, whether it must be there, and what it must be.
-fn plan_of(alloc: Global, members: &[(&[u8], bool, Sort)]) -> Result<List<Entry>, Memory>
-    ensures { IfOk result (λ plan. plan ≡ map entry_of members.now) }
-{
-    let mut plan = Vec::new(alloc);
-    for (name, required, sort) in members {
-        plan.push(Entry {
-            name: Text::from_bytes(alloc, name)?,
-            required: *required,
-            sort: *sort,
-        })?;
-    }
-    Ok(List::from_vec(plan))
-}
 
 /// The members of the document.
 pub(crate) fn document_plan(alloc: Global) -> Result<List<Entry>, Memory>

@@ -7,12 +7,12 @@ ghost use Rattle.gs_document.specs.Readings.{Holds, IsFormRefusal, IsJson, of_js
 
 use crate::document::{Document, OptionRow};
 use crate::fault::LoadFault;
-use crate::item_args::count_of;
-use crate::members::{member_of, number_in};
+use crate::members::number_in;
 use crate::plans::{ai_plan, document_plan, kind_plan, option_plan};
 use crate::rows::read_rows;
 use gs_chars::{List, Memory};
 use gs_json::{Doc, Entry, JsonFault, Node};
+use serde_json::Value;
 use std::alloc::Global;
 
 /// The rows of the table document that the bytes are, or the first fault of its form, as `Json`: the bytes are no JSON
@@ -36,7 +36,7 @@ fn read_root(alloc: Global, root: &Node<'_>) -> Result<Document, LoadFault>
         → IsFormRefusal bytes fault) }
 {
     match judge_document(alloc, root) {
-        Ok(()) => Ok(rows_of(alloc, root)?),
+        Ok(()) => Ok(rows_of(alloc, root.value())?),
         Err(fault) => Err(of_json(fault)),
     }
 }
@@ -106,7 +106,7 @@ fn judge_rows(alloc: Global, root: &Node<'_>, name: &str, plan: &[Entry]) -> Res
     requires { root.now.place ≡ [] }
     ensures { OrMemory result (first_fault (rows_faults name.now plan.now (view root.now.tree))) }
 {
-    match member_of(alloc, root, name)? {
+    match root.find(alloc, name)? {
         Some(array) => judge_items(alloc, &array, plan),
         None => Ok(()),
     }
@@ -117,7 +117,7 @@ fn judge_items(alloc: Global, array: &Node<'_>, plan: &[Entry]) -> Result<(), Js
     ensures { OrMemory result
         (first_fault (row_faults array.now.place plan.now (items_in (view array.now.tree)))) }
 {
-    let count = count_of(alloc, array)?;
+    let count = array.items_len().unwrap_or(0);
     for i in 0..count {
         let row = array.item(alloc, i)?;
         row.shaped(alloc, plan)?;
@@ -126,10 +126,10 @@ fn judge_items(alloc: Global, array: &Node<'_>, plan: &[Entry]) -> Result<(), Js
 }
 
 /// The rows of a document.
-fn rows_of(alloc: Global, root: &Node<'_>) -> Result<Document, Memory>
-    ensures { IfOk result (λ document. IsDocument (view root.now.tree) document) }
+fn rows_of(alloc: Global, root: &Value) -> Result<Document, Memory>
+    ensures { IfOk result (λ document. IsDocument (view root.now) document) }
 {
-    let version = number_in(alloc, root, "version")?;
+    let version = number_in(root, "version");
     let ais = read_rows(alloc, root, "ais", false)?;
     let kinds = read_rows(alloc, root, "kinds", false)?;
     let (binary, tag, pure) = options_of(alloc, root)?;
@@ -146,9 +146,9 @@ fn rows_of(alloc: Global, root: &Node<'_>) -> Result<Document, Memory>
 /// The rows of the options of the levels: binary, tag and pure.
 fn options_of(
     alloc: Global,
-    root: &Node<'_>,
+    root: &Value,
 ) -> Result<(List<OptionRow>, List<OptionRow>, List<OptionRow>), Memory>
-    ensures { IfOk result (AreOptions (view root.now.tree)) }
+    ensures { IfOk result (AreOptions (view root.now)) }
 {
     Ok((
         read_rows(alloc, root, "binary", true)?,

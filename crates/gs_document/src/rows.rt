@@ -1,16 +1,14 @@
-ghost use Rattle.std.specs.Prelude.{◌≡◌, ◌<◌, IfOk, codes};
+ghost use Rattle.std.specs.Prelude.{IfOk, codes, map};
 ghost use Rattle.serde_json.specs.View.{view};
-ghost use Rattle.gs_json.specs.Answers.{items_count};
-ghost use Rattle.gs_document.specs.Documents.{AreAiLists, Each, IsReadAt, IsRole, items_in, rows_in, text_in};
+ghost use Rattle.gs_document.specs.Documents.{AreAiLists, Each, IsRole, rows_in, text_in};
 
 use crate::document::{FieldItem, KindRow, OptionRow};
 use crate::fault::ItemFault;
-use crate::item_args::count_of;
-use crate::items::read_item;
-use crate::members::{member_of, number_in, text_in, text_of, truth_in};
+use crate::items::read_value;
+use crate::members::{number_in, rows_in, str_in, str_of, text_in, truth_in};
 use gs_ai::{AiRow, Part, Role};
 use gs_chars::{List, Memory, Text};
-use gs_json::Node;
+use serde_json::Value;
 use std::alloc::Global;
 
 /// What a part of a document is read as.
@@ -22,29 +20,17 @@ pub(crate) trait Row: Drop {
     ghost reads: { Bool → Data → Self → Type 0 };
 
     /// Reads a part of a document, whatever it is.
-    fn read(alloc: Global, node: &Node<'_>, bits: bool) -> Result<Self, Memory>
-        ensures { IfOk result (λ row. reads bits (view node.now.tree) row) };
+    fn read(alloc: Global, value: &Value, bits: bool) -> Result<Self, Memory>
+        ensures { IfOk result (λ row. reads bits (view value.now) row) };
 }
 
-/// The row that the item of an array at a number is read as.
-fn read_at<R: Row>(alloc: Global, array: &Node<'_>, i: usize, bits: bool) -> Result<R, Memory>
-    requires { i < items_count (view array.now.tree) }
-    ensures { IfOk result (IsReadAt (R.reads bits) i (view array.now.tree)) }
+/// The rows that these are read as, in their order.
+fn read_items<R: Row>(alloc: Global, items: &[Value], bits: bool) -> Result<List<R>, Memory>
+    ensures { IfOk result (λ rows. Each (R.reads bits) (map view items.now) rows) }
 {
-    match array.item(alloc, i) {
-        Ok(item) => R::read(alloc, &item, bits),
-        Err(_) => Err(Memory),
-    }
-}
-
-/// The rows that the items of an array are read as, in their order, and none of what is no array.
-fn read_items<R: Row>(alloc: Global, array: &Node<'_>, bits: bool) -> Result<List<R>, Memory>
-    ensures { IfOk result (λ rows. Each (R.reads bits) (items_in (view array.now.tree)) rows) }
-{
-    let count = count_of(alloc, array)?;
     let mut rows = Vec::new(alloc);
-    for i in 0..count {
-        rows.push(read_at(alloc, array, i, bits)?)?;
+    for item in items {
+        rows.push(R::read(alloc, item, bits)?)?;
     }
     Ok(List::from_vec(rows))
 }
@@ -52,16 +38,13 @@ fn read_items<R: Row>(alloc: Global, array: &Node<'_>, bits: bool) -> Result<Lis
 /// The rows of the array that is the member of a name, and none where there is no such array.
 pub(crate) fn read_rows<R: Row>(
     alloc: Global,
-    node: &Node<'_>,
+    object: &Value,
     name: &str,
     bits: bool,
 ) -> Result<List<R>, Memory>
-    ensures { IfOk result (λ rows. Each (R.reads bits) (rows_in name.now (view node.now.tree)) rows) }
+    ensures { IfOk result (λ rows. Each (R.reads bits) (rows_in name.now (view object.now)) rows) }
 {
-    match member_of(alloc, node, name)? {
-        Some(array) => read_items(alloc, &array, bits),
-        None => Ok(List::from_vec(Vec::new(alloc))),
-    }
+    read_items(alloc, rows_in(object, name), bits)
 }
 
 impl Row for Text {
@@ -69,8 +52,8 @@ impl Row for Text {
 
     ghost reads = { λ _ d text. IsText d text };
 
-    fn read(alloc: Global, node: &Node<'_>, _bits: bool) -> Result<Text, Memory> {
-        text_of(alloc, node)
+    fn read(alloc: Global, value: &Value, _bits: bool) -> Result<Text, Memory> {
+        Text::from_bytes(alloc, str_of(value).as_bytes())
     }
 }
 
@@ -79,27 +62,25 @@ impl Row for Part {
 
     ghost reads = { λ _ d part. IsPartOf d part };
 
-    fn read(alloc: Global, node: &Node<'_>, _bits: bool) -> Result<Part, Memory> {
-        let text = text_of(alloc, node)?;
-        Ok(Part::read(text.as_bytes()))
+    fn read(alloc: Global, value: &Value, _bits: bool) -> Result<Part, Memory> {
+        Ok(Part::read(str_of(value).as_bytes()))
     }
 }
 
 /// The role that the member `role` names.
-fn role_in(alloc: Global, node: &Node<'_>) -> Result<Role, Memory>
-    ensures { IfOk result (IsRole (text_in (codes "role") (view node.now.tree))) }
+fn role_in(object: &Value) -> Role
+    ensures { IsRole (text_in (codes "role") (view object.now)) result }
 {
-    let role = text_in(alloc, node, "role")?;
-    Ok(Role::read(role.as_bytes()))
+    Role::read(str_in(object, "role").as_bytes())
 }
 
 /// The parts and the qualifiers of an application identifier.
-fn lists_in(alloc: Global, node: &Node<'_>, bits: bool) -> Result<(List<Part>, List<Text>), Memory>
-    ensures { IfOk result (AreAiLists (view node.now.tree)) }
+fn lists_in(alloc: Global, object: &Value, bits: bool) -> Result<(List<Part>, List<Text>), Memory>
+    ensures { IfOk result (AreAiLists (view object.now)) }
 {
     Ok((
-        read_rows(alloc, node, "parts", bits)?,
-        read_rows(alloc, node, "qualifiers", bits)?,
+        read_rows(alloc, object, "parts", bits)?,
+        read_rows(alloc, object, "qualifiers", bits)?,
     ))
 }
 
@@ -108,12 +89,12 @@ impl Row for AiRow {
 
     ghost reads = { λ _ d row. IsAiRow d row };
 
-    fn read(alloc: Global, node: &Node<'_>, bits: bool) -> Result<AiRow, Memory> {
-        let role = role_in(alloc, node)?;
-        let short = truth_in(alloc, node, "short")?;
-        let code = text_in(alloc, node, "code")?;
-        let none = text_in(alloc, node, "none")?;
-        let (parts, qualifiers) = lists_in(alloc, node, bits)?;
+    fn read(alloc: Global, value: &Value, bits: bool) -> Result<AiRow, Memory> {
+        let role = role_in(value);
+        let short = truth_in(value, "short");
+        let code = text_in(alloc, value, "code")?;
+        let none = text_in(alloc, value, "none")?;
+        let (parts, qualifiers) = lists_in(alloc, value, bits)?;
         Ok(AiRow {
             role,
             short,
@@ -130,12 +111,12 @@ impl Row for KindRow {
 
     ghost reads = { λ _ d row. IsKindRow d row };
 
-    fn read(alloc: Global, node: &Node<'_>, _bits: bool) -> Result<KindRow, Memory> {
+    fn read(alloc: Global, value: &Value, _bits: bool) -> Result<KindRow, Memory> {
         Ok(KindRow {
-            lead: number_in(alloc, node, "lead")?,
-            name: text_in(alloc, node, "name")?,
-            key: text_in(alloc, node, "key")?,
-            serial: text_in(alloc, node, "serial")?,
+            lead: number_in(value, "lead"),
+            name: text_in(alloc, value, "name")?,
+            key: text_in(alloc, value, "key")?,
+            serial: text_in(alloc, value, "serial")?,
         })
     }
 }
@@ -145,12 +126,12 @@ impl Row for OptionRow {
 
     ghost reads = { IsOptionRow };
 
-    fn read(alloc: Global, node: &Node<'_>, bits: bool) -> Result<OptionRow, Memory> {
+    fn read(alloc: Global, value: &Value, bits: bool) -> Result<OptionRow, Memory> {
         Ok(OptionRow {
-            gcp: number_in(alloc, node, "gcp")?,
-            kind: text_in(alloc, node, "kind")?,
-            encoding: text_in(alloc, node, "encoding")?,
-            items: read_rows(alloc, node, "items", bits)?,
+            gcp: number_in(value, "gcp"),
+            kind: text_in(alloc, value, "kind")?,
+            encoding: text_in(alloc, value, "encoding")?,
+            items: read_rows(alloc, value, "items", bits)?,
         })
     }
 }
@@ -160,8 +141,8 @@ impl Row for Option<FieldItem> {
 
     ghost reads = { IsItemAt };
 
-    fn read(alloc: Global, node: &Node<'_>, bits: bool) -> Result<Option<FieldItem>, Memory> {
-        match read_item(alloc, node, bits) {
+    fn read(alloc: Global, value: &Value, bits: bool) -> Result<Option<FieldItem>, Memory> {
+        match read_value(alloc, value, bits) {
             Ok(item) => Ok(Some(item)),
             Err(ItemFault::Bad) => Ok(None),
             Err(ItemFault::Memory) => Err(Memory),

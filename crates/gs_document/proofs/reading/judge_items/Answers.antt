@@ -1,7 +1,8 @@
-use Rattle.std.proofs.Common.{◌≤◌, ℕ, length, sym, ◌∙◌, arith}
+use Rattle.std.proofs.Common.{◌≡◌, ◌≤◌, ℕ, length, unwrap_or, ap, sym, ◌∙◌, arith}
 use Rattle.std.proofs.lemmas.Result.{err_from_is_err_and}
 use Rattle.serde_json.specs.Data.{Data}
 use Rattle.serde_json.specs.View.{view}
+use Rattle.gs_json.specs.Answers.{items_count}
 use Rattle.gs_json.specs.Places.{item_place}
 use Rattle.gs_document.specs.Documents.{items_in, object_faults}
 use Rattle.gs_document.proofs.Parts.{items_at, items_length}
@@ -22,5 +23,6 @@ loop-i-preserved c =
 
 pub returns : goal.returns
 returns c =
-    let few : length (items_in (view c.args.array.now.tree)) ≤ c.loop-i.i = rw (items_length (view c.args.array.now.tree)) (omega (arith, c.in_ok-count.ensures)) in
+    let size : c.unwrap_or-count.result ≡ items_count (view c.args.array.now.tree) = c.unwrap_or-count.ensures ∙ ap (λ count. unwrap_or count 0) c.items_len.ensures in
+    let few : length (items_in (view c.args.array.now.tree)) ≤ c.loop-i.i = rw (items_length (view c.args.array.now.tree)) (omega (arith, size)) in
     form_all (λ (row : ℕ × Data). object_faults (item_place c.args.array.now.place row.0) c.args.plan.now row.1) (items_in (view c.args.array.now.tree)) c.loop-i.i few c.loop-i.invariant

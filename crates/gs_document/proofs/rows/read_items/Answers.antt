@@ -1,14 +1,11 @@
-use Rattle.std.proofs.Common.{arith}
-use Rattle.serde_json.specs.View.{view}
-use Rattle.gs_document.proofs.Parts.{each_step, each_all}
+use Rattle.gs_document.proofs.Parts.{each_all, each_more}
 use Rattle.gs_document.proofs.rows.read_items.Goals as goal
 
-pub loop-i-preserved : goal.loop-i-preserved
-loop-i-preserved g c =
-    let read = c.in_ok-read_at.ensures in
-    each_step (g.R.Row.reads c.args.bits) (view c.args.array.now.tree) c.loop-i.i read.0 c.loop-i.rows.items c.in_ok-read_at.field-0 c.push.new.self.items
-    read.1.0 c.loop-i.invariant read.1.1 c.in_ok-push.ensures.items
+pub loop-item-preserved : goal.loop-item-preserved
+loop-item-preserved g c =
+    each_more (g.R.Row.reads c.args.bits) c.args.items.now c.loop-item.item-index c.item-item.result c.loop-item.rows.items c.push.new.self.items _
+    c.loop-item-test.true c.item-item.is c.loop-item.invariant c.in_ok-push.ensures.items c.in_ok-read.ensures
 
 pub returns : goal.returns
 returns g c =
-    rw c.from_vec.ensures (each_all (g.R.Row.reads c.args.bits) (view c.args.array.now.tree) c.loop-i.i c.loop-i.rows.items (omega (arith, c.in_ok-count.ensures)) c.loop-i.invariant)
+    rw c.from_vec.ensures (each_all (g.R.Row.reads c.args.bits) c.args.items.now c.loop-item.item-index c.loop-item.rows.items c.loop-item-test.false c.loop-item.invariant)
