@@ -32,6 +32,12 @@ set_others bits word number l w other n =
     let same = set_apart bits word number other l w n in
     (λ s. sym same ∙ s, λ s. same ∙ s)
 
+-- more bits, of which none is set
+pub marked_wider : (bits wider numbers : List ℕ) → AreMarked bits numbers → ((other : ℕ) → IsSet wider other ↔ IsSet bits other) → AreMarked wider numbers
+marked_wider bits wider numbers a same = record {
+  marked = λ other. (λ s. (a.marked other).0 ((same other).0 s), λ h. (same other).1 ((a.marked other).1 h));
+}
+
 -- one number more
 pub marked_more : (bits wider new numbers : List ℕ) (number : ℕ) → AreMarked bits numbers → ((other : ℕ) → IsSet wider other ↔ IsSet bits other) → IsSet new number → ((other : ℕ) → other ≢ number → IsSet new other ↔ IsSet wider other) → AreMarked new (numbers ++ number ∷ [])
 marked_more bits wider new numbers number a same here others = record {
