@@ -1,7 +1,8 @@
 -- Rows that were added to a table, one after the other.
-use Rattle.std.proofs.Common.{◌≡◌, ℕ, ◌<◌, ◌+◌, ◌-◌, List, [], ◌∷◌, ◌++◌, length, zero, suc, Result, Ok, Err, IfOk, refl, sym, ◌∙◌, ap, arith, length-append}
-use Rattle.std.proofs.lemmas.List.{append_assoc}
+use Rattle.std.proofs.Common.{◌≡◌, ℕ, ◌<◌, ◌+◌, ◌-◌, List, [], ◌∷◌, ◌++◌, length, zero, suc, Result, Ok, Err, IfOk, refl, sym, ◌∙◌, ap, arith, length-append, ◌≤◌, drop, get_or}
+use Rattle.std.proofs.lemmas.List.{append_assoc, append-nil, drop_more, drop_all}
 use Rattle.gs_machine.specs.declared.edge.Edge.{Edge}
+use Rattle.gs_compile.specs.EscapeTables.{with_ranges}
 use Rattle.gs_compile.specs.Tables.{edge, run_table, fill_table, lower_state, bound_rest, bound_edges, bound_table}
 
 pub one_more : (whole new : List (List Edge)) (row : List Edge) → new ≡ whole ++ row ∷ [] → length new ≡ length whole + 1
@@ -20,6 +21,19 @@ run_step lo hi count place whole new all l h e =
     ∙ ap (λ (b : ℕ). whole ++ (edge lo hi (length whole + 1) ∷ []) ∷ run_table lo hi k b) len
     ∙ ap (λ (m : ℕ). whole ++ run_table lo hi m (length whole)) (sym n)
     ∙ h
+
+-- the edges of one range more, in front of those that are still to come
+pub ranges_step : (ranges : List (ℕ × ℕ)) (to place : ℕ) (range d : ℕ × ℕ) (row new all : List Edge) → place < length ranges → range ≡ get_or ranges place d → row ++ with_ranges (drop place ranges) to ≡ all → new ≡ row ++ edge range.0 range.1 to ∷ [] → new ++ with_ranges (drop (place + 1) ranges) to ≡ all
+ranges_step ranges to place range d row new all l e h m =
+    let here : drop place ranges ≡ range ∷ drop (place + 1) ranges = rw e (drop_more ranges place d l) in
+    let front : row ++ edge range.0 range.1 to ∷ with_ranges (drop (place + 1) ranges) to ≡ all = rw here at h in
+    rw m (append_assoc row (edge range.0 range.1 to ∷ []) (with_ranges (drop (place + 1) ranges) to) ∙ front)
+
+pub ranges_end : (ranges : List (ℕ × ℕ)) (to place : ℕ) (row all : List Edge) → length ranges ≤ place → row ++ with_ranges (drop place ranges) to ≡ all → row ≡ all
+ranges_end ranges to place row all l h =
+    let none : drop place ranges ≡ [] = drop_all place ranges l in
+    let whole : row ++ [] ≡ all = rw none at h in
+    sym (append-nil row) ∙ whole
 
 -- fillings
 
