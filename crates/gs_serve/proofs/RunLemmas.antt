@@ -5,6 +5,7 @@ use Rattle.gs_chars.proofs.TruthsAndLists.{or_first}
 use Rattle.gs_lines.specs.declared.status.Status.{Status}
 use Rattle.gs_lines.specs.declared.status.Status.TheVariants.{Done, SomeRefused, Usage, Refused, ReadFault, WriteFault, InputLong, Memory}
 use Rattle.gs_lines.specs.Printing.{PrintedAs}
+use Rattle.gs_lines.specs.Statuses.{is_read_fault}
 use Rattle.gs_serve.specs.declared.serving.Session.TheVariants as session
 use Rattle.gs_serve.specs.declared.tally.Tally.{Tally}
 use Rattle.gs_serve.specs.Doors.{IsOver, ServePrints, ServeRan, line_of, served_line}
@@ -66,3 +67,14 @@ run_over site count a m b tally output status first s printed =
       last = still_served (length s.visits - 1) s.visits s.are.0.served;
       prints = prints_line status count b s.visits output s.are.0 same;
     }
+
+-- a line that is printed with `Done` is no fault of a read
+pub printed_unfaulty : (line output : List ℕ) (status : Status) → PrintedAs Done line output status → is_read_fault status ≡ false
+printed_unfaulty line output Done p = refl
+printed_unfaulty line output SomeRefused p = refl
+printed_unfaulty line output Usage p = refl
+printed_unfaulty line output Refused p = refl
+printed_unfaulty line output ReadFault p = ap is_read_fault p.0
+printed_unfaulty line output WriteFault p = refl
+printed_unfaulty line output InputLong p = refl
+printed_unfaulty line output Memory p = refl

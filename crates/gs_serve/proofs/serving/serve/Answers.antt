@@ -3,7 +3,7 @@ use Rattle.gs_port.specs.Connections.{Aside}
 use Rattle.gs_port.specs.Counts.{counted}
 use Rattle.gs_port.specs.Contents.{append_nothing}
 use Rattle.gs_lines.specs.declared.status.Status.TheVariants.{ReadFault, Memory}
-use Rattle.gs_serve.proofs.RunLemmas.{nothing_served, run_failed, run_over, run_short}
+use Rattle.gs_serve.proofs.RunLemmas.{nothing_served, printed_unfaulty, run_failed, run_over, run_short}
 use Rattle.gs_serve.proofs.VisitLemmas.{visited_none}
 use Rattle.gs_serve.specs.Visits.{DoorState}
 use Rattle.gs_serve.proofs.serving.serve.Goals as goal
@@ -146,3 +146,12 @@ returns-in-Memory-serve_all-clause-read_fault g c = tt
 
 pub returns-in-Memory-serve_all-clause-door_count : goal.returns-in-Memory-serve_all-clause-door_count
 returns-in-Memory-serve_all-clause-door_count g c = c.in-Memory-serve_all.ensures.own_count ∙ ap (λ (a : Aside). a.faults) c.in-Opened.ensures.aside
+
+pub returns-in-Failed-clause-read_fault : goal.returns-in-Failed-clause-read_fault
+returns-in-Failed-clause-read_fault g c = c.in-Failed.ensures.failed
+
+pub returns-in-Over-clause-read_fault : goal.returns-in-Over-clause-read_fault
+returns-in-Over-clause-read_fault g c = rw (printed_unfaulty _ c.print_tally.ensures.written.0 c.print_tally.result c.print_tally.ensures.written.2) tt
+
+pub returns-in-Over-clause-door_count : goal.returns-in-Over-clause-door_count
+returns-in-Over-clause-door_count g c = rw (printed_unfaulty _ c.print_tally.ensures.written.0 c.print_tally.result c.print_tally.ensures.written.2) (c.in-Over.ensures.own_count ∙ ap (λ (a : Aside). a.faults) c.in-Opened.ensures.aside)

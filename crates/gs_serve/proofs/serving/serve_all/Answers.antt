@@ -1,4 +1,5 @@
-use Rattle.std.proofs.Common.{refl, ◌∙◌, arith}
+use Rattle.std.proofs.Common.{refl, ap, ◌∙◌, arith}
+use Rattle.gs_port.specs.Counts.{counted}
 use Rattle.gs_serve.proofs.SessionLemmas.{at_start, goes_on, memory_ran_out, none_accepted, none_came}
 use Rattle.gs_serve.proofs.serving.serve_all.Goals as goal
 
@@ -33,3 +34,51 @@ loop-finished-preserved g c = record {
   own_count = c.in-Finished.ensures.own_count ∙ c.loop-finished.invariant.own_count;
   same_ends = c.in-Finished.ensures.same_ends ∙ c.loop-finished.invariant.same_ends;
 }
+
+pub returns-in-Closed-clause-closed : goal.returns-in-Closed-clause-closed
+returns-in-Closed-clause-closed g c = c.in-Closed.ensures.closed
+
+pub returns-in-Closed-clause-own_count : goal.returns-in-Closed-clause-own_count
+returns-in-Closed-clause-own_count g c = c.in-Closed.ensures.own_count ∙ c.loop-finished.invariant.own_count
+
+pub returns-in-Closed-clause-own_counts : goal.returns-in-Closed-clause-own_counts
+returns-in-Closed-clause-own_counts g c = omega (arith, c.loop-finished.invariant.own_count, c.in-Closed.ensures.own_counts)
+
+pub returns-in-Closed-clause-same_ends : goal.returns-in-Closed-clause-same_ends
+returns-in-Closed-clause-same_ends g c = c.in-Closed.ensures.same_ends ∙ c.loop-finished.invariant.same_ends
+
+pub returns-in-Failed-clause-closed : goal.returns-in-Failed-clause-closed
+returns-in-Failed-clause-closed g c = c.in-Failed.ensures.closed
+
+pub returns-in-Failed-clause-own_count : goal.returns-in-Failed-clause-own_count
+returns-in-Failed-clause-own_count g c = c.in-Failed.ensures.own_count ∙ ap counted c.loop-finished.invariant.own_count
+
+pub returns-in-Failed-clause-own_counts : goal.returns-in-Failed-clause-own_counts
+returns-in-Failed-clause-own_counts g c = omega (arith, c.loop-finished.invariant.own_count, c.in-Failed.ensures.own_counts)
+
+pub returns-in-Failed-clause-same_ends : goal.returns-in-Failed-clause-same_ends
+returns-in-Failed-clause-same_ends g c = c.in-Failed.ensures.same_ends ∙ c.loop-finished.invariant.same_ends
+
+pub returns-in-Memory-clause-closed : goal.returns-in-Memory-clause-closed
+returns-in-Memory-clause-closed g c = c.in-Memory.ensures.closed
+
+pub returns-in-Memory-clause-own_count : goal.returns-in-Memory-clause-own_count
+returns-in-Memory-clause-own_count g c = c.in-Memory.ensures.own_count ∙ c.loop-finished.invariant.own_count
+
+pub returns-in-Memory-clause-own_counts : goal.returns-in-Memory-clause-own_counts
+returns-in-Memory-clause-own_counts g c = omega (arith, c.loop-finished.invariant.own_count, c.in-Memory.ensures.own_counts)
+
+pub returns-in-Memory-clause-same_ends : goal.returns-in-Memory-clause-same_ends
+returns-in-Memory-clause-same_ends g c = c.in-Memory.ensures.same_ends ∙ c.loop-finished.invariant.same_ends
+
+pub returns-clause-closed : goal.returns-clause-closed
+returns-clause-closed g c = c.loop-finished.invariant.none_open
+
+pub returns-clause-own_count : goal.returns-clause-own_count
+returns-clause-own_count g c = c.loop-finished.invariant.own_count
+
+pub returns-clause-own_counts : goal.returns-clause-own_counts
+returns-clause-own_counts g c = omega (arith, c.loop-finished.invariant.own_count)
+
+pub returns-clause-same_ends : goal.returns-clause-same_ends
+returns-clause-same_ends g c = c.loop-finished.invariant.same_ends
