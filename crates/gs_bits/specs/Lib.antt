@@ -1,4 +1,5 @@
 pub mod BitLaws
 pub mod Bits
+pub mod Digits
 pub mod HexText
 pub mod Packed

@@ -2,6 +2,7 @@
 //!
 //! - `BitBuf` takes bits at its end, and is made of and written as hexadecimal digits, the highest bit first.
 //! - `Cursor` takes numbers of so many bits from the front.
+//! - `are_bit_digits` says whether a text writes bits, as the digits 0 and 1.
 //!
 //! # Example
 //!
@@ -21,6 +22,7 @@
 
 mod bit_buf;
 mod cursor;
+mod digits;
 mod faults;
 mod hex_text;
 mod laws;
@@ -29,5 +31,6 @@ mod spread;
 
 pub use bit_buf::BitBuf;
 pub use cursor::Cursor;
+pub use digits::are_bit_digits;
 pub use faults::{Full, HexFault, Short};
 pub use laws::{bits_of_their_number, number_of_its_bits};

@@ -1,10 +1,11 @@
 -- The items of an option as a table document writes them: an array that begins with the item's name. This project's own.
-use Rattle.std.specs.Prelude.{ℕ, ◌==◌, ◌^◌, nat_lt, Bool, true, false, if◌then◌else◌, List, map, codes, Option, Some, None, option_map, option_and_then, option_to_list, Result, Ok, Err, ◌≡◌, ◌-◌, ◌||◌}
-use Rattle.std.specs.List.{flat_map, list_all}
+use Rattle.std.specs.Prelude.{ℕ, ◌+◌, ◌==◌, ◌^◌, nat_lt, Bool, true, false, if◌then◌else◌, List, map, codes, Option, Some, None, option_map, option_and_then, option_to_list, Result, Ok, Err, ◌≡◌, ◌-◌, ◌||◌}
+use Rattle.std.specs.List.{flat_map}
 use Rattle.std.specs.Str.{bytes_eq}
 use Rattle.serde_json.specs.Data.{Data}
 use Rattle.serde_json.specs.Find.{as_number, as_str, as_u64, at}
 use Rattle.gs_json.specs.Answers.{items_count}
+use Rattle.gs_bits.specs.Digits.{are_bit_digits}
 use Rattle.gs_grammar.specs.declared.item.Item.{Item}
 use Rattle.gs_grammar.specs.declared.item.Item.TheVariants.{Lit, Pad, Int, Esc, NumPad, Num, Ascii7, Fill}
 use Rattle.gs_document.specs.declared.field.Field.{Field}
@@ -33,7 +34,7 @@ exactly n count = if count == n then Some tt else None
 
 -- bits, as a text of the digits 0 and 1
 abbrev pub bits_of : List ℕ → Option (List ℕ)
-bits_of text = if list_all (λ c. (c == 48) || (c == 49)) text then Some (map (λ c. c - 48) text) else None
+bits_of text = if are_bit_digits text then Some (map (λ c. c - 48) text) else None
 
 -- the text at a place of an array
 abbrev pub text_arg : ℕ → Data → Option (List ℕ)
@@ -50,6 +51,14 @@ field_arg i d = option_and_then field_of (text_arg i d)
 -- the number at a place of an array, below 2^8
 abbrev pub byte_arg : ℕ → Data → Option ℕ
 byte_arg i d = option_and_then (held 8) (number_arg i d)
+
+-- the numbers at a place of an array and the next, each below 2^8
+abbrev pub two_bytes : ℕ → Data → Option (ℕ × ℕ)
+two_bytes i d = option_and_then (λ a. option_map (λ b. (a, b)) (byte_arg (i + 1) d)) (byte_arg i d)
+
+-- the field that the second part of an array of this many parts names
+abbrev pub field_of_sized : ℕ → Data → Option Field
+field_of_sized n d = if items_count d == n then field_arg 1 d else None
 
 -- the number at a place of an array, below 2^16
 abbrev pub short_arg : ℕ → Data → Option ℕ

@@ -1,12 +1,12 @@
-ghost use Rattle.std.specs.Prelude.{◌≡◌, ◌==◌, ◌||◌, ◌-◌, IfOk, map, option_map};
-ghost use Rattle.std.specs.List.{list_all};
+ghost use Rattle.std.specs.Prelude.{◌≡◌, ◌<◌, ◌-◌, IfOk, map, option_map};
 ghost use Rattle.serde_json.specs.View.{view};
 ghost use Rattle.gs_json.specs.Answers.{items_count};
-ghost use Rattle.gs_document.specs.Items.{Reads, exactly, bits_of, byte_arg, field_arg, number_arg, short_arg, text_arg};
+ghost use Rattle.gs_document.specs.Items.{Reads, exactly, bits_of, byte_arg, field_of_sized, number_arg, short_arg, text_arg, two_bytes};
 
 use crate::fault::ItemFault;
 use crate::field::Field;
 use crate::members::items_len;
+use gs_bits::are_bit_digits;
 use gs_chars::{Memory, Text};
 use serde_json::Value;
 use std::alloc::Global;
@@ -62,21 +62,26 @@ pub(crate) fn short_arg(item: &Value, i: usize) -> Option<u16>
     }
 }
 
-/// The field that the second part of an array names.
-pub(crate) fn field_arg(item: &Value) -> Option<Field>
-    ensures { result ≡ field_arg 1 (view item.now) }
+/// The numbers below 256 at a place of an array and the next.
+pub(crate) fn two_bytes(item: &Value, i: usize) -> Option<(u8, u8)>
+    requires { i < 4 }
+    ensures { result ≡ two_bytes i (view item.now) }
 {
+    match (byte_arg(item, i), byte_arg(item, i + 1)) {
+        (Some(a), Some(b)) => Some((a, b)),
+        _ => None,
+    }
+}
+
+/// The field that the second part of an array of so many parts names.
+pub(crate) fn field_arg(item: &Value, count: usize) -> Option<Field>
+    ensures { result ≡ field_of_sized count (view item.now) }
+{
+    must_have(item, count)?;
     match text_arg(item, 1) {
         Some(name) => Field::read(name.as_bytes()),
         None => None,
     }
-}
-
-/// Whether a text is made of the digits 0 and 1 alone.
-fn are_bit_digits(text: &[u8]) -> bool
-    ensures { result ≡ list_all (λ c. (c == 48) || (c == 49)) text.now }
-{
-    text.iter().all(|c| *c == b'0' || *c == b'1')
 }
 
 /// The bits that a text of the digits 0 and 1 writes.

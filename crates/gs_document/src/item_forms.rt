@@ -4,7 +4,9 @@ ghost use Rattle.gs_document.specs.Items.{Reads, ascii7, bit_literal, esc, fill,
 
 use crate::document::FieldItem;
 use crate::fault::ItemFault;
-use crate::item_args::{bits_of, byte_arg, field_arg, must_have, number_arg, short_arg, text_arg};
+use crate::item_args::{
+    bits_of, byte_arg, field_arg, must_have, number_arg, short_arg, text_arg, two_bytes,
+};
 use gs_chars::Text;
 use gs_grammar::Item;
 use serde_json::Value;
@@ -42,8 +44,7 @@ pub(crate) fn read_bits(alloc: Global, item: &Value) -> Result<FieldItem, ItemFa
 pub(crate) fn read_pad(item: &Value) -> Option<FieldItem>
     ensures { result ≡ pad (view item.now) }
 {
-    must_have(item, 3)?;
-    let field = field_arg(item)?;
+    let field = field_arg(item, 3)?;
     let n = byte_arg(item, 2)?;
     Some((Some(field), Item::Pad { n }))
 }
@@ -52,8 +53,7 @@ pub(crate) fn read_pad(item: &Value) -> Option<FieldItem>
 pub(crate) fn read_int(item: &Value) -> Option<FieldItem>
     ensures { result ≡ int (view item.now) }
 {
-    must_have(item, 3)?;
-    let field = field_arg(item)?;
+    let field = field_arg(item, 3)?;
     let max = number_arg(item, 2)?;
     Some((Some(field), Item::Int { max }))
 }
@@ -62,10 +62,8 @@ pub(crate) fn read_int(item: &Value) -> Option<FieldItem>
 pub(crate) fn read_esc(item: &Value) -> Option<FieldItem>
     ensures { result ≡ esc (view item.now) }
 {
-    must_have(item, 4)?;
-    let field = field_arg(item)?;
-    let lo = byte_arg(item, 2)?;
-    let hi = byte_arg(item, 3)?;
+    let field = field_arg(item, 4)?;
+    let (lo, hi) = two_bytes(item, 2)?;
     Some((Some(field), Item::Esc { lo, hi }))
 }
 
@@ -73,10 +71,8 @@ pub(crate) fn read_esc(item: &Value) -> Option<FieldItem>
 pub(crate) fn read_numpad(item: &Value) -> Option<FieldItem>
     ensures { result ≡ numpad (view item.now) }
 {
-    must_have(item, 4)?;
-    let field = field_arg(item)?;
-    let bits = byte_arg(item, 2)?;
-    let n = byte_arg(item, 3)?;
+    let field = field_arg(item, 4)?;
+    let (bits, n) = two_bytes(item, 2)?;
     Some((Some(field), Item::NumPad { bits, n }))
 }
 
@@ -84,8 +80,7 @@ pub(crate) fn read_numpad(item: &Value) -> Option<FieldItem>
 pub(crate) fn read_num(item: &Value) -> Option<FieldItem>
     ensures { result ≡ num (view item.now) }
 {
-    must_have(item, 4)?;
-    let field = field_arg(item)?;
+    let field = field_arg(item, 4)?;
     let bits = byte_arg(item, 2)?;
     let max = number_arg(item, 3)?;
     Some((Some(field), Item::Num { bits, max }))
@@ -95,11 +90,9 @@ pub(crate) fn read_num(item: &Value) -> Option<FieldItem>
 pub(crate) fn read_ascii7(item: &Value) -> Option<FieldItem>
     ensures { result ≡ ascii7 (view item.now) }
 {
-    must_have(item, 5)?;
-    let field = field_arg(item)?;
+    let field = field_arg(item, 5)?;
     let bits = short_arg(item, 4)?;
-    let lo = byte_arg(item, 2)?;
-    let hi = byte_arg(item, 3)?;
+    let (lo, hi) = two_bytes(item, 2)?;
     Some((Some(field), Item::Ascii7 { lo, hi, bits }))
 }
 
@@ -108,7 +101,6 @@ pub(crate) fn read_fill(item: &Value) -> Option<FieldItem>
     ensures { result ≡ fill (view item.now) }
 {
     must_have(item, 3)?;
-    let a = byte_arg(item, 1)?;
-    let b = byte_arg(item, 2)?;
+    let (a, b) = two_bytes(item, 1)?;
     Some((None, Item::Fill { a, b }))
 }

@@ -1,7 +1,7 @@
 use Rattle.std.proofs.Common.{ℕ, ◌==◌, ◌||◌, rules, tests}
 use Rattle.std.proofs.lemmas.Iterator.{YieldsList-from_slice}
 use Rattle.std.proofs.lemmas.Iterator.Search.{all_from_yields_List}
-use Rattle.gs_document.proofs.item_args.are_bit_digits.Goals as goal
+use Rattle.gs_bits.proofs.digits.are_bit_digits.Goals as goal
 
 pub returns : goal.returns
 returns c =
