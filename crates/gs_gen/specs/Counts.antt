@@ -6,7 +6,7 @@ use Rattle.gs_translate.specs.declared.form.Form.TheVariants as form
 use Rattle.gs_translate.specs.declared.options.Options.{Options}
 use Rattle.gs_translate.specs.declared.reason.Reason.{Reason}
 use Rattle.gs_translate.specs.declared.target.Target.TheVariants as target
-use Rattle.gs_translate.specs.Reasons.{reason_text}
+use Rattle.gs_reasons.specs.Reasons.{reason_text}
 use Rattle.gs_translate.specs.Steps.{Then}
 use Rattle.gs_translate.specs.Translations.{IsTranslation}
 use Rattle.gs_gen.specs.Generator.{generated_line}

@@ -1,6 +1,6 @@
 ghost use Rattle.std.specs.Prelude.{◌≡◌, ◌≢◌, [], ◌+◌, ◌*◌, ◌<◌, ◌≤◌, ◌^◌, Err, IfOk, length};
 ghost use Rattle.gs_translate.specs.declared.reason.Reason.TheVariants.{Memory as WantOfMemory};
-ghost use Rattle.gs_translate.specs.Reasons.{reason_text};
+ghost use Rattle.gs_reasons.specs.Reasons.{reason_text};
 ghost use Rattle.gs_gen.specs.Counts.{filter_one};
 ghost use Rattle.gs_gen.specs.Counting.{CountsFirst, CountsOneMore};
 
@@ -8,7 +8,8 @@ use crate::answering::{Answering, answer_line};
 use crate::counts::Counts;
 use crate::generator::Generator;
 use gs_chars::{Memory, Text};
-use gs_translate::{Reason, append_reason};
+use gs_reasons::append_reason;
+use gs_translate::Reason;
 use std::alloc::Global;
 
 /// The bytes of the line of an answer beside its text: `ok ` or `no ` and the line feed.

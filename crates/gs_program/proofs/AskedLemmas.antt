@@ -13,18 +13,18 @@ use Rattle.gs_port.specs.Contents.{append_known, append_nothing}
 use Rattle.gs_port.specs.Counts.{Rises}
 use Rattle.gs_tables.specs.Judged.{IsLoaded}
 use Rattle.gs_translate.specs.Steps.{HasSome}
-use Rattle.gs_program.specs.declared.command.Command.{Command}
-use Rattle.gs_program.specs.declared.command.Command.TheVariants.{Canon, Translate, Check, Resolve, Serve, Gen}
+use Rattle.gs_refusals.specs.declared.refusal.Refusal.{Refusal}
+use Rattle.gs_refusals.specs.Refusals.{refused_line}
+use Rattle.gs_words.specs.declared.command.Command.{Command}
+use Rattle.gs_words.specs.declared.command.Command.TheVariants.{Canon, Translate, Check, Resolve, Serve, Gen}
+use Rattle.gs_words.specs.Commands.{reads_input}
+use Rattle.gs_words.specs.Requests.{Asked, Values}
 use Rattle.gs_program.specs.declared.loading.Loaded.{Loaded}
 use Rattle.gs_program.specs.declared.loading.Unloaded.{Unloaded}
 use Rattle.gs_program.specs.declared.loading.Unloaded.TheVariants as unloaded
-use Rattle.gs_program.specs.declared.refusal.Refusal.{Refusal}
 use Rattle.gs_program.specs.Asking.{AskedRan, Reports}
-use Rattle.gs_program.specs.Commands.{reads_input}
 use Rattle.gs_program.specs.Loads.{FilesGive, LoadedBy, Stop, missing, refused}
 use Rattle.gs_program.specs.Ran.{BeginsOne, CommandCause, CommandRan, Moment}
-use Rattle.gs_program.specs.Refusals.{refused_line}
-use Rattle.gs_program.specs.Requests.{Asked, Values}
 use Rattle.gs_program.specs.Runs.{AskedEnded, AskedRun, Counts, World, WritesAfterFault, none_finished, ran, some_finished, stopped, stops}
 use Rattle.gs_program.specs.Works.{CommandEnded, CommandRun, Doorway, Leaves, LeavesOutput, Outcome, canonizing, counts_line, input_limit, outcome_of, site_of, translating}
 use Rattle.gs_program.proofs.LineLemmas.{translated_some}

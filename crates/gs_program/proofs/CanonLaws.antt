@@ -7,12 +7,13 @@ use Rattle.gs_tables.specs.Tables.{TableRows}
 use Rattle.gs_translate.specs.declared.form.Form.{Form}
 use Rattle.gs_translate.specs.declared.reason.Reason.{Reason}
 use Rattle.gs_translate.specs.Answers.{IsAnswer}
-use Rattle.gs_translate.specs.Reasons.{reason_text}
+use Rattle.gs_reasons.specs.Reasons.{reason_text}
 use Rattle.gs_translate.specs.Translations.{NameOne}
 use Rattle.gs_translate.proofs.SameLinks.{canonical_translation, equal_links}
+use Rattle.gs_words.specs.Requests.{no_options}
 use Rattle.gs_program.specs.declared.loading.Loaded.{Loaded}
 use Rattle.gs_program.specs.LineAnswers.{IsCanonLine, IsTranslatedLine, line_of}
-use Rattle.gs_program.specs.Works.{canonizing, no_options}
+use Rattle.gs_program.specs.Works.{canonizing}
 
 pub canon_lines : (loaded : Loaded) (form : Form) (text : List ℕ) (line : LineAnswer) → IsTranslatedLine (canonizing loaded form) text line ↔ IsCanonLine loaded.tables form text line
 canon_lines loaded form text line = (

@@ -9,17 +9,17 @@ use Rattle.gs_lines.specs.Outputs.{AnswersInput, LineAnswer, status_of}
 use Rattle.gs_lines.specs.Statuses.{OnReadFault, OnWriteFault, OnWritten, is_answered}
 use Rattle.gs_port.specs.Connections.{Finished}
 use Rattle.gs_port.specs.Counts.{Rises}
-use Rattle.gs_program.specs.declared.command.Command.{Command}
-use Rattle.gs_program.specs.declared.command.Command.TheVariants.{Canon, Translate, Check, Resolve, Serve, Gen}
+use Rattle.gs_words.specs.declared.command.Command.{Command}
+use Rattle.gs_words.specs.declared.command.Command.TheVariants.{Canon, Translate, Check, Resolve, Serve, Gen}
+use Rattle.gs_words.specs.Commands.{answers_lines}
+use Rattle.gs_words.specs.Requests.{Asked, Values, WordsInOrder}
+use Rattle.gs_words.proofs.RequestLemmas.{one_request}
 use Rattle.gs_program.specs.declared.loading.Loaded.{Loaded}
 use Rattle.gs_program.specs.Asking.{AskedRan}
-use Rattle.gs_program.specs.Commands.{answers_lines}
 use Rattle.gs_program.specs.LineAnswers.{IsTranslatedLine}
 use Rattle.gs_program.specs.Loads.{FilesGive, Stop, missing}
-use Rattle.gs_program.specs.Requests.{Asked, Values, WordsInOrder}
 use Rattle.gs_program.specs.Runs.{AskedRun, Counts, DefinedRun, InputFits, IsDoneOrMemory, IsMissing, IsWithin, LoadsAll, NoneRises, World, by_request, by_usage, ran, stops}
 use Rattle.gs_program.specs.Works.{CommandRun, Doorway, Leaves, Outcome, canonizing, input_limit, translating}
-use Rattle.gs_program.proofs.RequestLemmas.{one_request}
 use Rattle.gs_program.proofs.RunLemmas.{defined_of, read_fault_of}
 
 -- ---- what is defined is answered

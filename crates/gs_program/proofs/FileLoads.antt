@@ -6,14 +6,14 @@ use Rattle.gs_http.specs.declared.settings.Settings.{Settings}
 use Rattle.gs_port.specs.Counts.{Rises}
 use Rattle.gs_port.specs.Files.{IsFile}
 use Rattle.gs_translate.specs.Steps.{Then, goes_on, refuses}
-use Rattle.gs_program.specs.declared.file_kind.FileKind.{FileKind}
-use Rattle.gs_program.specs.declared.file_kind.FileKind.TheVariants.{Describe}
+use Rattle.gs_refusals.specs.declared.file_kind.FileKind.{FileKind}
+use Rattle.gs_refusals.specs.declared.file_kind.FileKind.TheVariants.{Describe}
+use Rattle.gs_refusals.specs.declared.refusal.FileFault.{FileFault}
+use Rattle.gs_refusals.specs.Refusals.{file_limit}
 use Rattle.gs_program.specs.declared.loading.Unloaded.{Unloaded}
 use Rattle.gs_program.specs.declared.loading.Unloaded.TheVariants as unloaded
-use Rattle.gs_program.specs.declared.refusal.FileFault.{FileFault}
 use Rattle.gs_program.specs.Loads.{AreSettings, DescriptionGives, FileGives, LoadedBy, StandsFor, Stop, absent, judged, missing, of_verdict, refused, too_large}
 use Rattle.gs_program.specs.Reads.{JudgedAs, ReadBy, SettingsAs}
-use Rattle.gs_program.specs.Refusals.{file_limit}
 
 -- a file that was not read
 pub file_unloaded : {A : Type 0} (files : Option (List (List ℕ × List ℕ))) (kind : FileKind) (Judges : List ℕ → Result A FileFault → Type 0) (name : List ℕ) (before now : ℕ) (u : Unloaded) → ReadBy files kind name before now (Err u) → LoadedBy (FileGives files kind Judges name) before now (Err u)

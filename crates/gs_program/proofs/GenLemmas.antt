@@ -4,10 +4,10 @@ use Rattle.gs_gen.specs.Counting.{PrintsGenerated}
 use Rattle.gs_lines.specs.declared.status.Status.{Status}
 use Rattle.gs_lines.specs.Statuses.{OnWriteFault}
 use Rattle.gs_port.specs.Counts.{Rises}
-use Rattle.gs_program.specs.declared.command.Command.TheVariants.{Gen}
+use Rattle.gs_words.specs.declared.command.Command.TheVariants.{Gen}
+use Rattle.gs_words.specs.Requests.{Values}
 use Rattle.gs_program.specs.declared.loading.Loaded.{Loaded}
 use Rattle.gs_program.specs.Ran.{CommandRan, Moment}
-use Rattle.gs_program.specs.Requests.{Values}
 use Rattle.gs_program.specs.Works.{Doorway, outcome_of}
 use Rattle.gs_program.proofs.RanLemmas.{ran_of_line}
 

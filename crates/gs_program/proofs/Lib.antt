@@ -1,9 +1,3 @@
-pub mod WordLemmas
-pub mod RangeLemmas
-pub mod NumeralLemmas
-pub mod PairLemmas
-pub mod RequestLemmas
-pub mod ValueLemmas
 pub mod FileLoads
 pub mod OpenedNames
 pub mod PrefixLoads
@@ -19,5 +13,4 @@ pub mod CanonLaws
 pub mod AskedLemmas
 pub mod RunLemmas
 pub mod CompleteLemmas
-pub mod DecidedWords
 pub mod RunLaws

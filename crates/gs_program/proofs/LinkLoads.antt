@@ -7,7 +7,7 @@ use Rattle.gs_links.specs.Loading.{links_of, load_answer, store_faults}
 use Rattle.gs_linkset.specs.declared.doc.DocFault.{DocFault}
 use Rattle.gs_linkset.specs.declared.link_types.Context.{Context}
 use Rattle.gs_linkset.specs.LinkShapes.{new_answer}
-use Rattle.gs_program.specs.declared.file_kind.FileKind.TheVariants.{Links}
+use Rattle.gs_refusals.specs.declared.file_kind.FileKind.TheVariants.{Links}
 use Rattle.gs_program.specs.declared.loading.Unloaded.{Unloaded}
 use Rattle.gs_program.specs.Loads.{store_verdict}
 use Rattle.gs_program.specs.Reads.{JudgedAs}

@@ -17,14 +17,14 @@ use Rattle.gs_tables.proofs.JudgedAnswers.{IsRuling, judged_alike, judged_some}
 use Rattle.gs_tables.proofs.OneAnswer.{RuledRows, ruling_of_builtin, ruling_of_bytes}
 use Rattle.gs_translate.specs.Steps.{HasSome, Then, goes_on, refuses}
 use Rattle.gs_translate.proofs.StepLaws.{then_some}
-use Rattle.gs_program.specs.declared.file_kind.FileKind.{FileKind}
-use Rattle.gs_program.specs.declared.file_kind.FileKind.TheVariants as kind
+use Rattle.gs_refusals.specs.declared.file_kind.FileKind.{FileKind}
+use Rattle.gs_refusals.specs.declared.file_kind.FileKind.TheVariants as kind
+use Rattle.gs_refusals.specs.declared.refusal.FileFault.{FileFault}
+use Rattle.gs_refusals.specs.declared.refusal.FileFault.TheVariants.{Over}
+use Rattle.gs_refusals.specs.Refusals.{file_limit}
+use Rattle.gs_words.specs.Requests.{Asked}
 use Rattle.gs_program.specs.declared.loading.Loaded.{Loaded}
-use Rattle.gs_program.specs.declared.refusal.FileFault.{FileFault}
-use Rattle.gs_program.specs.declared.refusal.FileFault.TheVariants.{Over}
 use Rattle.gs_program.specs.Loads.{AreSettings, DescriptionGives, FileGives, FilesGive, Gives, GivesBehind, GivesLinks, GivesSettings, IsLoadedOf, IsNoDescription, IsNoLink, IsNoPrefix, JudgesDescription, JudgesLinks, JudgesPrefixes, JudgesTables, LinksGive, PrefixesGive, SettingsGive, Stop, TablesGive, links_verdict, prefixes_verdict, absent, judged, missing, of_verdict, tables_verdict, too_large}
-use Rattle.gs_program.specs.Refusals.{file_limit}
-use Rattle.gs_program.specs.Requests.{Asked}
 use Rattle.gs_program.specs.Runs.{ambiguous}
 
 -- ---- at most one answer

@@ -6,12 +6,12 @@ use Rattle.gs_prefix.specs.Answers.{OrMemory, load_answer}
 use Rattle.gs_prefix.specs.declared.entry.PrefixEntry.{PrefixEntry}
 use Rattle.gs_prefix.specs.declared.fault.PrefixFault.{PrefixFault}
 use Rattle.gs_prefix.specs.declared.fault.PrefixFault.TheVariants as prefix
-use Rattle.gs_program.specs.declared.file_kind.FileKind.TheVariants as kind
+use Rattle.gs_refusals.specs.declared.file_kind.FileKind.TheVariants as kind
+use Rattle.gs_refusals.specs.Refusals.{file_limit}
 use Rattle.gs_program.specs.declared.loading.Unloaded.{Unloaded}
 use Rattle.gs_program.specs.declared.loading.Unloaded.TheVariants as unloaded
 use Rattle.gs_program.specs.Loads.{LoadedBy, PrefixesGive, Stop, judged, of_verdict, prefixes_verdict, refused}
 use Rattle.gs_program.specs.Reads.{PrefixesUnloadedAs}
-use Rattle.gs_program.specs.Refusals.{file_limit}
 
 -- a list that was judged is loaded, or refused, or there was want of memory
 told_prefixes : (Give : Result (List PrefixEntry) Stop → Type 0) (before now : ℕ) (answer judgement : Result (List PrefixEntry) PrefixFault) (result : Result (List PrefixEntry) Unloaded) → OrMemory answer judgement → PrefixesUnloadedAs answer result → Give (of_verdict kind.Prefixes (prefixes_verdict judgement)) → LoadedBy Give before now result

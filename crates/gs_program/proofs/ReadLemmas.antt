@@ -9,16 +9,16 @@ use Rattle.gs_tables.specs.Tables.{TableRows}
 use Rattle.gs_tables.proofs.JudgedAnswers.{judged_loaded}
 use Rattle.gs_tables.proofs.OneAnswer.{RuledRows, ruling_of_builtin, ruling_of_bytes}
 use Rattle.gs_translate.specs.Steps.{goes_on, refuses}
-use Rattle.gs_program.specs.declared.file_kind.FileKind.TheVariants as kind
+use Rattle.gs_refusals.specs.declared.file_kind.FileKind.TheVariants as kind
+use Rattle.gs_refusals.specs.declared.refusal.FileFault.{FileFault}
+use Rattle.gs_refusals.specs.declared.refusal.FileFault.TheVariants.{Over, Tables}
+use Rattle.gs_refusals.specs.Refusals.{file_limit}
+use Rattle.gs_words.specs.Requests.{Asked}
 use Rattle.gs_program.specs.declared.loading.Loaded.{Loaded}
 use Rattle.gs_program.specs.declared.loading.Unloaded.{Unloaded}
 use Rattle.gs_program.specs.declared.loading.Unloaded.TheVariants as unloaded
-use Rattle.gs_program.specs.declared.refusal.FileFault.{FileFault}
-use Rattle.gs_program.specs.declared.refusal.FileFault.TheVariants.{Over, Tables}
 use Rattle.gs_program.specs.Loads.{FilesGive, JudgesTables, LoadedBy, Stop, TablesGive, absent, judged, missing, of_verdict, refused, tables_verdict, too_large}
 use Rattle.gs_program.specs.Reads.{UnloadedAs}
-use Rattle.gs_program.specs.Refusals.{file_limit}
-use Rattle.gs_program.specs.Requests.{Asked}
 
 -- ---- the tables of a file
 

@@ -8,20 +8,20 @@ use Rattle.gs_port.specs.Connections.{Finished}
 use Rattle.gs_lines.proofs.OneOutcome.{one_outcome}
 use Rattle.gs_tables.specs.Judged.{IsLoaded}
 use Rattle.gs_translate.specs.Steps.{HasOne, HasSome}
-use Rattle.gs_program.specs.declared.command.Command.{Command}
-use Rattle.gs_program.specs.declared.command.Command.TheVariants.{Canon, Translate, Check, Resolve, Serve, Gen}
+use Rattle.gs_words.specs.declared.command.Command.{Command}
+use Rattle.gs_words.specs.declared.command.Command.TheVariants.{Canon, Translate, Check, Resolve, Serve, Gen}
+use Rattle.gs_words.specs.Requests.{Asked, Values, WordsInOrder, usage_line}
+use Rattle.gs_words.proofs.DecidedWords.{Decided, order_or_not}
+use Rattle.gs_words.proofs.RequestLemmas.{one_request}
 use Rattle.gs_program.specs.declared.loading.Loaded.{Loaded}
 use Rattle.gs_program.specs.LineAnswers.{IsTranslatedLine, Translating}
 use Rattle.gs_program.specs.Loads.{Stop}
-use Rattle.gs_program.specs.Requests.{Asked, Values, WordsInOrder, usage_line}
 use Rattle.gs_program.specs.Runs.{AreAlike, AskedRun, DefinedRun, World, ambiguous, but_faults, but_text, by_request, by_usage, ran, same, stopped, stops, told_world}
 use Rattle.gs_program.specs.Works.{CommandRun, LeavesOutput, Outcome, Translated, canonizing, input_limit, outcome_of, site_of, translating}
 use Rattle.gs_program.proofs.AskedLemmas.{asked_some}
-use Rattle.gs_program.proofs.DecidedWords.{Decided, order_or_not}
 use Rattle.gs_program.proofs.LineLemmas.{one_line}
 use Rattle.gs_program.proofs.LoadLemmas.{AlikeStops, files_one, one_stop, two_texts}
 use Rattle.gs_program.proofs.ReadLemmas.{loaded_of}
-use Rattle.gs_program.proofs.RequestLemmas.{one_request}
 use Rattle.gs_program.proofs.ServeLemmas.{serves_alike}
 use Rattle.gs_program.proofs.SiteLemmas.{one_resolved}
 

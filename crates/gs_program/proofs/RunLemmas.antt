@@ -10,15 +10,15 @@ use Rattle.gs_lines.specs.Statuses.{OnAnswered, OnCutShort, OnInputLong, OnReadF
 use Rattle.gs_lines.proofs.StatusLemmas.{when_always, when_map}
 use Rattle.gs_port.specs.Connections.{Finished}
 use Rattle.gs_port.specs.Counts.{Rises}
-use Rattle.gs_program.specs.declared.command.Command.{Command}
+use Rattle.gs_words.specs.declared.command.Command.{Command}
+use Rattle.gs_words.specs.Commands.{answers_heads, answers_lines}
+use Rattle.gs_words.specs.Requests.{Asked, AsksFor, AsksForHeads, AsksForLines, NamesFile, NotInOrder, WordsInOrder, names_in_order, usage_line}
+use Rattle.gs_words.proofs.RequestLemmas.{one_request}
 use Rattle.gs_program.specs.Asking.{AskedRan, ReadCause}
-use Rattle.gs_program.specs.Commands.{answers_heads, answers_lines}
 use Rattle.gs_program.specs.Ran.{BeginsOne}
-use Rattle.gs_program.specs.Requests.{Asked, AsksFor, AsksForHeads, AsksForLines, NamesFile, NotInOrder, WordsInOrder, names_in_order, usage_line}
 use Rattle.gs_program.specs.Runs.{AskedEnded, AskedRun, AskedServes, BeginsRun, Counts, DefinedRun, EndedRun, FinishedRun, IsMissing, IsRefused, ServesInput, World, by_disorder, by_order, by_request, by_usage}
 use Rattle.gs_program.specs.Works.{Leaves, Outcome, input_limit, outcome_of}
 use Rattle.gs_program.proofs.RanLemmas.{PrintedCase, fault, leaves_door, no_memory, printed_case, whole}
-use Rattle.gs_program.proofs.RequestLemmas.{one_request}
 
 -- ---- words that ask for something
 

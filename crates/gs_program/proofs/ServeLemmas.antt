@@ -15,10 +15,10 @@ use Rattle.gs_serve.specs.Sites.{AreSiteReplies, Replied, SiteData}
 use Rattle.gs_serve.specs.Visits.{AreVisits, DoorState, IsVisit, Visit, Visited, entries_of, inputs_of, is_done, no_visit, one_visit, wants_memory}
 use Rattle.gs_serve.proofs.DoneVisits.{done_visit, is_done_visit}
 use Rattle.gs_translate.specs.Steps.{HasSome}
-use Rattle.gs_program.specs.declared.command.Command.TheVariants.{Serve}
+use Rattle.gs_words.specs.declared.command.Command.TheVariants.{Serve}
+use Rattle.gs_words.specs.Requests.{Values}
 use Rattle.gs_program.specs.declared.loading.Loaded.{Loaded}
 use Rattle.gs_program.specs.Ran.{BeginsOne, CommandRan, Moment}
-use Rattle.gs_program.specs.Requests.{Values}
 use Rattle.gs_program.specs.Runs.{AlikeServed, AlikeVisits, more_visits, no_visits}
 use Rattle.gs_program.specs.Works.{Doorway, Leaves, Outcome, Serves, ServesFirst, doorway_of, served_outcome, site_of}
 use Rattle.gs_program.proofs.RanLemmas.{same_count}

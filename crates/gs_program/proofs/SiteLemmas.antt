@@ -10,10 +10,10 @@ use Rattle.gs_port.specs.Counts.{Rises}
 use Rattle.gs_serve.specs.Resolved.{Resolved, Resolves}
 use Rattle.gs_serve.specs.Sites.{AreSiteReplies, SiteData}
 use Rattle.gs_translate.specs.Steps.{HasOne, HasSome}
-use Rattle.gs_program.specs.declared.command.Command.TheVariants.{Resolve}
+use Rattle.gs_words.specs.declared.command.Command.TheVariants.{Resolve}
+use Rattle.gs_words.specs.Requests.{Values}
 use Rattle.gs_program.specs.declared.loading.Loaded.{Loaded}
 use Rattle.gs_program.specs.Ran.{BeginsOne, CommandRan, Moment}
-use Rattle.gs_program.specs.Requests.{Values}
 use Rattle.gs_program.specs.Works.{Doorway, LeavesOutput, outcome_of, site_of}
 
 -- ---- a stream has one answer

@@ -1,19 +1,22 @@
 -- What was done of what is asked.
 use Rattle.std.specs.Prelude.{◌≡◌, ◌≢◌, ◌⊎◌, ℕ, ◌+◌, ◌≤◌, true, List, Option, Err}
 use Rattle.gs_lines.specs.declared.status.Status.{Status}
+use Rattle.gs_lines.specs.declared.status.Status.TheVariants as status
 use Rattle.gs_lines.specs.declared.status.Status.TheVariants.{Memory, ReadFault, Usage}
 use Rattle.gs_lines.specs.Inputs.{IsAtEnd, TakesAtMost, TakesMoreThan}
+use Rattle.gs_lines.specs.Outputs.{Appends}
+use Rattle.gs_lines.specs.Printing.{PrintedAs}
 use Rattle.gs_lines.specs.Statuses.{OnAnswered, OnCutShort, OnInputLong, OnReadFault, OnRefused, OnWriteFault, OnWritten}
 use Rattle.gs_port.specs.Counts.{Rises}
+use Rattle.gs_refusals.specs.declared.refusal.Refusal.{Refusal}
+use Rattle.gs_refusals.specs.Refusals.{refused_line}
+use Rattle.gs_words.specs.Commands.{answers_lines}
+use Rattle.gs_words.specs.Requests.{Asked}
 use Rattle.gs_program.specs.declared.loading.Unloaded.{Unloaded}
 use Rattle.gs_program.specs.declared.loading.Unloaded.TheVariants as unloaded
 use Rattle.gs_program.specs.declared.loading.Unloaded.TheVariants.{Refused}
-use Rattle.gs_program.specs.declared.refusal.Refusal.{Refusal}
-use Rattle.gs_program.specs.Commands.{answers_lines}
 use Rattle.gs_program.specs.Loads.{FilesGive, missing, refused}
 use Rattle.gs_program.specs.Ran.{BeginsOne}
-use Rattle.gs_program.specs.Refusals.{PrintsRefusal}
-use Rattle.gs_program.specs.Requests.{Asked}
 use Rattle.gs_program.specs.Runs.{AskedFinished, AskedRun, Counts, World}
 use Rattle.gs_program.specs.Works.{Outcome, input_limit}
 
@@ -38,6 +41,10 @@ pub record AskedRan (asked : Asked) (world : World) (before now : Counts) (left 
   pub input_counts : before.input_faults ≤ now.input_faults
   pub output_counts : before.output_faults ≤ now.output_faults
   pub no_usage : outcome.status ≢ Usage
+
+-- the line of a refused file was written to a sink, or a front of it, by the status
+abbrev pub PrintsRefusal : Refusal → Status → Option (List ℕ) → Option (List ℕ) → Type 0
+PrintsRefusal refusal ending held held' = Appends held held' (λ output. PrintedAs status.Refused (refused_line refusal) output ending)
 
 -- what is written of files that are not loaded, and how a run ends: the line of a refused file, or nothing
 abbrev pub Reports : Unloaded → Status → Option (List ℕ) → Option (List ℕ) → Type 0

@@ -1,9 +1,3 @@
-pub mod Ranges
-pub mod Names
-pub mod Commands
-pub mod CommandReads
-pub mod Requests
-pub mod Refusals
 pub mod Loads
 pub mod Reads
 pub mod LineAnswers

@@ -11,7 +11,7 @@ use Rattle.gs_translate.specs.declared.reason.Reason.{Reason}
 use Rattle.gs_translate.specs.declared.target.Target.{Target}
 use Rattle.gs_translate.specs.Answers.{IsAnswer}
 use Rattle.gs_translate.specs.Meanings.{IsRead, longest_text, short, too_long}
-use Rattle.gs_translate.specs.Reasons.{reason_text}
+use Rattle.gs_reasons.specs.Reasons.{reason_text}
 use Rattle.gs_translate.specs.Steps.{Then, goes_on, refuses}
 use Rattle.gs_translate.specs.Targets.{kept}
 use Rattle.gs_translate.specs.Translations.{IsSpelling, IsTranslation}

@@ -17,16 +17,16 @@ use Rattle.gs_prefix.specs.declared.fault.PrefixFault.{PrefixFault}
 use Rattle.gs_tables.specs.Shapes.{BuiltInAnswer, HasMemory, LoadAnswer}
 use Rattle.gs_tables.specs.Tables.{TableRows}
 use Rattle.gs_translate.specs.Steps.{Then}
-use Rattle.gs_program.specs.declared.file_kind.FileKind.{FileKind}
-use Rattle.gs_program.specs.declared.file_kind.FileKind.TheVariants as kind
+use Rattle.gs_refusals.specs.declared.file_kind.FileKind.{FileKind}
+use Rattle.gs_refusals.specs.declared.file_kind.FileKind.TheVariants as kind
+use Rattle.gs_refusals.specs.declared.refusal.FileFault.{FileFault}
+use Rattle.gs_refusals.specs.declared.refusal.FileFault.TheVariants.{Over, Tables, Prefixes, Linkset, Store}
+use Rattle.gs_refusals.specs.declared.refusal.Refusal.{Refusal}
+use Rattle.gs_refusals.specs.Refusals.{file_limit}
+use Rattle.gs_words.specs.Requests.{Asked}
 use Rattle.gs_program.specs.declared.loading.Loaded.{Loaded}
 use Rattle.gs_program.specs.declared.loading.Unloaded.{Unloaded}
 use Rattle.gs_program.specs.declared.loading.Unloaded.TheVariants.{Refused, ReadFault, Memory}
-use Rattle.gs_program.specs.declared.refusal.FileFault.{FileFault}
-use Rattle.gs_program.specs.declared.refusal.FileFault.TheVariants.{Over, Tables, Prefixes, Linkset, Store}
-use Rattle.gs_program.specs.declared.refusal.Refusal.{Refusal}
-use Rattle.gs_program.specs.Refusals.{file_limit}
-use Rattle.gs_program.specs.Requests.{Asked}
 
 -- files in memory, each a name and its bytes
 abbrev pub FilesInMemory : Type 0

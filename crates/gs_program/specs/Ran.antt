@@ -8,12 +8,12 @@ use Rattle.gs_lines.specs.Printing.{IsInitialPart}
 use Rattle.gs_lines.specs.Statuses.{OnAnswered, OnCutShort, OnInputLong, OnReadFault, OnWriteFault, OnWritten}
 use Rattle.gs_port.specs.Connections.{Finished}
 use Rattle.gs_port.specs.Counts.{Rises}
-use Rattle.gs_program.specs.declared.command.Command.{Command}
-use Rattle.gs_program.specs.declared.command.Command.TheVariants.{Canon, Translate, Check, Resolve, Serve, Gen}
+use Rattle.gs_words.specs.declared.command.Command.{Command}
+use Rattle.gs_words.specs.declared.command.Command.TheVariants.{Canon, Translate, Check, Resolve, Serve, Gen}
+use Rattle.gs_words.specs.Commands.{answers_lines}
+use Rattle.gs_words.specs.Requests.{Values}
 use Rattle.gs_program.specs.declared.loading.Loaded.{Loaded}
-use Rattle.gs_program.specs.Commands.{answers_lines}
 use Rattle.gs_program.specs.LineAnswers.{Translating}
-use Rattle.gs_program.specs.Requests.{Values}
 use Rattle.gs_program.specs.Works.{CommandEnded, CommandFinished, CommandRun, Doorway, Outcome, Translated, TranslatedEnded, input_limit, outcome_of}
 
 -- what is told of the input at a moment, and the counts of faults of the input and of the output

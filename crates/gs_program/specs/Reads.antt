@@ -9,14 +9,14 @@ use Rattle.gs_prefix.specs.declared.fault.PrefixFault.{PrefixFault}
 use Rattle.gs_prefix.specs.declared.fault.PrefixFault.TheVariants as prefix
 use Rattle.gs_tables.specs.Shapes.{HasMemory}
 use Rattle.gs_tables.specs.Tables.{TableRows}
-use Rattle.gs_program.specs.declared.file_kind.FileKind.{FileKind}
-use Rattle.gs_program.specs.declared.file_kind.FileKind.TheVariants as kind
+use Rattle.gs_refusals.specs.declared.file_kind.FileKind.{FileKind}
+use Rattle.gs_refusals.specs.declared.file_kind.FileKind.TheVariants as kind
+use Rattle.gs_refusals.specs.declared.refusal.FileFault.{FileFault}
+use Rattle.gs_refusals.specs.declared.refusal.FileFault.TheVariants.{Over}
+use Rattle.gs_refusals.specs.Refusals.{file_limit}
 use Rattle.gs_program.specs.declared.loading.Unloaded.{Unloaded}
 use Rattle.gs_program.specs.declared.loading.Unloaded.TheVariants.{Refused, ReadFault, Memory}
-use Rattle.gs_program.specs.declared.refusal.FileFault.{FileFault}
-use Rattle.gs_program.specs.declared.refusal.FileFault.TheVariants.{Over}
 use Rattle.gs_program.specs.Loads.{FilesInMemory, of_verdict, prefixes_verdict, refused, tables_verdict}
-use Rattle.gs_program.specs.Refusals.{file_limit}
 
 -- the bytes of a named file, that it has too many, or a fault
 abbrev pub ReadBy : Option FilesInMemory → FileKind → List ℕ → ℕ → ℕ → Result (List ℕ) Unloaded → Type 0

@@ -7,20 +7,20 @@ use Rattle.gs_lines.specs.Outputs.{Appends}
 use Rattle.gs_lines.specs.Statuses.{OnAnswered, is_answered}
 use Rattle.gs_document.specs.declared.fault.LoadFault.TheVariants.{Ambiguous}
 use Rattle.gs_document.specs.declared.level_name.LevelName.{LevelName}
-use Rattle.gs_program.specs.declared.file_kind.FileKind.TheVariants.{Tables}
+use Rattle.gs_refusals.specs.declared.file_kind.FileKind.TheVariants.{Tables}
 use Rattle.gs_port.specs.Connections.{Aside}
 use Rattle.gs_port.specs.Counts.{Rises}
 use Rattle.gs_port.specs.Files.{AddsNames}
 use Rattle.gs_serve.specs.Resolved.{StreamServed}
 use Rattle.gs_serve.specs.Visits.{Visit, is_done}
+use Rattle.gs_refusals.specs.declared.refusal.FileFault.TheVariants.{Tables as Faulty}
+use Rattle.gs_refusals.specs.declared.refusal.Refusal.{Refusal}
+use Rattle.gs_refusals.specs.Refusals.{refused_line}
+use Rattle.gs_words.specs.declared.request.Request.{Request}
+use Rattle.gs_words.specs.Requests.{Asked, AsksForLines, NotInOrder, WordsInOrder, all_named, names_in_order, usage_line}
 use Rattle.gs_program.specs.declared.loading.Loaded.{Loaded}
-use Rattle.gs_program.specs.declared.refusal.FileFault.TheVariants.{Tables as Faulty}
-use Rattle.gs_program.specs.declared.refusal.Refusal.{Refusal}
-use Rattle.gs_program.specs.declared.request.Request.{Request}
 use Rattle.gs_program.specs.Loads.{FilesGive, FilesInMemory, OpensFirst, Stop, missing, refused}
 use Rattle.gs_program.specs.Ran.{BeginsOne}
-use Rattle.gs_program.specs.Refusals.{refused_line}
-use Rattle.gs_program.specs.Requests.{Asked, AsksForLines, NotInOrder, WordsInOrder, all_named, names_in_order, usage_line}
 use Rattle.gs_program.specs.Works.{CommandEnded, CommandFinished, CommandRun, Doorway, Outcome, doorway_of, input_limit, outcome_of, served_outcome, site_of}
 
 -- what a run is given, as far as it is told: files, each a name and its bytes, an input, and a door

@@ -12,15 +12,14 @@ use Rattle.gs_serve.specs.Resolved.{Resolved, Resolves}
 use Rattle.gs_serve.specs.Sites.{SiteData}
 use Rattle.gs_serve.specs.Visits.{AreVisits, Visit, entries_of, inputs_of, wants_memory}
 use Rattle.gs_translate.specs.declared.form.Form.{Form}
-use Rattle.gs_translate.specs.declared.options.Options.{Options}
 use Rattle.gs_translate.specs.declared.target.Target.{Target}
 use Rattle.gs_translate.specs.declared.target.Target.TheVariants as target
-use Rattle.gs_program.specs.declared.command.Command.{Command}
-use Rattle.gs_program.specs.declared.command.Command.TheVariants.{Canon, Translate, Check, Resolve, Serve, Gen}
+use Rattle.gs_words.specs.declared.command.Command.{Command}
+use Rattle.gs_words.specs.declared.command.Command.TheVariants.{Canon, Translate, Check, Resolve, Serve, Gen}
+use Rattle.gs_words.specs.Requests.{Values, no_options, options_of, told_values}
 use Rattle.gs_program.specs.declared.loading.Loaded.{Loaded}
 use Rattle.gs_program.specs.declared.translating.Translation.{Translation}
 use Rattle.gs_program.specs.LineAnswers.{IsTranslatedLine, Translating}
-use Rattle.gs_program.specs.Requests.{Values, named_values, options_of, told_values}
 
 -- what a run leaves: what it wrote, the connections that it finished, and its status
 pub record Outcome : Type 0 where
@@ -67,10 +66,6 @@ Translated t input outcome =
 -- what was written of translated lines after a fault of the input
 abbrev pub TranslatedEnded : Translating → Option (List ℕ) → Option (List ℕ) → List ℕ → Type 0
 TranslatedEnded t before now output = AnswersEnded (IsTranslatedLine t) before now output
-
--- the options where nothing is named
-abbrev pub no_options : Options
-no_options = options_of (named_values [])
 
 -- `canon` translates to canonical links, by no prefix and no options
 abbrev pub canonizing : Loaded → Form → Translating

@@ -2,23 +2,22 @@ ghost use Rattle.std.specs.Prelude.{◌≡◌, ◌≤◌, [], false, true};
 ghost use Rattle.gs_lines.specs.Statuses.{OnReadFault, OnRefused, OnWriteFault};
 ghost use Rattle.gs_port.specs.Counts.{Rises};
 ghost use Rattle.gs_translate.specs.Translations.{AreInOrder};
-ghost use Rattle.gs_program.specs.Asking.{AskedRan, Reports};
-ghost use Rattle.gs_program.specs.Commands.{answers_heads, reads_input, uses_door};
+ghost use Rattle.gs_refusals.specs.Refusals.{refused_line};
+ghost use Rattle.gs_words.specs.Commands.{answers_heads, reads_input, uses_door};
+ghost use Rattle.gs_words.specs.Ranges.{is_vocabulary};
+ghost use Rattle.gs_words.specs.Requests.{all_named, options_of, told_request};
+ghost use Rattle.gs_program.specs.Asking.{AskedRan, PrintsRefusal, Reports};
 ghost use Rattle.gs_program.specs.Loads.{OpensFirst};
-ghost use Rattle.gs_program.specs.Ranges.{is_vocabulary};
-ghost use Rattle.gs_program.specs.Refusals.{PrintsRefusal, refused_line};
-ghost use Rattle.gs_program.specs.Requests.{all_named, options_of, told_request};
 ghost use Rattle.gs_program.specs.Runs.{AskedEnded, AskedServes, OpensAsked, WritesAfterFault, counts_of, world_of};
 ghost use Rattle.gs_program.specs.Works.{Leaves};
 
 use crate::commands::run_command;
 use crate::loading::{Unloaded, load_files};
-use crate::refusal::Refusal;
-use crate::refusals::refused_line;
-use crate::request::Request;
 use gs_chars::Memory;
 use gs_lines::{Status, print_line};
 use gs_port::{Door, Files, Sink, Source};
+use gs_refusals::{Refusal, refused_line};
+use gs_words::Request;
 use std::alloc::Global;
 
 /// Writes the line of a refused file.

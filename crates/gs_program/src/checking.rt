@@ -4,7 +4,6 @@ ghost use Rattle.gs_port.specs.Counts.{Rises};
 ghost use Rattle.gs_program.specs.Works.{PrintsCounts, counts_line};
 
 use crate::loading::Loaded;
-use crate::numbered::append_words;
 use gs_chars::Memory;
 use gs_lines::{Status, print_line};
 use gs_port::Sink;
@@ -16,7 +15,8 @@ fn append_count(alloc: Global, line: &mut Vec<u8>, word: &[u8], count: usize) ->
     ensures { OnOk result (line.new.items ≡ line.old.items ++ word.now ++ decimal count) }
 {
     let number = format!(in alloc; "{count}")?;
-    append_words(line, word, number.as_bytes())
+    line.extend_from_slice(word)?;
+    Ok(line.extend_from_slice(number.as_bytes())?)
 }
 
 /// The line of counts: the numbers of application identifiers, of kinds, of the options of each level, of company prefixes and

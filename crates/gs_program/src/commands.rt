@@ -2,20 +2,19 @@ ghost use Rattle.std.specs.Prelude.{◌≡◌, ◌≤◌, None, false, true};
 ghost use Rattle.gs_serve.specs.Resolved.{StreamServed};
 ghost use Rattle.gs_tables.specs.Judged.{IsLoaded};
 ghost use Rattle.gs_translate.specs.Translations.{AreInOrder};
-ghost use Rattle.gs_program.specs.Commands.{answers_heads, reads_input, uses_door};
+ghost use Rattle.gs_words.specs.Commands.{answers_heads, reads_input, uses_door};
+ghost use Rattle.gs_words.specs.Requests.{options_of, told_values};
 ghost use Rattle.gs_program.specs.Ran.{CommandRan, moment_of};
-ghost use Rattle.gs_program.specs.Requests.{options_of, told_values};
 ghost use Rattle.gs_program.specs.Works.{Leaves, doorway_of, site_of};
 
 use crate::checking::check;
-use crate::command::Command;
 use crate::loading::Loaded;
-use crate::request::NamedValues;
 use crate::translating::{canonize, translate_loaded};
 use gs_gen::generate;
 use gs_lines::Status;
 use gs_port::{Door, Sink, Source};
 use gs_serve::{Site, resolve, serve};
+use gs_words::{Command, NamedValues};
 use std::alloc::Global;
 
 /// What requests are answered from.

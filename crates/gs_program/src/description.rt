@@ -1,13 +1,13 @@
 ghost use Rattle.std.specs.Prelude.{◌≡◌, ◌≤◌, ◌∷◌, [], Some, None};
 ghost use Rattle.gs_port.specs.Files.{AddsNames};
+ghost use Rattle.gs_words.specs.Requests.{told_name};
 ghost use Rattle.gs_program.specs.Loads.{DescriptionGives, LoadedBy, OpensIfNamed};
-ghost use Rattle.gs_program.specs.Requests.{told_name};
 
-use crate::file_kind::FileKind;
 use crate::file_reading::read_named;
 use crate::loading::Unloaded;
 use gs_chars::Text;
 use gs_port::Files;
+use gs_refusals::FileKind;
 use std::alloc::Global;
 
 /// The description in the named file, which is refused by its size alone.

@@ -2,11 +2,10 @@ ghost use Rattle.std.specs.Prelude.{◌≡◌, ◌≤◌, [], ◌∷◌};
 ghost use Rattle.gs_port.specs.Files.{AddsNames};
 ghost use Rattle.gs_program.specs.Reads.{ReadBy};
 
-use crate::file_kind::FileKind;
 use crate::loading::Unloaded;
-use crate::refusal::{FileFault, Refusal};
 use gs_chars::Text;
 use gs_port::{FileFault as ReadingFault, Files, read_file};
+use gs_refusals::{FileFault, FileKind, Refusal};
 use std::alloc::Global;
 
 /// The bytes of the named file of a kind: refused as `Over` exactly where it has more than its kind may have.

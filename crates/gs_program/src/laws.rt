@@ -5,9 +5,9 @@ ghost use Rattle.gs_tables.specs.Judged.{IsLoaded};
 ghost use Rattle.gs_translate.specs.declared.form.Form.{Form};
 ghost use Rattle.gs_translate.specs.Steps.{HasOne, HasSome};
 ghost use Rattle.gs_translate.specs.Translations.{NameOne};
+ghost use Rattle.gs_words.specs.Requests.{WordsInOrder};
 ghost use Rattle.gs_program.specs.declared.loading.Loaded.{Loaded};
 ghost use Rattle.gs_program.specs.LineAnswers.{IsCanonLine, IsTranslatedLine};
-ghost use Rattle.gs_program.specs.Requests.{WordsInOrder};
 ghost use Rattle.gs_program.specs.Runs.{DefinedRun, HasOneOutcome, InputFits, LoadsAll, World};
 ghost use Rattle.gs_program.specs.Works.{Outcome, canonizing};
 

@@ -20,33 +20,20 @@
 //!   project's own (docs/FORMATS.md, 'The command line' and 'Statuses').
 #![tactic(auto)]
 
-mod arguments;
 mod asking;
 mod checking;
-mod command;
 mod commands;
 mod description;
-mod file_kind;
 mod file_reading;
 mod laws;
-mod link_refusals;
 mod links;
 mod loading;
-mod name;
-mod naming;
-mod numbered;
-mod pairs;
 mod prefixes;
-mod ranges;
-mod refusal;
-mod refusals;
-mod request;
 mod running;
 mod tables;
 mod translated_lines;
 mod translating;
-mod words;
 
 pub use gs_lines::Status;
+pub use gs_words::words_behind;
 pub use running::run;
-pub use words::words_behind;

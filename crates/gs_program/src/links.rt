@@ -2,22 +2,21 @@ ghost use Rattle.std.specs.Prelude.{◌≡◌, ◌≤◌, [], ◌∷◌, Ok, Som
 ghost use Rattle.gs_links.specs.Loading.{load_answer};
 ghost use Rattle.gs_linkset.specs.Answers.{read_answer};
 ghost use Rattle.gs_port.specs.Files.{AddsNames};
-ghost use Rattle.gs_program.specs.declared.file_kind.FileKind.TheVariants.{Links as OfLinks};
+ghost use Rattle.gs_refusals.specs.declared.file_kind.FileKind.TheVariants.{Links as OfLinks};
+ghost use Rattle.gs_words.specs.Ranges.{is_vocabulary};
+ghost use Rattle.gs_words.specs.Requests.{told_name};
 ghost use Rattle.gs_program.specs.Loads.{LinksGive, LoadedBy, OpensIfNamed, links_verdict, store_verdict};
-ghost use Rattle.gs_program.specs.Ranges.{is_vocabulary};
 ghost use Rattle.gs_program.specs.Reads.{JudgedAs};
-ghost use Rattle.gs_program.specs.Requests.{told_name};
 
-use crate::file_kind::FileKind;
 use crate::file_reading::read_named;
 use crate::loading::Unloaded;
-use crate::refusal::{FileFault, Refusal};
 use gs_ai::AiTable;
 use gs_chars::List;
 use gs_json::JsonFault;
 use gs_links::{Store, StoreFault};
 use gs_linkset::{LinkDoc, read};
 use gs_port::Files;
+use gs_refusals::{FileFault, FileKind, Refusal};
 use std::alloc::Global;
 
 /// The store of a linkset.

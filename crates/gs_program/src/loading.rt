@@ -1,21 +1,21 @@
 ghost use Rattle.std.specs.Prelude.{◌≡◌, ◌≤◌, [], None, true};
+ghost use Rattle.gs_words.specs.Ranges.{is_vocabulary};
+ghost use Rattle.gs_words.specs.Requests.{all_named, behind_named, describe_named, last_named, told_request};
 ghost use Rattle.gs_program.specs.Loads.{FilesGive, GivesBehind, GivesLinks, GivesSettings, LoadedBy, Opens, OpensFirst, OpensIfNamed, SettingsGive};
-ghost use Rattle.gs_program.specs.Ranges.{is_vocabulary};
 ghost use Rattle.gs_program.specs.Reads.{SettingsAs};
-ghost use Rattle.gs_program.specs.Requests.{all_named, behind_named, describe_named, last_named, told_request};
 
 use crate::description::load_description;
 use crate::links::load_links;
 use crate::prefixes::load_prefixes;
-use crate::refusal::Refusal;
-use crate::request::Request;
 use crate::tables::load_tables;
 use gs_chars::{Memory, Text};
 use gs_http::Settings;
 use gs_links::Store;
 use gs_port::Files;
 use gs_prefix::PrefixList;
+use gs_refusals::Refusal;
 use gs_tables::TableSet;
+use gs_words::Request;
 use std::alloc::Global;
 
 /// What a run has loaded.

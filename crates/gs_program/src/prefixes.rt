@@ -1,15 +1,14 @@
 ghost use Rattle.std.specs.Prelude.{◌≡◌, ◌≤◌, [], ◌∷◌, Option, Some, None};
 ghost use Rattle.gs_port.specs.Files.{AddsNames};
+ghost use Rattle.gs_words.specs.Requests.{told_name};
 ghost use Rattle.gs_program.specs.Loads.{LoadedBy, OpensIfNamed, PrefixesGive};
 ghost use Rattle.gs_program.specs.Reads.{PrefixesUnloadedAs};
-ghost use Rattle.gs_program.specs.Requests.{told_name};
 
-use crate::file_kind::FileKind;
 use crate::file_reading::read_named;
 use crate::loading::Unloaded;
-use crate::refusal::{FileFault, Refusal};
 use gs_port::Files;
 use gs_prefix::{PrefixFault, PrefixList};
+use gs_refusals::{FileFault, FileKind, Refusal};
 use std::alloc::Global;
 
 /// What the answer of a load of company prefix lengths is for a run.

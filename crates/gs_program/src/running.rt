@@ -2,14 +2,14 @@ ghost use Rattle.std.specs.Prelude.{◌≡◌, ◌≤◌, false};
 ghost use Rattle.gs_lines.specs.Outputs.{Appends};
 ghost use Rattle.gs_lines.specs.Statuses.{OnCutShort, OnInputLong, OnReadFault, OnRefused, OnUsage, OnWriteFault, OnWritten};
 ghost use Rattle.gs_port.specs.Counts.{Rises};
-ghost use Rattle.gs_program.specs.Requests.{AsksForDoor, AsksForHeads, AsksForInput, NamesNoFile, NotInOrder, told_words};
+ghost use Rattle.gs_words.specs.Requests.{AsksForDoor, AsksForHeads, AsksForInput, NamesNoFile, NotInOrder, told_words};
 ghost use Rattle.gs_program.specs.Runs.{BeginsRun, DefinedRun, EndedRun, FinishedRun, InputFits, IsDoneOrMemory, IsRefused, LoadsAll, NoneRises, OpensAll, OpensNamed, ReadsToEnd, RunCause, ServesInput, TakesFew, WritesAfterFault, counts_of, world_of};
 ghost use Rattle.gs_program.specs.Works.{Leaves, PassesLimit};
 
-use crate::arguments::read_words;
 use crate::asking::run_request;
 use gs_lines::{Status, print_line};
 use gs_port::{Door, Files, Sink, Source};
+use gs_words::read_words;
 use std::alloc::Global;
 
 /// What is printed where the words are not in order.

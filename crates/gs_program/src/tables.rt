@@ -1,14 +1,13 @@
 ghost use Rattle.std.specs.Prelude.{◌≡◌, ◌≤◌, [], ◌∷◌, Option, Some, None};
 ghost use Rattle.gs_port.specs.Files.{AddsNames};
+ghost use Rattle.gs_words.specs.Requests.{told_name};
 ghost use Rattle.gs_program.specs.Loads.{IsOfBuiltIn, LoadedBy, OpensIfNamed, TablesGive};
 ghost use Rattle.gs_program.specs.Reads.{UnloadedAs};
-ghost use Rattle.gs_program.specs.Requests.{told_name};
 
-use crate::file_kind::FileKind;
 use crate::file_reading::read_named;
 use crate::loading::Unloaded;
-use crate::refusal::{FileFault, Refusal};
 use gs_port::Files;
+use gs_refusals::{FileFault, FileKind, Refusal};
 use gs_tables::{LoadFault, TableSet, builtin};
 use std::alloc::Global;
 

@@ -1,14 +1,15 @@
 ghost use Rattle.std.specs.Prelude.{◌≡◌, ◌≢◌, ◌++◌, Err, IfOk, OnOk};
 ghost use Rattle.gs_lines.specs.Outputs.{accepted, printed, refused};
 ghost use Rattle.gs_translate.specs.declared.reason.Reason.TheVariants.{Memory as WantOfMemory};
-ghost use Rattle.gs_translate.specs.Reasons.{reason_text};
+ghost use Rattle.gs_reasons.specs.Reasons.{reason_text};
 ghost use Rattle.gs_program.specs.LineAnswers.{AddsLine, long_translated};
 
 use gs_chars::{Memory, Text};
 use gs_lines::Answerer;
 use gs_prefix::PrefixList;
+use gs_reasons::append_reason;
 use gs_tables::TableSet;
-use gs_translate::{Form, Options, Reason, Target, append_reason, translate};
+use gs_translate::{Form, Options, Reason, Target, translate};
 use std::alloc::Global;
 use std::marker::Model;
 

@@ -1,13 +1,11 @@
 ghost use Rattle.std.specs.Prelude.{◌≡◌, IfOk};
 ghost use Rattle.gs_tables.specs.Judged.{IsLoaded};
 ghost use Rattle.gs_translate.specs.Translations.{AreInOrder};
+ghost use Rattle.gs_words.specs.Requests.{options_of, told_values};
 ghost use Rattle.gs_program.specs.Ran.{Translates, moment_of};
-ghost use Rattle.gs_program.specs.Requests.{options_of, told_values};
 ghost use Rattle.gs_program.specs.Works.{canonizing, told_translation, translating};
 
 use crate::loading::Loaded;
-use crate::naming::no_values;
-use crate::request::NamedValues;
 use crate::translated_lines::TranslatedLines;
 use gs_chars::{Memory, Text};
 use gs_lines::{Status, answer_lines};
@@ -15,6 +13,7 @@ use gs_port::{Sink, Source};
 use gs_prefix::PrefixList;
 use gs_tables::TableSet;
 use gs_translate::{Form, Options, Target};
+use gs_words::{NamedValues, no_values};
 use std::alloc::Global;
 
 /// The most bytes of an input.

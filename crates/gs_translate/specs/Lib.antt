@@ -4,4 +4,3 @@ pub mod Answers
 pub mod Targets
 pub mod Translations
 pub mod Conditions
-pub mod Reasons

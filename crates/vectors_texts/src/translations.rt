@@ -17,10 +17,9 @@ use gs_chars::Text;
 use gs_dlink::stem_ok;
 use gs_ident::{Identity, canonical};
 use gs_prefix::{PrefixFault, PrefixList};
+use gs_reasons::append_reason;
 use gs_tables::TableSet;
-use gs_translate::{
-    Form, Meaning, Options, Reason, Target, answer as answer_to, append_reason, read, translate,
-};
+use gs_translate::{Form, Meaning, Options, Reason, Target, answer as answer_to, read, translate};
 use std::alloc::Global;
 use vector_cases::{
     Answer, Refusal, add_answer, add_shown, arg, behind, number_of, shown, text_of, text_word,

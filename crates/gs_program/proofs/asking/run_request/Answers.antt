@@ -1,5 +1,5 @@
 use Rattle.std.proofs.Common.{[], refl, arith}
-use Rattle.gs_program.specs.Requests.{told_request}
+use Rattle.gs_words.specs.Requests.{told_request}
 use Rattle.gs_program.specs.Runs.{served, unserved}
 use Rattle.gs_lines.specs.Statuses.{is_answered, is_refusal}
 use Rattle.gs_lines.proofs.StatusLemmas.{when_always}

@@ -1,6 +1,6 @@
 use Rattle.std.proofs.Common.{[], None, refl, arith, sym}
 use Rattle.std.proofs.lemmas.Bool.{false≢true}
-use Rattle.gs_program.specs.Requests.{told_values}
+use Rattle.gs_words.specs.Requests.{told_values}
 use Rattle.gs_program.proofs.RanLemmas.{none_more, ran_of_line}
 use Rattle.gs_program.proofs.GenLemmas.{gen_ran}
 use Rattle.gs_program.proofs.ServeLemmas.{serve_ran}

@@ -1,4 +1,4 @@
-use Rattle.gs_program.specs.declared.file_kind.FileKind.TheVariants.{Describe}
+use Rattle.gs_refusals.specs.declared.file_kind.FileKind.TheVariants.{Describe}
 use Rattle.gs_program.specs.Loads.{JudgesDescription}
 use Rattle.gs_program.proofs.FileLoads.{description_read, file_unloaded}
 use Rattle.gs_program.proofs.description.load_named.Goals as goal

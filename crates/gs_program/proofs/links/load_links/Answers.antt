@@ -1,6 +1,6 @@
 use Rattle.std.proofs.Common.{refl, [], arith}
 use Rattle.std.specs.Prelude.{Ok}
-use Rattle.gs_program.specs.declared.file_kind.FileKind.TheVariants.{Links}
+use Rattle.gs_refusals.specs.declared.file_kind.FileKind.TheVariants.{Links}
 use Rattle.gs_program.specs.Loads.{IsNoLink}
 use Rattle.gs_program.proofs.FileLoads.{unnamed_judged}
 use Rattle.gs_program.proofs.OpenedNames.{adds_none}

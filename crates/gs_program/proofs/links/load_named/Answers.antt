@@ -1,6 +1,6 @@
 use Rattle.std.proofs.Common.{refl}
 use Rattle.gs_linkset.specs.Answers.{read_answer}
-use Rattle.gs_program.specs.declared.file_kind.FileKind.TheVariants.{Links}
+use Rattle.gs_refusals.specs.declared.file_kind.FileKind.TheVariants.{Links}
 use Rattle.gs_program.specs.Loads.{JudgesLinks, links_verdict}
 use Rattle.gs_program.proofs.FileLoads.{file_judged, file_unloaded}
 use Rattle.gs_program.proofs.links.load_named.Goals as goal

@@ -1,6 +1,6 @@
 use Rattle.std.proofs.Common.{option_to_list, arith, ◌∙◌}
+use Rattle.gs_words.specs.Requests.{names_last, told_files, told_name, told_request}
 use Rattle.gs_program.specs.Loads.{GivesLinks, PrefixesGive}
-use Rattle.gs_program.specs.Requests.{names_last, told_files, told_name, told_request}
 use Rattle.gs_program.proofs.FileLoads.{loads_on, not_loaded}
 use Rattle.gs_program.proofs.OpenedNames.{adds_given, opens_both, opens_front}
 use Rattle.gs_program.proofs.loading.load_behind.Goals as goal

@@ -1,6 +1,6 @@
 use Rattle.gs_translate.specs.Steps.{goes_on}
+use Rattle.gs_words.specs.Requests.{told_request}
 use Rattle.gs_program.specs.Loads.{IsLoadedOf, SettingsGive}
-use Rattle.gs_program.specs.Requests.{told_request}
 use Rattle.gs_program.proofs.FileLoads.{not_loaded}
 use Rattle.std.proofs.Common.{refl}
 use Rattle.gs_program.proofs.loading.load_last.Goals as goal

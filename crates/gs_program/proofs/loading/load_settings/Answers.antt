@@ -1,5 +1,5 @@
+use Rattle.gs_words.specs.Requests.{told_name}
 use Rattle.gs_program.specs.Loads.{AreSettings, DescriptionGives}
-use Rattle.gs_program.specs.Requests.{told_name}
 use Rattle.gs_program.proofs.FileLoads.{not_loaded, settings_made}
 use Rattle.gs_program.proofs.loading.load_settings.Goals as goal
 

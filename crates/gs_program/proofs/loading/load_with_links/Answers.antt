@@ -1,8 +1,8 @@
 use Rattle.std.proofs.Common.{List, option_to_list, subst, arith, ◌∙◌}
 use Rattle.std.specs.Prelude.{Err, Ok}
 use Rattle.gs_ai.specs.declared.row.AiRow.{AiRow}
+use Rattle.gs_words.specs.Requests.{told_name, told_request}
 use Rattle.gs_program.specs.Loads.{GivesSettings, LinksGive, LoadedBy}
-use Rattle.gs_program.specs.Requests.{told_name, told_request}
 use Rattle.gs_program.proofs.FileLoads.{loads_on, not_loaded}
 use Rattle.gs_program.proofs.OpenedNames.{adds_both, opens_all, opens_front, whatever_given}
 use Rattle.gs_program.proofs.loading.load_with_links.Goals as goal

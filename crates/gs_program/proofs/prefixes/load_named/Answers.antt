@@ -1,4 +1,4 @@
-use Rattle.gs_program.specs.declared.file_kind.FileKind.TheVariants.{Prefixes}
+use Rattle.gs_refusals.specs.declared.file_kind.FileKind.TheVariants.{Prefixes}
 use Rattle.gs_program.specs.Loads.{JudgesPrefixes}
 use Rattle.gs_program.proofs.FileLoads.{file_unloaded}
 use Rattle.gs_program.proofs.PrefixLoads.{file_loaded}

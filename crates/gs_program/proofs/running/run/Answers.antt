@@ -1,12 +1,12 @@
 use Rattle.std.proofs.Common.{map, string_bytes, refl, arith}
 use Rattle.gs_lines.specs.Statuses.{is_answered, is_refusal, is_usage}
 use Rattle.gs_lines.proofs.StatusLemmas.{when_always, when_map}
-use Rattle.gs_program.specs.Commands.{reads_input, uses_door}
-use Rattle.gs_program.specs.Requests.{told_request}
+use Rattle.gs_words.specs.Commands.{reads_input, uses_door}
+use Rattle.gs_words.specs.Requests.{told_request}
+use Rattle.gs_words.proofs.ValueLemmas.{options_fit, vocabulary_fits}
 use Rattle.gs_program.specs.Runs.{named}
 use Rattle.gs_program.proofs.CompleteLemmas.{complete_asked}
 use Rattle.gs_program.proofs.RunLemmas.{asks_not, begun_of, defined_of, few_of, finished_of, read_fault_of, refused_of, served_of, unopened_of, usage_begun, usage_defined, usage_finished}
-use Rattle.gs_program.proofs.ValueLemmas.{options_fit, vocabulary_fits}
 use Rattle.gs_program.proofs.running.run.Goals as goal
 
 pub run_request-requires-clause-vocabulary : goal.run_request-requires-clause-vocabulary

@@ -1,5 +1,5 @@
 use Rattle.gs_tables.specs.Shapes.{LoadAnswer}
-use Rattle.gs_program.specs.declared.file_kind.FileKind.TheVariants.{Tables}
+use Rattle.gs_refusals.specs.declared.file_kind.FileKind.TheVariants.{Tables}
 use Rattle.gs_program.specs.Loads.{JudgesTables}
 use Rattle.gs_program.proofs.FileLoads.{file_unloaded}
 use Rattle.gs_program.proofs.ReadLemmas.{file_loaded}

@@ -1,0 +1,5 @@
+pub mod Ranges
+pub mod Names
+pub mod Commands
+pub mod CommandReads
+pub mod Requests
