@@ -2,20 +2,26 @@
 use Rattle.std.proofs.Common.{◌≡◌, ℕ, zero, suc, List, [], ◌∷◌, ◌++◌, Result, refl}
 use Rattle.gs_tables.specs.Judged.{IsLoaded}
 use Rattle.gs_tables.specs.Tables.{TableRows}
+use Rattle.gs_translate.specs.declared.form.Form.{Form}
 use Rattle.gs_translate.specs.declared.form.Form.TheVariants as form
 use Rattle.gs_translate.specs.declared.reason.Reason.{Reason}
+use Rattle.gs_translate.specs.declared.target.Target.{Target}
 use Rattle.gs_translate.specs.declared.target.Target.TheVariants as target
+use Rattle.gs_translate.specs.Conditions.{AsksForOne, AsksForSome}
 use Rattle.gs_translate.specs.Steps.{HasOne, HasSome}
-use Rattle.gs_translate.specs.Translations.{IsTranslation}
 use Rattle.gs_translate.proofs.OneTranslation.{one_translation, some_translation}
 use Rattle.gs_translate.proofs.StepLaws.{then_one, then_some}
-use Rattle.gs_gen.specs.Counts.{AnswersFirst, Generated, IsLineAnswer, answered_bytes, counts_text, filter_one, no_line, ok_answers, one_more}
+use Rattle.gs_gen.specs.Counts.{AnswersFirst, Generated, IsLineAnswer, IsPlain, answered_bytes, counts_text, filter_one, no_line, ok_answers, one_more}
 use Rattle.gs_gen.specs.Generator.{generated_line}
 
 module _ (set : TableRows) where
+  one_plain : (from : Form) (to : Target) (text : List ℕ) → AsksForOne from set → HasOne (IsPlain set from to text)
+  unfolding IsPlain
+  one_plain from to text asks = one_translation set [] filter_one from to text asks
+
   one_line_answer : (line : List ℕ) → HasOne (IsLineAnswer set line)
   one_line_answer line =
-      then_one (IsTranslation set [] filter_one form.Pure target.Hex line) (λ hex. IsTranslation set [] filter_one form.Hex target.Canon hex) (one_translation set [] filter_one form.Pure target.Hex line tt) (λ hex. one_translation set [] filter_one form.Hex target.Canon hex tt)
+      then_one (IsPlain set form.Pure target.Hex line) (IsPlain set form.Hex target.Canon) (one_plain form.Pure target.Hex line tt) (λ hex. one_plain form.Hex target.Canon hex tt)
 
   one_answers : (n : ℕ) (one other : List (Result (List ℕ) Reason)) → AnswersFirst set n one → AnswersFirst set n other → one ≡ other
   one_answers _ _ _ no_line no_line = refl
@@ -30,9 +36,13 @@ module _ (set : TableRows) where
       rw (a.written, b.written, same) refl
 
   module _ (loaded : IsLoaded set) where
+    some_plain : (from : Form) (to : Target) (text : List ℕ) → AsksForSome from set → HasSome (IsPlain set from to text)
+    unfolding IsPlain
+    some_plain from to text asks = some_translation set [] filter_one from to text asks
+
     some_line_answer : (line : List ℕ) → HasSome (IsLineAnswer set line)
     some_line_answer line =
-        then_some (IsTranslation set [] filter_one form.Pure target.Hex line) (λ hex. IsTranslation set [] filter_one form.Hex target.Canon hex) (some_translation set [] filter_one form.Pure target.Hex line loaded) (λ hex _. some_translation set [] filter_one form.Hex target.Canon hex loaded)
+        then_some (IsPlain set form.Pure target.Hex line) (IsPlain set form.Hex target.Canon) (some_plain form.Pure target.Hex line loaded) (λ hex _. some_plain form.Hex target.Canon hex loaded)
 
     some_answers : (n : ℕ) → HasSome (AnswersFirst set n)
     some_answers zero = ([], no_line)

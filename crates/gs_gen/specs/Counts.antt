@@ -2,9 +2,11 @@
 use Rattle.std.specs.Prelude.{◌≡◌, ℕ, suc, false, List, [], ◌∷◌, ◌++◌, Result, Ok, Err, Some, None, codes, decimal, count_by, flat_map, is_ok, length}
 use Rattle.gs_lines.specs.Outputs.{LineAnswer, accepted, printed, refused}
 use Rattle.gs_tables.specs.Tables.{TableRows}
+use Rattle.gs_translate.specs.declared.form.Form.{Form}
 use Rattle.gs_translate.specs.declared.form.Form.TheVariants as form
 use Rattle.gs_translate.specs.declared.options.Options.{Options}
 use Rattle.gs_translate.specs.declared.reason.Reason.{Reason}
+use Rattle.gs_translate.specs.declared.target.Target.{Target}
 use Rattle.gs_translate.specs.declared.target.Target.TheVariants as target
 use Rattle.gs_reasons.specs.Reasons.{reason_text}
 use Rattle.gs_translate.specs.Steps.{Then}
@@ -15,12 +17,15 @@ use Rattle.gs_gen.specs.Generator.{generated_line}
 abbrev pub filter_one : Options
 filter_one = record { filter = Some 1; gcp = None; encoding = []; keys_only = false; stem = codes "https://id.gs1.org" }
 
+-- the translation of a text by no company prefix lengths, and by filter value 1 alone
+unfoldable pub IsPlain : TableRows → Form → Target → List ℕ → Result (List ℕ) Reason → Type 0
+IsPlain set from to text answer = IsTranslation set [] filter_one from to text answer
+
 -- The answer to a line: the canonical link of its tag, or the first refusal. The pure identity is translated to the bits of a
 -- tag, and these to a canonical link, by no company prefix lengths.
 abbrev pub IsLineAnswer : TableRows → List ℕ → Result (List ℕ) Reason → Type 0
 IsLineAnswer set line answer =
-    Then (IsTranslation set [] filter_one form.Pure target.Hex line)
-    (λ hex. IsTranslation set [] filter_one form.Hex target.Canon hex) answer
+    Then (IsPlain set form.Pure target.Hex line) (IsPlain set form.Hex target.Canon) answer
 
 -- these are the answers to the first lines of the generator, in their order, so many as there are
 pub data AnswersFirst (set : TableRows) : ℕ → List (Result (List ℕ) Reason) → Type 0 where

@@ -1,6 +1,6 @@
 ghost use Rattle.std.specs.Prelude.{◌≡◌, [], IfOk};
 ghost use Rattle.gs_translate.specs.Steps.{UnlessMemory};
-ghost use Rattle.gs_gen.specs.Counts.{IsLineAnswer, filter_one};
+ghost use Rattle.gs_gen.specs.Counts.{IsLineAnswer, IsPlain, filter_one};
 
 use gs_chars::{Memory, Text};
 use gs_prefix::PrefixList;
@@ -32,6 +32,21 @@ pub fn filter_one(alloc: Global) -> Result<Options, Memory>
     })
 }
 
+/// The translation of a text, by no prefix lengths and by filter value 1 alone.
+fn translate_by(
+    alloc: Global,
+    by: Answering<'_>,
+    from: Form,
+    to: Target,
+    text: &[u8],
+) -> Result<Text, Reason>
+    requires prefixes { by.prefixes.now ≡ [] }
+    requires options { by.options.now ≡ filter_one }
+    ensures { UnlessMemory result (IsPlain by.entry.set.now from to text.now result) }
+{
+    translate(alloc, by.set, by.prefixes, by.options, from, to, text)
+}
+
 /// The answer to a line: the canonical link of its tag, or the first refusal. There is no list of prefix lengths, and the
 /// filter value is 1.
 pub fn answer_line(alloc: Global, by: Answering<'_>, line: &[u8]) -> Result<Text, Reason>
@@ -39,22 +54,6 @@ pub fn answer_line(alloc: Global, by: Answering<'_>, line: &[u8]) -> Result<Text
     requires options { by.options.now ≡ filter_one }
     ensures { UnlessMemory result (IsLineAnswer by.entry.set.now line.now result) }
 {
-    let hex = translate(
-        alloc,
-        by.set,
-        by.prefixes,
-        by.options,
-        Form::Pure,
-        Target::Hex,
-        line,
-    )?;
-    translate(
-        alloc,
-        by.set,
-        by.prefixes,
-        by.options,
-        Form::Hex,
-        Target::Canon,
-        hex.as_bytes(),
-    )
+    let hex = translate_by(alloc, by, Form::Pure, Target::Hex, line)?;
+    translate_by(alloc, by, Form::Hex, Target::Canon, hex.as_bytes())
 }

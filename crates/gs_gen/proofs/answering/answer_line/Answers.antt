@@ -1,18 +1,13 @@
+use Rattle.std.proofs.Common.{refl}
 use Rattle.std.proofs.lemmas.Result.{err_from_is_err_and}
-use Rattle.gs_gen.proofs.AnswerLemmas.{answered_twice, in_order, refused_first}
+use Rattle.gs_gen.proofs.AnswerLemmas.{answered_twice, refused_first}
 use Rattle.gs_gen.proofs.answering.answer_line.Goals as goal
-
-pub translate-requires : goal.translate-requires
-translate-requires c = in_order c.args.by.options.now c.requires.options
-
-pub translate-requires-2 : goal.translate-requires-2
-translate-requires-2 c = in_order c.args.by.options.now c.requires.options
 
 pub returns-in_err-hex : goal.returns-in_err-hex
 returns-in_err-hex c =
     let p = err_from_is_err_and c.from_residual.result c.from_residual.ensures.1 in
-    rw (p.1, p.2) (refused_first c.args.by.set.now c.args.by.prefixes.now c.args.by.options.now c.args.line.now c.in_err-hex.field-0.0 c.requires.prefixes c.requires.options c.in_err-hex.ensures)
+    rw (p.1, p.2) (refused_first c.args.by.set.now c.args.line.now c.in_err-hex.field-0.0 c.in_err-hex.ensures)
 
 pub returns : goal.returns
 returns c =
-    answered_twice c.args.by.set.now c.args.by.prefixes.now c.args.by.options.now c.args.line.now c.in_ok-hex.hex c.as_bytes.result.now c.translate-2.result c.requires.prefixes c.requires.options c.as_bytes.ensures c.in_ok-hex.ensures c.translate-2.ensures
+    answered_twice c.args.by.set.now _ c.args.line.now c.in_ok-hex.hex c.as_bytes.result.now c.translate_by-2.result c.as_bytes.ensures c.in_ok-hex.ensures c.translate_by-2.ensures refl
