@@ -1,10 +1,11 @@
 -- Edges one by one, and numbers of pairs of states.
-use Rattle.std.proofs.Common.{◌≡◌, ◌⊎◌, ℕ, ◌<◌, ◌≤◌, ◌+◌, ◌*◌, ◌^◌, ◌/◌, ◌%◌, List, [], ◌∷◌, ◌++◌, length, get_or, take, zero, suc, sym, ◌∙◌, ap, inl, inr, arith}
+use Rattle.std.proofs.Common.{◌≡◌, ◌⊎◌, ℕ, ◌<◌, ◌≤◌, ◌+◌, ◌*◌, ◌^◌, ◌/◌, ◌%◌, List, [], ◌∷◌, ◌++◌, length, get_or, take, zero, suc, sym, ◌∙◌, ap, inl, inr, arith, Result, Ok, Err, Option, Some, None}
 use Rattle.std.proofs.Math.Nat.{mul-le-mul_right, mul-add-mod_self_right, mod-eq_of_lt}
 use Rattle.std.proofs.lemmas.Nat.{div-mul-add}
 use Rattle.std.proofs.lemmas.List.{take_more, get_or_default}
 use Rattle.gs_machine.specs.declared.edge.Edge.{Edge}
 use Rattle.gs_machine.specs.Walks.{Fits}
+use Rattle.gs_ambig.specs.Searches.{IfFound}
 
 -- an edge has the symbol and leads to the state
 abbrev pub FitsEdge : Edge → ℕ → ℕ → Type 0
@@ -57,3 +58,9 @@ next_fits state states l r =
 -- the edge at a place, whatever stands for one past the end
 pub self_at : (edges : List Edge) (i : ℕ) (edge : Edge) → i < length edges → get_or edges i edge ≡ get_or edges i (get_or edges i edge)
 self_at edges i edge l = get_or_default edges i edge (get_or edges i edge) l
+
+-- what follows from what is found follows from it wherever it is
+pub found_follows : {X E : Type 0} (P Q : X → Type 0) → ((x : X) → P x → Q x) → (r : Result (Option X) E) → IfFound r P → IfFound r Q
+found_follows P Q f (Ok (Some x)) h = f x h
+found_follows P Q f (Ok None) h = tt
+found_follows P Q f (Err e) h = tt

@@ -3,7 +3,7 @@ ghost use Rattle.gs_machine.specs.Machines.{states_of};
 ghost use Rattle.gs_ambig.specs.Searches.{HasNoForkAt, IfFound, IfNotFound, IsSingle, MarksDead, MarksSingle, Parts};
 
 use crate::marks::Marks;
-use crate::search::search_behind;
+use crate::search::{search_behind, with_front};
 use gs_chars::Memory;
 use gs_machine::Auto;
 use std::alloc::Global;
@@ -61,9 +61,8 @@ pub fn search_forks(
         if edge.hi < edge.lo {
             continue;
         }
-        if let Some(mut word) = search_forks(alloc, m, edge.to, single, dead)? {
-            word.insert(0, edge.lo)?;
-            return Ok(Some(word));
+        if let Some(word) = search_forks(alloc, m, edge.to, single, dead)? {
+            return with_front(edge.lo, word);
         }
     }
     single.insert(p)?;

@@ -1,4 +1,4 @@
-ghost use Rattle.std.specs.Prelude.{◌≡◌, ◌+◌, ◌*◌, ◌^◌, ◌<◌, IfSome, IfNone, IsTrue, ◌↔◌};
+ghost use Rattle.std.specs.Prelude.{◌≡◌, ◌+◌, ◌*◌, ◌^◌, ◌<◌, ◌∷◌, IfSome, IfNone, IsTrue, ◌↔◌};
 ghost use Rattle.gs_machine.specs.Machines.{states_of, accept_of};
 ghost use Rattle.gs_machine.specs.Walks.{edges_at};
 ghost use Rattle.gs_ambig.specs.Searches.{BothHave, HaveNoneInCommon, IfFound, IfNotFound, Leads, LeadsBehind, IsDead, IsDeadBehind, MarksDead};
@@ -29,6 +29,15 @@ fn common_symbol(edge: &Edge, other: &Edge) -> Option<u8>
     } else {
         None
     }
+}
+
+/// What was found behind a symbol, with the symbol in front.
+pub fn with_front(symbol: u8, mut word: Vec<u8>) -> Result<Option<Vec<u8>>, Memory>
+    ensures found { IfFound result (λ whole. whole.items ≡ symbol ∷ word.items) }
+    ensures some { IfNotFound result ⊥ }
+{
+    word.insert(0, symbol)?;
+    Ok(Some(word))
 }
 
 /// Whether both states are the accepting ones.
@@ -104,9 +113,8 @@ pub fn search_behind(
         let Some(symbol) = common_symbol(edge, other) else {
             continue;
         };
-        if let Some(mut word) = search(alloc, m, n, edge.to, other.to, dead)? {
-            word.insert(0, symbol)?;
-            return Ok(Some(word));
+        if let Some(word) = search(alloc, m, n, edge.to, other.to, dead)? {
+            return with_front(symbol, word);
         }
     }
     Ok(None)

@@ -1,5 +1,5 @@
 use Rattle.std.proofs.Common.{refl}
-use Rattle.gs_ambig.proofs.Steps.{self_at}
+use Rattle.gs_ambig.proofs.Steps.{found_follows, self_at}
 use Rattle.gs_ambig.proofs.Pairs.{dead_marked, marks_more, dead_by_more, dead_end, leads_by, behind_low, behind_apart, behind_dead, behind_end, leads_behind}
 use Rattle.gs_ambig.proofs.search.+search.Goals as goal
 
@@ -43,7 +43,7 @@ search_behind-loop-other-preserved-in_default t c = record {
 
 pub search_behind-returns-in-Some-2-clause-found : goal.search_behind-returns-in-Some-2-clause-found
 search_behind-returns-in-Some-2-clause-found t c =
-    leads_behind _ _ _ _ _ _ _ _ _ _ _ c.edges-edges.ensures.edges c.loop-other-test.true (self_at _ _ _ c.loop-other-test.true) c.if-other-least.false c.in-Some.ensures.some (rw c.in-Some-2.is at c.in_ok-word.ensures.found) c.in_ok-insert.ensures.items
+    found_follows _ _ (λ whole e. leads_behind _ _ _ _ _ _ _ _ _ _ _ c.edges-edges.ensures.edges c.loop-other-test.true (self_at _ _ _ c.loop-other-test.true) c.if-other-least.false c.in-Some.ensures.some (rw c.in-Some-2.is at c.in_ok-word.ensures.found) e) c.with_front.result c.with_front.ensures.found
 
 pub search_behind-loop-other-preserved : goal.search_behind-loop-other-preserved
 search_behind-loop-other-preserved t c = record {
