@@ -1,7 +1,9 @@
 -- A text between two others.
-use Rattle.std.proofs.Common.{◌≡◌, ℕ, ◌-◌, true, false, List, [], ◌∷◌, ◌++◌, length, take, drop, bytes_eq, refl, sym, ◌∙◌, arith, true≢false, length-append, append_assoc}
+use Rattle.std.proofs.Common.{◌≡◌, ℕ, ◌<◌, ◌-◌, true, false, List, [], ◌∷◌, ◌++◌, length, take, drop, bytes_eq, refl, sym, ◌∙◌, arith, true≢false, length-append, append_assoc}
+use Rattle.std.proofs.lemmas.Bool.Decides.{nat_tests}
 use Rattle.std.proofs.lemmas.List.{take-append-drop}
 use Rattle.std.proofs.Math.Seq.{take-append_seam}
+use Rattle.gs_ai.specs.Parts.{number_text}
 use Rattle.gs_ai.proofs.Searches.{same_bytes, equal_bytes}
 
 drop_seam : (xs ys : List ℕ) → drop (length xs) (xs ++ ys) ≡ ys
@@ -42,3 +44,7 @@ joined before after text rest middle f r b m =
     let whole = take-append-drop (length before) text in
     let outer : before ++ rest ≡ text = rw r (rw front at whole) in
     rw (append_assoc, inner) outer
+
+-- one text is that of one number
+pub same_number : (j k : ℕ) → j < 100 → k < 100 → number_text j ≡ number_text k → j ≡ k
+same_number j k a b e = grind (arith, nat_tests)
