@@ -1,12 +1,13 @@
 -- Which values items hold: those for which there is no reason against are those that have a word.
-use Rattle.std.proofs.Common.{◌≡◌, ◌↔◌, ℕ, ◌<◌, ◌≤◌, ◌+◌, ◌-◌, ◌*◌, ◌^◌, ◌&&◌, ◌||◌, Bool, true, false, not, List, [], ◌∷◌, ◌++◌, length, suc, Some, None, Result, Ok, Err, IsOk, MatchResult, refl, sym, ◌∙◌, ap, arith, leb, eqb, decimal, inr, replicate, length-append}
+use Rattle.std.proofs.Common.{◌≡◌, ◌↔◌, ℕ, ◌<◌, ◌≤◌, ◌+◌, ◌-◌, ◌*◌, ◌^◌, ◌&&◌, ◌||◌, Bool, true, false, not, List, [], ◌∷◌, ◌++◌, length, zero, suc, get_or, ◌/◌, ◌%◌, Some, None, Result, Ok, Err, IsOk, MatchResult, refl, sym, ◌∙◌, ap, arith, leb, eqb, decimal, inr, replicate, length-append}
 use Rattle.std.specs.List.{flat_map}
 use Rattle.std.proofs.lemmas.Bool.{leb-true}
 use Rattle.std.proofs.lemmas.Bool.Decides.{nat_tests}
 use Rattle.std.proofs.lemmas.List.{nil_from_length, take_at, length-replicate}
 use Rattle.std.proofs.lemmas.Fmt.{decimal_nonempty}
 use Rattle.gs_chars.specs.Characters.{are_digits, are_in_set82, is_in_set82}
-use Rattle.gs_chars.specs.Escapes.{Spells, written_spelling}
+use Rattle.std.specs.Prelude.{if◌then◌else◌}
+use Rattle.gs_chars.specs.Escapes.{Spells, hex_digit, is_escaped, written_spelling}
 use Rattle.gs_chars.proofs.SpelledSets.{spelled_in_set82}
 use Rattle.gs_chars.proofs.Spellings.{written_is_read}
 use Rattle.gs_chars.proofs.TruthsAndLists.{and_parts, or_parts, not_true, true_from_not, false_from}
@@ -38,6 +39,20 @@ no_reason false false false false h = record { char = refl; size = refl; zero = 
 
 reason_none : (a b c d : Bool) → a ≡ false → b ≡ false → c ≡ false → d ≡ false → first_reason a b c d ≡ None
 reason_none a b c d e f g h = rw (e, f, g, h) refl
+
+-- each character of a value of the set is one of the set
+pub in_set82_at : (value : List ℕ) (i : ℕ) → i < length value → are_in_set82 value ≡ true → is_in_set82 (get_or value i 0) ≡ true
+in_set82_at [] i l h = absurd (omega arith)
+in_set82_at (c ∷ value) zero l h = (and_parts (is_in_set82 c) (are_in_set82 value) h).0
+in_set82_at (c ∷ value) (suc i) l h = in_set82_at value i (omega arith) (and_parts (is_in_set82 c) (are_in_set82 value) h).1
+
+-- a written spelling has at most three characters
+pub written_short : (c : ℕ) → length (written_spelling c) ≤ 3
+written_short c = by (is_escaped c)
+  where
+    by : (b : Bool) → length (if b then 37 ∷ hex_digit (c / 16) ∷ hex_digit (c % 16) ∷ [] else c ∷ []) ≤ 3
+    by true = omega arith
+    by false = omega arith
 
 -- written spellings spell the value
 pub spelled_written : (value : List ℕ) → are_in_set82 value ≡ true → SpellsEach value (flat_map written_spelling value)

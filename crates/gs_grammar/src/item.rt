@@ -1,4 +1,4 @@
-ghost use Rattle.std.specs.Prelude.{◌≡◌, ◌<◌, ◌≤◌, ◌^◌, nat_lt, true, false};
+ghost use Rattle.std.specs.Prelude.{◌≡◌, ◌<◌, ◌≤◌, ◌^◌, ◌&&◌, nat_le, nat_lt, true, false};
 ghost use Rattle.std.specs.List.{list_all};
 ghost use Rattle.gs_grammar.specs.Items.{is_in_bounds, is_symbol, is_between, size_of, shortest_of};
 
@@ -61,6 +61,13 @@ pub fn fits_bits(number: u64, bits: u8) -> bool
     bits >= 64 || number < 1 << bits
 }
 
+/// Whether these are two bounds from 1 to 64, the first at most the second.
+fn are_bounds(lo: u8, hi: u8) -> bool
+    ensures { result ≡ (nat_le 1 lo && nat_le lo hi && nat_le hi 64) }
+{
+    1 <= lo && lo <= hi && hi <= 64
+}
+
 /// Whether an item `Num` keeps its bounds.
 fn is_num(bits: u8, max: u64) -> bool
     ensures { result ≡ is_in_bounds true (Item.Num bits max) }
@@ -85,9 +92,9 @@ impl Item {
                 let symbols = literal.as_bytes();
                 is_within(1, 64, symbols.len()) && are_literal_symbols(bit_level, symbols)
             }
-            Item::Pad { n } => !bit_level && 1 <= *n && *n <= 18,
+            Item::Pad { n } => !bit_level && is_within(1, 18, usize::from(*n)),
             Item::Int { max } => !bit_level && *max <= u64::MAX,
-            Item::Esc { lo, hi } => !bit_level && 1 <= *lo && *lo <= *hi && *hi <= 64,
+            Item::Esc { lo, hi } => !bit_level && are_bounds(*lo, *hi),
             Item::NumPad { bits, n } => {
                 bit_level
                     && is_within(1, 64, usize::from(*bits))
@@ -95,7 +102,7 @@ impl Item {
             }
             Item::Num { bits, max } => bit_level && is_num(*bits, *max),
             Item::Ascii7 { lo, hi, bits } => bit_level && is_ascii7(*lo, *hi, *bits),
-            Item::Fill { a, b } => bit_level && 1 <= *a && *a <= *b && *b <= 64,
+            Item::Fill { a, b } => bit_level && are_bounds(*a, *b),
         }
     }
 

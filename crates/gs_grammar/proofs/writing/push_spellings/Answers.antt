@@ -1,8 +1,18 @@
-use Rattle.std.proofs.Common.{ℕ, ◌∷◌, [], drop, get_or, sym}
+use Rattle.std.proofs.Common.{arith, ℕ, ◌∷◌, [], drop, get_or, sym}
 use Rattle.std.proofs.lemmas.List.{take_at}
 use Rattle.gs_chars.specs.Escapes.{written_spelling}
+use Rattle.gs_grammar.proofs.Held.{in_set82_at, written_short}
 use Rattle.gs_grammar.proofs.Written.{flat_step, flat_end}
 use Rattle.gs_grammar.proofs.writing.push_spellings.Goals as goal
+
+pub write_escape-count-requires : goal.write_escape-count-requires
+write_escape-count-requires c = in_set82_at _ _ c.loop-character-test.true c.requires
+
+pub slice_bounds-spelling-end : goal.slice_bounds-spelling-end
+slice_bounds-spelling-end c =
+    let short = written_short (get_or c.args.value.now c.loop-character.character-index 0) in
+    let count = c.write_escape-count.ensures.len in
+    omega arith
 
 pub loop-character-preserved : goal.loop-character-preserved
 loop-character-preserved c =
