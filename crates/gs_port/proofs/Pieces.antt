@@ -24,3 +24,7 @@ appended_further before now after bytes done n h k =
 pub zero_at_end : (most room n : ℕ) (rest : List ℕ) → 0 < most → 0 < room → n ≡ min (min most room) (length rest) → (n ≡ 0) ↔ (rest ≡ [])
 zero_at_end most room n [] a b e = (λ _. refl, λ _. omega (arith, e))
 zero_at_end most room n (x ∷ rest) a b e = (λ none. absurd (omega (arith, a, b, e, none)), λ none. absurd (let none : x ∷ rest ≡ [] = none in cc))
+
+-- of the rest of a list so many are moved
+pub number_moved : (items : List ℕ) (at most room n : ℕ) → n ≡ min (min most room) (length (take (length items - at) (drop at items))) → n ≡ min (min most room) (length (drop at items))
+number_moved items at most room n e = e ∙ ap (λ rest. min (min most room) (length rest)) (take_rest items at)

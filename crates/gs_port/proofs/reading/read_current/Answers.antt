@@ -1,4 +1,5 @@
-use Rattle.std.proofs.Common.{◌≡◌, ◌≤◌, ◌+◌, ◌-◌, ◌∙◌, ◌++◌, length, take, ap, refl, arith}
+use Rattle.std.proofs.Common.{◌≡◌, ◌≤◌, ◌+◌, ◌-◌, ◌∙◌, ◌++◌, length, take, [], ap, sym, refl, arith}
+use Rattle.gs_port.specs.Contents.{prepend_nothing}
 use Rattle.gs_port.specs.Counts.{counted}
 use Rattle.gs_port.proofs.Readings.{all_read, piece_taken, read_further, read_within, room_kept}
 use Rattle.gs_port.proofs.reading.read_current.Goals as goal
@@ -110,3 +111,15 @@ returns-clause-failed g c = tt
 
 pub returns-in-Failed-clause-count : goal.returns-in-Failed-clause-count
 returns-in-Failed-clause-count g c = c.in-Failed.ensures.count ∙ ap counted c.loop-block.invariant.count
+
+pub returns-in_err-room-clause-files : goal.returns-in_err-room-clause-files
+returns-in_err-room-clause-files g c = refl
+
+pub returns-in_err-room-clause-same_names : goal.returns-in_err-room-clause-same_names
+returns-in_err-room-clause-same_names g c = refl
+
+pub returns-in_err-room-clause-counts : goal.returns-in_err-room-clause-counts
+returns-in_err-room-clause-counts g c = omega arith
+
+pub returns-in_err-room-clause-taken : goal.returns-in_err-room-clause-taken
+returns-in_err-room-clause-taken g c = ([], omega arith, sym (prepend_nothing (g.F.Files.left c.args.files.now)))

@@ -1,4 +1,5 @@
-use Rattle.std.proofs.Common.{arith, ◌∙◌}
+use Rattle.std.proofs.Common.{arith, sym, ◌∙◌}
+use Rattle.std.proofs.lemmas.Bool.{false≢true}
 use Rattle.gs_port.proofs.Readings.{over_read}
 use Rattle.gs_port.proofs.reading.read_file.Goals as goal
 
@@ -37,3 +38,54 @@ returns-in-Memory-clause-named g c = c.in-Memory.ensures.named
 
 pub returns-in-Memory-clause-absent : goal.returns-in-Memory-clause-absent
 returns-in-Memory-clause-absent g c = c.in-Memory.ensures.absent
+
+pub returns-in-Opened-clause-within : goal.returns-in-Opened-clause-within
+returns-in-Opened-clause-within g c = c.read_current.ensures.within
+
+pub returns-in-Opened-clause-over_length : goal.returns-in-Opened-clause-over_length
+returns-in-Opened-clause-over_length g c = c.read_current.ensures.over_length
+
+pub returns-in-Opened-clause-taken : goal.returns-in-Opened-clause-taken
+returns-in-Opened-clause-taken g c = λ _. rw c.in-Opened.ensures.whole at c.read_current.ensures.taken
+
+pub returns-in-Failed-clause-whole : goal.returns-in-Failed-clause-whole
+returns-in-Failed-clause-whole g c = tt
+
+pub returns-in-Failed-clause-within : goal.returns-in-Failed-clause-within
+returns-in-Failed-clause-within g c = tt
+
+pub returns-in-Failed-clause-over : goal.returns-in-Failed-clause-over
+returns-in-Failed-clause-over g c = tt
+
+pub returns-in-Failed-clause-over_length : goal.returns-in-Failed-clause-over_length
+returns-in-Failed-clause-over_length g c = tt
+
+pub returns-in-Failed-clause-count : goal.returns-in-Failed-clause-count
+returns-in-Failed-clause-count g c = c.in-Failed.ensures.count
+
+pub returns-in-Failed-clause-taken : goal.returns-in-Failed-clause-taken
+returns-in-Failed-clause-taken g c = λ current. absurd (false≢true (sym c.in-Failed.ensures.not_opened ∙ current))
+
+pub returns-in-Memory-clause-whole : goal.returns-in-Memory-clause-whole
+returns-in-Memory-clause-whole g c = tt
+
+pub returns-in-Memory-clause-within : goal.returns-in-Memory-clause-within
+returns-in-Memory-clause-within g c = tt
+
+pub returns-in-Memory-clause-over : goal.returns-in-Memory-clause-over
+returns-in-Memory-clause-over g c = tt
+
+pub returns-in-Memory-clause-over_length : goal.returns-in-Memory-clause-over_length
+returns-in-Memory-clause-over_length g c = tt
+
+pub returns-in-Memory-clause-count : goal.returns-in-Memory-clause-count
+returns-in-Memory-clause-count g c = c.in-Memory.ensures.count
+
+pub returns-in-Memory-clause-taken : goal.returns-in-Memory-clause-taken
+returns-in-Memory-clause-taken g c = λ current. absurd (false≢true (sym c.in-Memory.ensures.not_opened ∙ current))
+
+pub returns-in-Failed-clause-failed : goal.returns-in-Failed-clause-failed
+returns-in-Failed-clause-failed g c = c.in-Failed.ensures.failed
+
+pub returns-in-Memory-clause-failed : goal.returns-in-Memory-clause-failed
+returns-in-Memory-clause-failed g c = tt

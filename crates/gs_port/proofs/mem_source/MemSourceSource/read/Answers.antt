@@ -1,5 +1,6 @@
-use Rattle.std.proofs.Common.{refl, arith, Some, ap}
-use Rattle.gs_port.proofs.Pieces.{front_moved}
+use Rattle.std.proofs.Common.{◌∙◌, refl, arith, Some, ap, sym}
+use Rattle.std.proofs.lemmas.Bool.{false≢true}
+use Rattle.gs_port.proofs.Pieces.{front_moved, number_moved, zero_at_end}
 use Rattle.gs_port.proofs.mem_source.MemSourceSource.read.Goals as goal
 
 pub returns-clause-moved : goal.returns-clause-moved
@@ -44,3 +45,36 @@ returns-then-next_fails-clause-most c = tt
 
 pub returns-then-next_fails-clause-unplanned : goal.returns-then-next_fails-clause-unplanned
 returns-then-next_fails-clause-unplanned c = tt
+
+pub invariant_of-self : goal.invariant_of-self
+invariant_of-self c = c.self.invariant
+
+pub returns-then-next_fails-clause-within : goal.returns-then-next_fails-clause-within
+returns-then-next_fails-clause-within c = tt
+
+pub returns-then-next_fails-clause-moved : goal.returns-then-next_fails-clause-moved
+returns-then-next_fails-clause-moved c = tt
+
+pub returns-then-next_fails-clause-planned : goal.returns-then-next_fails-clause-planned
+returns-then-next_fails-clause-planned c = rw (← c.self.view_is) (c.next_fails.ensures.answer.0 c.if-next_fails.true)
+
+pub returns-clause-within : goal.returns-clause-within
+returns-clause-within c = omega (arith, c.copy_front-moved.ensures.number)
+
+pub returns-clause-end : goal.returns-clause-end
+returns-clause-end c = rw (← c.self.view_is) (zero_at_end _ _ _ _ c.self.invariant.0 (rw c.copy_front-moved.auto.buf c.requires.room) (number_moved c.self.inside.bytes.items c.self.inside.at _ _ c.copy_front-moved.result (rw c.deref.ensures.value at c.copy_front-moved.ensures.number)))
+
+pub returns-clause-most : goal.returns-clause-most
+returns-clause-most c = rw (← c.self.view_is) (number_moved c.self.inside.bytes.items c.self.inside.at _ _ c.copy_front-moved.result (rw c.deref.ensures.value at c.copy_front-moved.ensures.number))
+
+pub returns-clause-unmoved : goal.returns-clause-unmoved
+returns-clause-unmoved c = tt
+
+pub returns-clause-failed : goal.returns-clause-failed
+returns-clause-failed c = tt
+
+pub returns-clause-planned : goal.returns-clause-planned
+returns-clause-planned c = tt
+
+pub returns-clause-unplanned : goal.returns-clause-unplanned
+returns-clause-unplanned c = rw (← c.self.view_is) (λ fails. false≢true (sym c.if-next_fails.false ∙ c.next_fails.ensures.answer.1 fails))
