@@ -1,21 +1,19 @@
 -- The parts of a document.
 use Rattle.std.proofs.Common.{◌≡◌, ℕ, zero, suc, List, [], ◌∷◌, length, refl, slice_get, ap, Some, None, Option, Bor, map, get_or, sym, ◌∙◌, ◌<◌, arith}
 use Rattle.std.specs.Option.{option_and_then}
+use Rattle.serde_json.specs.View.{items_view, view}
+use Rattle.serde_json.specs.declared.value.Value.{Value as Tree}
 use Rattle.serde_json.specs.Data.{Data, null, boolean, number, string, array, object, Items, no_items, item}
 use Rattle.serde_json.specs.Events.{items_len}
-use Rattle.serde_json.specs.Find.{as_object, at, get, get_item, get_member}
+use Rattle.serde_json.specs.Find.{as_array, at, get_item}
 use Rattle.gs_json.specs.Answers.{count_of, items_count}
 use Rattle.gs_json.specs.Shapes.{items_list}
 use Rattle.gs_linkset.specs.Attributes.{array_in, every, items_of}
 
--- the member of a name, by the members
-pub get_by_members : (name : List ℕ) (d : Data) → option_and_then (get_member name) (as_object d) ≡ get name d
-get_by_members name null = refl
-get_by_members name (boolean b) = refl
-get_by_members name (number n) = refl
-get_by_members name (string s) = refl
-get_by_members name (array items) = refl
-get_by_members name (object _) = refl
+-- the items of an array, seen one by one
+listed : (values : List Tree) → map view values ≡ items_list (items_view values)
+listed [] = refl
+listed (value ∷ values) = ap (λ items. view value ∷ items) (listed values)
 
 listed_length : (items : Items) → length (items_list items) ≡ items_len items
 listed_length no_items = refl
@@ -75,8 +73,17 @@ items_at (object _) zero = refl
 items_at (object _) (suc i) = refl
 
 -- what is read of all items of an array
-pub whole_array : {Y : Type 0} (f : Data → Option Y) (d : Data) (n : ℕ) (r : Option (List Y)) → Some n ≡ count_of d → every f (items_of d) ≡ r → r ≡ option_and_then (every f) (array_in d)
-whole_array f d n r h e = sym (ap (option_and_then (every f)) (is_array d n h) ∙ e)
+pub whole_array : {Y : Type 0} (f : Data → Option Y) (d : Data) (values : List Tree) (r : Option (List Y)) → Some (items_view values) ≡ as_array d → r ≡ every f (map view values) → r ≡ option_and_then (every f) (array_in d)
+whole_array f d values r h e = rw (← h) (e ∙ ap (every f) (listed values))
+
+-- the item at a place
+pub viewed_at : (values : List Tree) (i : ℕ) (value : Tree) → i < length values → value ≡ get_or values i value → slice_get (map view values) i ≡ Some (view value)
+viewed_at values i value low here = by values i low ∙ ap (λ v. Some (view v)) (sym here)
+  where
+    by : (vs : List Tree) (k : ℕ) → k < length vs → slice_get (map view vs) k ≡ Some (view (get_or vs k value))
+    by [] k h = absurd (omega arith)
+    by (v ∷ vs) zero h = refl
+    by (v ∷ vs) (suc k) h = by vs k (omega arith)
 
 -- the name at a place
 pub name_read : (names : List (Bor (List ℕ))) (i : ℕ) (other : Bor (List ℕ)) → i < length names → slice_get (map (λ name. name.now) names) i ≡ Some (get_or names i other).now

@@ -39,10 +39,6 @@ abbrev pub ItemAnswer : {X : Type 0} → (List ℕ → Data → Result X JsonFau
 ItemAnswer answer place i whole result =
     (result ≡ Err Memory) ⊎ ((d : Data) × (Some d ≡ at i whole) × OrMemory result (answer (item_place place i) d))
 
--- what is read of the item of an array at a number
-abbrev pub ItemIs : {X : Type 0} → (Data → X) → ℕ → Data → X → Type 0
-ItemIs read i whole x = (d : Data) × (Some d ≡ at i whole) × (x ≡ read d)
-
 -- a target
 abbrev pub target_answer : List ℕ → Data → Result Target JsonFault
 target_answer place d = first_or (target_faults place d) (target_of d)

@@ -1,45 +1,30 @@
-ghost use Rattle.std.specs.Prelude.{◌≡◌, ◌<◌, IfOk, IfSome, codes, false, map, true};
+ghost use Rattle.std.specs.Prelude.{◌≡◌, IfOk, IfSome, codes, false, map, option_map, true};
 ghost use Rattle.std.specs.List.{filter_map, list_all};
 ghost use Rattle.std.specs.Str.{bytes_eq, is_utf8};
 ghost use Rattle.serde_json.specs.Find.{as_str};
 ghost use Rattle.serde_json.specs.View.{view};
-ghost use Rattle.gs_json.specs.Answers.{AscendByBytes, items_count};
-ghost use Rattle.gs_linkset.specs.Answers.{ItemIs};
-ghost use Rattle.gs_linkset.specs.Attributes.{language_of, tagged_text, tagged_texts, texts_of, value_of};
+ghost use Rattle.gs_json.specs.Answers.{AscendByBytes};
+ghost use Rattle.gs_linkset.specs.Attributes.{every, language_of, tagged_text, tagged_texts, texts_of, value_of};
 ghost use Rattle.gs_linkset.specs.Documents.{attr_named, attr_of, names_in};
 ghost use Rattle.gs_linkset.specs.LinkShapes.{ascend, is_attr, is_tagged_text, is_value};
 
 use crate::adding::push_some;
 use crate::link_shapes::{is_single, is_tagged};
 use crate::link_types::{Attr, AttrValue};
-use crate::members::{count_in, member_of, member_text, names_of, own_text};
+use crate::members::{names_of, own_text};
 use gs_chars::{List, Memory, Text};
 use gs_json::Node;
+use serde_json::Value;
 use std::alloc::Global;
 
-/// The text at a number of an array, where it is one.
-fn text_at(alloc: Global, array: &Node<'_>, i: usize) -> Result<Option<Text>, Memory>
-    requires { i < items_count (view array.now.tree) }
-    ensures text { IfOk result (ItemIs as_str i (view array.now.tree)) }
-    ensures utf8 { IfOk result (λ text. IfSome text (λ text. is_utf8 text ≡ true)) }
-{
-    match array.item(alloc, i) {
-        Ok(item) => own_text(alloc, &item),
-        Err(_) => Err(Memory),
-    }
-}
-
-/// The texts of an array, where it is one of texts alone.
-fn read_texts(alloc: Global, part: &Node<'_>) -> Result<Option<List<Text>>, Memory>
-    ensures texts { IfOk result (λ texts. texts ≡ texts_of (view part.now.tree)) }
+/// The texts that these are, where all are texts.
+fn all_texts(alloc: Global, items: &[Value]) -> Result<Option<List<Text>>, Memory>
+    ensures texts { IfOk result (λ texts. texts ≡ every as_str (map view items.now)) }
     ensures shape { IfOk result (λ texts. IfSome texts (λ texts. list_all is_utf8 texts ≡ true)) }
 {
-    let Some(count) = count_in(alloc, part)? else {
-        return Ok(None);
-    };
     let mut texts = Vec::new(alloc);
-    for i in 0..count {
-        let Some(text) = text_at(alloc, part, i)? else {
+    for item in items {
+        let Some(text) = own_text(alloc, item)? else {
             return Ok(None);
         };
         texts.push(text)?;
@@ -47,54 +32,58 @@ fn read_texts(alloc: Global, part: &Node<'_>) -> Result<Option<List<Text>>, Memo
     Ok(Some(List::from_vec(texts)))
 }
 
-/// The language that an object says, which is empty where it says none.
-fn read_language(alloc: Global, object: &Node<'_>) -> Result<Option<Text>, Memory>
-    ensures language { IfOk result (λ language. language ≡ language_of (view object.now.tree)) }
-    ensures shape { IfOk result (λ language. IfSome language (λ language. is_utf8 language ≡ true)) }
+/// The texts of an array, where it is one of texts alone.
+fn read_texts(alloc: Global, part: &Value) -> Result<Option<List<Text>>, Memory>
+    ensures texts { IfOk result (λ texts. texts ≡ texts_of (view part.now)) }
+    ensures shape { IfOk result (λ texts. IfSome texts (λ texts. list_all is_utf8 texts ≡ true)) }
 {
-    match member_of(alloc, object, "language")? {
-        Some(member) => own_text(alloc, &member),
-        None => Ok(Some(Text::from_bytes(alloc, b"")?)),
+    match part.as_array() {
+        Some(items) => all_texts(alloc, items.as_slice()),
+        None => Ok(None),
+    }
+}
+
+/// The language that an object says, which is empty where it says none.
+fn language_of(object: &Value) -> Option<&str>
+    ensures { option_map (λ language. language.now) result ≡ language_of (view object.now) }
+{
+    match object.get("language") {
+        Some(member) => member.as_str(),
+        None => Some(""),
     }
 }
 
 /// The text and the language that an object says.
-fn read_tagged_text(alloc: Global, object: &Node<'_>) -> Result<Option<(Text, Text)>, Memory>
-    ensures pair { IfOk result (λ pair. pair ≡ tagged_text (view object.now.tree)) }
-    ensures shape { IfOk result (λ pair. IfSome pair (λ pair. is_tagged_text pair ≡ true)) }
+fn tagged_text(object: &Value) -> Option<(&str, &str)>
+    ensures { option_map (λ pair. (pair.0.now, pair.1.now)) result ≡ tagged_text (view object.now) }
 {
-    let Some(value) = member_text(alloc, object, "value")? else {
-        return Ok(None);
-    };
-    let Some(language) = read_language(alloc, object)? else {
-        return Ok(None);
-    };
-    Ok(Some((value, language)))
+    let text = object.get("value")?.as_str()?;
+    let language = language_of(object)?;
+    Some((text, language))
 }
 
-/// The text with its language at a number of an array, where there is one.
-fn tagged_text_at(alloc: Global, array: &Node<'_>, i: usize) -> Result<Option<(Text, Text)>, Memory>
-    requires { i < items_count (view array.now.tree) }
-    ensures pair { IfOk result (ItemIs tagged_text i (view array.now.tree)) }
+/// The text and the language that an object says, of their own.
+fn read_tagged_text(alloc: Global, object: &Value) -> Result<Option<(Text, Text)>, Memory>
+    ensures pair { IfOk result (λ pair. pair ≡ tagged_text (view object.now)) }
     ensures shape { IfOk result (λ pair. IfSome pair (λ pair. is_tagged_text pair ≡ true)) }
 {
-    match array.item(alloc, i) {
-        Ok(item) => read_tagged_text(alloc, &item),
-        Err(_) => Err(Memory),
+    match tagged_text(object) {
+        Some((text, language)) => Ok(Some((
+            Text::from_bytes(alloc, text.as_bytes())?,
+            Text::from_bytes(alloc, language.as_bytes())?,
+        ))),
+        None => Ok(None),
     }
 }
 
-/// The texts with their languages of an array, where it is one of such objects alone.
-fn read_tagged_texts(alloc: Global, part: &Node<'_>) -> Result<Option<List<(Text, Text)>>, Memory>
-    ensures pairs { IfOk result (λ pairs. pairs ≡ tagged_texts (view part.now.tree)) }
+/// The texts with their languages that these are, where all are such objects.
+fn all_tagged_texts(alloc: Global, items: &[Value]) -> Result<Option<List<(Text, Text)>>, Memory>
+    ensures pairs { IfOk result (λ pairs. pairs ≡ every tagged_text (map view items.now)) }
     ensures shape { IfOk result (λ pairs. IfSome pairs (λ pairs. list_all is_tagged_text pairs ≡ true)) }
 {
-    let Some(count) = count_in(alloc, part)? else {
-        return Ok(None);
-    };
     let mut pairs = Vec::new(alloc);
-    for i in 0..count {
-        let Some(pair) = tagged_text_at(alloc, part, i)? else {
+    for item in items {
+        let Some(pair) = read_tagged_text(alloc, item)? else {
             return Ok(None);
         };
         pairs.push(pair)?;
@@ -102,10 +91,21 @@ fn read_tagged_texts(alloc: Global, part: &Node<'_>) -> Result<Option<List<(Text
     Ok(Some(List::from_vec(pairs)))
 }
 
+/// The texts with their languages of an array, where it is one of such objects alone.
+fn read_tagged_texts(alloc: Global, part: &Value) -> Result<Option<List<(Text, Text)>>, Memory>
+    ensures pairs { IfOk result (λ pairs. pairs ≡ tagged_texts (view part.now)) }
+    ensures shape { IfOk result (λ pairs. IfSome pairs (λ pairs. list_all is_tagged_text pairs ≡ true)) }
+{
+    match part.as_array() {
+        Some(items) => all_tagged_texts(alloc, items.as_slice()),
+        None => Ok(None),
+    }
+}
+
 /// The value of an attribute, where it is of the kind that the name has.
 #[tactic(auto, unfolding(crate::specs::Attributes::value_of))]
-fn read_value(alloc: Global, name: &[u8], part: &Node<'_>) -> Result<Option<AttrValue>, Memory>
-    ensures value { IfOk result (λ value. value ≡ value_of name.now (view part.now.tree)) }
+fn read_value(alloc: Global, name: &[u8], part: &Value) -> Result<Option<AttrValue>, Memory>
+    ensures value { IfOk result (λ value. value ≡ value_of name.now (view part.now)) }
     ensures shape { IfOk result (λ value. IfSome value (λ value. is_value name.now value ≡ true)) }
 {
     if is_tagged(name) {
@@ -135,24 +135,24 @@ fn is_href(name: &[u8]) -> bool
 
 /// The attribute of a name, where the target has one.
 #[tactic(auto, unfolding(crate::specs::Documents::attr_of))]
-fn read_attr(alloc: Global, target: &Node<'_>, name: &str) -> Result<Option<Attr>, Memory>
-    ensures attr { IfOk result (λ attr. attr ≡ attr_of (view target.now.tree) name.now) }
+fn read_attr(alloc: Global, target: &Value, name: &str) -> Result<Option<Attr>, Memory>
+    ensures attr { IfOk result (λ attr. attr ≡ attr_of (view target.now) name.now) }
     ensures shape { IfOk result (λ attr. IfSome attr (λ attr. is_attr attr ≡ true)) }
 {
     if is_href(name.as_bytes()) {
         return Ok(None);
     }
-    match member_of(alloc, target, name)? {
-        Some(member) => attr_at(alloc, &member, name),
+    match target.get(name) {
+        Some(member) => attr_at(alloc, member, name),
         None => Ok(None),
     }
 }
 
 /// The attribute of a name, where the member's value is of its kind.
 #[tactic(auto, unfolding(crate::specs::LinkShapes::is_attr))]
-fn attr_at(alloc: Global, member: &Node<'_>, name: &str) -> Result<Option<Attr>, Memory>
+fn attr_at(alloc: Global, member: &Value, name: &str) -> Result<Option<Attr>, Memory>
     requires { bytes_eq name.now (codes "href") ≡ false }
-    ensures attr { IfOk result (λ attr. attr ≡ attr_named name.now (view member.now.tree)) }
+    ensures attr { IfOk result (λ attr. attr ≡ attr_named name.now (view member.now)) }
     ensures shape { IfOk result (λ attr. IfSome attr (λ attr. is_attr attr ≡ true)) }
 {
     let Some(value) = read_value(alloc, name.as_bytes(), member)? else {
@@ -172,17 +172,17 @@ pub(crate) fn read_attrs(alloc: Global, target: &Node<'_>) -> Result<List<Attr>,
     ensures shape { IfOk result (λ attrs. list_all is_attr attrs ≡ true) }
 {
     match names_of(alloc, target)? {
-        Some(names) => named_attrs(alloc, target, names.items()),
+        Some(names) => named_attrs(alloc, target.value(), names.items()),
         None => Ok(List::from_vec(Vec::new(alloc))),
     }
 }
 
 /// The attributes of a target, whose names these are, in the order of the names.
-fn named_attrs(alloc: Global, target: &Node<'_>, names: &[&str]) -> Result<List<Attr>, Memory>
-    requires names { map (λ name. name.now) names.now ≡ names_in (view target.now.tree) }
+fn named_attrs(alloc: Global, target: &Value, names: &[&str]) -> Result<List<Attr>, Memory>
+    requires names { map (λ name. name.now) names.now ≡ names_in (view target.now) }
     requires ascending { AscendByBytes (map (λ name. name.now) names.now) }
     ensures attrs { IfOk result (λ attrs.
-        attrs ≡ filter_map (attr_of (view target.now.tree)) (names_in (view target.now.tree))) }
+        attrs ≡ filter_map (attr_of (view target.now)) (names_in (view target.now))) }
     ensures ascending { IfOk result (λ attrs. ascend (map (λ attr. attr.name) attrs) ≡ true) }
     ensures shape { IfOk result (λ attrs. list_all is_attr attrs ≡ true) }
 {

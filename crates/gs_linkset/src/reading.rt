@@ -12,7 +12,7 @@ ghost use Rattle.gs_linkset.specs.LinkShapes.{ascend, is_context, is_relation, i
 use crate::adding::{push, push_some};
 use crate::doc::LinkDoc;
 use crate::link_types::{Context, Relation, Target};
-use crate::members::{count_in, member_of, must_array, must_text, names_of};
+use crate::members::{must_array, must_text, names_of};
 use crate::read_attrs::read_attrs;
 use gs_chars::{List, Text};
 use gs_json::{Doc, JsonFault, Node};
@@ -74,7 +74,7 @@ fn read_relation(
     if is_anchor(name.as_bytes()) {
         return Ok(None);
     }
-    match member_of(alloc, context, name)? {
+    match context.find(alloc, name)? {
         Some(member) => relation_at(alloc, &member, name),
         None => Ok(None),
     }
@@ -86,7 +86,7 @@ fn relation_at(alloc: Global, member: &Node<'_>, name: &str) -> Result<Option<Re
     ensures answer { OrMemory result (member_answer name.now member.now.place (view member.now.tree)) }
     ensures shape { IfOk result (λ relation. IfSome relation (λ relation. is_relation relation ≡ true)) }
 {
-    let Some(count) = count_in(alloc, member)? else {
+    let Some(count) = member.items_len() else {
         return Ok(None);
     };
     let targets = read_targets(alloc, member, count)?;
@@ -172,7 +172,7 @@ fn read_document(alloc: Global, root: &Node<'_>) -> Result<List<Context>, JsonFa
     ensures shape { IfOk result (λ contexts. list_all is_context contexts ≡ true) }
 {
     let count = must_array(alloc, root, "linkset")?;
-    match member_of(alloc, root, "linkset")? {
+    match root.find(alloc, "linkset")? {
         Some(array) => read_contexts(alloc, &array, count),
         None => Ok(List::from_vec(Vec::new(alloc))),
     }

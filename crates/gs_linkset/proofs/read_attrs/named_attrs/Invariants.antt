@@ -7,5 +7,5 @@ use Rattle.gs_linkset.proofs.read_attrs.named_attrs.Given as goal
 
 abbrev pub invariant-loop-i : goal.invariant-loop-i
 invariant-loop-i l =
-    (l.attrs.items ≡ filter_map (attr_of (view l.target.tree)) (take l.i (map (λ name. name.now) l.names)))
+    (l.attrs.items ≡ filter_map (attr_of (view l.target)) (take l.i (map (λ name. name.now) l.names)))
     × (list_all is_attr l.attrs.items ≡ true)

@@ -6,17 +6,17 @@ use Rattle.gs_linkset.proofs.ReadLemmas.{no_relation, relation_made, relation_re
 use Rattle.gs_linkset.proofs.reading.relation_at.Goals as goal
 
 pub returns-in_default-clause-answer : goal.returns-in_default-clause-answer
-returns-in_default-clause-answer c = no_relation c.args.name.now c.args.member.now.place (view c.args.member.now.tree) (sym c.in_default.is ∙ c.in_ok-count.ensures)
+returns-in_default-clause-answer c = no_relation c.args.name.now c.args.member.now.place (view c.args.member.now.tree) (sym c.in_default.is ∙ c.items_len.ensures)
 
 pub returns-in_err-targets-clause-answer : goal.returns-in_err-targets-clause-answer
 returns-in_err-targets-clause-answer c =
-    let p = err_from_is_err_and c.from_residual-in_err-targets.result c.from_residual-in_err-targets.ensures.1 in
-    rw (p.1, p.2) (relation_refused c.args.name.now c.args.member.now.place (view c.args.member.now.tree) c.in-Some.count c.in_err-targets.field-0.0 (sym c.in-Some.is ∙ c.in_ok-count.ensures) c.in_err-targets.ensures.answer)
+    let p = err_from_is_err_and c.from_residual.result c.from_residual.ensures.1 in
+    rw (p.1, p.2) (relation_refused c.args.name.now c.args.member.now.place (view c.args.member.now.tree) c.in-Some.count c.in_err-targets.field-0.0 (sym c.in-Some.is ∙ c.items_len.ensures) c.in_err-targets.ensures.answer)
 
 pub returns-clause-answer : goal.returns-clause-answer
 returns-clause-answer c =
     let same = c.in_ok-from_bytes.ensures ∙ c.as_bytes.ensures.value in
-    rw same (relation_made c.args.name.now c.args.member.now.place (view c.args.member.now.tree) c.in-Some.count c.in_ok-targets.targets (sym c.in-Some.is ∙ c.in_ok-count.ensures) c.in_ok-targets.ensures.answer)
+    rw same (relation_made c.args.name.now c.args.member.now.place (view c.args.member.now.tree) c.in-Some.count c.in_ok-targets.targets (sym c.in-Some.is ∙ c.items_len.ensures) c.in_ok-targets.ensures.answer)
 
 pub returns-clause-shape : goal.returns-clause-shape
 returns-clause-shape c =
