@@ -1,8 +1,9 @@
 //! JSON documents (RFC 8259), whose parts are looked up by name and place and judged by a plan.
 //!
 //! - `Doc::parse` reads a document; `Node` is a part of it, looked up by `member` and `item`, with its value by `text`,
-//!   `number` and others.
-//! - `Node::shaped` judges an object by a plan: which members it must and may have, and of what sort they are.
+//!   `number` and others; or by `find` and `value`, which tell no error.
+//! - `Node::shaped` judges an object by a plan: which members it must and may have, and of what sort they are. `plan_of` makes
+//!   one.
 //!
 //! # Example
 //!
