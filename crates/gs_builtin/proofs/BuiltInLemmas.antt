@@ -1,8 +1,8 @@
 -- The built-in rows: bits and rows one by one, and tests that hold at each row.
-use Rattle.std.proofs.Common.{◌≡◌, ℕ, ◌+◌, ◌-◌, ◌<◌, ◌∙◌, zero, suc, Bool, true, false, List, [], ◌∷◌, ◌++◌, length, map, take, get_or, append_assoc, Option, refl, sym, ap, arith}
+use Rattle.std.proofs.Common.{◌≡◌, ℕ, ◌+◌, ◌-◌, ◌<◌, ◌≤◌, ◌∙◌, zero, suc, Bool, true, false, List, [], ◌∷◌, ◌++◌, length, map, take, get_or, append_assoc, Option, refl, sym, ap, arith}
 use Rattle.std.proofs.lemmas.List.Folds.{list_all_at}
 use Rattle.std.specs.Int.{bit_at}
-use Rattle.std.proofs.lemmas.List.{flat_map_more, map-append, take_more}
+use Rattle.std.proofs.lemmas.List.{flat_map_more, map-append, take_all, take_more}
 use Rattle.std.specs.List.{flat_map, list_all}
 use Rattle.gs_bits.specs.Bits.{bits_of}
 use Rattle.gs_builtin.specs.BuiltIn.{asset_encodings, behind_prefix, document_encodings, encodings, rests_fit, item_encodings, there}
@@ -30,6 +30,14 @@ same_behind old new rest rest' serial serial' r s h = rw (r, s) at h
 pub row_more : {X R : Type 0} (f : X → R) (xs : List X) (i : ℕ) (d : X) (start old new : List R) → i < length xs → old ≡ start ++ map f (take i xs) → new ≡ old ++ f (get_or xs i d) ∷ [] → new ≡ start ++ map f (take (i + 1) xs)
 row_more f xs i d start old new low before gained =
     rw (take_more xs i d low, map-append f (take i xs) (get_or xs i d ∷ [])) (gained ∙ rw before (append_assoc start (map f (take i xs)) (f (get_or xs i d) ∷ [])))
+
+-- the rows of all that a row each is made for
+pub rows_whole : {X R : Type 0} (f : X → R) (xs : List X) (i : ℕ) (start new : List R) → length xs ≤ i → new ≡ start ++ map f (take i xs) → new ≡ start ++ map f xs
+rows_whole f xs i start new all h = let whole : take i xs ≡ xs = take_all i xs all in rw whole at h
+
+-- the rows of all that rows are made for
+pub flat_whole : {X R : Type 0} (f : X → List R) (xs : List X) (i : ℕ) (new : List R) → length xs ≤ i → new ≡ flat_map f (take i xs) → new ≡ flat_map f xs
+flat_whole f xs i new all h = let whole : take i xs ≡ xs = take_all i xs all in rw whole at h
 
 -- the numbers of the encodings have at most 64 bits
 pub rests_of_encodings_fit : list_all rests_fit encodings ≡ true

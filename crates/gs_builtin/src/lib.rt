@@ -1,6 +1,7 @@
 //! The built-in rows: the application identifiers, the kinds, and the options of each encoding.
 //!
-//! - `builtin_document` gives them as one document, as if it had been read; `builtin_ais` those of the application identifiers.
+//! - `builtin_document` gives them as one document, as if it had been read.
+//! - `builtin_ais` gives those of the application identifiers.
 //!
 //! # Example
 //!

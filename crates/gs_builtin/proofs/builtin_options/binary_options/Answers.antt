@@ -1,5 +1,5 @@
 use Rattle.gs_builtin.specs.BuiltIn.{binary_rows, rests_fit}
-use Rattle.gs_builtin.proofs.BuiltInLemmas.{each_passes, rows_more}
+use Rattle.gs_builtin.proofs.BuiltInLemmas.{each_passes, flat_whole, rows_more}
 use Rattle.gs_builtin.proofs.builtin_options.binary_options.Goals as goal
 
 pub loop-encoding-preserved : goal.loop-encoding-preserved
@@ -8,3 +8,7 @@ loop-encoding-preserved c =
 
 pub add_binary-requires : goal.add_binary-requires
 add_binary-requires c = each_passes rests_fit c.args.encodings.now c.loop-encoding.encoding-index c.encoding-item.result c.loop-encoding-test.true c.encoding-item.is c.requires
+
+pub returns : goal.returns
+returns c =
+    rw c.from_vec.ensures (flat_whole binary_rows c.args.encodings.now c.loop-encoding.encoding-index _ c.loop-encoding-test.false c.loop-encoding.invariant)
