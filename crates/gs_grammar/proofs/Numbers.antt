@@ -3,7 +3,7 @@ use Rattle.std.proofs.Common.{◌≡◌, ℕ, ◌<◌, ◌≤◌, ◌+◌, ◌-�
 use Rattle.std.proofs.Math.Nat.{pow-le-pow_right, pow-suc, pow-succ', div-eq_of_lt, div-div-eq-div-mul, mul_assoc, add-mul, le-mul_of_pos_right, mul_comm}
 use Rattle.std.proofs.lemmas.Bool.{cases_eq}
 use Rattle.std.proofs.lemmas.Bool.Decides.{nat_tests, leb_tells}
-use Rattle.std.proofs.lemmas.List.{drop_more, drop-set, take_at}
+use Rattle.std.proofs.lemmas.List.{drop_all, drop_more, drop-set, take_at}
 use Rattle.std.proofs.lemmas.List.Folds.{list_all-append}
 use Rattle.std.proofs.lemmas.Str.Parse.{IsNumeralModel, numerals_by_weight, digits_value_short}
 use Rattle.std.proofs.lemmas.Fmt.{digits_value-decimal, digits_decimal, decimal-digits_value, length-decimal-le, decimal_nonempty, first_decimal, decimal_digit}
@@ -84,6 +84,24 @@ value_grows n (d ∷ ds) = let r = value_grows (10 * n + (d - 48)) ds in omega a
 
 pub value_step : (symbols : List ℕ) (i number : ℕ) → i < length symbols → value_after number (drop i symbols) ≡ value_after (10 * number + (get_or symbols i 0 - 48)) (drop (i + 1) symbols)
 value_step symbols i number l = ap (value_after number) (drop_more symbols i 0 l)
+
+-- one digit more
+pub value_more : (symbols : List ℕ) (i number more : ℕ) → i < length symbols → value_after number (drop i symbols) ≡ decimal_value symbols → more ≡ 10 * number + (get_or symbols i 0 - 48) → value_after more (drop (i + 1) symbols) ≡ decimal_value symbols
+value_more symbols i number more l v e = rw e (sym (value_step symbols i number l) ∙ v)
+
+-- all digits
+pub value_whole : (symbols : List ℕ) (i number : ℕ) → length symbols ≤ i → value_after number (drop i symbols) ≡ decimal_value symbols → number ≡ decimal_value symbols
+value_whole symbols i number l v = let none : drop i symbols ≡ [] = drop_all i symbols l in rw none at v
+
+-- one symbol more that is a digit
+pub digits_more : (symbols : List ℕ) (i : ℕ) → i < length symbols → is_digit (get_or symbols i 0) ≡ true → are_digits (drop i symbols) ≡ are_digits symbols → are_digits (drop (i + 1) symbols) ≡ are_digits symbols
+digits_more symbols i l d h =
+    let front : (is_digit (get_or symbols i 0) && are_digits (drop (i + 1) symbols)) ≡ are_digits symbols = rw (drop_more symbols i 0 l) at h in
+    rw d at front
+
+-- all are digits
+pub digits_whole : (symbols : List ℕ) (i : ℕ) → length symbols ≤ i → are_digits (drop i symbols) ≡ are_digits symbols → are_digits symbols ≡ true
+digits_whole symbols i l h = let none : drop i symbols ≡ [] = drop_all i symbols l in sym (rw none at h)
 
 pub leading_zero : (symbols : List ℕ) (b : Bool) → b ≡ (leb 2 (length symbols) && eqb (get_or symbols 0 0) 48) → b ≡ true → (number : ℕ) → number < 2 ^ 64 → symbols ≡ decimal number → ⊥
 leading_zero symbols b e t =

@@ -1,5 +1,5 @@
-use Rattle.std.proofs.Common.{arith, ◌≤◌, ◌^◌, ◌+◌, ◌*◌, ◌-◌, get_or}
-use Rattle.gs_grammar.proofs.Numbers.{too_great, after_zero}
+use Rattle.std.proofs.Common.{arith, ◌≡◌, ◌≤◌, ◌^◌, ◌+◌, ◌*◌, ◌-◌, get_or}
+use Rattle.gs_grammar.proofs.Numbers.{too_great, after_zero, value_more, value_whole}
 use Rattle.gs_grammar.proofs.numerals.decimal_number.Goals as goal
 
 pub returns-in_err-shifted : goal.returns-in_err-shifted
@@ -16,3 +16,17 @@ returns-in_err-number c =
 
 pub loop-digit-init : goal.loop-digit-init
 loop-digit-init c = record { value = after_zero _; small = omega arith }
+
+pub loop-digit-preserved : goal.loop-digit-preserved
+loop-digit-preserved c =
+    let value : c.in_ok-number.number ≡ 10 * c.loop-digit.number + (get_or c.args.digits.now c.loop-digit.digit-index 0 - 48) =
+    let e = c.in_ok-number.ensures.1 in let s = c.in_ok-shifted.ensures.1 in let f = c.from.ensures in let m = c.saturating_sub.ensures in omega arith in
+    record {
+      value = value_more _ _ _ _ c.loop-digit-test.true c.loop-digit.invariant.value value;
+      small = let e = c.in_ok-number.ensures in omega arith;
+    }
+
+pub returns : goal.returns
+returns c =
+    let whole = value_whole _ _ _ c.loop-digit-test.false c.loop-digit.invariant.value in
+    (rw (← whole) c.loop-digit.invariant.small, whole)
