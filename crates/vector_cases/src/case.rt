@@ -124,6 +124,24 @@ pub fn arg(args: &[Text], i: usize) -> Result<&[u8], Refusal> {
     }
 }
 
+/// The argument at a place, empty where it is left out.
+pub fn bytes_at(args: &[Text], i: usize) -> &[u8] {
+    match args.get(i) {
+        Some(text) => text.as_bytes(),
+        None => b"",
+    }
+}
+
+/// What a table gives a name, where it has it.
+pub fn named<T: Copy>(table: &[(&str, T)], name: &[u8]) -> Option<T> {
+    for (word, value) in table {
+        if word.as_bytes() == name {
+            return Some(*value);
+        }
+    }
+    None
+}
+
 /// A text of characters.
 pub fn text_of(bytes: &[u8]) -> Result<&str, Refusal> {
     match str::from_utf8(bytes) {
@@ -132,17 +150,25 @@ pub fn text_of(bytes: &[u8]) -> Result<&str, Refusal> {
     }
 }
 
-/// The number that is written so.
-pub fn number_of(text: &str) -> Result<u64, Refusal> {
-    match text.parse::<u64>() {
-        Ok(number) => Ok(number),
-        Err(_) => Err(Refusal::NoCase),
+/// The number that a word tells, where it tells one.
+pub fn number_in(word: &[u8]) -> Option<u64> {
+    match str::from_utf8(word) {
+        Ok(text) => text.parse::<u64>().ok(),
+        Err(_) => None,
+    }
+}
+
+/// The number that a word tells.
+pub fn number_of(word: &[u8]) -> Result<u64, Refusal> {
+    match number_in(word) {
+        Some(number) => Ok(number),
+        None => Err(Refusal::NoCase),
     }
 }
 
 /// The number at a place.
 pub fn number(args: &[Text], i: usize) -> Result<u64, Refusal> {
-    number_of(text_of(arg(args, i)?)?)
+    number_of(bytes_at(args, i))
 }
 
 /// The arguments behind the first ones.
@@ -154,7 +180,7 @@ pub fn behind(args: &[Text], count: usize) -> &[Text] {
 fn numbers_in(alloc: Global, list: &str) -> Result<Vec<u64>, Refusal> {
     let mut numbers = Vec::new(alloc);
     for number in list.split(',') {
-        push(&mut numbers, number_of(number))?;
+        push(&mut numbers, number_of(number.as_bytes()))?;
     }
     Ok(numbers)
 }

@@ -1,8 +1,8 @@
 //! Items as words: `lit:SYMBOLS`, `bits:DIGITS` for a literal of bits, `pad:N`, `int:MAX`, `esc:LO:HI`, `numpad:BITS:N`,
 //! `num:BITS:MAX`, `ascii7:LO:HI:BITS`, `fill:A:B`.
 
-use crate::case::{Answer, Refusal, number_of, text_of};
-use crate::words::{debug_word, glued, said, shown};
+use crate::case::{Refusal, named, number_of, text_of};
+use crate::line::Line;
 use gs_chars::Text;
 use gs_grammar::Item;
 use std::alloc::{AllocError, Global};
@@ -48,49 +48,63 @@ fn bits_of(alloc: Global, digits: &[u8]) -> Result<Vec<u8>, AllocError> {
 fn three_numbers(text: &str) -> Result<[u64; 3], Refusal> {
     let mut numbers = [0; 3];
     for (number, word) in numbers.iter_mut().zip(text.split(':')) {
-        *number = number_of(word)?;
+        *number = number_of(word.as_bytes())?;
     }
     Ok(numbers)
 }
 
+/// The items that have numbers.
+#[derive(Clone, Copy)]
+enum Numbered {
+    Ascii7,
+    Esc,
+    Fill,
+    Int,
+    Num,
+    NumPad,
+    Pad,
+}
+
+const NAMES: [(&str, Numbered); 7] = [
+    ("ascii7", Numbered::Ascii7),
+    ("esc", Numbered::Esc),
+    ("fill", Numbered::Fill),
+    ("int", Numbered::Int),
+    ("num", Numbered::Num),
+    ("numpad", Numbered::NumPad),
+    ("pad", Numbered::Pad),
+];
+
 /// The item of a name and its numbers.
 fn numeric_item(name: &str, [a, b, c]: [u64; 3]) -> Result<Item, Refusal> {
-    if name == "int" {
-        return Ok(Item::Int { max: a });
-    }
-    let Ok(first) = u8::try_from(a) else {
-        return Err(Refusal::NoCase);
-    };
-    match name {
-        "pad" => Ok(Item::Pad { n: first }),
-        "num" => Ok(Item::Num {
-            bits: first,
-            max: b,
-        }),
-        _ => two_byte_item(name, first, b, c),
+    match (named(&NAMES, name.as_bytes()), u8::try_from(a)) {
+        (Some(Numbered::Int), _) => Ok(Item::Int { max: a }),
+        (Some(Numbered::Pad), Ok(n)) => Ok(Item::Pad { n }),
+        (Some(Numbered::Num), Ok(bits)) => Ok(Item::Num { bits, max: b }),
+        (Some(two), Ok(first)) => two_byte_item(two, first, b, c),
+        _ => Err(Refusal::NoCase),
     }
 }
 
 /// The item of a name and its numbers, of which the first two are bytes.
-fn two_byte_item(name: &str, first: u8, b: u64, c: u64) -> Result<Item, Refusal> {
-    let Ok(second) = u8::try_from(b) else {
+fn two_byte_item(name: Numbered, first: u8, second: u64, third: u64) -> Result<Item, Refusal> {
+    let Ok(second) = u8::try_from(second) else {
         return Err(Refusal::NoCase);
     };
     match name {
-        "esc" => Ok(Item::Esc {
+        Numbered::Esc => Ok(Item::Esc {
             lo: first,
             hi: second,
         }),
-        "numpad" => Ok(Item::NumPad {
+        Numbered::NumPad => Ok(Item::NumPad {
             bits: first,
             n: second,
         }),
-        "fill" => Ok(Item::Fill {
+        Numbered::Fill => Ok(Item::Fill {
             a: first,
             b: second,
         }),
-        "ascii7" => packed_item(first, second, c),
-        _ => Err(Refusal::NoCase),
+        _ => packed_item(first, second, third),
     }
 }
 
@@ -102,53 +116,60 @@ fn packed_item(lo: u8, hi: u8, bits: u64) -> Result<Item, Refusal> {
     }
 }
 
-/// The word of a literal of bits.
-fn bits_word(alloc: Global, bits: &[u8]) -> Answer {
-    let mut word = String::from_str(alloc, "bits:")?;
+/// Writes the bits of a literal.
+fn add_bits(line: &mut Line, bits: &[u8]) {
+    line.more("bits:");
     for bit in bits {
-        word.push(if *bit == 0 { '0' } else { '1' })?;
+        line.more(if *bit == 0 { "0" } else { "1" });
     }
-    Ok(word)
 }
 
-/// The word of a literal of a level.
-fn literal_word(alloc: Global, bit_level: bool, symbols: &[u8]) -> Answer {
+/// Writes the symbols of a literal.
+fn add_symbols(line: &mut Line, symbols: &[u8]) {
+    line.more("lit:");
+    line.more_bytes(symbols);
+}
+
+/// Writes a literal of a level.
+fn add_literal(line: &mut Line, bit_level: bool, literal: &[u8]) {
     if bit_level {
-        return bits_word(alloc, symbols);
+        add_bits(line, literal);
+    } else {
+        add_symbols(line, literal);
     }
-    let word = shown(alloc, symbols)?;
-    glued(alloc, "lit:", word.as_str())
 }
 
-/// Appends a number behind a colon.
-fn add_number(alloc: Global, word: &mut String, number: u64) -> Result<(), Refusal> {
-    let number = debug_word(alloc, &number)?;
-    word.push(':')?;
-    Ok(word.push_str(number.as_str())?)
+/// Writes a number behind a colon.
+fn add_number(line: &mut Line, number: u64) {
+    line.more(":");
+    line.more_debug(number);
 }
 
-/// A name and its numbers.
-fn numbered(alloc: Global, name: &str, numbers: &[u64]) -> Answer {
-    let mut word = said(alloc, name)?;
-    for number in numbers {
-        add_number(alloc, &mut word, *number)?;
-    }
-    Ok(word)
+/// Writes a name and its number.
+fn add_one(line: &mut Line, name: &str, number: u64) {
+    line.more(name);
+    add_number(line, number);
 }
 
-/// The word of an item of a level.
-pub fn item_word(alloc: Global, bit_level: bool, item: &Item) -> Answer {
-    // a name and its numbers for each kind, so that the one exit of want of memory is in `numbered`
+/// Writes a name and its two numbers.
+fn add_two(line: &mut Line, name: &str, first: u64, second: u64) {
+    add_one(line, name, first);
+    add_number(line, second);
+}
+
+/// Writes an item of a level as more of the last word.
+pub fn add_item(line: &mut Line, bit_level: bool, item: &Item) {
     match *item {
-        Item::Lit(ref literal) => literal_word(alloc, bit_level, literal.as_bytes()),
-        Item::Pad { n } => numbered(alloc, "pad", &[n as u64]),
-        Item::Int { max } => numbered(alloc, "int", &[max]),
-        Item::Esc { lo, hi } => numbered(alloc, "esc", &[lo as u64, hi as u64]),
-        Item::NumPad { bits, n } => numbered(alloc, "numpad", &[bits as u64, n as u64]),
-        Item::Num { bits, max } => numbered(alloc, "num", &[bits as u64, max]),
+        Item::Lit(ref literal) => add_literal(line, bit_level, literal.as_bytes()),
+        Item::Pad { n } => add_one(line, "pad", n as u64),
+        Item::Int { max } => add_one(line, "int", max),
+        Item::Esc { lo, hi } => add_two(line, "esc", lo as u64, hi as u64),
+        Item::NumPad { bits, n } => add_two(line, "numpad", bits as u64, n as u64),
+        Item::Num { bits, max } => add_two(line, "num", bits as u64, max),
         Item::Ascii7 { lo, hi, bits } => {
-            numbered(alloc, "ascii7", &[lo as u64, hi as u64, bits as u64])
+            add_two(line, "ascii7", lo as u64, hi as u64);
+            add_number(line, bits as u64);
         }
-        Item::Fill { a, b } => numbered(alloc, "fill", &[a as u64, b as u64]),
+        Item::Fill { a, b } => add_two(line, "fill", a as u64, b as u64),
     }
 }

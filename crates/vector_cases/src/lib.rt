@@ -4,9 +4,9 @@
 //!
 //! A case is the path of a call, as `gs_chars::check_digit`, and its arguments, with one space between. An argument is its
 //! bytes, where `\xHH` stands for the byte with this number in hexadecimal digits, `\*HH:N;` for so many of that byte, `\\`
-//! for a backslash, and `\e` for nothing, so that an argument may be empty. Answers are written so too. A line that begins with
-//! `#` says where the cases below it come from and is not answered, and neither is an empty line. What is no case is answered
-//! `no case`.
+//! for a backslash, and `\e` for nothing, so that an argument may be empty. One that is left out is empty too. Answers are
+//! written so. A line that begins with `#` says where the cases below it come from and is not answered, and neither is an empty
+//! line. What is no case is answered `no case`.
 //!
 //! The head of each file of a library says which arguments its calls take, and what they answer.
 #![tactic(auto)]
@@ -14,16 +14,18 @@
 mod answering;
 mod case;
 mod item_words;
-mod json_words;
+mod line;
 mod objects;
 mod words;
 
 pub use answering::{Calls, answer_cases};
-pub use case::{Answer, Refusal, arg, behind, number, number_of, numbers_of, push, text_of};
-pub use item_words::{item_of, item_word};
-pub use json_words::fault_word;
+pub use case::{
+    Answer, Refusal, arg, behind, bytes_at, named, number, number_in, number_of, numbers_of, push,
+    text_of,
+};
+pub use item_words::{add_item, item_of};
+pub use line::{Done, Line};
 pub use objects::{cut_of, door_of, files_of, section, sink_of, source_of};
 pub use words::{
-    Word, add, add_answer, add_shown, add_word, add_words, debug_word, glued, joined, said, shown,
-    shown_all, text_word,
+    Word, add, add_answer, add_shown, add_words, debug_word, joined, said, shown, shown_all,
 };

@@ -2,8 +2,8 @@
 //! memory is one exit here and none there: each exit of a function is a part of its proof.
 
 use crate::case::{Answer, Refusal};
-use gs_chars::{Memory, Text};
-use std::alloc::Global;
+use gs_chars::Text;
+use std::alloc::{AllocError, Global};
 use std::fmt::Debug;
 
 /// A word of an answer.
@@ -27,35 +27,32 @@ pub fn debug_word<T: Debug>(alloc: Global, value: &T) -> Answer {
     Ok(format!(in alloc; "{value:?}")?)
 }
 
-/// Two parts of a word without a space between.
-pub fn glued(alloc: Global, front: &str, back: &str) -> Answer {
-    Ok(format!(in alloc; "{front}{back}")?)
+/// The upper-case hexadecimal digit of a number below 16.
+fn hex_digit(number: u8) -> char {
+    let front = if number < 10 { b'0' } else { b'A' - 10 };
+    char::from(front.wrapping_add(number))
 }
 
-/// The word that stands for a text, where there was memory for it.
-pub fn text_word(alloc: Global, written: Result<Text, Memory>) -> Answer {
-    let text = written?;
-    shown(alloc, text.as_bytes())
-}
-
-/// What stands for a byte that is not shown as itself.
-fn escape_of(alloc: Global, c: u8) -> Answer {
-    Ok(format!(in alloc; "\\x{c:02X}")?)
+/// Appends the escape of a byte.
+fn push_escape(word: &mut String, c: u8) -> Result<(), AllocError> {
+    word.push_str("\\x")?;
+    word.push(hex_digit(c >> 4))?;
+    word.push(hex_digit(c & 15))
 }
 
 /// Appends what stands for a byte.
-fn push_shown(alloc: Global, word: &mut String, c: u8) -> Result<(), Refusal> {
+fn push_shown(word: &mut String, c: u8) -> Result<(), AllocError> {
     if c.is_ascii_graphic() && c != b'\\' {
-        return Ok(word.push(char::from(c))?);
+        word.push(char::from(c))
+    } else {
+        push_escape(word, c)
     }
-    let escape = escape_of(alloc, c)?;
-    Ok(word.push_str(escape.as_str())?)
 }
 
 /// Appends what stands for each byte.
-fn push_all_shown(alloc: Global, word: &mut String, bytes: &[u8]) -> Result<(), Refusal> {
+fn push_all_shown(word: &mut String, bytes: &[u8]) -> Result<(), AllocError> {
     for c in bytes {
-        push_shown(alloc, word, *c)?;
+        push_shown(word, *c)?;
     }
     Ok(())
 }
@@ -66,7 +63,7 @@ pub fn shown(alloc: Global, bytes: &[u8]) -> Answer {
         return said(alloc, "\\e");
     }
     let mut word = String::new(alloc);
-    push_all_shown(alloc, &mut word, bytes)?;
+    push_all_shown(&mut word, bytes)?;
     Ok(word)
 }
 

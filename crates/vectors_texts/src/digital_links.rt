@@ -4,45 +4,60 @@
 //! - `stem_ok STEM`: whether a link may be written under it.
 //! - `write_link STEM CODE VALUE ..`: the link of the identity of the pairs under the stem, or the refusal.
 
-use crate::elements::{element_fault, listed};
+use crate::elements::{add_fault, add_listed};
 use crate::identities::made;
 use gs_ai::{AiTable, Pair};
 use gs_chars::Text;
 use gs_dlink::{LinkFault, read_link, read_target, stem_ok, write_link};
-use gs_tables::TableSet;
 use std::alloc::Global;
-use vector_cases::{Answer, Refusal, debug_word, text_word};
+use vector_cases::{Done, Line, Refusal, behind, bytes_at, named};
 
-/// The answer to a call of gs_dlink.
-pub fn answer(alloc: Global, set: &TableSet, call: &str, args: &[Text]) -> Answer {
-    let [first, words @ ..] = args else {
-        return Err(Refusal::NoCase);
-    };
-    let text = first.as_bytes();
-    match call {
-        "read_link" => pairs_words(alloc, read_link(alloc, set.ais(), text)),
-        "read_target" => pairs_words(alloc, read_target(alloc, set.ais(), text)),
-        "stem_ok" => debug_word(alloc, &stem_ok(text)),
-        "write_link" => written(alloc, set.ais(), text, words),
-        _ => Err(Refusal::NoCase),
-    }
+#[derive(Clone, Copy)]
+enum Call {
+    ReadLink,
+    ReadTarget,
+    StemOk,
+    WriteLink,
 }
 
-fn pairs_words(alloc: Global, read: Result<Vec<Pair>, LinkFault>) -> Answer {
+const CALLS: [(&str, Call); 4] = [
+    ("read_link", Call::ReadLink),
+    ("read_target", Call::ReadTarget),
+    ("stem_ok", Call::StemOk),
+    ("write_link", Call::WriteLink),
+];
+
+/// Answers a call of gs_dlink.
+pub fn answer(alloc: Global, line: &mut Line, table: &AiTable, call: &[u8], args: &[Text]) -> Done {
+    let text = bytes_at(args, 0);
+    match named(&CALLS, call) {
+        Some(Call::ReadLink) => add_read(line, read_link(alloc, table, text)),
+        Some(Call::ReadTarget) => add_read(line, read_target(alloc, table, text)),
+        Some(Call::StemOk) => line.debug(stem_ok(text)),
+        Some(Call::WriteLink) => return written(alloc, line, table, text, behind(args, 1)),
+        None => return Err(Refusal::NoCase),
+    }
+    Ok(())
+}
+
+/// Writes the codes and values in turn, or what is wrong.
+fn add_read(line: &mut Line, read: Result<Vec<Pair>, LinkFault>) {
     match read {
-        Ok(pairs) => listed(alloc, pairs.as_slice()),
-        Err(LinkFault::Element(fault)) => element_fault(alloc, fault),
-        Err(LinkFault::Memory) => Err(Refusal::Memory),
-        Err(fault) => debug_word(alloc, &fault),
+        Ok(pairs) => add_listed(line, pairs.as_slice()),
+        Err(LinkFault::Element(fault)) => add_fault(line, fault),
+        Err(LinkFault::Memory) => line.want_memory(),
+        Err(fault) => line.debug(fault),
     }
 }
 
-fn written(alloc: Global, table: &AiTable, stem: &[u8], words: &[Text]) -> Answer {
+fn written(alloc: Global, line: &mut Line, table: &AiTable, stem: &[u8], words: &[Text]) -> Done {
     if !stem_ok(stem) {
         return Err(Refusal::NoCase);
     }
-    match made(alloc, table, words)? {
-        Ok(identity) => text_word(alloc, write_link(alloc, stem, &identity)),
-        Err(refused) => Ok(refused),
+    match made(alloc, line, table, words) {
+        Ok(Some(identity)) => line.text_made(write_link(alloc, stem, &identity)),
+        Ok(None) => {}
+        Err(refusal) => return Err(refusal),
     }
+    Ok(())
 }

@@ -4,87 +4,91 @@
 //!   place of it.
 //! - `write_raw CODE VALUE ..`, `write_bracketed CODE VALUE ..`: the text of the identity of the pairs, or the refusal.
 
-ghost use Rattle.gs_ident.specs.Identities.{IsMadeWith};
-
 use crate::identities::made;
 use gs_ai::{AiTable, ElementFault, Pair};
 use gs_chars::Text;
 use gs_element::{ElementsFault, read_bracketed, read_raw, write_bracketed, write_raw};
-use gs_ident::Identity;
-use gs_tables::TableSet;
 use std::alloc::Global;
-use vector_cases::{Answer, Refusal, Word, add_words, arg, debug_word, joined, said, text_word};
+use vector_cases::{Done, Line, Refusal, bytes_at, named};
 
-/// The answer to a call of gs_element.
-pub fn answer(alloc: Global, set: &TableSet, call: &str, args: &[Text]) -> Answer {
-    match call {
-        "read_raw" => raw_read(alloc, set.ais(), arg(args, 0)?),
-        "read_bracketed" => bracketed_read(alloc, set.ais(), arg(args, 0)?),
-        "write_raw" => written(alloc, set.ais(), args, true),
-        "write_bracketed" => written(alloc, set.ais(), args, false),
-        _ => Err(Refusal::NoCase),
+#[derive(Clone, Copy)]
+enum Call {
+    ReadBracketed,
+    ReadRaw,
+    WriteBracketed,
+    WriteRaw,
+}
+
+const CALLS: [(&str, Call); 4] = [
+    ("read_bracketed", Call::ReadBracketed),
+    ("read_raw", Call::ReadRaw),
+    ("write_bracketed", Call::WriteBracketed),
+    ("write_raw", Call::WriteRaw),
+];
+
+/// Answers a call of gs_element.
+pub fn answer(alloc: Global, line: &mut Line, table: &AiTable, call: &[u8], args: &[Text]) -> Done {
+    let text = bytes_at(args, 0);
+    match named(&CALLS, call) {
+        Some(Call::ReadBracketed) => add_read(line, read_bracketed(alloc, table, text)),
+        Some(Call::ReadRaw) => add_read(line, read_raw(alloc, table, text)),
+        Some(Call::WriteBracketed) => return bracketed_written(alloc, line, table, args),
+        Some(Call::WriteRaw) => return raw_written(alloc, line, table, args),
+        None => return Err(Refusal::NoCase),
     }
+    Ok(())
 }
 
-fn raw_read(alloc: Global, table: &AiTable, text: &[u8]) -> Answer {
-    pairs_words(alloc, read_raw(alloc, table, text))
-}
-
-fn bracketed_read(alloc: Global, table: &AiTable, text: &[u8]) -> Answer {
-    pairs_words(alloc, read_bracketed(alloc, table, text))
-}
-
-fn pairs_words(alloc: Global, read: Result<Vec<Pair>, ElementsFault>) -> Answer {
+/// Writes the codes and values in turn, or what is wrong.
+fn add_read(line: &mut Line, read: Result<Vec<Pair>, ElementsFault>) {
     match read {
-        Ok(pairs) => listed(alloc, pairs.as_slice()),
-        Err(ElementsFault::Element(fault)) => element_fault(alloc, fault),
-        Err(ElementsFault::Memory) => Err(Refusal::Memory),
+        Ok(pairs) => add_listed(line, pairs.as_slice()),
+        Err(ElementsFault::Element(fault)) => add_fault(line, fault),
+        Err(ElementsFault::Memory) => line.want_memory(),
     }
 }
 
-/// What is wrong, and the place of it.
-pub fn element_fault(alloc: Global, fault: ElementFault) -> Answer {
-    let why = debug_word(alloc, &fault.why)?;
-    joined(
-        alloc,
-        &[Word::Plain(why.as_str()), Word::Number(fault.at as u64)],
-    )
+/// Writes what is wrong, and the place of it.
+pub fn add_fault(line: &mut Line, fault: ElementFault) {
+    line.debug(fault.why);
+    line.debug(fault.at);
 }
 
-/// Appends a code and its value.
-pub fn add_pair(alloc: Global, answer: &mut String, pair: &Pair) -> Result<(), Refusal> {
-    let words = [
-        Word::Bytes(pair.code.as_bytes()),
-        Word::Bytes(pair.value.as_bytes()),
-    ];
-    add_words(alloc, answer, &words)
+/// Writes a code and its value.
+pub fn add_pair(line: &mut Line, pair: &Pair) {
+    line.bytes(pair.code.as_bytes());
+    line.bytes(pair.value.as_bytes());
 }
 
-/// The codes and values of the pairs in turn, or `none`.
-pub fn listed(alloc: Global, pairs: &[Pair]) -> Answer {
-    if pairs.is_empty() {
-        return said(alloc, "none");
-    }
-    let mut answer = String::new(alloc);
+/// Writes the codes and values of the pairs in turn.
+pub fn add_pairs(line: &mut Line, pairs: &[Pair]) {
     for pair in pairs {
-        add_pair(alloc, &mut answer, pair)?;
-    }
-    Ok(answer)
-}
-
-fn written(alloc: Global, table: &AiTable, words: &[Text], raw: bool) -> Answer {
-    match made(alloc, table, words)? {
-        Ok(identity) => identity_text(alloc, table, &identity, raw),
-        Err(refused) => Ok(refused),
+        add_pair(line, pair);
     }
 }
 
-/// The text of an identity.
-fn identity_text(alloc: Global, table: &AiTable, identity: &Identity, raw: bool) -> Answer
-    requires { IsMadeWith table.now identity.now }
-{
-    if raw {
-        return text_word(alloc, write_raw(alloc, table, identity));
+/// Writes the codes and values of the pairs in turn, or `none`.
+pub fn add_listed(line: &mut Line, pairs: &[Pair]) {
+    if pairs.is_empty() {
+        line.plain("none");
     }
-    text_word(alloc, write_bracketed(alloc, identity))
+    add_pairs(line, pairs);
+}
+
+fn raw_written(alloc: Global, line: &mut Line, table: &AiTable, words: &[Text]) -> Done {
+    match made(alloc, line, table, words) {
+        Ok(Some(identity)) => line.text_made(write_raw(alloc, table, &identity)),
+        Ok(None) => {}
+        Err(refusal) => return Err(refusal),
+    }
+    Ok(())
+}
+
+fn bracketed_written(alloc: Global, line: &mut Line, table: &AiTable, words: &[Text]) -> Done {
+    match made(alloc, line, table, words) {
+        Ok(Some(identity)) => line.text_made(write_bracketed(alloc, &identity)),
+        Ok(None) => {}
+        Err(refusal) => return Err(refusal),
+    }
+    Ok(())
 }

@@ -11,76 +11,81 @@
 ghost use Rattle.std.specs.Prelude.{IfOk};
 ghost use Rattle.gs_epc.specs.Epcs.{IsOfSet};
 
-use crate::epc_writing;
+use crate::epc_writing::{Level, taken_apart, written};
 use crate::tables::set_of;
 use gs_chars::Text;
 use gs_epc::{Epc, EpcFault, identity_of, read_hex, read_pure, read_tag};
 use gs_ident::canonical;
 use gs_tables::TableSet;
 use std::alloc::Global;
-use vector_cases::{
-    Answer, Refusal, Word, add_answer, add_shown, add_words, arg, debug_word, shown, text_word,
-};
+use vector_cases::{Done, Line, Refusal, behind, bytes_at, named};
 
-/// The answer to a call of gs_epc.
-pub fn answer(alloc: Global, set: &TableSet, call: &str, args: &[Text]) -> Answer {
-    match call {
-        "read_hex" | "read_tag" | "read_pure" => answer_on(alloc, set, call, arg(args, 0)?),
-        "identity_of" => link_of(alloc, set, args),
-        "by" => by_document(alloc, args),
-        _ => epc_writing::answer(alloc, set, call, args),
-    }
+#[derive(Clone, Copy)]
+enum Call {
+    By,
+    FieldsOf,
+    IdentityOf,
+    ReadHex,
+    ReadPure,
+    ReadTag,
+    Write(Level),
 }
 
-/// The answer to a call that reads one text.
-fn answer_on(alloc: Global, set: &TableSet, call: &str, text: &[u8]) -> Answer {
-    match call {
-        "read_hex" => fields(alloc, set, read_hex(alloc, set, text)),
-        "read_tag" => fields(alloc, set, read_tag(alloc, set, text)),
-        _ => fields(alloc, set, read_pure(alloc, set, text)),
-    }
-}
+const CALLS: [(&str, Call); 9] = [
+    ("by", Call::By),
+    ("fields_of", Call::FieldsOf),
+    ("identity_of", Call::IdentityOf),
+    ("read_hex", Call::ReadHex),
+    ("read_pure", Call::ReadPure),
+    ("read_tag", Call::ReadTag),
+    ("write_hex", Call::Write(Level::Hex)),
+    ("write_pure", Call::Write(Level::Pure)),
+    ("write_tag", Call::Write(Level::Tag)),
+];
 
-fn fault_word(alloc: Global, fault: EpcFault) -> Answer {
-    match fault {
-        EpcFault::Memory => Err(Refusal::Memory),
-        fault => debug_word(alloc, &fault),
-    }
-}
-
-fn fields(alloc: Global, set: &TableSet, read: Result<Epc, EpcFault>) -> Answer {
-    match read {
-        Ok(epc) => epc_words(alloc, set, &epc),
-        Err(fault) => fault_word(alloc, fault),
-    }
-}
-
-/// The words of an EPC.
-pub fn epc_words(alloc: Global, set: &TableSet, epc: &Epc) -> Answer {
-    match set.kinds().get(epc.kind) {
-        Some(kind) => words_behind(alloc, kind.name.as_bytes(), epc),
+/// Answers a call of gs_epc.
+pub fn answer(alloc: Global, line: &mut Line, set: &TableSet, call: &[u8], args: &[Text]) -> Done {
+    let text = bytes_at(args, 0);
+    match named(&CALLS, call) {
+        Some(Call::By) => by_document(alloc, line, text, behind(args, 1)),
+        Some(Call::FieldsOf) => taken_apart(alloc, line, set, args),
+        Some(Call::IdentityOf) => add_link(alloc, line, set, args),
+        Some(Call::ReadHex) => add_read(line, set, read_hex(alloc, set, text)),
+        Some(Call::ReadPure) => add_read(line, set, read_pure(alloc, set, text)),
+        Some(Call::ReadTag) => add_read(line, set, read_tag(alloc, set, text)),
+        Some(Call::Write(level)) => written(alloc, line, set, level, args),
         None => Err(Refusal::NoCase),
     }
 }
 
-/// The name of a kind, and what an EPC says beside it.
-fn words_behind(alloc: Global, kind: &[u8], epc: &Epc) -> Answer {
-    let mut answer = shown(alloc, kind)?;
-    add_fields(alloc, &mut answer, epc)?;
-    Ok(answer)
+fn add_fault(line: &mut Line, fault: EpcFault) {
+    match fault {
+        EpcFault::Memory => line.want_memory(),
+        fault => line.debug(fault),
+    }
 }
 
-/// Appends what an EPC says beside its kind.
-fn add_fields(alloc: Global, answer: &mut String, epc: &Epc) -> Result<(), Refusal> {
-    add_shown(alloc, answer, epc.encoding.as_bytes())?;
-    add_answer(answer, debug_word(alloc, &epc.filter))?;
-    let words = [
-        Word::Number(u64::from(epc.gcp)),
-        Word::Bytes(epc.prefix.as_bytes()),
-        Word::Bytes(epc.rest.as_bytes()),
-        Word::Bytes(epc.serial.as_bytes()),
-    ];
-    add_words(alloc, answer, &words)
+fn add_read(line: &mut Line, set: &TableSet, read: Result<Epc, EpcFault>) -> Done {
+    match read {
+        Ok(epc) => return add_epc(line, set, &epc),
+        Err(fault) => add_fault(line, fault),
+    }
+    Ok(())
+}
+
+/// Writes what an EPC says.
+pub fn add_epc(line: &mut Line, set: &TableSet, epc: &Epc) -> Done {
+    let Some(kind) = set.kinds().get(epc.kind) else {
+        return Err(Refusal::NoCase);
+    };
+    line.bytes(kind.name.as_bytes());
+    line.bytes(epc.encoding.as_bytes());
+    line.debug(epc.filter);
+    line.debug(epc.gcp);
+    line.bytes(epc.prefix.as_bytes());
+    line.bytes(epc.rest.as_bytes());
+    line.bytes(epc.serial.as_bytes());
+    Ok(())
 }
 
 /// What a text of a form says.
@@ -96,29 +101,19 @@ fn read(alloc: Global, set: &TableSet, form: &[u8], text: &[u8]) -> Result<Epc, 
     read_pure(alloc, set, text)
 }
 
-/// The link of the identity of what a text of a form says.
-fn link_of(alloc: Global, set: &TableSet, args: &[Text]) -> Answer {
-    let [form, text, ..] = args else {
-        return Err(Refusal::NoCase);
-    };
-    match read(alloc, set, form.as_bytes(), text.as_bytes()) {
-        Ok(epc) => identity_link(alloc, set, &epc),
-        Err(fault) => fault_word(alloc, fault),
+/// Writes the canonical link of the identity of what a text of a form says.
+fn add_link(alloc: Global, line: &mut Line, set: &TableSet, args: &[Text]) -> Done {
+    match read(alloc, set, bytes_at(args, 0), bytes_at(args, 1)) {
+        Ok(epc) => {
+            let identity = identity_of(alloc, set, &epc)?;
+            line.text_made(canonical(alloc, &identity));
+        }
+        Err(fault) => add_fault(line, fault),
     }
+    Ok(())
 }
 
-/// The canonical link of the identity of an EPC of the set.
-fn identity_link(alloc: Global, set: &TableSet, epc: &Epc) -> Answer
-    requires { IsOfSet set.now epc.now }
-{
-    let identity = identity_of(alloc, set, epc)?;
-    text_word(alloc, canonical(alloc, &identity))
-}
-
-fn by_document(alloc: Global, args: &[Text]) -> Answer {
-    let [document, others @ ..] = args else {
-        return Err(Refusal::NoCase);
-    };
-    let set = set_of(alloc, document.as_bytes())?;
-    link_of(alloc, &set, others)
+fn by_document(alloc: Global, line: &mut Line, document: &[u8], args: &[Text]) -> Done {
+    let set = set_of(alloc, document)?;
+    add_link(alloc, line, &set, args)
 }

@@ -9,70 +9,84 @@
 //! - `table ROW..`: the number of rows, or the fault. A ROW is `CODE/PART+PART/ROLE/CODE+CODE/SHORT/NONE`, where what stands
 //!   behind the role may be left out and SHORT is `short` or empty.
 
+use crate::elements::add_pair;
 use crate::identities::pair_of;
-use gs_ai::{AiFault, AiRow, AiTable, Pair, Part, Role, ValueFault};
+use gs_ai::{AiFault, AiRow, AiTable, Part, Role, ValueFault};
 use gs_chars::{List, Text};
-use gs_tables::TableSet;
 use std::alloc::Global;
-use vector_cases::{
-    Answer, Refusal, Word, add_answer, add_words, arg, debug_word, joined, push, said, shown_all,
-    text_of,
-};
+use vector_cases::{Done, Line, Refusal, bytes_at, named, push, text_of};
 
-/// The answer to a call of gs_ai.
-pub fn answer(alloc: Global, set: &TableSet, call: &str, args: &[Text]) -> Answer {
-    match call {
-        "table" => table(alloc, args),
-        "copy" => copy(alloc, args),
-        "value_ok" => value_ok(alloc, set.ais(), args),
-        "row_value_ok" => row_value_ok(alloc, set.ais(), args),
-        _ => answer_on(alloc, set.ais(), call, arg(args, 0)?),
-    }
+#[derive(Clone, Copy)]
+enum Call {
+    Begins,
+    Copy,
+    Find,
+    IsKey,
+    Part,
+    Predefined,
+    Role,
+    Row,
+    RowValueOk,
+    Table,
+    ValueOk,
 }
 
-/// The answer to a call on one text.
-fn answer_on(alloc: Global, table: &AiTable, call: &str, text: &[u8]) -> Answer {
-    match call {
-        "part" => debug_word(alloc, &Part::read(text)),
-        "role" => debug_word(alloc, &Role::read(text)),
-        "row" => row(alloc, table, text),
-        "find" => debug_word(alloc, &table.find(text)),
-        "begins" => debug_word(alloc, &table.begins(text)),
-        "is_key" => debug_word(alloc, &table.is_key(text)),
-        "predefined" => predefined(alloc, table, text),
-        _ => Err(Refusal::NoCase),
+const CALLS: [(&str, Call); 11] = [
+    ("begins", Call::Begins),
+    ("copy", Call::Copy),
+    ("find", Call::Find),
+    ("is_key", Call::IsKey),
+    ("part", Call::Part),
+    ("predefined", Call::Predefined),
+    ("role", Call::Role),
+    ("row", Call::Row),
+    ("row_value_ok", Call::RowValueOk),
+    ("table", Call::Table),
+    ("value_ok", Call::ValueOk),
+];
+
+/// Answers a call of gs_ai.
+pub fn answer(alloc: Global, line: &mut Line, table: &AiTable, call: &[u8], args: &[Text]) -> Done {
+    let text = bytes_at(args, 0);
+    let value = bytes_at(args, 1);
+    match named(&CALLS, call) {
+        Some(Call::Begins) => line.debug(table.begins(text)),
+        Some(Call::Find) => line.debug(table.find(text)),
+        Some(Call::IsKey) => line.debug(table.is_key(text)),
+        Some(Call::Part) => line.debug(Part::read(text)),
+        Some(Call::Role) => line.debug(Role::read(text)),
+        Some(Call::Row) => add_row_of(line, table, text),
+        Some(Call::ValueOk) => add_judgement(line, table.value_ok(text, value)),
+        Some(Call::Copy) => return copy(alloc, line, text, value),
+        Some(Call::Predefined) => return predefined(line, table, text),
+        Some(Call::RowValueOk) => return row_value_ok(line, table, text, value),
+        Some(Call::Table) => return table_of(alloc, line, args),
+        None => return Err(Refusal::NoCase),
     }
+    Ok(())
 }
 
-fn predefined(alloc: Global, table: &AiTable, code: &[u8]) -> Answer {
-    match table.find(code) {
-        Some(row) => debug_word(alloc, &table.predefined(row)),
-        None => Err(Refusal::NoCase),
-    }
+fn predefined(line: &mut Line, table: &AiTable, code: &[u8]) -> Done {
+    let Some(row) = table.find(code) else {
+        return Err(Refusal::NoCase);
+    };
+    line.debug(table.predefined(row));
+    Ok(())
 }
 
-fn judgement(alloc: Global, judged: Result<(), ValueFault>) -> Answer {
+fn add_judgement(line: &mut Line, judged: Result<(), ValueFault>) {
     match judged {
-        Ok(()) => said(alloc, "Ok"),
-        Err(fault) => debug_word(alloc, &fault),
+        Ok(()) => line.plain("Ok"),
+        Err(fault) => line.debug(fault),
     }
 }
 
-fn value_ok(alloc: Global, table: &AiTable, args: &[Text]) -> Answer {
-    let [code, value, ..] = args else {
+fn row_value_ok(line: &mut Line, table: &AiTable, code: &[u8], value: &[u8]) -> Done {
+    let Some(row) = table.find(code) else {
         return Err(Refusal::NoCase);
     };
-    judgement(alloc, table.value_ok(code.as_bytes(), value.as_bytes()))
-}
-
-fn row_value_ok(alloc: Global, table: &AiTable, args: &[Text]) -> Answer {
-    let [code, value, ..] = args else {
-        return Err(Refusal::NoCase);
-    };
-    match table.find(code.as_bytes()) {
-        Some(row) => judgement(alloc, table.row_value_ok(row, value.as_bytes())),
-        None => Err(Refusal::NoCase),
-    }
+    add_judgement(line, table.row_value_ok(row, value));
+    Ok(())
 }
 
 /// What stands before the number of a part, the number, and what stands behind it.
@@ -89,78 +103,38 @@ fn part_texts(part: Part) -> (&'static str, Option<u8>, &'static str) {
     }
 }
 
-/// A part, as it is written.
-fn part_word(alloc: Global, part: Part) -> Answer {
+/// Writes a part, as it is written.
+fn add_part(line: &mut Line, part: Part) {
     let (front, number, back) = part_texts(part);
-    match number {
-        Some(k) => Ok(format!(in alloc; "{front}{k}{back}")?),
-        None => said(alloc, front),
+    line.plain(front);
+    if let Some(k) = number {
+        line.more_debug(k);
     }
+    line.more(back);
 }
 
-/// Appends a part, as it is written.
-fn add_part(alloc: Global, answer: &mut String, part: Part) -> Result<(), Refusal> {
-    add_answer(answer, part_word(alloc, part))
-}
-
-fn row(alloc: Global, table: &AiTable, code: &[u8]) -> Answer {
+fn add_row_of(line: &mut Line, table: &AiTable, code: &[u8]) {
     match table.row_with(code) {
-        Some(row) => row_words(alloc, row),
-        None => said(alloc, "None"),
+        Some(row) => add_row(line, row),
+        None => line.plain("None"),
     }
 }
 
-/// The parts of a row, and then the rest of it.
-fn row_words(alloc: Global, row: &AiRow) -> Answer {
-    let mut answer = parts_words(alloc, row.parts.items())?;
-    add_answer(&mut answer, rest_words(alloc, row))?;
-    Ok(answer)
-}
-
-fn parts_words(alloc: Global, parts: &[Part]) -> Answer {
-    let mut answer = String::new(alloc);
-    for part in parts {
-        add_part(alloc, &mut answer, *part)?;
+/// Writes the parts of a row, its role, its qualifiers in brackets, whether it is short, and its text for none.
+fn add_row(line: &mut Line, row: &AiRow) {
+    for part in row.parts.items() {
+        add_part(line, *part);
     }
-    Ok(answer)
+    line.debug(row.role);
+    line.bracketed(row.qualifiers.items());
+    line.debug(row.short);
+    line.bytes(row.none.as_bytes());
 }
 
-/// The role of a row and its qualifiers, the latter in brackets.
-fn role_words(alloc: Global, row: &AiRow) -> Answer {
-    let role = row.role;
-    let qualifiers = shown_all(alloc, row.qualifiers.items())?;
-    Ok(format!(in alloc; "{role:?} [{qualifiers}]")?)
-}
-
-/// The role of a row, its qualifiers, whether it is short, and its text for none.
-fn rest_words(alloc: Global, row: &AiRow) -> Answer {
-    let mut answer = role_words(alloc, row)?;
-    let short = if row.short { "true" } else { "false" };
-    let words = [Word::Plain(short), Word::Bytes(row.none.as_bytes())];
-    add_words(alloc, &mut answer, &words)?;
-    Ok(answer)
-}
-
-fn copy(alloc: Global, args: &[Text]) -> Answer {
-    let [code, value, ..] = args else {
-        return Err(Refusal::NoCase);
-    };
-    let pair = pair_of(alloc, code.as_bytes(), value.as_bytes())?;
-    copy_words(alloc, &pair)
-}
-
-/// The words of a copy of a pair.
-fn copy_words(alloc: Global, pair: &Pair) -> Answer {
-    let copy = pair.copy(alloc)?;
-    pair_words(alloc, &copy)
-}
-
-fn pair_words(alloc: Global, pair: &Pair) -> Answer {
-    let code = pair.code.as_bytes();
-    joined(
-        alloc,
-        &[Word::Bytes(code), Word::Bytes(pair.value.as_bytes())],
-    )
+fn copy(alloc: Global, line: &mut Line, code: &[u8], value: &[u8]) -> Done {
+    let pair = pair_of(alloc, code, value)?;
+    add_pair(line, &pair.copy(alloc)?);
+    Ok(())
 }
 
 fn parts_of(alloc: Global, words: &str) -> Result<List<Part>, Refusal> {
@@ -234,10 +208,12 @@ fn rows_of(alloc: Global, words: &[Text]) -> Result<Vec<AiRow>, Refusal> {
     Ok(rows)
 }
 
-fn table(alloc: Global, words: &[Text]) -> Answer {
+/// Writes the number of rows of a table, or the fault.
+fn table_of(alloc: Global, line: &mut Line, words: &[Text]) -> Done {
     match AiTable::new(alloc, rows_of(alloc, words)?) {
-        Ok(table) => debug_word(alloc, &table.rows().len()),
-        Err(AiFault::Memory) => Err(Refusal::Memory),
-        Err(fault) => debug_word(alloc, &fault),
+        Ok(table) => line.debug(table.rows().len()),
+        Err(AiFault::Memory) => line.want_memory(),
+        Err(fault) => line.debug(fault),
     }
+    Ok(())
 }

@@ -5,36 +5,55 @@
 //! - `canonical CODE VALUE ..`: the canonical link of the identity. `spell STEM CODE VALUE ..`: its link under the stem.
 //! - `prefix K CODE VALUE ..`: the canonical link of the identity of the key and the first K qualifiers.
 
-ghost use Rattle.std.specs.Prelude.{◌≡◌, All, IfOk};
+ghost use Rattle.std.specs.Prelude.{◌≡◌, All, IfOk, IfSome};
 ghost use Rattle.gs_ident.specs.Identities.{IsInOrder, IsMadeWith};
 
-use crate::elements::add_pair;
+use crate::elements::{add_pair, add_pairs};
 use gs_ai::{AiTable, Pair, ValueFault};
 use gs_chars::Text;
 use gs_ident::{IdentFault, Identity, canonical, make, spell};
-use gs_tables::TableSet;
 use std::alloc::Global;
-use vector_cases::{Answer, Refusal, Word, add, joined, number, said, text_word};
+use vector_cases::{Done, Line, Refusal, behind, bytes_at, named, number_of};
 
-/// The answer to a call of gs_ident.
-pub fn answer(alloc: Global, set: &TableSet, call: &str, args: &[Text]) -> Answer {
-    match call {
-        "make" => answer_of(alloc, set.ais(), args, Asked::Parts),
-        "canonical" => answer_of(alloc, set.ais(), args, Asked::Canonical),
-        "spell" | "prefix" => answer_behind(alloc, set.ais(), call, args),
-        _ => Err(Refusal::NoCase),
+#[derive(Clone, Copy)]
+enum Call {
+    Canonical,
+    Make,
+    Prefix,
+    Spell,
+}
+
+const CALLS: [(&str, Call); 4] = [
+    ("canonical", Call::Canonical),
+    ("make", Call::Make),
+    ("prefix", Call::Prefix),
+    ("spell", Call::Spell),
+];
+
+/// Answers a call of gs_ident.
+pub fn answer(alloc: Global, line: &mut Line, table: &AiTable, call: &[u8], args: &[Text]) -> Done {
+    match named(&CALLS, call) {
+        Some(Call::Canonical) => answer_of(alloc, line, table, args, Asked::Canonical),
+        Some(Call::Make) => answer_of(alloc, line, table, args, Asked::Parts),
+        Some(call) => answer_behind(alloc, line, table, call, args),
+        None => Err(Refusal::NoCase),
     }
 }
 
-/// The answer to a call whose first word is no part of the pairs.
-fn answer_behind(alloc: Global, table: &AiTable, call: &str, args: &[Text]) -> Answer {
-    let [first, words @ ..] = args else {
-        return Err(Refusal::NoCase);
+/// Answers a call whose first word is no part of the pairs.
+fn answer_behind(
+    alloc: Global,
+    line: &mut Line,
+    table: &AiTable,
+    call: Call,
+    args: &[Text],
+) -> Done {
+    let first = bytes_at(args, 0);
+    let asked = match call {
+        Call::Prefix => Asked::Prefix(first),
+        _ => Asked::Under(first),
     };
-    if call == "spell" {
-        return answer_of(alloc, table, words, Asked::Under(first.as_bytes()));
-    }
-    answer_of(alloc, table, words, Asked::Prefix(number(args, 0)?))
+    answer_of(alloc, line, table, behind(args, 1), asked)
 }
 
 /// What is asked of an identity.
@@ -43,36 +62,44 @@ enum Asked<'a> {
     Parts,
     Canonical,
     Under(&'a [u8]),
-    Prefix(u64),
+    Prefix(&'a [u8]),
 }
 
-fn answer_of(alloc: Global, table: &AiTable, words: &[Text], asked: Asked<'_>) -> Answer {
-    match made(alloc, table, words)? {
-        Ok(identity) => told(alloc, &identity, asked),
-        Err(refused) => Ok(refused),
-    }
-}
-
-/// The identity of the pairs, or the answer that they are none.
-pub fn made(
+fn answer_of(
     alloc: Global,
+    line: &mut Line,
     table: &AiTable,
     words: &[Text],
-) -> Result<Result<Identity, String>, Refusal>
-    ensures { IfOk result (λ made. IfOk made (IsMadeWith table.now)) }
-{
-    if let Some(fault) = first_fault(table, words)? {
-        return Ok(Err(fault_words(alloc, fault)?));
-    }
-    match make(alloc, table, pairs_of(alloc, table, words)?) {
-        Ok(identity) => Ok(Ok(identity)),
-        Err(fault) => Ok(Err(refusal(alloc, fault)?)),
+    asked: Asked<'_>,
+) -> Done {
+    match made(alloc, line, table, words) {
+        Ok(Some(identity)) => told(alloc, line, &identity, asked),
+        Ok(None) => Ok(()),
+        Err(refusal) => Err(refusal),
     }
 }
 
-/// The fault of a value, behind `value`.
-fn fault_words(alloc: Global, fault: ValueFault) -> Answer {
-    Ok(format!(in alloc; "value {fault:?}")?)
+/// The identity of the pairs, or none where they make none, which is written.
+pub fn made(
+    alloc: Global,
+    line: &mut Line,
+    table: &AiTable,
+    words: &[Text],
+) -> Result<Option<Identity>, Refusal>
+    ensures { IfOk result (λ made. IfSome made (IsMadeWith table.now)) }
+{
+    if let Some(fault) = first_fault(table, words)? {
+        line.plain("value");
+        line.debug(fault);
+        return Ok(None);
+    }
+    match make(alloc, table, pairs_of(alloc, table, words)?) {
+        Ok(identity) => Ok(Some(identity)),
+        Err(fault) => {
+            add_refusal(line, fault);
+            Ok(None)
+        }
+    }
 }
 
 /// What is wrong with the value of a pair.
@@ -128,51 +155,47 @@ pub fn pairs_of(alloc: Global, table: &AiTable, words: &[Text]) -> Result<Vec<Pa
     Ok(pairs)
 }
 
-/// The words of a refusal.
-fn refusal(alloc: Global, fault: IdentFault) -> Answer {
+/// Writes a refusal.
+fn add_refusal(line: &mut Line, fault: IdentFault) {
     match fault {
-        IdentFault::Repeat(code) => coded(alloc, "Repeat", &code),
-        IdentFault::NoKey => said(alloc, "NoKey"),
-        IdentFault::TwoKeys(code) => coded(alloc, "TwoKeys", &code),
-        IdentFault::Memory => Err(Refusal::Memory),
+        IdentFault::Repeat(code) => add_coded(line, "Repeat", code),
+        IdentFault::NoKey => line.plain("NoKey"),
+        IdentFault::TwoKeys(code) => add_coded(line, "TwoKeys", code),
+        IdentFault::Memory => line.want_memory(),
     }
 }
 
-/// The name of a refusal, and the code that it is of.
-fn coded(alloc: Global, name: &str, code: &Text) -> Answer {
-    joined(alloc, &[Word::Plain(name), Word::Bytes(code.as_bytes())])
+/// Writes the name of a refusal, and the code that it is of.
+fn add_coded(line: &mut Line, name: &str, code: Text) {
+    line.plain(name);
+    line.text(code);
 }
 
-fn told(alloc: Global, identity: &Identity, asked: Asked<'_>) -> Answer {
+fn told(alloc: Global, line: &mut Line, identity: &Identity, asked: Asked<'_>) -> Done {
     match asked {
-        Asked::Parts => parts(alloc, identity),
-        Asked::Canonical => text_word(alloc, canonical(alloc, identity)),
-        Asked::Under(stem) => text_word(alloc, spell(alloc, stem, identity)),
-        Asked::Prefix(count) => prefix_link(alloc, identity, count),
-    }
-}
-
-/// The canonical link of the identity of the key and so many qualifiers.
-fn prefix_link(alloc: Global, identity: &Identity, count: u64) -> Answer {
-    if count > identity.qualifiers().len() as u64 {
-        return Err(Refusal::NoCase);
-    }
-    let prefix = identity.prefix(alloc, count as usize)?;
-    text_word(alloc, canonical(alloc, &prefix))
-}
-
-fn add_pairs(alloc: Global, answer: &mut String, pairs: &[Pair]) -> Result<(), Refusal> {
-    add(answer, "|")?;
-    for pair in pairs {
-        add_pair(alloc, answer, pair)?;
+        Asked::Parts => add_parts(line, identity),
+        Asked::Canonical => line.text_made(canonical(alloc, identity)),
+        Asked::Under(stem) => line.text_made(spell(alloc, stem, identity)),
+        Asked::Prefix(count) => return add_prefix(alloc, line, identity, count),
     }
     Ok(())
 }
 
-fn parts(alloc: Global, identity: &Identity) -> Answer {
-    let mut answer = String::new(alloc);
-    add_pair(alloc, &mut answer, identity.key())?;
-    add_pairs(alloc, &mut answer, identity.qualifiers())?;
-    add_pairs(alloc, &mut answer, identity.attributes())?;
-    Ok(answer)
+/// Writes the canonical link of the identity of the key and so many qualifiers.
+fn add_prefix(alloc: Global, line: &mut Line, identity: &Identity, count: &[u8]) -> Done {
+    let count = number_of(count)?;
+    if count > identity.qualifiers().len() as u64 {
+        return Err(Refusal::NoCase);
+    }
+    let prefix = identity.prefix(alloc, count as usize)?;
+    line.text_made(canonical(alloc, &prefix));
+    Ok(())
+}
+
+fn add_parts(line: &mut Line, identity: &Identity) {
+    add_pair(line, identity.key());
+    line.plain("|");
+    add_pairs(line, identity.qualifiers());
+    line.plain("|");
+    add_pairs(line, identity.attributes());
 }

@@ -16,19 +16,63 @@ mod translations;
 use gs_chars::Text;
 use gs_tables::TableSet;
 use std::alloc::Global;
-use vector_cases::{Answer, Refusal};
+use vector_cases::{Answer, Done, Line, Refusal, named};
+
+#[derive(Clone, Copy)]
+enum Library {
+    DigitalLinks,
+    Elements,
+    Epcs,
+    Identifiers,
+    Identities,
+    Links,
+    Tables,
+    Translations,
+}
+
+const LIBRARIES: [(&str, Library); 8] = [
+    ("gs_ai", Library::Identifiers),
+    ("gs_dlink", Library::DigitalLinks),
+    ("gs_element", Library::Elements),
+    ("gs_epc", Library::Epcs),
+    ("gs_ident", Library::Identities),
+    ("gs_links", Library::Links),
+    ("gs_tables", Library::Tables),
+    ("gs_translate", Library::Translations),
+];
+
+/// Writes the answer to a call of a library over a table set.
+fn write(
+    alloc: Global,
+    line: &mut Line,
+    set: &TableSet,
+    library: &[u8],
+    call: &[u8],
+    args: &[Text],
+) -> Done {
+    match named(&LIBRARIES, library) {
+        Some(Library::DigitalLinks) => digital_links::answer(alloc, line, set.ais(), call, args),
+        Some(Library::Elements) => elements::answer(alloc, line, set.ais(), call, args),
+        Some(Library::Epcs) => epcs::answer(alloc, line, set, call, args),
+        Some(Library::Identifiers) => identifiers::answer(alloc, line, set.ais(), call, args),
+        Some(Library::Identities) => identities::answer(alloc, line, set.ais(), call, args),
+        Some(Library::Links) => links::answer(alloc, line, set.ais(), call, args),
+        Some(Library::Tables) => tables::answer(alloc, line, set, call, args),
+        Some(Library::Translations) => translations::answer(alloc, line, set, call, args),
+        None => Err(Refusal::NoCase),
+    }
+}
 
 /// The answer to a call of one of the libraries that stand on a table set, over this one.
 pub fn answer(alloc: Global, set: &TableSet, library: &str, call: &str, args: &[Text]) -> Answer {
-    match library {
-        "gs_ai" => identifiers::answer(alloc, set, call, args),
-        "gs_ident" => identities::answer(alloc, set, call, args),
-        "gs_tables" => tables::answer(alloc, set, call, args),
-        "gs_element" => elements::answer(alloc, set, call, args),
-        "gs_dlink" => digital_links::answer(alloc, set, call, args),
-        "gs_links" => links::answer(alloc, set, call, args),
-        "gs_epc" => epcs::answer(alloc, set, call, args),
-        "gs_translate" => translations::answer(alloc, set, call, args),
-        _ => Err(Refusal::NoCase),
-    }
+    let mut line = Line::new(alloc);
+    let done = write(
+        alloc,
+        &mut line,
+        set,
+        library.as_bytes(),
+        call.as_bytes(),
+        args,
+    );
+    line.finish(done)
 }

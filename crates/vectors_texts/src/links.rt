@@ -15,84 +15,116 @@ use gs_chars::Text;
 use gs_ident::{Identity, canonical};
 use gs_links::{Link, Store, StoreFault, Want};
 use gs_linkset::LinkDoc;
-use gs_tables::TableSet;
 use std::alloc::{AllocError, Global};
-use vector_cases::{
-    Answer, Refusal, Word, add_word, add_words, debug_word, fault_word, said, shown, text_word,
-};
+use vector_cases::{Done, Line, Refusal, behind, bytes_at, named};
 
 /// What `gs1:` stands for.
 pub const VOC: &[u8] = b"https://ref.gs1.org/voc/";
 
-/// The answer to a call of gs_links.
-pub fn answer(alloc: Global, set: &TableSet, call: &str, args: &[Text]) -> Answer {
-    if call == "choose_each" {
-        return many_links::answer(alloc, set, args);
-    }
-    let [document, others @ ..] = args else {
-        return Err(Refusal::NoCase);
-    };
-    match gs_linkset::read(alloc, document.as_bytes()) {
-        Ok(doc) => answer_over(alloc, set.ais(), doc, call, others),
-        Err(fault) => fault_word(alloc, fault),
+#[derive(Clone, Copy)]
+enum Call {
+    Choose,
+    ChooseEach,
+    Document,
+    Load,
+}
+
+const CALLS: [(&str, Call); 4] = [
+    ("choose", Call::Choose),
+    ("choose_each", Call::ChooseEach),
+    ("document", Call::Document),
+    ("load", Call::Load),
+];
+
+/// Answers a call of gs_links.
+pub fn answer(alloc: Global, line: &mut Line, table: &AiTable, call: &[u8], args: &[Text]) -> Done {
+    match named(&CALLS, call) {
+        Some(Call::ChooseEach) => many_links::answer(alloc, line, table, args),
+        Some(call) => answer_to(alloc, line, table, call, args),
+        None => Err(Refusal::NoCase),
     }
 }
 
-/// The answer to a call over a linkset.
-fn answer_over(alloc: Global, table: &AiTable, doc: LinkDoc, call: &str, args: &[Text]) -> Answer {
+/// Answers a call over the linkset of a document.
+fn answer_to(alloc: Global, line: &mut Line, table: &AiTable, call: Call, args: &[Text]) -> Done {
+    match gs_linkset::read(alloc, bytes_at(args, 0)) {
+        Ok(doc) => answer_over(alloc, line, table, doc, call, behind(args, 1)),
+        Err(fault) => {
+            line.fault(fault);
+            Ok(())
+        }
+    }
+}
+
+/// Answers a call over a linkset.
+fn answer_over(
+    alloc: Global,
+    line: &mut Line,
+    table: &AiTable,
+    doc: LinkDoc,
+    call: Call,
+    args: &[Text],
+) -> Done {
     match Store::load(alloc, table, VOC, doc) {
-        Ok(store) => answer_from(alloc, table, &store, call, args),
-        Err(fault) => refused(alloc, fault),
+        Ok(store) => answer_from(alloc, line, table, &store, call, args),
+        Err(fault) => {
+            add_fault(line, fault);
+            Ok(())
+        }
     }
 }
 
-/// The answer to a call from a store, which is lent so that it is dropped at one exit.
-fn answer_from(alloc: Global, table: &AiTable, store: &Store, call: &str, args: &[Text]) -> Answer {
+/// Answers a call from a store, which is lent so that it is dropped at one exit.
+fn answer_from(
+    alloc: Global,
+    line: &mut Line,
+    table: &AiTable,
+    store: &Store,
+    call: Call,
+    args: &[Text],
+) -> Done {
     match call {
-        "load" => links_words(alloc, store),
-        _ => of_identity(alloc, table, store, call, args),
+        Call::Load => {
+            add_links(alloc, line, store);
+            Ok(())
+        }
+        _ => of_identity(alloc, line, table, store, call, args),
     }
 }
 
-/// The word of a refusal.
-pub fn refused(alloc: Global, fault: StoreFault) -> Answer {
+/// Writes a refusal in Rust's words, as one word.
+pub fn add_fault(line: &mut Line, fault: StoreFault) {
     match fault {
-        StoreFault::Memory => Err(Refusal::Memory),
-        fault => fault_shown(alloc, &fault),
+        StoreFault::Memory => line.want_memory(),
+        fault => line.debug_shown(fault),
     }
 }
 
-/// A refusal in Rust's words, shown as one word.
-fn fault_shown(alloc: Global, fault: &StoreFault) -> Answer {
-    let words = debug_word(alloc, fault)?;
-    shown(alloc, words.as_bytes())
+fn add_link(alloc: Global, line: &mut Line, link: &Link) {
+    line.text_made(canonical(alloc, &link.anchor));
+    line.bytes(link.relation.as_bytes());
+    line.bytes(link.target.href.as_bytes());
 }
 
-fn add_link(alloc: Global, answer: &mut String, link: &Link) -> Result<(), Refusal> {
-    let anchor = canonical(alloc, &link.anchor)?;
-    let words = [
-        Word::Bytes(anchor.as_bytes()),
-        Word::Bytes(link.relation.as_bytes()),
-        Word::Bytes(link.target.href.as_bytes()),
-    ];
-    add_words(alloc, answer, &words)
-}
-
-fn links_words(alloc: Global, store: &Store) -> Answer {
-    let mut answer = debug_word(alloc, &store.len())?;
+fn add_links(alloc: Global, line: &mut Line, store: &Store) {
+    line.debug(store.len());
     for i in 0..store.len() {
-        add_link(alloc, &mut answer, store.link(i))?;
+        add_link(alloc, line, store.link(i));
     }
-    Ok(answer)
 }
 
-fn of_identity(alloc: Global, table: &AiTable, store: &Store, call: &str, args: &[Text]) -> Answer {
-    let [want, words @ ..] = args else {
-        return Err(Refusal::NoCase);
-    };
-    match made(alloc, table, words)? {
-        Ok(identity) => asked(alloc, store, call, &identity, want.as_bytes()),
-        Err(refused) => Ok(refused),
+fn of_identity(
+    alloc: Global,
+    line: &mut Line,
+    table: &AiTable,
+    store: &Store,
+    call: Call,
+    args: &[Text],
+) -> Done {
+    match made(alloc, line, table, behind(args, 1)) {
+        Ok(Some(identity)) => asked(alloc, line, store, call, &identity, bytes_at(args, 0)),
+        Ok(None) => Ok(()),
+        Err(refusal) => Err(refusal),
     }
 }
 
@@ -103,7 +135,14 @@ pub fn room(alloc: Global, count: usize) -> Result<Vec<u32>, AllocError>
     vec![in alloc; 0u32; count]
 }
 
-fn asked(alloc: Global, store: &Store, call: &str, identity: &Identity, want: &[u8]) -> Answer {
+fn asked(
+    alloc: Global,
+    line: &mut Line,
+    store: &Store,
+    call: Call,
+    identity: &Identity,
+    want: &[u8],
+) -> Done {
     let want = if want == b"*".as_slice() {
         Want::All
     } else {
@@ -113,21 +152,19 @@ fn asked(alloc: Global, store: &Store, call: &str, identity: &Identity, want: &[
     let chosen = store.choose(identity, want, numbers.as_mut_slice());
     let chosen_numbers = &numbers.as_slice()[..chosen.count];
     match call {
-        "choose" => choice_words(alloc, chosen.depth, chosen_numbers),
-        "document" if chosen.count == 0 => said(alloc, "None"),
-        "document" => written(alloc, &store.document(alloc, identity, chosen_numbers)?),
-        _ => Err(Refusal::NoCase),
+        Call::Choose => add_choice(line, chosen.depth, chosen_numbers),
+        _ if chosen.count == 0 => line.plain("None"),
+        _ => {
+            let doc = store.document(alloc, identity, chosen_numbers)?;
+            line.text_made(gs_linkset::write(alloc, &doc));
+        }
     }
+    Ok(())
 }
 
-fn choice_words(alloc: Global, depth: usize, numbers: &[u32]) -> Answer {
-    let mut answer = debug_word(alloc, &depth)?;
+fn add_choice(line: &mut Line, depth: usize, numbers: &[u32]) {
+    line.debug(depth);
     for number in numbers {
-        add_word(alloc, &mut answer, Word::Number(*number as u64))?;
+        line.debug(*number);
     }
-    Ok(answer)
-}
-
-fn written(alloc: Global, doc: &LinkDoc) -> Answer {
-    text_word(alloc, gs_linkset::write(alloc, doc))
 }

@@ -6,31 +6,36 @@
 ghost use Rattle.std.specs.Prelude.{◌≤◌, All, IfOk, length};
 ghost use Rattle.gs_ident.specs.Identities.{IsInOrder};
 
-use crate::links::{VOC, refused, room};
+use crate::links::{VOC, add_fault, room};
 use gs_ai::{AiTable, Pair};
 use gs_chars::Text;
 use gs_dlink::read_target;
 use gs_ident::{Identity, make};
 use gs_links::{Store, Want};
 use gs_linkset::LinkDoc;
-use gs_tables::TableSet;
 use std::alloc::Global;
-use vector_cases::{Answer, Refusal, debug_word, fault_word, number, said};
+use vector_cases::{Answer, Done, Line, Refusal, number, said};
 
-/// The answer to the call.
-pub fn answer(alloc: Global, set: &TableSet, args: &[Text]) -> Answer {
+/// Answers the call.
+pub fn answer(alloc: Global, line: &mut Line, table: &AiTable, args: &[Text]) -> Done {
     let text = linkset(alloc, number(args, 0)?)?;
     match gs_linkset::read(alloc, text.as_bytes()) {
-        Ok(doc) => answer_over(alloc, set.ais(), doc, args),
-        Err(fault) => fault_word(alloc, fault),
+        Ok(doc) => answer_over(alloc, line, table, doc, number(args, 1)?),
+        Err(fault) => {
+            line.fault(fault);
+            Ok(())
+        }
     }
 }
 
-/// The answer over a linkset.
-fn answer_over(alloc: Global, table: &AiTable, doc: LinkDoc, args: &[Text]) -> Answer {
+/// Answers the call over a linkset.
+fn answer_over(alloc: Global, line: &mut Line, table: &AiTable, doc: LinkDoc, times: u64) -> Done {
     match Store::load(alloc, table, VOC, doc) {
-        Ok(store) => first_other(alloc, table, &store, number(args, 1)?),
-        Err(fault) => refused(alloc, fault),
+        Ok(store) => add_first_other(alloc, line, table, &store, times),
+        Err(fault) => {
+            add_fault(line, fault);
+            Ok(())
+        }
     }
 }
 
@@ -108,13 +113,21 @@ fn anchor_is_alone(
     Ok(is_alone(store, &identity, k, times, numbers))
 }
 
-/// The number of links, or of the first that is not chosen alone.
-fn first_other(alloc: Global, table: &AiTable, store: &Store, times: u64) -> Answer {
+/// Writes the number of links, or the first that is not chosen alone.
+fn add_first_other(
+    alloc: Global,
+    line: &mut Line,
+    table: &AiTable,
+    store: &Store,
+    times: u64,
+) -> Done {
     let mut numbers = room(alloc, store.len())?;
     for k in 0..store.len() {
         if !anchor_is_alone(alloc, table, store, k, times, numbers.as_mut_slice())? {
-            return debug_word(alloc, &k);
+            line.debug(k);
+            return Ok(());
         }
     }
-    debug_word(alloc, &store.len())
+    line.debug(store.len());
+    Ok(())
 }

@@ -13,61 +13,60 @@ use gs_tables::{
     Field, ItemFault, Kind, LevelName, LoadFault, OptInfo, SerialAt, TableSet, read_item,
 };
 use std::alloc::Global;
-use vector_cases::{
-    Answer, Refusal, Word, add, add_answer, add_shown, arg, debug_word, fault_word, glued,
-    item_word, joined, number, said,
-};
+use vector_cases::{Done, Line, Refusal, add_item, bytes_at, named, number_in, number_of};
 
-/// The answer to a call of gs_tables.
-pub fn answer(alloc: Global, set: &TableSet, call: &str, args: &[Text]) -> Answer {
-    match call {
-        "load" => load(alloc, arg(args, 0)?),
-        "builtin" => counts(alloc, set),
-        "kind" => kind(alloc, set, args),
-        "option" => option(alloc, set, args),
-        "read_item" => item(alloc, args),
-        _ => Err(Refusal::NoCase),
+#[derive(Clone, Copy)]
+enum Call {
+    Builtin,
+    Kind,
+    Load,
+    Option,
+    ReadItem,
+}
+
+const CALLS: [(&str, Call); 5] = [
+    ("builtin", Call::Builtin),
+    ("kind", Call::Kind),
+    ("load", Call::Load),
+    ("option", Call::Option),
+    ("read_item", Call::ReadItem),
+];
+
+/// Answers a call of gs_tables.
+pub fn answer(alloc: Global, line: &mut Line, set: &TableSet, call: &[u8], args: &[Text]) -> Done {
+    let first = bytes_at(args, 0);
+    match named(&CALLS, call) {
+        Some(Call::Builtin) => add_counts(line, set),
+        Some(Call::Load) => load(alloc, line, first),
+        Some(Call::Kind) => return kind(line, set, first),
+        Some(Call::Option) => return option(line, set, first, bytes_at(args, 1)),
+        Some(Call::ReadItem) => return item(alloc, line, first, bytes_at(args, 1)),
+        None => return Err(Refusal::NoCase),
     }
+    Ok(())
 }
 
-fn kind(alloc: Global, set: &TableSet, args: &[Text]) -> Answer {
-    match set.kinds().get(number(args, 0)? as usize) {
-        Some(kind) => kind_words(alloc, kind),
-        None => Err(Refusal::NoCase),
+fn kind(line: &mut Line, set: &TableSet, i: &[u8]) -> Done {
+    let Some(kind) = set.kinds().get(number_of(i)? as usize) else {
+        return Err(Refusal::NoCase);
+    };
+    add_kind(line, kind);
+    Ok(())
+}
+
+const LEVELS: [(&str, LevelName); 3] = [
+    ("binary", LevelName::Binary),
+    ("pure", LevelName::Pure),
+    ("tag", LevelName::Tag),
+];
+
+/// Writes the numbers of application identifiers, kinds and options of each level.
+fn add_counts(line: &mut Line, set: &TableSet) {
+    line.debug(set.ais().rows().len());
+    line.debug(set.kinds().len());
+    for level in [LevelName::Binary, LevelName::Tag, LevelName::Pure] {
+        line.debug(set.level(level).options().len());
     }
-}
-
-fn level_of(name: &[u8]) -> Result<LevelName, Refusal> {
-    if name == b"binary".as_slice() {
-        Ok(LevelName::Binary)
-    } else if name == b"tag".as_slice() {
-        Ok(LevelName::Tag)
-    } else if name == b"pure".as_slice() {
-        Ok(LevelName::Pure)
-    } else {
-        Err(Refusal::NoCase)
-    }
-}
-
-/// The number of options of a level.
-fn option_count(set: &TableSet, level: LevelName) -> usize {
-    set.level(level).options().len()
-}
-
-fn counts(alloc: Global, set: &TableSet) -> Answer {
-    let binary = option_count(set, LevelName::Binary) as u64;
-    let tag = option_count(set, LevelName::Tag) as u64;
-    let pure = option_count(set, LevelName::Pure) as u64;
-    joined(
-        alloc,
-        &[
-            Word::Number(set.ais().rows().len() as u64),
-            Word::Number(set.kinds().len() as u64),
-            Word::Number(binary),
-            Word::Number(tag),
-            Word::Number(pure),
-        ],
-    )
 }
 
 /// The set of a document, where it is one.
@@ -79,45 +78,42 @@ pub fn set_of(alloc: Global, document: &[u8]) -> Result<TableSet, Refusal> {
     }
 }
 
-fn load(alloc: Global, document: &[u8]) -> Answer {
+fn load(alloc: Global, line: &mut Line, document: &[u8]) {
     match TableSet::load(alloc, document) {
-        Ok(set) => counts(alloc, &set),
-        Err(LoadFault::Json(fault)) => fault_word(alloc, fault),
-        Err(LoadFault::Ambiguous(level, i, j, _)) => ambiguous(alloc, level, i, j),
-        Err(LoadFault::Memory) => Err(Refusal::Memory),
-        Err(fault) => debug_word(alloc, &fault),
+        Ok(set) => add_counts(line, &set),
+        Err(fault) => add_fault(line, fault),
     }
 }
 
-/// The level whose options I and J share a list of symbols.
-fn ambiguous(alloc: Global, level: LevelName, i: usize, j: usize) -> Answer {
-    Ok(format!(in alloc; "Ambiguous({level:?}, {i}, {j})")?)
+fn add_fault(line: &mut Line, fault: LoadFault) {
+    match fault {
+        LoadFault::Json(fault) => line.fault(fault),
+        LoadFault::Ambiguous(level, i, j, _) => add_ambiguous(line, level, i, j),
+        LoadFault::Memory => line.want_memory(),
+        fault => line.debug(fault),
+    }
 }
 
-/// The name, the key and the lead digits of a kind.
-fn head_of_kind(alloc: Global, kind: &Kind) -> Answer {
-    joined(
-        alloc,
-        &[
-            Word::Bytes(kind.name.as_bytes()),
-            Word::Bytes(kind.key.as_bytes()),
-            Word::Number(kind.lead as u64),
-        ],
-    )
+/// Writes the level whose options I and J share a list of symbols.
+fn add_ambiguous(line: &mut Line, level: LevelName, i: usize, j: usize) {
+    line.plain("Ambiguous(");
+    line.more_debug(level);
+    line.more(", ");
+    line.more_debug(i);
+    line.more(", ");
+    line.more_debug(j);
+    line.more(")");
 }
 
-fn kind_words(alloc: Global, kind: &Kind) -> Answer {
-    let mut answer = head_of_kind(alloc, kind)?;
-    add_serial(alloc, &mut answer, &kind.serial)?;
-    Ok(answer)
-}
-
-/// Appends where the serial of a kind stands.
-fn add_serial(alloc: Global, answer: &mut String, serial: &SerialAt) -> Result<(), Refusal> {
-    match serial {
-        SerialAt::Nowhere => add(answer, "Nowhere"),
-        SerialAt::Tail => add(answer, "Tail"),
-        SerialAt::Ai(code) => add_shown(alloc, answer, code.as_bytes()),
+/// Writes the name, the key and the lead digits of a kind, and where its serial stands.
+fn add_kind(line: &mut Line, kind: &Kind) {
+    line.bytes(kind.name.as_bytes());
+    line.bytes(kind.key.as_bytes());
+    line.debug(kind.lead);
+    match &kind.serial {
+        SerialAt::Nowhere => line.plain("Nowhere"),
+        SerialAt::Tail => line.plain("Tail"),
+        SerialAt::Ai(code) => line.bytes(code.as_bytes()),
     }
 }
 
@@ -136,92 +132,57 @@ fn field_name(field: Option<Field>) -> &'static str {
     }
 }
 
-/// An item with the name of its field.
-fn field_item(alloc: Global, level: LevelName, field: Option<Field>, item: &Item) -> Answer {
-    let word = item_word(alloc, is_bits(level), item)?;
-    glued(alloc, field_name(field), word.as_str())
+/// Writes an item with the name of its field.
+fn add_field_item(line: &mut Line, level: LevelName, field: Option<Field>, item: &Item) {
+    line.plain(field_name(field));
+    add_item(line, is_bits(level), item);
 }
 
-/// Appends the items of an option, each with the name of its field.
-fn add_items(
-    alloc: Global,
-    answer: &mut String,
-    level: LevelName,
-    fields: &[Option<Field>],
-    items: &[Item],
-) -> Result<(), Refusal> {
-    for (field, item) in fields.iter().zip(items) {
-        add_item(alloc, answer, level, *field, item)?;
+/// Writes the kind, encoding and prefix length of an option, and its items, each with the name of its field.
+fn add_option(line: &mut Line, level: LevelName, kind: &Kind, info: &OptInfo, items: &[Item]) {
+    line.bytes(kind.name.as_bytes());
+    line.bytes(info.encoding.as_bytes());
+    line.debug(info.gcp);
+    for (field, item) in info.fields.items().iter().zip(items) {
+        add_field_item(line, level, *field, item);
+    }
+}
+
+/// Writes the option of a number.
+fn option(line: &mut Line, set: &TableSet, level: &[u8], i: &[u8]) -> Done {
+    let (Some(level), Some(i)) = (named(&LEVELS, level), number_in(i)) else {
+        return Err(Refusal::NoCase);
+    };
+    let Some(info) = set.info(level).get(i as usize) else {
+        return Err(Refusal::NoCase);
+    };
+    let Some(option) = set.level(level).options().get(i as usize) else {
+        return Err(Refusal::NoCase);
+    };
+    let Some(kind) = set.kinds().get(info.kind) else {
+        return Err(Refusal::NoCase);
+    };
+    add_option(line, level, kind, info, option.items());
+    Ok(())
+}
+
+/// Writes the item that a document is, or `Bad`.
+fn item(alloc: Global, line: &mut Line, level: &[u8], document: &[u8]) -> Done {
+    let Some(level) = named(&LEVELS, level) else {
+        return Err(Refusal::NoCase);
+    };
+    match Doc::parse(alloc, document) {
+        Ok(doc) => add_item_at(alloc, line, level, &doc.root(alloc)),
+        Err(_) => return Err(Refusal::NoCase),
     }
     Ok(())
 }
 
-/// The words of the option of a number, and those of its items.
-fn option_words(alloc: Global, set: &TableSet, level: LevelName, i: usize) -> Answer {
-    let Some(info) = set.info(level).get(i) else {
-        return Err(Refusal::NoCase);
-    };
-    let Some(option) = set.level(level).options().get(i) else {
-        return Err(Refusal::NoCase);
-    };
-    let mut answer = head_words(alloc, set, info)?;
-    add_items(
-        alloc,
-        &mut answer,
-        level,
-        info.fields.items(),
-        option.items(),
-    )?;
-    Ok(answer)
-}
-
-fn option(alloc: Global, set: &TableSet, args: &[Text]) -> Answer {
-    let i = number(args, 1)? as usize;
-    option_words(alloc, set, level_of(arg(args, 0)?)?, i)
-}
-
-/// Appends an item with the name of its field.
-fn add_item(
-    alloc: Global,
-    answer: &mut String,
-    level: LevelName,
-    field: Option<Field>,
-    item: &Item,
-) -> Result<(), Refusal> {
-    add_answer(answer, field_item(alloc, level, field, item))
-}
-
-/// The kind, encoding and prefix length of an option.
-fn head_words<'a>(alloc: Global, set: &'a TableSet, info: &'a OptInfo) -> Answer {
-    let Some(kind) = set.kinds().get(info.kind) else {
-        return Err(Refusal::NoCase);
-    };
-    joined(
-        alloc,
-        &[
-            Word::Bytes(kind.name.as_bytes()),
-            Word::Bytes(info.encoding.as_bytes()),
-            Word::Number(info.gcp as u64),
-        ],
-    )
-}
-
-fn item(alloc: Global, args: &[Text]) -> Answer {
-    let [level, document, ..] = args else {
-        return Err(Refusal::NoCase);
-    };
-    let level = level_of(level.as_bytes())?;
-    match Doc::parse(alloc, document.as_bytes()) {
-        Ok(doc) => item_at(alloc, level, &doc.root(alloc)),
-        Err(_) => Err(Refusal::NoCase),
-    }
-}
-
-/// The item that a part of a document is, or `Bad`.
-fn item_at(alloc: Global, level: LevelName, node: &Node<'_>) -> Answer {
+/// Writes the item that a part of a document is, or `Bad`.
+fn add_item_at(alloc: Global, line: &mut Line, level: LevelName, node: &Node<'_>) {
     match read_item(alloc, node, is_bits(level)) {
-        Ok((field, item)) => field_item(alloc, level, field, &item),
-        Err(ItemFault::Bad) => said(alloc, "Bad"),
-        Err(ItemFault::Memory) => Err(Refusal::Memory),
+        Ok((field, item)) => add_field_item(line, level, field, &item),
+        Err(ItemFault::Bad) => line.plain("Bad"),
+        Err(ItemFault::Memory) => line.want_memory(),
     }
 }

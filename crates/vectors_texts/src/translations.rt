@@ -15,64 +15,70 @@ ghost use Rattle.gs_translate.specs.Translations.{AreInOrder};
 
 use gs_chars::Text;
 use gs_dlink::stem_ok;
-use gs_ident::{Identity, canonical};
+use gs_ident::canonical;
 use gs_prefix::{PrefixFault, PrefixList};
 use gs_reasons::append_reason;
 use gs_tables::TableSet;
 use gs_translate::{Form, Meaning, Options, Reason, Target, answer as answer_to, read, translate};
 use std::alloc::Global;
-use vector_cases::{
-    Answer, Refusal, add_answer, add_shown, arg, behind, number_of, shown, text_of, text_word,
-};
+use vector_cases::{Done, Line, Refusal, behind, bytes_at, named, number_in};
 
-/// The answer to a call of gs_translate.
-pub fn answer(alloc: Global, set: &TableSet, call: &str, args: &[Text]) -> Answer {
-    let [form, others @ ..] = args else {
+#[derive(Clone, Copy)]
+enum Call {
+    Answer,
+    Read,
+    Translate,
+}
+
+const CALLS: [(&str, Call); 3] = [
+    ("answer", Call::Answer),
+    ("read", Call::Read),
+    ("translate", Call::Translate),
+];
+
+const FORMS: [(&str, Form); 6] = [
+    ("Bracketed", Form::Bracketed),
+    ("Hex", Form::Hex),
+    ("Link", Form::Link),
+    ("Pure", Form::Pure),
+    ("Raw", Form::Raw),
+    ("Tag", Form::Tag),
+];
+
+const TARGETS: [(&str, Target); 7] = [
+    ("Bracketed", Target::Bracketed),
+    ("Canon", Target::Canon),
+    ("Hex", Target::Hex),
+    ("Link", Target::Link),
+    ("Pure", Target::Pure),
+    ("Raw", Target::Raw),
+    ("Tag", Target::Tag),
+];
+
+const TRUTHS: [(&str, bool); 2] = [("no", false), ("yes", true)];
+
+/// Answers a call of gs_translate.
+pub fn answer(alloc: Global, line: &mut Line, set: &TableSet, call: &[u8], args: &[Text]) -> Done {
+    let Some(form) = named(&FORMS, bytes_at(args, 0)) else {
         return Err(Refusal::NoCase);
     };
-    let form = form_of(form.as_bytes())?;
-    match call {
-        "read" => meant(alloc, set, form, arg(others, 0)?),
-        "answer" => answered(alloc, set, form, arg(others, 0)?),
-        "translate" => translation(alloc, set, form, others),
-        _ => Err(Refusal::NoCase),
+    let text = bytes_at(args, 1);
+    match named(&CALLS, call) {
+        Some(Call::Answer) => add_translated(alloc, line, answer_to(alloc, set, form, text)),
+        Some(Call::Read) => meant(alloc, line, set, form, text),
+        Some(Call::Translate) => translation(alloc, line, set, form, behind(args, 1)),
+        None => Err(Refusal::NoCase),
     }
 }
 
-fn answered(alloc: Global, set: &TableSet, form: Form, text: &[u8]) -> Answer {
-    translated_word(alloc, answer_to(alloc, set, form, text))
-}
-
-/// What a text means, or the reason.
-fn meant(alloc: Global, set: &TableSet, form: Form, text: &[u8]) -> Answer {
+/// Writes what a text means, or the reason.
+fn meant(alloc: Global, line: &mut Line, set: &TableSet, form: Form, text: &[u8]) -> Done {
     match read(alloc, set, form, text) {
-        Ok(meaning) => meaning_words(alloc, &meaning),
-        Err(reason) => reason_word(alloc, &reason),
-    }
-}
-
-fn form_of(name: &[u8]) -> Result<Form, Refusal> {
-    match text_of(name)? {
-        "Hex" => Ok(Form::Hex),
-        "Tag" => Ok(Form::Tag),
-        "Pure" => Ok(Form::Pure),
-        "Raw" => Ok(Form::Raw),
-        "Bracketed" => Ok(Form::Bracketed),
-        "Link" => Ok(Form::Link),
-        _ => Err(Refusal::NoCase),
-    }
-}
-
-fn target_of(name: &[u8]) -> Result<Target, Refusal> {
-    match text_of(name)? {
-        "Hex" => Ok(Target::Hex),
-        "Tag" => Ok(Target::Tag),
-        "Pure" => Ok(Target::Pure),
-        "Raw" => Ok(Target::Raw),
-        "Bracketed" => Ok(Target::Bracketed),
-        "Link" => Ok(Target::Link),
-        "Canon" => Ok(Target::Canon),
-        _ => Err(Refusal::NoCase),
+        Ok(meaning) => {
+            add_meaning(alloc, line, &meaning);
+            Ok(())
+        }
+        Err(reason) => add_reason(alloc, line, &reason),
     }
 }
 
@@ -80,15 +86,13 @@ fn target_of(name: &[u8]) -> Result<Target, Refusal> {
 fn small_number(word: &[u8], greatest: u8) -> Result<Option<u8>, Refusal>
     ensures { IfOk result (λ number. IfSome number (λ n. n ≤ greatest)) }
 {
-    let text = text_of(word)?;
-    if text == "-" {
+    if word == b"-".as_slice() {
         return Ok(None);
     }
-    let number = number_of(text)?;
-    if number > u64::from(greatest) {
-        return Err(Refusal::NoCase);
+    match number_in(word) {
+        Some(number) if number <= u64::from(greatest) => Ok(Some(number as u8)),
+        _ => Err(Refusal::NoCase),
     }
-    Ok(Some(number as u8))
 }
 
 /// A filter value, or none.
@@ -96,14 +100,6 @@ fn filter_of(word: &[u8]) -> Result<Option<u8>, Refusal>
     ensures { IfOk result FitsFilter }
 {
     small_number(word, 7)
-}
-
-fn is_yes(word: &[u8]) -> Result<bool, Refusal> {
-    match text_of(word)? {
-        "yes" => Ok(true),
-        "no" => Ok(false),
-        _ => Err(Refusal::NoCase),
-    }
 }
 
 /// The list of a document, where it is one.
@@ -133,71 +129,59 @@ fn options_of(alloc: Global, args: &[Text]) -> Result<Options, Refusal>
     ensures { IfOk result AreInOrder }
 {
     // the texts last, since each exit behind a text drops it
-    let [filter, gcp, encoding, keys_only, stem, ..] = args else {
+    let filter = filter_of(bytes_at(args, 0))?;
+    let gcp = small_number(bytes_at(args, 1), 12)?;
+    let Some(keys_only) = named(&TRUTHS, bytes_at(args, 3)) else {
         return Err(Refusal::NoCase);
     };
-    let filter = filter_of(filter.as_bytes())?;
-    let gcp = small_number(gcp.as_bytes(), 12)?;
-    let keys_only = is_yes(keys_only.as_bytes())?;
-    let stem = stem_of(alloc, stem.as_bytes())?;
+    let stem = stem_of(alloc, bytes_at(args, 4))?;
     Ok(Options {
         filter,
         gcp,
-        encoding: encoding.copy(alloc)?,
+        encoding: Text::from_bytes(alloc, bytes_at(args, 2))?,
         keys_only,
         stem,
     })
 }
 
-/// The translation of the last argument by those before it.
-fn translation(alloc: Global, set: &TableSet, from: Form, args: &[Text]) -> Answer {
-    let [to, _, _, _, _, _, document, text, ..] = args else {
+/// Writes the translation of the last argument by those before it.
+fn translation(alloc: Global, line: &mut Line, set: &TableSet, from: Form, args: &[Text]) -> Done {
+    let Some(to) = named(&TARGETS, bytes_at(args, 0)) else {
         return Err(Refusal::NoCase);
     };
-    let to = target_of(to.as_bytes())?;
     let options = options_of(alloc, behind(args, 1))?;
-    let prefixes = list_of(alloc, document.as_bytes())?;
-    let translated = translate(alloc, set, &prefixes, &options, from, to, text.as_bytes());
-    translated_word(alloc, translated)
+    let prefixes = list_of(alloc, bytes_at(args, 6))?;
+    let text = bytes_at(args, 7);
+    let translated = translate(alloc, set, &prefixes, &options, from, to, text);
+    add_translated(alloc, line, translated)
 }
 
-/// The text as a word, or the reason.
-fn translated_word(alloc: Global, answer: Result<Text, Reason>) -> Answer {
+/// Writes the text, or the reason.
+fn add_translated(alloc: Global, line: &mut Line, answer: Result<Text, Reason>) -> Done {
     match answer {
-        Ok(text) => shown(alloc, text.as_bytes()),
-        Err(reason) => reason_word(alloc, &reason),
+        Ok(text) => {
+            line.text(text);
+            Ok(())
+        }
+        Err(reason) => add_reason(alloc, line, &reason),
     }
 }
 
-fn reason_word(alloc: Global, reason: &Reason) -> Answer {
-    match reason {
-        Reason::Memory => Err(Refusal::Memory),
-        reason => reason_shown(alloc, reason),
+/// Writes a reason, as one word.
+fn add_reason(alloc: Global, line: &mut Line, reason: &Reason) -> Done {
+    if let Reason::Memory = reason {
+        return Err(Refusal::Memory);
     }
-}
-
-/// A reason, shown as one word.
-fn reason_shown(alloc: Global, reason: &Reason) -> Answer {
     let mut text = Vec::new(alloc);
     append_reason(alloc, &mut text, reason)?;
-    shown(alloc, text.as_slice())
+    line.bytes(text.as_slice());
+    Ok(())
 }
 
-/// The canonical link of an identity.
-fn link_word(alloc: Global, identity: &Identity) -> Answer {
-    text_word(alloc, canonical(alloc, identity))
-}
-
-/// The prefix length and the filter value of a meaning.
-fn number_words(alloc: Global, meaning: &Meaning) -> Answer {
-    let gcp = meaning.gcp;
-    let filter = meaning.filter;
-    Ok(format!(in alloc; "{gcp:?} {filter:?}")?)
-}
-
-fn meaning_words(alloc: Global, meaning: &Meaning) -> Answer {
-    let mut answer = link_word(alloc, &meaning.identity)?;
-    add_answer(&mut answer, number_words(alloc, meaning))?;
-    add_shown(alloc, &mut answer, meaning.encoding.as_bytes())?;
-    Ok(answer)
+/// Writes the canonical link of the identity, the prefix length, the filter value and the encoding of a meaning.
+fn add_meaning(alloc: Global, line: &mut Line, meaning: &Meaning) {
+    line.text_made(canonical(alloc, &meaning.identity));
+    line.debug(meaning.gcp);
+    line.debug(meaning.filter);
+    line.bytes(meaning.encoding.as_bytes());
 }

@@ -6,56 +6,68 @@
 //! - `push_bits N NUMBER WIDTH ..`: `Full` for each number without room, then the bits.
 //! - `get N HEX I`: bit I.
 
-ghost use Rattle.std.specs.Prelude.{◌≤◌, ◌<◌, ◌^◌, IsTrue, IfOk};
+ghost use Rattle.std.specs.Prelude.{◌≤◌, ◌<◌, ◌^◌, IfSome, IsTrue};
 
 use gs_bits::{BitBuf, Cursor, Full};
 use gs_chars::Text;
 use std::alloc::Global;
-use vector_cases::{
-    Answer, Refusal, Word, add_answer, add_words, arg, behind, debug_word, joined, number,
-    number_of, said, text_of, text_word,
-};
+use vector_cases::{Done, Line, Refusal, behind, bytes_at, named, number_in};
 
-/// The answer to a call of gs_bits.
-pub fn answer(alloc: Global, call: &str, args: &[Text]) -> Answer {
+#[derive(Clone, Copy)]
+enum Call {
+    FromHex,
+    Get,
+    PushBits,
+    Take,
+}
+
+const CALLS: [(&str, Call); 4] = [
+    ("from_hex", Call::FromHex),
+    ("get", Call::Get),
+    ("push_bits", Call::PushBits),
+    ("take", Call::Take),
+];
+
+/// Answers a call of gs_bits.
+pub fn answer(alloc: Global, line: &mut Line, call: &[u8], args: &[Text]) -> Done {
     let others = behind(args, 1);
-    match number(args, 0)? {
-        0 => answer_of::<0>(alloc, call, others),
-        2 => answer_of::<2>(alloc, call, others),
-        5 => answer_of::<5>(alloc, call, others),
-        12 => answer_of::<12>(alloc, call, others),
-        64 => answer_of::<64>(alloc, call, others),
+    match number_in(bytes_at(args, 0)) {
+        Some(0) => answer_of::<0>(alloc, line, call, others),
+        Some(2) => answer_of::<2>(alloc, line, call, others),
+        Some(5) => answer_of::<5>(alloc, line, call, others),
+        Some(12) => answer_of::<12>(alloc, line, call, others),
+        Some(64) => answer_of::<64>(alloc, line, call, others),
         _ => Err(Refusal::NoCase),
     }
 }
 
-fn answer_of<const N: usize>(alloc: Global, call: &str, args: &[Text]) -> Answer
+fn answer_of<const N: usize>(alloc: Global, line: &mut Line, call: &[u8], args: &[Text]) -> Done
     requires { N ≤ 64 }
 {
-    match call {
-        "from_hex" => from_hex::<N>(alloc, arg(args, 0)?),
-        "take" => take::<N>(alloc, args),
-        "push_bits" => push_bits::<N>(alloc, args),
-        "get" => get::<N>(alloc, args),
-        _ => Err(Refusal::NoCase),
+    let first = bytes_at(args, 0);
+    match named(&CALLS, call) {
+        Some(Call::FromHex) => from_hex::<N>(alloc, line, first),
+        Some(Call::Get) => get::<N>(line, first, bytes_at(args, 1)),
+        Some(Call::PushBits) => push_bits::<N>(alloc, line, args),
+        Some(Call::Take) => take::<N>(line, first, behind(args, 1)),
+        None => Err(Refusal::NoCase),
     }
 }
 
-/// The bits as the digits 0 and 1 behind `b`.
-fn single_bits_word<const N: usize>(alloc: Global, bits: &BitBuf<N>) -> Answer {
-    let mut word = said(alloc, "b")?;
+/// Writes the bits as the digits 0 and 1 behind `b`.
+fn add_single_bits<const N: usize>(line: &mut Line, bits: &BitBuf<N>) {
+    line.plain("b");
     for i in 0..bits.len() {
-        word.push(if bits.get(i) { '1' } else { '0' })?;
+        line.more(if bits.get(i) { "1" } else { "0" });
     }
-    Ok(word)
 }
 
-/// The bits as a word.
-pub fn bits_word<const N: usize>(alloc: Global, bits: &BitBuf<N>) -> Answer {
+/// Writes the bits.
+pub fn add_bits<const N: usize>(alloc: Global, line: &mut Line, bits: &BitBuf<N>) {
     if bits.len() % 8 == 0 {
-        text_word(alloc, bits.to_hex(alloc))
+        line.text_made(bits.to_hex(alloc));
     } else {
-        single_bits_word(alloc, bits)
+        add_single_bits(line, bits);
     }
 }
 
@@ -69,79 +81,52 @@ pub fn buffer<const N: usize>(digits: &[u8]) -> Result<BitBuf<N>, Refusal>
     }
 }
 
-/// The number of bits and the bits.
-fn counted_bits<const N: usize>(alloc: Global, bits: &BitBuf<N>) -> Answer {
-    let word = bits_word(alloc, bits)?;
-    joined(
-        alloc,
-        &[Word::Number(bits.len() as u64), Word::Plain(word.as_str())],
-    )
-}
-
-fn from_hex<const N: usize>(alloc: Global, text: &[u8]) -> Answer
+fn from_hex<const N: usize>(alloc: Global, line: &mut Line, text: &[u8]) -> Done
     requires { N ≤ 64 }
 {
     match BitBuf::<N>::from_hex(text) {
-        Ok(bits) => counted_bits(alloc, &bits),
-        Err(fault) => debug_word(alloc, &fault),
+        Ok(bits) => {
+            line.debug(bits.len());
+            add_bits(alloc, line, &bits);
+        }
+        Err(fault) => line.debug(fault),
     }
+    Ok(())
 }
 
-/// A number of bits, at most 64.
-fn width_of(number: u64) -> Result<u32, Refusal>
-    ensures { IfOk result (λ width. width ≤ 64) }
+/// The number of bits that a word tells, at most 64.
+fn width_in(word: &[u8]) -> Option<u32>
+    ensures { IfSome result (λ width. width ≤ 64) }
 {
-    if number <= 64 {
-        Ok(number as u32)
-    } else {
-        Err(Refusal::NoCase)
+    match number_in(word) {
+        Some(number) if number <= 64 => Some(number as u32),
+        _ => None,
     }
 }
 
-/// The width that a word tells.
-fn width_at(word: &Text) -> Result<u32, Refusal>
-    ensures { IfOk result (λ width. width ≤ 64) }
-{
-    width_of(number_of(text_of(word.as_bytes())?)?)
-}
-
-/// The number of the next bits, or `Short`.
-fn taken_word<const N: usize>(alloc: Global, cursor: &mut Cursor<'_, N>, width: &Text) -> Answer {
-    match cursor.take(width_at(width)?) {
-        Ok(number) => debug_word(alloc, &number),
-        Err(fault) => debug_word(alloc, &fault),
-    }
-}
-
-/// The numbers of the next bits of these widths, or `Short`.
-fn taken_words<const N: usize>(
-    alloc: Global,
-    cursor: &mut Cursor<'_, N>,
-    widths: &[Text],
-) -> Answer {
-    let mut answer = String::new(alloc);
+/// Writes the numbers of the next bits of these widths, or `Short`.
+fn add_taken<const N: usize>(line: &mut Line, cursor: &mut Cursor<'_, N>, widths: &[Text]) -> Done {
     for width in widths {
-        add_answer(&mut answer, taken_word(alloc, cursor, width))?;
+        let Some(width) = width_in(width.as_bytes()) else {
+            return Err(Refusal::NoCase);
+        };
+        match cursor.take(width) {
+            Ok(number) => line.debug(number),
+            Err(fault) => line.debug(fault),
+        }
     }
-    Ok(answer)
+    Ok(())
 }
 
-fn take<const N: usize>(alloc: Global, args: &[Text]) -> Answer
+fn take<const N: usize>(line: &mut Line, digits: &[u8], widths: &[Text]) -> Done
     requires { N ≤ 64 }
 {
-    let [digits, widths @ ..] = args else {
-        return Err(Refusal::NoCase);
-    };
-    let bits = buffer::<N>(digits.as_bytes())?;
+    let bits = buffer::<N>(digits)?;
     let mut cursor = bits.cursor();
-    let mut answer = taken_words(alloc, &mut cursor, widths)?;
-    let left = cursor.left() as u64;
-    add_words(
-        alloc,
-        &mut answer,
-        &[Word::Plain("left"), Word::Number(left)],
-    )?;
-    Ok(answer)
+    add_taken(line, &mut cursor, widths)?;
+    line.plain("left");
+    line.debug(cursor.left());
+    Ok(())
 }
 
 /// Whether a number is below 2 to the width.
@@ -157,41 +142,37 @@ fn push_pair<const N: usize>(
     bits: &mut BitBuf<N>,
     pair: &[Text],
 ) -> Result<Result<(), Full>, Refusal> {
-    let value = number(pair, 0)?;
-    let width = width_of(number(pair, 1)?)?;
-    if !fits(value, width) {
-        return Err(Refusal::NoCase);
+    let value = number_in(bytes_at(pair, 0));
+    let width = width_in(bytes_at(pair, 1));
+    match (value, width) {
+        (Some(value), Some(width)) if fits(value, width) => Ok(bits.push_bits(value, width)),
+        _ => Err(Refusal::NoCase),
     }
-    Ok(bits.push_bits(value, width))
 }
 
-/// Pushes the numbers and their widths, and answers `Full` for each without room.
-fn faults_words<const N: usize>(alloc: Global, bits: &mut BitBuf<N>, pairs: &[Text]) -> Answer {
-    let mut answer = String::new(alloc);
-    for pair in pairs.chunks(2) {
-        if let Err(fault) = push_pair(bits, pair)? {
-            add_answer(&mut answer, debug_word(alloc, &fault))?;
-        }
-    }
-    Ok(answer)
-}
-
-fn push_bits<const N: usize>(alloc: Global, args: &[Text]) -> Answer
+/// Pushes the numbers and their widths, writes `Full` for each without room, and then the bits.
+fn push_bits<const N: usize>(alloc: Global, line: &mut Line, pairs: &[Text]) -> Done
     requires { N ≤ 64 }
 {
     let mut bits = BitBuf::<N>::new();
-    let mut answer = faults_words(alloc, &mut bits, args)?;
-    add_answer(&mut answer, bits_word(alloc, &bits))?;
-    Ok(answer)
+    for pair in pairs.chunks(2) {
+        match push_pair(&mut bits, pair) {
+            Ok(Ok(())) => {}
+            Ok(Err(fault)) => line.debug(fault),
+            Err(refusal) => return Err(refusal),
+        }
+    }
+    add_bits(alloc, line, &bits);
+    Ok(())
 }
 
-fn get<const N: usize>(alloc: Global, args: &[Text]) -> Answer
+fn get<const N: usize>(line: &mut Line, digits: &[u8], i: &[u8]) -> Done
     requires { N ≤ 64 }
 {
-    let i = number(args, 1)?;
-    let bits = buffer::<N>(arg(args, 0)?)?;
-    if i >= bits.len() as u64 {
-        return Err(Refusal::NoCase);
+    let bits = buffer::<N>(digits)?;
+    match number_in(i) {
+        Some(i) if i < bits.len() as u64 => line.debug(bits.get(i as usize)),
+        _ => return Err(Refusal::NoCase),
     }
-    debug_word(alloc, &bits.get(i as usize))
+    Ok(())
 }

@@ -12,30 +12,50 @@ ghost use Rattle.gs_chars.specs.Characters.{are_digits};
 
 use gs_chars::{CharSet, List, Rows, Text, check_digit, read_escape, write_escape};
 use std::alloc::Global;
-use vector_cases::{
-    Answer, Refusal, Word, add_shown, arg, debug_word, joined, number, said, shown, text_word,
-};
+use vector_cases::{Done, Line, Refusal, bytes_at, named, number};
 
-/// The answer to a call of gs_chars.
-pub fn answer(alloc: Global, call: &str, args: &[Text]) -> Answer {
-    match call {
-        "rows" => rows(alloc, args),
-        "holds" => holds(alloc, args),
-        "compare" => compare(alloc, args),
-        _ => answer_on(alloc, call, arg(args, 0)?),
-    }
+#[derive(Clone, Copy)]
+enum Call {
+    CheckDigit,
+    Compare,
+    Copy,
+    Holds,
+    List,
+    ReadEscape,
+    Rows,
+    Text,
+    WriteEscape,
 }
 
-/// The answer to a call on one text.
-fn answer_on(alloc: Global, call: &str, text: &[u8]) -> Answer {
-    match call {
-        "check_digit" => digit(alloc, text),
-        "read_escape" => escape_read(alloc, text),
-        "write_escape" => escape_written(alloc, text),
-        "text" => text_word(alloc, Text::from_bytes(alloc, text)),
-        "copy" => copy(alloc, text),
-        "list" => list(alloc, text),
-        _ => Err(Refusal::NoCase),
+const CALLS: [(&str, Call); 9] = [
+    ("check_digit", Call::CheckDigit),
+    ("compare", Call::Compare),
+    ("copy", Call::Copy),
+    ("holds", Call::Holds),
+    ("list", Call::List),
+    ("read_escape", Call::ReadEscape),
+    ("rows", Call::Rows),
+    ("text", Call::Text),
+    ("write_escape", Call::WriteEscape),
+];
+
+/// Answers a call of gs_chars.
+pub fn answer(alloc: Global, line: &mut Line, call: &[u8], args: &[Text]) -> Done {
+    let text = bytes_at(args, 0);
+    match named(&CALLS, call) {
+        Some(Call::CheckDigit) => digit(line, text),
+        Some(Call::Compare) => compare(alloc, line, text, bytes_at(args, 1)),
+        Some(Call::Copy) => copy(alloc, line, text),
+        Some(Call::Holds) => holds(line, text, bytes_at(args, 1)),
+        Some(Call::List) => list(alloc, line, text),
+        Some(Call::ReadEscape) => escape_read(line, text),
+        Some(Call::Rows) => rows(line, args),
+        Some(Call::Text) => {
+            line.text_made(Text::from_bytes(alloc, text));
+            Ok(())
+        }
+        Some(Call::WriteEscape) => escape_written(line, text),
+        None => Err(Refusal::NoCase),
     }
 }
 
@@ -46,50 +66,39 @@ fn all_digits(text: &[u8]) -> bool
     text.iter().all(|c| CharSet::Digits.holds(*c))
 }
 
-fn set_of(name: &[u8]) -> Result<CharSet, Refusal> {
-    if name == b"Digits".as_slice() {
-        Ok(CharSet::Digits)
-    } else if name == b"Set82".as_slice() {
-        Ok(CharSet::Set82)
-    } else {
-        Err(Refusal::NoCase)
-    }
-}
+const SETS: [(&str, CharSet); 2] = [("Digits", CharSet::Digits), ("Set82", CharSet::Set82)];
 
 /// Whether a set has each byte of a text.
-fn held(alloc: Global, set: CharSet, text: &[u8]) -> Answer {
-    let mut answer = String::new(alloc);
-    for c in text {
-        answer.push(if set.holds(*c) { 'y' } else { 'n' })?;
-    }
-    Ok(answer)
-}
-
-fn holds(alloc: Global, args: &[Text]) -> Answer {
-    let [set, text, ..] = args else {
+fn holds(line: &mut Line, set: &[u8], text: &[u8]) -> Done {
+    let Some(set) = named(&SETS, set) else {
         return Err(Refusal::NoCase);
     };
-    held(alloc, set_of(set.as_bytes())?, text.as_bytes())
+    for c in text {
+        line.more(if set.holds(*c) { "y" } else { "n" });
+    }
+    Ok(())
 }
 
-fn digit(alloc: Global, digits: &[u8]) -> Answer {
+fn digit(line: &mut Line, digits: &[u8]) -> Done {
     if digits.is_empty() || digits.len() > 18 || !all_digits(digits) {
         return Err(Refusal::NoCase);
     }
-    shown(alloc, &[check_digit(digits)])
+    line.bytes(&[check_digit(digits)]);
+    Ok(())
 }
 
-fn escape_read(alloc: Global, text: &[u8]) -> Answer {
+fn escape_read(line: &mut Line, text: &[u8]) -> Done {
     match read_escape(text) {
         Some((character, count)) => {
-            let read = [character];
-            joined(alloc, &[Word::Bytes(&read), Word::Number(count as u64)])
+            line.bytes(&[character]);
+            line.debug(count);
         }
-        None => said(alloc, "None"),
+        None => line.plain("None"),
     }
+    Ok(())
 }
 
-fn escape_written(alloc: Global, characters: &[u8]) -> Answer {
+fn escape_written(line: &mut Line, characters: &[u8]) -> Done {
     let [c] = characters else {
         return Err(Refusal::NoCase);
     };
@@ -98,68 +107,44 @@ fn escape_written(alloc: Global, characters: &[u8]) -> Answer {
     }
     let mut buffer = *b"...";
     let count = write_escape(*c, &mut buffer);
-    joined(alloc, &[Word::Number(count as u64), Word::Bytes(&buffer)])
+    line.debug(count);
+    line.bytes(&buffer);
+    Ok(())
 }
 
 fn key(args: &[Text], i: usize) -> Result<u32, Refusal> {
-    match u32::try_from(number(args, i)?) {
-        Ok(key) => Ok(key),
-        Err(_) => Err(Refusal::NoCase),
-    }
-}
-
-/// The first three keys of the arguments.
-fn three_keys(args: &[Text]) -> Result<[u32; 3], Refusal> {
-    Ok([key(args, 0)?, key(args, 1)?, key(args, 2)?])
-}
-
-fn rows(alloc: Global, args: &[Text]) -> Answer {
-    match Rows::new(three_keys(args)?) {
-        Some(rows) => debug_word(alloc, &rows.find(key(args, 3)?)),
-        None => said(alloc, "refused"),
-    }
-}
-
-fn copy(alloc: Global, bytes: &[u8]) -> Answer {
-    let text = Text::from_bytes(alloc, bytes)?;
-    text_word(alloc, text.copy(alloc))
-}
-
-/// A text of a copy of these bytes.
-fn copied(alloc: Global, bytes: &[u8]) -> Result<Text, Refusal> {
-    Ok(Text::from_vec(bytes.to_vec(alloc)?))
-}
-
-fn compare(alloc: Global, args: &[Text]) -> Answer {
-    let [left, right, ..] = args else {
+    let Ok(key) = u32::try_from(number(args, i)?) else {
         return Err(Refusal::NoCase);
     };
-    let left = Text::from_bytes(alloc, left.as_bytes())?;
-    let right = copied(alloc, right.as_bytes())?;
-    order_words(alloc, &left, &right)
+    Ok(key)
+}
+
+fn rows(line: &mut Line, args: &[Text]) -> Done {
+    match Rows::new([key(args, 0)?, key(args, 1)?, key(args, 2)?]) {
+        Some(rows) => line.debug(rows.find(key(args, 3)?)),
+        None => line.plain("refused"),
+    }
+    Ok(())
+}
+
+fn copy(alloc: Global, line: &mut Line, bytes: &[u8]) -> Done {
+    let text = Text::from_bytes(alloc, bytes)?;
+    line.text_made(text.copy(alloc));
+    Ok(())
 }
 
 /// The order of two texts, and whether they are equal.
-fn order_words(alloc: Global, left: &Text, right: &Text) -> Answer {
-    let equal = if left == right { "true" } else { "false" };
-    let order = debug_word(alloc, &left.cmp(right))?;
-    joined(alloc, &[Word::Plain(order.as_str()), Word::Plain(equal)])
+fn compare(alloc: Global, line: &mut Line, left: &[u8], right: &[u8]) -> Done {
+    let left = Text::from_bytes(alloc, left)?;
+    let right = Text::from_vec(right.to_vec(alloc)?);
+    line.debug(left.cmp(&right));
+    line.debug(left == right);
+    Ok(())
 }
 
-/// A list of a copy of these bytes.
-fn list_of(alloc: Global, bytes: &[u8]) -> Result<List<u8>, Refusal> {
-    Ok(List::from_vec(bytes.to_vec(alloc)?))
-}
-
-/// Appends the items that a list gives back.
-fn add_items(alloc: Global, answer: &mut String, list: List<u8>) -> Result<(), Refusal> {
-    let items = list.into_vec();
-    add_shown(alloc, answer, items.as_slice())
-}
-
-fn list(alloc: Global, bytes: &[u8]) -> Answer {
-    let list = list_of(alloc, bytes)?;
-    let mut answer = shown(alloc, list.items())?;
-    add_items(alloc, &mut answer, list)?;
-    Ok(answer)
+fn list(alloc: Global, line: &mut Line, bytes: &[u8]) -> Done {
+    let list = List::from_vec(bytes.to_vec(alloc)?);
+    line.bytes(list.items());
+    line.bytes(list.into_vec().as_slice());
+    Ok(())
 }

@@ -11,37 +11,69 @@
 use gs_chars::Text;
 use gs_json::{Doc, Entry, JsonFault, Node, Sort};
 use std::alloc::Global;
-use vector_cases::{
-    Answer, Refusal, add_shown, debug_word, fault_word, number_of, push, said, shown, text_of,
-};
+use std::fmt::Debug;
+use vector_cases::{Done, Line, Refusal, behind, bytes_at, named, number_in, push};
 
-/// The answer to a call of gs_json.
-pub fn answer(alloc: Global, call: &str, args: &[Text]) -> Answer {
-    let [document, others @ ..] = args else {
-        return Err(Refusal::NoCase);
-    };
-    match Doc::parse(alloc, document.as_bytes()) {
-        Ok(doc) => answer_over(alloc, &doc, call, others),
-        Err(fault) => fault_word(alloc, fault),
+#[derive(Clone, Copy)]
+enum Call {
+    Parse,
+    Part(Asked),
+    Shaped,
+}
+
+/// What is asked of a part.
+#[derive(Clone, Copy)]
+enum Asked {
+    Count,
+    Names,
+    Number,
+    Text,
+    Truth,
+}
+
+const CALLS: [(&str, Call); 7] = [
+    ("count", Call::Part(Asked::Count)),
+    ("names", Call::Part(Asked::Names)),
+    ("number", Call::Part(Asked::Number)),
+    ("parse", Call::Parse),
+    ("shaped", Call::Shaped),
+    ("text", Call::Part(Asked::Text)),
+    ("truth", Call::Part(Asked::Truth)),
+];
+
+/// Answers a call of gs_json.
+pub fn answer(alloc: Global, line: &mut Line, call: &[u8], args: &[Text]) -> Done {
+    match Doc::parse(alloc, bytes_at(args, 0)) {
+        Ok(doc) => answer_over(alloc, line, &doc, call, behind(args, 1)),
+        Err(fault) => {
+            line.fault(fault);
+            Ok(())
+        }
     }
 }
 
-/// The answer to a call over a document, which is lent so that it is dropped at one exit.
-fn answer_over(alloc: Global, doc: &Doc, call: &str, others: &[Text]) -> Answer {
-    match call {
-        "parse" => said(alloc, "Ok"),
-        "shaped" => shaped(alloc, doc, others),
-        _ => asked_behind(alloc, doc, call, others),
+/// Answers a call over a document, which is lent so that it is dropped at one exit.
+fn answer_over(alloc: Global, line: &mut Line, doc: &Doc, call: &[u8], others: &[Text]) -> Done {
+    match named(&CALLS, call) {
+        Some(Call::Parse) => {
+            line.plain("Ok");
+            Ok(())
+        }
+        Some(Call::Shaped) => shaped(alloc, line, doc, others),
+        Some(Call::Part(asked)) => asked_behind(alloc, line, doc, asked, others),
+        None => Err(Refusal::NoCase),
     }
 }
 
-/// What the part to which the steps lead answers.
-fn asked_behind(alloc: Global, doc: &Doc, call: &str, steps: &[Text]) -> Answer {
-    match followed(alloc, doc, steps)? {
-        Walked::At(node) => asked(alloc, call, &node),
-        Walked::Absent => said(alloc, "None"),
-        Walked::Refused(fault) => fault_word(alloc, fault),
+/// Writes what the part to which the steps lead answers.
+fn asked_behind(alloc: Global, line: &mut Line, doc: &Doc, asked: Asked, steps: &[Text]) -> Done {
+    match followed(alloc, doc, steps) {
+        Ok(Walked::At(node)) => add_asked(alloc, line, asked, &node),
+        Ok(Walked::Absent) => line.plain("None"),
+        Ok(Walked::Refused(fault)) => line.fault(fault),
+        Err(refusal) => return Err(refusal),
     }
+    Ok(())
 }
 
 /// Where some steps lead.
@@ -74,17 +106,22 @@ fn stepped<'a>(alloc: Global, node: &Node<'a>, step: &[u8]) -> Result<Walked<'a>
     let [kind, rest @ ..] = step else {
         return Err(Refusal::NoCase);
     };
-    let word = text_of(rest)?;
+    let Ok(word) = str::from_utf8(rest) else {
+        return Err(Refusal::NoCase);
+    };
     match *kind {
         b'.' => Ok(walk_to(node.member(alloc, word))),
         b'?' => Ok(walk_maybe(node.maybe(alloc, word))),
-        b'#' => item_at(alloc, node, number_of(word)?),
+        b'#' => item_at(alloc, node, rest),
         _ => Err(Refusal::NoCase),
     }
 }
 
 /// The item of a number.
-fn item_at<'a>(alloc: Global, node: &Node<'a>, i: u64) -> Result<Walked<'a>, Refusal> {
+fn item_at<'a>(alloc: Global, node: &Node<'a>, i: &[u8]) -> Result<Walked<'a>, Refusal> {
+    let Some(i) = number_in(i) else {
+        return Err(Refusal::NoCase);
+    };
     match node.count(alloc) {
         Ok(count) if i < count as u64 => Ok(walk_to(node.item(alloc, i as usize))),
         Ok(_) => Err(Refusal::NoCase),
@@ -96,90 +133,68 @@ fn item_at<'a>(alloc: Global, node: &Node<'a>, i: u64) -> Result<Walked<'a>, Ref
 fn followed<'a>(alloc: Global, doc: &'a Doc, steps: &[Text]) -> Result<Walked<'a>, Refusal> {
     let mut node = doc.root(alloc);
     for step in steps {
-        match stepped(alloc, &node, step.as_bytes())? {
-            Walked::At(part) => node = part,
-            other => return Ok(other),
+        match stepped(alloc, &node, step.as_bytes()) {
+            Ok(Walked::At(part)) => node = part,
+            other => return other,
         }
     }
     Ok(Walked::At(node))
 }
 
-/// What a part answers.
-fn asked(alloc: Global, call: &str, node: &Node<'_>) -> Answer {
-    match call {
-        "text" => text(alloc, node),
-        "number" => number(alloc, node),
-        "truth" => truth(alloc, node),
-        "count" => count(alloc, node),
-        "names" => names(alloc, node),
-        _ => Err(Refusal::NoCase),
+/// Writes what is asked of a part.
+fn add_asked(alloc: Global, line: &mut Line, asked: Asked, node: &Node<'_>) {
+    match asked {
+        Asked::Count => add_value(line, node.count(alloc)),
+        Asked::Names => add_names(alloc, line, node),
+        Asked::Number => add_value(line, node.number(alloc)),
+        Asked::Text => add_text(alloc, line, node),
+        Asked::Truth => add_value(line, node.truth(alloc)),
     }
 }
 
-fn text(alloc: Global, node: &Node<'_>) -> Answer {
+/// Writes a value, or the fault.
+fn add_value<T: Debug + Drop>(line: &mut Line, found: Result<T, JsonFault>) {
+    match found {
+        Ok(value) => line.debug(value),
+        Err(fault) => line.fault(fault),
+    }
+}
+
+fn add_text(alloc: Global, line: &mut Line, node: &Node<'_>) {
     match node.text(alloc) {
-        Ok(text) => shown(alloc, text.as_bytes()),
-        Err(fault) => fault_word(alloc, fault),
+        Ok(text) => line.bytes(text.as_bytes()),
+        Err(fault) => line.fault(fault),
     }
 }
 
-fn number(alloc: Global, node: &Node<'_>) -> Answer {
-    match node.number(alloc) {
-        Ok(number) => debug_word(alloc, &number),
-        Err(fault) => fault_word(alloc, fault),
-    }
-}
-
-fn truth(alloc: Global, node: &Node<'_>) -> Answer {
-    match node.truth(alloc) {
-        Ok(truth) => debug_word(alloc, &truth),
-        Err(fault) => fault_word(alloc, fault),
-    }
-}
-
-fn count(alloc: Global, node: &Node<'_>) -> Answer {
-    match node.count(alloc) {
-        Ok(count) => debug_word(alloc, &count),
-        Err(fault) => fault_word(alloc, fault),
-    }
-}
-
-fn names(alloc: Global, node: &Node<'_>) -> Answer {
+fn add_names(alloc: Global, line: &mut Line, node: &Node<'_>) {
     match node.names(alloc) {
-        Ok(names) => names_words(alloc, names.items()),
-        Err(fault) => fault_word(alloc, fault),
+        Ok(names) => {
+            for name in names.items() {
+                line.bytes(name.as_bytes());
+            }
+        }
+        Err(fault) => line.fault(fault),
     }
 }
 
-fn names_words(alloc: Global, names: &[&str]) -> Answer {
-    let mut answer = String::new(alloc);
-    for name in names {
-        add_shown(alloc, &mut answer, name.as_bytes())?;
-    }
-    Ok(answer)
-}
-
-fn sort_of(name: &[u8]) -> Result<Sort, Refusal> {
-    match text_of(name)? {
-        "Text" => Ok(Sort::Text),
-        "Number" => Ok(Sort::Number),
-        "Truth" => Ok(Sort::Truth),
-        "Array" => Ok(Sort::Array),
-        "Texts" => Ok(Sort::Texts),
-        "Arrays" => Ok(Sort::Arrays),
-        _ => Err(Refusal::NoCase),
-    }
-}
+const SORTS: [(&str, Sort); 6] = [
+    ("Array", Sort::Array),
+    ("Arrays", Sort::Arrays),
+    ("Number", Sort::Number),
+    ("Text", Sort::Text),
+    ("Texts", Sort::Texts),
+    ("Truth", Sort::Truth),
+];
 
 /// The name and the sort of an entry.
 fn entry_of(alloc: Global, pair: &[Text]) -> Result<Entry, Refusal> {
-    let [head, sort, ..] = pair else {
+    let [kind, name @ ..] = bytes_at(pair, 0) else {
         return Err(Refusal::NoCase);
     };
-    let [kind, name @ ..] = head.as_bytes() else {
+    let Some(sort) = named(&SORTS, bytes_at(pair, 1)) else {
         return Err(Refusal::NoCase);
     };
-    let sort = sort_of(sort.as_bytes())?;
     Ok(Entry {
         name: Text::from_bytes(alloc, name)?,
         required: *kind == b'+',
@@ -196,15 +211,12 @@ fn plan_of(alloc: Global, words: &[Text]) -> Result<Vec<Entry>, Refusal> {
     Ok(plan)
 }
 
-fn shaped(alloc: Global, doc: &Doc, words: &[Text]) -> Answer {
+/// Writes whether a document is of a plan.
+fn shaped(alloc: Global, line: &mut Line, doc: &Doc, words: &[Text]) -> Done {
     let plan = plan_of(alloc, words)?;
-    shaped_by(alloc, &doc.root(alloc), plan.as_slice())
-}
-
-/// Whether a part is of a plan.
-fn shaped_by(alloc: Global, node: &Node<'_>, plan: &[Entry]) -> Answer {
-    match node.shaped(alloc, plan) {
-        Ok(()) => said(alloc, "Ok"),
-        Err(fault) => fault_word(alloc, fault),
+    match doc.root(alloc).shaped(alloc, plan.as_slice()) {
+        Ok(()) => line.plain("Ok"),
+        Err(fault) => line.fault(fault),
     }
+    Ok(())
 }

@@ -8,43 +8,51 @@
 ghost use Rattle.std.specs.Prelude.{◌≡◌, IfOk, false, true};
 ghost use Rattle.gs_grammar.specs.Levels.{AreOfKind, OptionForm};
 
-use crate::bits::{bits_word, buffer};
+use crate::bits::{add_bits, buffer};
 use gs_bits::BitBuf;
 use gs_chars::{List, Text};
-use gs_grammar::{
-    Item, Opt, OptFault, Why, WriteFault, holds, read_option, write_bits, write_text,
-};
+use gs_grammar::{Item, Opt, OptFault, WriteFault, holds, read_option, write_bits, write_text};
 use std::alloc::Global;
-use vector_cases::{
-    Answer, Refusal, Word, add_word, debug_word, item_of, joined, push, said, shown,
-};
+use vector_cases::{Done, Line, Refusal, behind, bytes_at, item_of, named, push};
 
-/// The answer to a call of gs_grammar.
-pub fn answer(alloc: Global, call: &str, args: &[Text]) -> Answer {
-    match call {
-        "holds" => held(alloc, args),
-        "option" => option(alloc, args),
-        "read_option" => option_read(alloc, args),
-        "write_text" => text_written(alloc, args),
-        "write_bits" => bits_written(alloc, args),
-        _ => Err(Refusal::NoCase),
+#[derive(Clone, Copy)]
+enum Call {
+    Holds,
+    Option,
+    ReadOption,
+    WriteBits,
+    WriteText,
+}
+
+const CALLS: [(&str, Call); 5] = [
+    ("holds", Call::Holds),
+    ("option", Call::Option),
+    ("read_option", Call::ReadOption),
+    ("write_bits", Call::WriteBits),
+    ("write_text", Call::WriteText),
+];
+
+/// Answers a call of gs_grammar.
+pub fn answer(alloc: Global, line: &mut Line, call: &[u8], args: &[Text]) -> Done {
+    let first = bytes_at(args, 0);
+    match named(&CALLS, call) {
+        Some(Call::Holds) => held(alloc, line, first, bytes_at(args, 1)),
+        Some(Call::Option) => option(alloc, line, first, behind(args, 1)),
+        Some(Call::ReadOption) => option_read(alloc, line, first, behind(args, 1)),
+        Some(Call::WriteBits) => bits_written(alloc, line, args),
+        Some(Call::WriteText) => text_written(alloc, line, args),
+        None => Err(Refusal::NoCase),
     }
 }
 
-fn held(alloc: Global, args: &[Text]) -> Answer {
-    let [word, value, ..] = args else {
-        return Err(Refusal::NoCase);
-    };
-    let item = item_of(alloc, word.as_bytes())?;
-    holds_word(alloc, &item, value.as_bytes())
-}
-
-/// `Ok`, or why an item does not hold a value.
-fn holds_word(alloc: Global, item: &Item, value: &[u8]) -> Answer {
-    match holds(item, value) {
-        Ok(()) => said(alloc, "Ok"),
-        Err(why) => debug_word(alloc, &why),
+/// Writes `Ok`, or why an item does not hold a value.
+fn held(alloc: Global, line: &mut Line, word: &[u8], value: &[u8]) -> Done {
+    let item = item_of(alloc, word)?;
+    match holds(&item, value) {
+        Ok(()) => line.plain("Ok"),
+        Err(why) => line.debug(why),
     }
+    Ok(())
 }
 
 /// The items of the words.
@@ -68,27 +76,29 @@ fn made(alloc: Global, bit_level: bool, words: &[Text]) -> Result<Result<Opt, Op
 fn option_of(alloc: Global, bit_level: bool, words: &[Text]) -> Result<Opt, Refusal>
     ensures { IfOk result (λ (option : OptionForm). option.bit_level ≡ bit_level) }
 {
-    match made(alloc, bit_level, words)? {
-        Ok(option) => Ok(option),
-        Err(_) => Err(Refusal::NoCase),
+    match made(alloc, bit_level, words) {
+        Ok(Ok(option)) => Ok(option),
+        Ok(Err(_)) => Err(Refusal::NoCase),
+        Err(refusal) => Err(refusal),
     }
 }
 
-fn option(alloc: Global, args: &[Text]) -> Answer {
-    let [level, words @ ..] = args else {
-        return Err(Refusal::NoCase);
-    };
-    match made(alloc, level.as_bytes() == b"bits".as_slice(), words)? {
-        Ok(option) => option_words(alloc, &option),
-        Err(fault) => debug_word(alloc, &fault),
-    }
+/// Whether the name of a level is that of bits.
+pub fn is_bits(level: &[u8]) -> bool {
+    level == b"bits".as_slice()
 }
 
-/// The size of an option, and the number of its items.
-fn option_words(alloc: Global, option: &Opt) -> Answer {
-    let size = option.size() as u64;
-    let count = option.items().len() as u64;
-    joined(alloc, &[Word::Number(size), Word::Number(count)])
+/// Writes the size of an option and the number of its items, or the fault.
+fn option(alloc: Global, line: &mut Line, level: &[u8], words: &[Text]) -> Done {
+    match made(alloc, is_bits(level), words) {
+        Ok(Ok(option)) => {
+            line.debug(option.size());
+            line.debug(option.items().len());
+        }
+        Ok(Err(fault)) => line.debug(fault),
+        Err(refusal) => return Err(refusal),
+    }
+    Ok(())
 }
 
 /// The options of the words.
@@ -102,33 +112,25 @@ pub fn options_of(alloc: Global, bit_level: bool, words: &[Text]) -> Result<Vec<
     Ok(options)
 }
 
-fn option_read(alloc: Global, args: &[Text]) -> Answer {
-    let [digits, words @ ..] = args else {
-        return Err(Refusal::NoCase);
-    };
-    let bits = buffer::<64>(digits.as_bytes())?;
+fn option_read(alloc: Global, line: &mut Line, digits: &[u8], words: &[Text]) -> Done {
+    let bits = buffer::<64>(digits)?;
     let option = option_of(alloc, true, words)?;
-    numbers_read(alloc, &option, &bits)
+    add_numbers(alloc, line, &option, &bits)
 }
 
-/// The numbers of the items of an option, or `false`.
-fn numbers_read(alloc: Global, option: &Opt, bits: &BitBuf<64>) -> Answer
+/// Writes the numbers of the items of an option, or `false`.
+fn add_numbers(alloc: Global, line: &mut Line, option: &Opt, bits: &BitBuf<64>) -> Done
     requires { option.now.bit_level ≡ true }
 {
     let mut numbers = vec![in alloc; 0u64; option.items().len()]?;
-    if read_option(option, bits, numbers.as_mut_slice()) {
-        numbers_words(alloc, numbers.as_slice())
-    } else {
-        said(alloc, "false")
+    if !read_option(option, bits, numbers.as_mut_slice()) {
+        line.plain("false");
+        return Ok(());
     }
-}
-
-fn numbers_words(alloc: Global, numbers: &[u64]) -> Answer {
-    let mut answer = String::new(alloc);
-    for number in numbers {
-        add_word(alloc, &mut answer, Word::Number(*number))?;
+    for number in numbers.as_slice() {
+        line.debug(*number);
     }
-    Ok(answer)
+    Ok(())
 }
 
 /// The words before and behind `=`.
@@ -142,53 +144,46 @@ fn halves(words: &[Text]) -> Result<(&[Text], &[Text]), Refusal> {
     }
 }
 
-fn write_fault(alloc: Global, fault: WriteFault) -> Answer {
+/// Writes which item cannot hold its value, and why.
+fn add_fault(line: &mut Line, fault: WriteFault) {
     match fault {
-        WriteFault::CannotHold { item, why } => cannot_hold(alloc, item, why),
-        WriteFault::Memory => Err(Refusal::Memory),
+        WriteFault::CannotHold { item, why } => {
+            line.plain("CannotHold");
+            line.debug(item);
+            line.debug(why);
+        }
+        WriteFault::Memory => line.want_memory(),
     }
 }
 
-/// Which item cannot hold its value, and why.
-fn cannot_hold(alloc: Global, item: usize, why: Why) -> Answer {
-    let why = debug_word(alloc, &why)?;
-    joined(
-        alloc,
-        &[
-            Word::Plain("CannotHold"),
-            Word::Number(item as u64),
-            Word::Plain(why.as_str()),
-        ],
-    )
-}
-
-fn text_written(alloc: Global, words: &[Text]) -> Answer {
+fn text_written(alloc: Global, line: &mut Line, words: &[Text]) -> Done {
     let (items, values) = halves(words)?;
     let option = option_of(alloc, false, items)?;
-    text_of_values(alloc, &option, values)
+    add_text(alloc, line, &option, values)
 }
 
-/// The text of an option and these values.
-fn text_of_values(alloc: Global, option: &Opt, values: &[Text]) -> Answer
+/// Writes the text of an option and these values.
+fn add_text(alloc: Global, line: &mut Line, option: &Opt, values: &[Text]) -> Done
     requires { option.now.bit_level ≡ false }
 {
     if values.len() != option.items().len() {
         return Err(Refusal::NoCase);
     }
     match write_text(alloc, option, values) {
-        Ok(text) => shown(alloc, text.as_bytes()),
-        Err(fault) => write_fault(alloc, fault),
+        Ok(text) => line.text(text),
+        Err(fault) => add_fault(line, fault),
     }
+    Ok(())
 }
 
-fn bits_written(alloc: Global, words: &[Text]) -> Answer {
+fn bits_written(alloc: Global, line: &mut Line, words: &[Text]) -> Done {
     let (items, values) = halves(words)?;
     let option = option_of(alloc, true, items)?;
-    bits_of_values(alloc, &option, values)
+    add_bits_of(alloc, line, &option, values)
 }
 
-/// The bits of an option and these values.
-fn bits_of_values(alloc: Global, option: &Opt, values: &[Text]) -> Answer
+/// Writes the bits of an option and these values.
+fn add_bits_of(alloc: Global, line: &mut Line, option: &Opt, values: &[Text]) -> Done
     requires { option.now.bit_level ≡ true }
 {
     if values.len() != option.items().len() || option.size() > 512 {
@@ -196,7 +191,8 @@ fn bits_of_values(alloc: Global, option: &Opt, values: &[Text]) -> Answer
     }
     let mut bits = BitBuf::<64>::new();
     match write_bits(option, values, &mut bits) {
-        Ok(()) => bits_word(alloc, &bits),
-        Err(fault) => write_fault(alloc, fault),
+        Ok(()) => add_bits(alloc, line, &bits),
+        Err(fault) => add_fault(line, fault),
     }
+    Ok(())
 }

@@ -6,22 +6,28 @@
 
 use crate::bits::buffer;
 use crate::grammars::options_of;
-use gs_bits::BitBuf;
-use gs_chars::Text;
+use gs_chars::{Memory, Text};
 use gs_level::{Level, Reading, read_bits, read_text};
 use gs_share::{Shared, first_share};
 use std::alloc::Global;
-use vector_cases::{Answer, Refusal, Word, joined, said, shown_all};
+use vector_cases::{Done, Line, Refusal, behind, bytes_at, named};
 
-/// The answer to a call of gs_level.
-pub fn answer(alloc: Global, call: &str, args: &[Text]) -> Answer {
-    let [text, words @ ..] = args else {
-        return Err(Refusal::NoCase);
-    };
-    match call {
-        "read_text" => text_read(alloc, text.as_bytes(), words),
-        "read_bits" => bits_read(alloc, text.as_bytes(), words),
-        _ => Err(Refusal::NoCase),
+#[derive(Clone, Copy)]
+enum Call {
+    ReadBits,
+    ReadText,
+}
+
+const CALLS: [(&str, Call); 2] = [("read_bits", Call::ReadBits), ("read_text", Call::ReadText)];
+
+/// Answers a call of gs_level.
+pub fn answer(alloc: Global, line: &mut Line, call: &[u8], args: &[Text]) -> Done {
+    let text = bytes_at(args, 0);
+    let words = behind(args, 1);
+    match named(&CALLS, call) {
+        Some(Call::ReadBits) => bits_read(alloc, line, text, words),
+        Some(Call::ReadText) => text_read(alloc, line, text, words),
+        None => Err(Refusal::NoCase),
     }
 }
 
@@ -31,61 +37,44 @@ pub fn level_of(alloc: Global, bit_level: bool, words: &[Text]) -> Result<Level,
     Ok(Level::new(alloc, bit_level, options)?)
 }
 
-/// The number of an option, and the values of its items.
-fn values_words(alloc: Global, option: usize, values: &[Text]) -> Answer {
-    let words = shown_all(alloc, values)?;
-    joined(
-        alloc,
-        &[Word::Number(option as u64), Word::Plain(words.as_str())],
-    )
-}
-
-/// The words of a reading.
-fn reading_words(alloc: Global, reading: Reading) -> Answer {
+/// Writes a reading.
+fn add_reading(line: &mut Line, reading: Reading) {
     match reading {
-        Reading::One { option, values } => values_words(alloc, option, values.items()),
-        Reading::Nothing => said(alloc, "Nothing"),
-        Reading::Memory => Err(Refusal::Memory),
+        Reading::One { option, values } => {
+            line.debug(option);
+            line.texts(values.items());
+        }
+        Reading::Nothing => line.plain("Nothing"),
+        Reading::Memory => line.want_memory(),
     }
 }
 
-/// The numbers of two options that share a list.
-fn pair_words(alloc: Global, pair: &Shared) -> Answer {
-    let first = pair.first as u64;
-    let second = pair.second as u64;
-    joined(
-        alloc,
-        &[
-            Word::Plain("Ambiguous"),
-            Word::Number(first),
-            Word::Number(second),
-        ],
-    )
+/// Writes that two options share a list.
+fn add_pair(line: &mut Line, pair: Shared) {
+    line.plain("Ambiguous");
+    line.debug(pair.first);
+    line.debug(pair.second);
 }
 
-/// What a level says of a text.
-fn text_by(alloc: Global, level: &Level, text: &[u8]) -> Answer {
-    if let Some(pair) = first_share(alloc, level)? {
-        return pair_words(alloc, &pair);
-    }
-    reading_words(alloc, read_text(alloc, level, text))
-}
-
-fn text_read(alloc: Global, text: &[u8], words: &[Text]) -> Answer {
+/// Writes what a level says of a text.
+fn text_read(alloc: Global, line: &mut Line, text: &[u8], words: &[Text]) -> Done {
     let level = level_of(alloc, false, words)?;
-    text_by(alloc, &level, text)
-}
-
-/// What a level says of bits.
-fn bits_by(alloc: Global, level: &Level, bits: &BitBuf<64>) -> Answer {
-    if let Some(pair) = first_share(alloc, level)? {
-        return pair_words(alloc, &pair);
+    match first_share(alloc, &level) {
+        Ok(Some(pair)) => add_pair(line, pair),
+        Err(Memory) => line.want_memory(),
+        Ok(None) => add_reading(line, read_text(alloc, &level, text)),
     }
-    reading_words(alloc, read_bits(alloc, level, bits))
+    Ok(())
 }
 
-fn bits_read(alloc: Global, digits: &[u8], words: &[Text]) -> Answer {
+/// Writes what a level says of bits.
+fn bits_read(alloc: Global, line: &mut Line, digits: &[u8], words: &[Text]) -> Done {
     let bits = buffer::<64>(digits)?;
     let level = level_of(alloc, true, words)?;
-    bits_by(alloc, &level, &bits)
+    match first_share(alloc, &level) {
+        Ok(Some(pair)) => add_pair(line, pair),
+        Err(Memory) => line.want_memory(),
+        Ok(None) => add_reading(line, read_bits(alloc, &level, &bits)),
+    }
+    Ok(())
 }

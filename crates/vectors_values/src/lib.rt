@@ -13,21 +13,52 @@ mod prefixes;
 
 use gs_chars::Text;
 use std::alloc::Global;
-use vector_cases::{Answer, Refusal};
+use vector_cases::{Answer, Done, Line, Refusal, named};
+
+#[derive(Clone, Copy)]
+enum Library {
+    Bits,
+    Characters,
+    Documents,
+    Grammars,
+    Levels,
+    Linksets,
+    Machines,
+    Prefixes,
+}
+
+const LIBRARIES: [(&str, Library); 11] = [
+    ("gs_ambig", Library::Machines),
+    ("gs_bits", Library::Bits),
+    ("gs_chars", Library::Characters),
+    ("gs_compile", Library::Machines),
+    ("gs_grammar", Library::Grammars),
+    ("gs_json", Library::Documents),
+    ("gs_level", Library::Levels),
+    ("gs_linkset", Library::Linksets),
+    ("gs_machine", Library::Machines),
+    ("gs_prefix", Library::Prefixes),
+    ("gs_share", Library::Machines),
+];
+
+/// Writes the answer to a call of a library.
+fn write(alloc: Global, line: &mut Line, library: &[u8], call: &[u8], args: &[Text]) -> Done {
+    match named(&LIBRARIES, library) {
+        Some(Library::Bits) => bits::answer(alloc, line, call, args),
+        Some(Library::Characters) => characters::answer(alloc, line, call, args),
+        Some(Library::Documents) => documents::answer(alloc, line, call, args),
+        Some(Library::Grammars) => grammars::answer(alloc, line, call, args),
+        Some(Library::Levels) => levels::answer(alloc, line, call, args),
+        Some(Library::Linksets) => linksets::answer(alloc, line, call, args),
+        Some(Library::Machines) => machines::answer(alloc, line, call, args),
+        Some(Library::Prefixes) => prefixes::answer(alloc, line, call, args),
+        None => Err(Refusal::NoCase),
+    }
+}
 
 /// The answer to a call of one of the libraries that need no table set.
 pub fn answer(alloc: Global, library: &str, call: &str, args: &[Text]) -> Answer {
-    match library {
-        "gs_chars" => characters::answer(alloc, call, args),
-        "gs_bits" => bits::answer(alloc, call, args),
-        "gs_json" => documents::answer(alloc, call, args),
-        "gs_grammar" => grammars::answer(alloc, call, args),
-        "gs_level" => levels::answer(alloc, call, args),
-        "gs_linkset" => linksets::answer(alloc, call, args),
-        "gs_prefix" => prefixes::answer(alloc, call, args),
-        "gs_machine" | "gs_ambig" | "gs_compile" | "gs_share" => machines::answer(
-            alloc, call, args,
-        ),
-        _ => Err(Refusal::NoCase),
-    }
+    let mut line = Line::new(alloc);
+    let done = write(alloc, &mut line, library.as_bytes(), call.as_bytes(), args);
+    line.finish(done)
 }

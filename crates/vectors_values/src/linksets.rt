@@ -7,115 +7,96 @@
 //! - `new ANCHOR NAME HREF.. / NAME HREF..`: what is written of the linkset of one context with these relations, or the refusal.
 //! - `copy DOC`: a copy of the first target, `None` where there is none, or the fault.
 
-use gs_chars::{List, Memory, Text};
+use gs_chars::{List, Text};
 use gs_linkset::{Attr, AttrValue, Context, LinkDoc, Relation, Target};
 use std::alloc::Global;
-use vector_cases::{
-    Answer, Refusal, Word, add_shown, add_words, debug_word, fault_word, push, said, text_word,
-};
+use vector_cases::{Done, Line, Refusal, behind, bytes_at, named, push};
 
-/// The answer to a call of gs_linkset.
-pub fn answer(alloc: Global, call: &str, args: &[Text]) -> Answer {
-    let [first, others @ ..] = args else {
-        return Err(Refusal::NoCase);
-    };
-    match call {
-        "read" => read(alloc, first.as_bytes()),
-        "write" => write(alloc, first.as_bytes()),
-        "new" => made(alloc, first.as_bytes(), others),
-        "copy" => copy(alloc, first.as_bytes()),
-        _ => Err(Refusal::NoCase),
+#[derive(Clone, Copy)]
+enum Call {
+    Copy,
+    New,
+    Read,
+    Write,
+}
+
+const CALLS: [(&str, Call); 4] = [
+    ("copy", Call::Copy),
+    ("new", Call::New),
+    ("read", Call::Read),
+    ("write", Call::Write),
+];
+
+/// Answers a call of gs_linkset.
+pub fn answer(alloc: Global, line: &mut Line, call: &[u8], args: &[Text]) -> Done {
+    let first = bytes_at(args, 0);
+    match named(&CALLS, call) {
+        Some(Call::New) => made(alloc, line, first, behind(args, 1)),
+        Some(over) => answer_over(alloc, line, over, first),
+        None => Err(Refusal::NoCase),
     }
 }
 
-fn add_texts(alloc: Global, answer: &mut String, texts: &[Text]) -> Result<(), Refusal> {
-    for text in texts {
-        add_shown(alloc, answer, text.as_bytes())?;
+/// Answers a call over a document.
+fn answer_over(alloc: Global, line: &mut Line, call: Call, document: &[u8]) -> Done {
+    match gs_linkset::read(alloc, document) {
+        Ok(doc) => told(alloc, line, call, &doc),
+        Err(fault) => {
+            line.fault(fault);
+            Ok(())
+        }
     }
-    Ok(())
 }
 
-fn add_pairs(alloc: Global, answer: &mut String, pairs: &[(Text, Text)]) -> Result<(), Refusal> {
-    for (text, language) in pairs {
-        let words = [
-            Word::Bytes(text.as_bytes()),
-            Word::Bytes(language.as_bytes()),
-        ];
-        add_words(alloc, answer, &words)?;
-    }
-    Ok(())
-}
-
-/// Appends a word and a name.
-fn add_named(alloc: Global, answer: &mut String, kind: &str, name: &Text) -> Result<(), Refusal> {
-    add_words(
-        alloc,
-        answer,
-        &[Word::Plain(kind), Word::Bytes(name.as_bytes())],
-    )
-}
-
-fn add_attr(alloc: Global, answer: &mut String, attr: &Attr) -> Result<(), Refusal> {
-    let kind = match &attr.value {
+fn add_attr(line: &mut Line, attr: &Attr) {
+    line.plain(match &attr.value {
         AttrValue::One(_) => "One",
         AttrValue::Many(_) => "Many",
         AttrValue::Tagged(_) => "Tagged",
-    };
-    add_named(alloc, answer, kind, &attr.name)?;
+    });
+    line.bytes(attr.name.as_bytes());
     match &attr.value {
-        AttrValue::One(text) => add_shown(alloc, answer, text.as_bytes()),
-        AttrValue::Many(texts) => add_texts(alloc, answer, texts.items()),
-        AttrValue::Tagged(pairs) => add_pairs(alloc, answer, pairs.items()),
+        AttrValue::One(text) => line.bytes(text.as_bytes()),
+        AttrValue::Many(texts) => line.texts(texts.items()),
+        AttrValue::Tagged(pairs) => add_pairs(line, pairs.items()),
     }
 }
 
-fn add_target(alloc: Global, answer: &mut String, target: &Target) -> Result<(), Refusal> {
-    add_named(alloc, answer, "Target", &target.href)?;
+fn add_pairs(line: &mut Line, pairs: &[(Text, Text)]) {
+    for (text, language) in pairs {
+        line.bytes(text.as_bytes());
+        line.bytes(language.as_bytes());
+    }
+}
+
+fn add_target(line: &mut Line, target: &Target) {
+    line.plain("Target");
+    line.bytes(target.href.as_bytes());
     for attr in target.attrs.items() {
-        add_attr(alloc, answer, attr)?;
+        add_attr(line, attr);
     }
-    Ok(())
 }
 
-fn add_relation(alloc: Global, answer: &mut String, relation: &Relation) -> Result<(), Refusal> {
-    add_named(alloc, answer, "Relation", &relation.name)?;
+fn add_relation(line: &mut Line, relation: &Relation) {
+    line.plain("Relation");
+    line.bytes(relation.name.as_bytes());
     for target in relation.targets.items() {
-        add_target(alloc, answer, target)?;
+        add_target(line, target);
     }
-    Ok(())
 }
 
-fn add_context(alloc: Global, answer: &mut String, context: &Context) -> Result<(), Refusal> {
-    add_named(alloc, answer, "Context", &context.anchor)?;
+fn add_context(line: &mut Line, context: &Context) {
+    line.plain("Context");
+    line.bytes(context.anchor.as_bytes());
     for relation in context.relations.items() {
-        add_relation(alloc, answer, relation)?;
-    }
-    Ok(())
-}
-
-fn read(alloc: Global, document: &[u8]) -> Answer {
-    match gs_linkset::read(alloc, document) {
-        Ok(doc) => contexts_words(alloc, doc.contexts()),
-        Err(fault) => fault_word(alloc, fault),
+        add_relation(line, relation);
     }
 }
 
-fn contexts_words(alloc: Global, contexts: &[Context]) -> Answer {
-    let mut answer = said(alloc, "Linkset")?;
+fn add_contexts(line: &mut Line, contexts: &[Context]) {
+    line.plain("Linkset");
     for context in contexts {
-        add_context(alloc, &mut answer, context)?;
-    }
-    Ok(answer)
-}
-
-fn written(alloc: Global, doc: &LinkDoc) -> Answer {
-    text_word(alloc, gs_linkset::write(alloc, doc))
-}
-
-fn write(alloc: Global, document: &[u8]) -> Answer {
-    match gs_linkset::read(alloc, document) {
-        Ok(doc) => written(alloc, &doc),
-        Err(fault) => fault_word(alloc, fault),
+        add_context(line, context);
     }
 }
 
@@ -173,11 +154,13 @@ fn contexts_of(alloc: Global, anchor: &[u8], words: &[Text]) -> Result<List<Cont
     Ok(List::from_vec(contexts))
 }
 
-fn made(alloc: Global, anchor: &[u8], words: &[Text]) -> Answer {
+/// Writes what is written of the linkset of one context with these relations, or the refusal.
+fn made(alloc: Global, line: &mut Line, anchor: &[u8], words: &[Text]) -> Done {
     match LinkDoc::new(contexts_of(alloc, anchor, words)?) {
-        Ok(doc) => written(alloc, &doc),
-        Err(fault) => debug_word(alloc, &fault),
+        Ok(doc) => line.text_made(gs_linkset::write(alloc, &doc)),
+        Err(fault) => line.debug(fault),
     }
+    Ok(())
 }
 
 /// The first target of the first relation of the first context.
@@ -187,23 +170,21 @@ fn first_target(doc: &LinkDoc) -> Option<&Target> {
     relation.targets.items().first()
 }
 
-fn copy(alloc: Global, document: &[u8]) -> Answer {
-    match gs_linkset::read(alloc, document) {
-        Ok(doc) => copied(alloc, first_target(&doc)),
-        Err(fault) => fault_word(alloc, fault),
-    }
-}
-
-/// A copy of a target, or `None`.
-fn copied(alloc: Global, target: Option<&Target>) -> Answer {
+/// Writes a copy of a target, or `None`.
+fn add_copy(alloc: Global, line: &mut Line, target: Option<&Target>) -> Done {
     match target {
-        Some(target) => target_words(alloc, &target.copy(alloc)?),
-        None => said(alloc, "None"),
+        Some(target) => add_target(line, &target.copy(alloc)?),
+        None => line.plain("None"),
     }
+    Ok(())
 }
 
-fn target_words(alloc: Global, target: &Target) -> Answer {
-    let mut answer = String::new(alloc);
-    add_target(alloc, &mut answer, target)?;
-    Ok(answer)
+/// Writes what a call tells of a linkset.
+fn told(alloc: Global, line: &mut Line, call: Call, doc: &LinkDoc) -> Done {
+    match call {
+        Call::Copy => return add_copy(alloc, line, first_target(doc)),
+        Call::Write => line.text_made(gs_linkset::write(alloc, doc)),
+        Call::New | Call::Read => add_contexts(line, doc.contexts()),
+    }
+    Ok(())
 }

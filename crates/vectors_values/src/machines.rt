@@ -7,36 +7,50 @@
 //!   machines are compiled of the options.
 //! - `first_share LEVEL ITEM.. | ITEM..`: `None`, or the two options of the level.
 
-use crate::grammars::options_of;
+use crate::grammars::{is_bits, options_of};
 use crate::levels::level_of;
 use gs_ambig::{Verdict, check};
-use gs_chars::{List, Text};
+use gs_chars::{List, Memory, Text};
 use gs_compile::compile;
 use gs_grammar::Opt;
-use gs_level::Level;
 use gs_machine::{Auto, Edge};
 use gs_share::first_share;
 use std::alloc::Global;
-use vector_cases::{
-    Answer, Refusal, Word, arg, joined, number_of, numbers_of, push, said, text_of,
-};
+use vector_cases::{Done, Line, Refusal, behind, bytes_at, named, number_of, numbers_of, push};
 
-/// The answer to a call of gs_machine, gs_ambig or gs_compile.
-pub fn answer(alloc: Global, call: &str, args: &[Text]) -> Answer {
-    match call {
-        "machine" => machine(alloc, arg(args, 0)?),
-        "check" => checked(alloc, args),
-        "share" => shared(alloc, args),
-        "first_share" => first_shared(alloc, args),
-        _ => Err(Refusal::NoCase),
+#[derive(Clone, Copy)]
+enum Call {
+    Check,
+    FirstShare,
+    Machine,
+    Share,
+}
+
+const CALLS: [(&str, Call); 4] = [
+    ("check", Call::Check),
+    ("first_share", Call::FirstShare),
+    ("machine", Call::Machine),
+    ("share", Call::Share),
+];
+
+/// Answers a call of gs_machine, gs_ambig, gs_compile or gs_share.
+pub fn answer(alloc: Global, line: &mut Line, call: &[u8], args: &[Text]) -> Done {
+    let first = bytes_at(args, 0);
+    match named(&CALLS, call) {
+        Some(Call::Check) => checked(alloc, line, args),
+        Some(Call::FirstShare) => first_shared(alloc, line, is_bits(first), behind(args, 1)),
+        Some(Call::Machine) => machine(alloc, line, first),
+        Some(Call::Share) => shared(alloc, line, is_bits(first), behind(args, 1)),
+        None => Err(Refusal::NoCase),
     }
 }
 
-fn symbol_of(text: &str) -> Result<u8, Refusal> {
-    match u8::try_from(number_of(text)?) {
-        Ok(symbol) => Ok(symbol),
-        Err(_) => Err(Refusal::NoCase),
-    }
+/// The symbol that a word tells.
+fn symbol_of(word: &str) -> Result<u8, Refusal> {
+    let Ok(symbol) = u8::try_from(number_of(word.as_bytes())?) else {
+        return Err(Refusal::NoCase);
+    };
+    Ok(symbol)
 }
 
 fn edge_of(text: &str) -> Result<Edge, Refusal> {
@@ -49,7 +63,7 @@ fn edge_of(text: &str) -> Result<Edge, Refusal> {
     Ok(Edge {
         lo: symbol_of(lo)?,
         hi: symbol_of(hi)?,
-        to: number_of(state)? as usize,
+        to: number_of(state.as_bytes())? as usize,
     })
 }
 
@@ -81,7 +95,10 @@ fn borders_of(alloc: Global, text: &str) -> Result<Vec<usize>, Refusal> {
 
 /// The machine of a word, where it is one.
 fn made(alloc: Global, word: &[u8]) -> Result<Option<Auto>, Refusal> {
-    match text_of(word)?.split_once('/') {
+    let Ok(text) = str::from_utf8(word) else {
+        return Err(Refusal::NoCase);
+    };
+    match text.split_once('/') {
         Some((borders, rows)) => machine_of(alloc, borders, rows),
         None => Err(Refusal::NoCase),
     }
@@ -94,31 +111,28 @@ fn machine_of(alloc: Global, borders: &str, rows: &str) -> Result<Option<Auto>, 
     Ok(Auto::new(alloc, rows.as_slice(), borders)?)
 }
 
-fn machine(alloc: Global, word: &[u8]) -> Answer {
-    match made(alloc, word)? {
-        Some(auto) => machine_words(alloc, &auto),
-        None => said(alloc, "None"),
+/// Writes the number of states and the start of a machine, or `None`.
+fn machine(alloc: Global, line: &mut Line, word: &[u8]) -> Done {
+    match made(alloc, word) {
+        Ok(Some(auto)) => add_pair(line, auto.states(), auto.start()),
+        Ok(None) => line.plain("None"),
+        Err(refusal) => return Err(refusal),
     }
+    Ok(())
 }
 
-/// The number of states and the start of a machine.
-fn machine_words(alloc: Global, auto: &Auto) -> Answer {
-    pair_words(alloc, auto.states(), auto.start())
-}
-
-/// Two numbers.
-fn pair_words(alloc: Global, first: usize, second: usize) -> Answer {
-    joined(
-        alloc,
-        &[Word::Number(first as u64), Word::Number(second as u64)],
-    )
+/// Writes two numbers.
+fn add_pair(line: &mut Line, first: usize, second: usize) {
+    line.debug(first);
+    line.debug(second);
 }
 
 /// The machine of a word.
 fn sure_machine(alloc: Global, word: &[u8]) -> Result<Auto, Refusal> {
-    match made(alloc, word)? {
-        Some(auto) => Ok(auto),
-        None => Err(Refusal::NoCase),
+    match made(alloc, word) {
+        Ok(Some(auto)) => Ok(auto),
+        Ok(None) => Err(Refusal::NoCase),
+        Err(refusal) => Err(refusal),
     }
 }
 
@@ -130,29 +144,18 @@ fn machines_of(alloc: Global, words: &[Text]) -> Result<Vec<Auto>, Refusal> {
     Ok(machines)
 }
 
-fn checked(alloc: Global, words: &[Text]) -> Answer {
+/// Writes `Clear`, or the two machines and a list of symbols that they share.
+fn checked(alloc: Global, line: &mut Line, words: &[Text]) -> Done {
     let machines = machines_of(alloc, words)?;
-    verdict_words(alloc, machines.as_slice())
-}
-
-/// `Clear`, or the two machines and a list of symbols that they share.
-fn verdict_words(alloc: Global, machines: &[Auto]) -> Answer {
-    match check(alloc, machines)? {
-        Verdict::Clear => said(alloc, "Clear"),
-        Verdict::Double { i, j, word } => double_words(alloc, i, j, word.as_bytes()),
+    match check(alloc, machines.as_slice()) {
+        Ok(Verdict::Clear) => line.plain("Clear"),
+        Ok(Verdict::Double { i, j, word }) => {
+            add_pair(line, i, j);
+            line.text(word);
+        }
+        Err(Memory) => line.want_memory(),
     }
-}
-
-/// Two machines, and a list of symbols.
-fn double_words(alloc: Global, i: usize, j: usize, word: &[u8]) -> Answer {
-    joined(
-        alloc,
-        &[
-            Word::Number(i as u64),
-            Word::Number(j as u64),
-            Word::Bytes(word),
-        ],
-    )
+    Ok(())
 }
 
 /// The machine of an option.
@@ -160,50 +163,34 @@ fn compiled_of(alloc: Global, option: &Opt) -> Result<Auto, Refusal> {
     Ok(compile(alloc, option)?)
 }
 
-/// The machines of some options.
-fn compiled_all(alloc: Global, options: &[Opt]) -> Result<Vec<Auto>, Refusal> {
+/// The machines of the options of the words.
+fn compiled(alloc: Global, bit_level: bool, words: &[Text]) -> Result<Vec<Auto>, Refusal> {
+    let options = options_of(alloc, bit_level, words)?;
     let mut machines = Vec::new(alloc);
-    for option in options {
+    for option in options.as_slice() {
         push(&mut machines, compiled_of(alloc, option))?;
     }
     Ok(machines)
 }
 
-/// The machines of the options of the words.
-fn compiled(alloc: Global, bit_level: bool, words: &[Text]) -> Result<Vec<Auto>, Refusal> {
-    let options = options_of(alloc, bit_level, words)?;
-    compiled_all(alloc, options.as_slice())
-}
-
-fn shared(alloc: Global, args: &[Text]) -> Answer {
-    let [level, words @ ..] = args else {
-        return Err(Refusal::NoCase);
-    };
-    let machines = compiled(alloc, level.as_bytes() == b"bits".as_slice(), words)?;
-    shared_words(alloc, machines.as_slice())
-}
-
-/// `Clear`, or the two machines that share a list of symbols.
-fn shared_words(alloc: Global, machines: &[Auto]) -> Answer {
-    match check(alloc, machines)? {
-        Verdict::Clear => said(alloc, "Clear"),
-        Verdict::Double { i, j, word: _ } => pair_words(alloc, i, j),
+/// Writes `Clear`, or the two options whose machines share a list of symbols.
+fn shared(alloc: Global, line: &mut Line, bit_level: bool, words: &[Text]) -> Done {
+    let machines = compiled(alloc, bit_level, words)?;
+    match check(alloc, machines.as_slice()) {
+        Ok(Verdict::Clear) => line.plain("Clear"),
+        Ok(Verdict::Double { i, j, word: _ }) => add_pair(line, i, j),
+        Err(Memory) => line.want_memory(),
     }
+    Ok(())
 }
 
-fn first_shared(alloc: Global, args: &[Text]) -> Answer {
-    let [level, words @ ..] = args else {
-        return Err(Refusal::NoCase);
-    };
-    let bit_level = level.as_bytes() == b"bits".as_slice();
+/// Writes the first two options of a level that share a list of symbols, or `None`.
+fn first_shared(alloc: Global, line: &mut Line, bit_level: bool, words: &[Text]) -> Done {
     let level = level_of(alloc, bit_level, words)?;
-    first_pair(alloc, &level)
-}
-
-/// The first two options of a level that share a list of symbols.
-fn first_pair(alloc: Global, level: &Level) -> Answer {
-    match first_share(alloc, level)? {
-        Some(pair) => pair_words(alloc, pair.first, pair.second),
-        None => said(alloc, "None"),
+    match first_share(alloc, &level) {
+        Ok(Some(pair)) => add_pair(line, pair.first, pair.second),
+        Ok(None) => line.plain("None"),
+        Err(Memory) => line.want_memory(),
     }
+    Ok(())
 }

@@ -7,24 +7,34 @@
 use gs_chars::Text;
 use gs_prefix::{PrefixFault, PrefixList};
 use std::alloc::Global;
-use vector_cases::{Answer, Refusal, arg, debug_word, fault_word};
+use vector_cases::{Done, Line, Refusal, bytes_at, named};
 
-/// The answer to a call of gs_prefix.
-pub fn answer(alloc: Global, call: &str, args: &[Text]) -> Answer {
-    match call {
-        "load" => load(alloc, arg(args, 0)?),
-        "length_of" => length_of(alloc, args),
-        _ => Err(Refusal::NoCase),
+#[derive(Clone, Copy)]
+enum Call {
+    LengthOf,
+    Load,
+}
+
+const CALLS: [(&str, Call); 2] = [("length_of", Call::LengthOf), ("load", Call::Load)];
+
+/// Answers a call of gs_prefix.
+pub fn answer(alloc: Global, line: &mut Line, call: &[u8], args: &[Text]) -> Done {
+    let document = bytes_at(args, 0);
+    match named(&CALLS, call) {
+        Some(Call::LengthOf) => length_of(alloc, line, document, bytes_at(args, 1)),
+        Some(Call::Load) => load(alloc, line, document),
+        None => Err(Refusal::NoCase),
     }
 }
 
-fn load(alloc: Global, document: &[u8]) -> Answer {
+fn load(alloc: Global, line: &mut Line, document: &[u8]) -> Done {
     match PrefixList::load(alloc, document) {
-        Ok(list) => debug_word(alloc, &list.len()),
-        Err(PrefixFault::Json(fault)) => fault_word(alloc, fault),
-        Err(PrefixFault::Memory) => Err(Refusal::Memory),
-        Err(fault) => debug_word(alloc, &fault),
+        Ok(list) => line.debug(list.len()),
+        Err(PrefixFault::Json(fault)) => line.fault(fault),
+        Err(PrefixFault::Memory) => line.want_memory(),
+        Err(fault) => line.debug(fault),
     }
+    Ok(())
 }
 
 /// The list of a document, where it is one.
@@ -39,10 +49,8 @@ fn list_of(alloc: Global, document: &[u8]) -> Result<PrefixList, Refusal> {
     }
 }
 
-fn length_of(alloc: Global, args: &[Text]) -> Answer {
-    let [document, digits, ..] = args else {
-        return Err(Refusal::NoCase);
-    };
-    let list = list_of(alloc, document.as_bytes())?;
-    debug_word(alloc, &list.length_of(digits.as_bytes()))
+fn length_of(alloc: Global, line: &mut Line, document: &[u8], digits: &[u8]) -> Done {
+    let list = list_of(alloc, document)?;
+    line.debug(list.length_of(digits));
+    Ok(())
 }
