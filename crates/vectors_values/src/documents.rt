@@ -1,5 +1,6 @@
 //! Calls of gs_json. The part of a document DOC that is asked is found by STEPs from the whole: `.NAME` is the member of this
-//! name, `?NAME` the same where there may be none, and `#I` the item of this number.
+//! name, `?NAME` the same where there may be none, `!NAME` where there may be no object either, and `#I` the item of this
+//! number.
 //!
 //! - `parse DOC`: `Ok`, or the fault.
 //! - `text DOC STEP..`, `number`, `truth`, `count`, `names`: what the part is, or the fault; `None` where a step finds none.
@@ -8,7 +9,7 @@
 //!
 //! A fault is `Syntax`, or `Lacks`, `Kind` or `Unknown` and the place.
 
-use gs_chars::Text;
+use gs_chars::{Memory, Text};
 use gs_json::{Doc, Entry, JsonFault, Node, Sort};
 use std::alloc::Global;
 use std::fmt::Debug;
@@ -101,6 +102,14 @@ fn walk_maybe<'a>(found: Result<Option<Node<'a>>, JsonFault>) -> Walked<'a> {
     }
 }
 
+/// Where a step leads, which may find nothing and never refuses.
+fn walk_found(found: Result<Option<Node<'_>>, Memory>) -> Result<Walked<'_>, Refusal> {
+    match found? {
+        Some(part) => Ok(Walked::At(part)),
+        None => Ok(Walked::Absent),
+    }
+}
+
 /// Where a step leads from a part.
 fn stepped<'a>(alloc: Global, node: &Node<'a>, step: &[u8]) -> Result<Walked<'a>, Refusal> {
     let [kind, rest @ ..] = step else {
@@ -112,6 +121,7 @@ fn stepped<'a>(alloc: Global, node: &Node<'a>, step: &[u8]) -> Result<Walked<'a>
     match *kind {
         b'.' => Ok(walk_to(node.member(alloc, word))),
         b'?' => Ok(walk_maybe(node.maybe(alloc, word))),
+        b'!' => walk_found(node.find(alloc, word)),
         b'#' => item_at(alloc, node, rest),
         _ => Err(Refusal::NoCase),
     }
