@@ -17,8 +17,8 @@ use Rattle.gs_ai.specs.Values.{greatest_of, has_length_of, is_checked, keeps_che
 use Rattle.gs_ai.proofs.PartLemmas.{wrong-cons}
 use Rattle.gs_ai.proofs.Searches.{cons_none, equal_bytes}
 use Rattle.gs_document.specs.declared.kind.Kind.{Kind}
-use Rattle.gs_tables.specs.declared.form.KeyForm.{KeyForm}
-use Rattle.gs_tables.specs.declared.form.KeyForm.TheVariants.{Digits}
+use Rattle.gs_rows.specs.declared.form.KeyForm.{KeyForm}
+use Rattle.gs_rows.specs.declared.form.KeyForm.TheVariants.{Digits}
 use Rattle.gs_tables.specs.Forms.{key_form, tail_of}
 use Rattle.gs_tables.specs.Rules.{is_lead}
 use Rattle.gs_epc.specs.Layout.{key_digits, key_value, tail_of_key, with_check}

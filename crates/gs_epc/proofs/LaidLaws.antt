@@ -21,7 +21,7 @@ use Rattle.gs_document.specs.declared.kind.SerialAt.TheVariants.{Nowhere, Tail, 
 use Rattle.gs_document.specs.declared.level_name.LevelName.TheVariants.{Binary, Tag, Pure}
 use Rattle.gs_tables.specs.KeptRules.{KeptKind}
 use Rattle.gs_tables.specs.Tables.{IsShaped, TableRows, kind_of, kinds_refusals, level_refusals, limit_refusals, row_refusals}
-use Rattle.gs_tables.proofs.KeptRows.{kind_at}
+use Rattle.gs_rows.proofs.KeptRows.{kind_at}
 use Rattle.gs_epc.specs.declared.epc.Epc.{Epc}
 use Rattle.gs_epc.specs.Layout.{IsLaidOut, lay, parts_at, serial_elements}
 use Rattle.gs_epc.specs.Taking.{IsOfKind, epc_at, epc_of_key, prefix_in, rest_in, serial_in, take_apart}

@@ -10,7 +10,7 @@ use Rattle.gs_ident.specs.declared.faults.IdentFault.{IdentFault}
 use Rattle.gs_ident.specs.declared.faults.IdentFault.TheVariants as ident
 use Rattle.gs_ident.specs.Elements.{Elements}
 use Rattle.gs_ident.specs.Identities.{IsInOrder, identity_of_pairs}
-use Rattle.gs_tables.specs.declared.form.KeyForm.{KeyForm}
+use Rattle.gs_rows.specs.declared.form.KeyForm.{KeyForm}
 use Rattle.gs_document.specs.declared.kind.Kind.{Kind}
 use Rattle.gs_document.specs.declared.kind.SerialAt.{SerialAt}
 use Rattle.gs_document.specs.declared.kind.SerialAt.TheVariants.{Nowhere, Tail, Ai}

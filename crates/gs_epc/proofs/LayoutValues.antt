@@ -20,8 +20,8 @@ use Rattle.gs_ai.specs.Tables.{is_row}
 use Rattle.gs_ai.specs.Values.{has_code, parts_fault, value_fault}
 use Rattle.gs_ai.proofs.RowLemmas.{and_left, and_right, listed, row_parts}
 use Rattle.gs_ident.specs.Identities.{IsInOrder}
-use Rattle.gs_tables.specs.declared.form.KeyForm.{KeyForm}
-use Rattle.gs_tables.specs.declared.form.KeyForm.TheVariants.{Digits, Characters}
+use Rattle.gs_rows.specs.declared.form.KeyForm.{KeyForm}
+use Rattle.gs_rows.specs.declared.form.KeyForm.TheVariants.{Digits, Characters}
 use Rattle.gs_document.specs.declared.kind.Kind.{Kind}
 use Rattle.gs_document.specs.declared.kind.SerialAt.{SerialAt}
 use Rattle.gs_document.specs.declared.kind.SerialAt.TheVariants.{Nowhere, Tail, Ai}

@@ -15,8 +15,8 @@ use Rattle.gs_document.specs.declared.kind.Kind.{Kind}
 use Rattle.gs_document.specs.declared.kind.SerialAt.{SerialAt}
 use Rattle.gs_document.specs.declared.kind.SerialAt.TheVariants.{Nowhere, Tail, Ai}
 use Rattle.gs_ident.specs.Identities.{stands_for_none}
-use Rattle.gs_tables.specs.declared.form.KeyForm.{KeyForm}
-use Rattle.gs_tables.specs.declared.form.KeyForm.TheVariants.{Digits, Characters}
+use Rattle.gs_rows.specs.declared.form.KeyForm.{KeyForm}
+use Rattle.gs_rows.specs.declared.form.KeyForm.TheVariants.{Digits, Characters}
 use Rattle.gs_tables.specs.Forms.{key_form, serial_room, tail_of}
 use Rattle.gs_tables.specs.Rules.{is_serial_of}
 use Rattle.gs_epc.specs.Kept.{FitForm, FitKind, FitsRoom}

@@ -13,7 +13,7 @@ use Rattle.gs_tables.specs.declared.field_items.Found.{Found}
 use Rattle.gs_tables.specs.declared.field_items.Found.TheVariants.{One, More}
 use Rattle.gs_tables.specs.Founds.{IsFound, IsMany}
 use Rattle.gs_document.specs.Items.{FieldItem}
-use Rattle.gs_tables.specs.Rules.{is_field, items_of_field}
+use Rattle.gs_rows.specs.Rules.{is_field, items_of_field}
 
 abbrev there : List (Option FieldItem) → List FieldItem
 there xs = flat_map option_to_list xs

@@ -11,7 +11,7 @@ use Rattle.gs_grammar.specs.Ambiguity.{ShowsFirstShare}
 use Rattle.gs_grammar.specs.Levels.{LevelForm}
 use Rattle.gs_tables.specs.Judged.{AreClear, IsClear, IsFirstAmbiguous, IsLoaded, Judged, levels_of}
 use Rattle.gs_tables.specs.Shapes.{AreAlike, HasMemory, but_text, same}
-use Rattle.gs_tables.specs.Tables.{IsShaped, TableRows}
+use Rattle.gs_rows.specs.Tables.{IsShaped, TableRows}
 use Rattle.gs_tables.proofs.JudgedLevels.{items_kept, level_decided}
 
 -- what holds of the answers of rules: there is one beside want of memory and no other, none names an ambiguous level, and their

@@ -18,10 +18,10 @@ use Rattle.gs_grammar.specs.Ambiguity.{AreItems, HasFirstShare, ShowsFirstShare,
 use Rattle.gs_grammar.specs.Levels.{LevelForm, OptionForm, item_lists}
 use Rattle.gs_grammar.proofs.DecidedShares.{share_decided}
 use Rattle.gs_grammar.proofs.WordLaws.{all_items}
-use Rattle.gs_tables.specs.declared.level_table.LevelTable.{LevelTable}
-use Rattle.gs_tables.specs.declared.level_tables.LevelTables.{LevelTables}
+use Rattle.gs_rows.specs.declared.level_table.LevelTable.{LevelTable}
+use Rattle.gs_rows.specs.declared.level_tables.LevelTables.{LevelTables}
 use Rattle.gs_tables.specs.Judged.{AreClear, AreClearBefore, AreJudged, AreOfRows, IsClear, IsFirstAmbiguous, IsLevelJudged, Judged, by_name, levels_of, levels_of_rows}
-use Rattle.gs_tables.specs.Tables.{IsAnswer, IsShaped, TableRows, level_of, level_rows, limit_refusals, row_refusals, rule_refusals, kind_of, set_of}
+use Rattle.gs_rows.specs.Tables.{IsAnswer, IsShaped, TableRows, level_of, level_rows, limit_refusals, row_refusals, rule_refusals, kind_of, set_of}
 use Rattle.gs_tables.proofs.KeptSets.{as_many_said, options_kept}
 use Rattle.gs_tables.proofs.SetLemmas.{others_refused, rules_kept, set_made}
 use Rattle.gs_tables.proofs.RuledRefusals.{ruled_first, ruled_of_document}

@@ -16,12 +16,12 @@ use Rattle.gs_document.specs.declared.opt_info.OptInfo.{OptInfo}
 use Rattle.gs_document.specs.Documents.{is_bits}
 use Rattle.gs_grammar.specs.declared.item.Item.{Item}
 use Rattle.gs_grammar.specs.Levels.{OptionForm, item_lists}
-use Rattle.gs_tables.specs.declared.form.KeyForm.{KeyForm}
-use Rattle.gs_tables.specs.Forms.{form_at, key_form}
-use Rattle.gs_tables.specs.KeptRules.{AreKept, KeptOption}
-use Rattle.gs_tables.specs.Rules.{has_name}
-use Rattle.gs_tables.specs.Tables.{IsShaped, TableRows, info_of, items_alone, items_there, kind_of, kinds_refusals, level_of, level_refusals, level_rows, limit_refusals, option_form, options_of, row_refusals, rule_refusals, set_of}
-use Rattle.gs_tables.proofs.KeptRows.{kind_at, placed, row_at}
+use Rattle.gs_rows.specs.declared.form.KeyForm.{KeyForm}
+use Rattle.gs_rows.specs.Forms.{form_at, key_form}
+use Rattle.gs_rows.specs.KeptRules.{AreKept, KeptOption}
+use Rattle.gs_rows.specs.Rules.{has_name}
+use Rattle.gs_rows.specs.Tables.{IsShaped, TableRows, info_of, items_alone, items_there, kind_of, kinds_refusals, level_of, level_refusals, level_rows, limit_refusals, option_form, options_of, row_refusals, rule_refusals, set_of}
+use Rattle.gs_rows.proofs.KeptRows.{kind_at, placed, row_at}
 use Rattle.gs_tables.proofs.SetLemmas.{sound}
 
 -- ---- the rows of a document

@@ -1,9 +1,7 @@
 pub mod FoundItems
-pub mod KeptRows
 pub mod RefusalLists
 pub mod SetLemmas
 pub mod KeptSets
-pub mod NumberLemmas
 pub mod RuledRefusals
 pub mod JudgedLevels
 pub mod JudgedAnswers

@@ -10,7 +10,7 @@ use Rattle.gs_document.specs.declared.level_name.LevelName.{LevelName}
 use Rattle.gs_document.specs.Readings.{IsFormFault}
 use Rattle.gs_document.proofs.OneReading.{HasReading, not_both, one_fault, one_of_bytes, some_reading}
 use Rattle.gs_tables.specs.Shapes.{ByForm, ByRows, HasMemory, Shape}
-use Rattle.gs_tables.specs.Tables.{IsAnswer, IsShaped, TableRows, refusals, refuse_if, row_refusals, set_of}
+use Rattle.gs_rows.specs.Tables.{IsAnswer, IsShaped, TableRows, refusals, refuse_if, row_refusals, set_of}
 use Rattle.gs_tables.proofs.JudgedAnswers.{IsRuling}
 use Rattle.gs_tables.proofs.RefusalLists.{refused}
 use Rattle.gs_tables.proofs.RuledRefusals.{AreRuled, ruled_first, ruled_of_document, ruled_of_all}

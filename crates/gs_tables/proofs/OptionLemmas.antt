@@ -4,7 +4,7 @@ use Rattle.std.proofs.lemmas.Grind.{common_steps}
 use Rattle.std.specs.Prelude.{option_to_list}
 use Rattle.std.specs.Option.{option_map_or}
 use Rattle.gs_document.specs.declared.fault.LoadFault.{LoadFault}
-use Rattle.gs_tables.specs.Tables.{refuse_if}
+use Rattle.gs_rows.specs.Tables.{refuse_if}
 
 -- ---- three tests, one after the other
 

@@ -7,8 +7,8 @@ use Rattle.gs_ai.specs.declared.row.AiRow.{AiRow}
 use Rattle.gs_document.specs.declared.document.KindRow.{KindRow}
 use Rattle.gs_document.specs.declared.fault.LoadFault.{LoadFault}
 use Rattle.gs_document.specs.declared.fault.LoadFault.TheVariants.{Json, Version, Limit, Ai, BadKind, BadItem, Mismatch, Duplicate, Ambiguous, Memory}
-use Rattle.gs_tables.specs.Rules.{is_kind}
-use Rattle.gs_tables.specs.Tables.{IsAnswer, IsFirst, kind_refusals, refuse_if}
+use Rattle.gs_rows.specs.Rules.{is_kind}
+use Rattle.gs_rows.specs.Tables.{IsAnswer, IsFirst, kind_refusals, refuse_if}
 
 -- ---- answers by refusals
 

@@ -16,7 +16,7 @@ use Rattle.gs_document.specs.declared.level_name.LevelName.TheVariants.{Binary, 
 use Rattle.gs_document.specs.Documents.{is_bits}
 use Rattle.gs_grammar.specs.Items.{size_of_all}
 use Rattle.gs_grammar.specs.Limits.{most_symbols}
-use Rattle.gs_tables.specs.Tables.{fits, has_long, is_bad_item, is_same, items_alone, kind_refusals, kinds_refusals, level_refusals, limit_refusals, more_than, option_refusals, refusals, refuse_if, row_refusals}
+use Rattle.gs_rows.specs.Tables.{fits, has_long, is_bad_item, is_same, items_alone, kind_refusals, kinds_refusals, level_refusals, limit_refusals, more_than, option_refusals, refusals, refuse_if, row_refusals}
 
 -- want of memory, or an ambiguous level
 abbrev pub is_unruled : LoadFault → Bool

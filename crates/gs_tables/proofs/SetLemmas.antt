@@ -10,7 +10,7 @@ use Rattle.gs_document.specs.declared.document.OptionRow.{OptionRow}
 use Rattle.gs_document.specs.declared.fault.LoadFault.{LoadFault}
 use Rattle.gs_document.specs.declared.fault.LoadFault.TheVariants.{Json, Version, Limit, Ai, BadKind, BadItem, Mismatch, Duplicate, Ambiguous, Memory}
 use Rattle.gs_document.specs.declared.level_name.LevelName.TheVariants.{Binary, Tag, Pure}
-use Rattle.gs_tables.specs.Tables.{IsAnswer, IsFirst, TableRows, refuse_if, refusals, kind_of, kinds_refusals, level_of, level_refusals, limit_refusals, row_refusals, rule_refusals, set_of}
+use Rattle.gs_rows.specs.Tables.{IsAnswer, IsFirst, TableRows, refuse_if, refusals, kind_of, kinds_refusals, level_of, level_refusals, limit_refusals, row_refusals, rule_refusals, set_of}
 use Rattle.gs_document.specs.Readings.{Holds, IsFormRefusal}
 use Rattle.gs_tables.specs.Shapes.{LoadAnswer, Shape}
 use Rattle.gs_tables.proofs.RefusalLists.{refused, refused_behind}

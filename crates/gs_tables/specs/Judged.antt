@@ -9,8 +9,8 @@ use Rattle.gs_document.specs.declared.level_name.LevelName.{LevelName}
 use Rattle.gs_document.specs.declared.level_name.LevelName.TheVariants.{Binary, Tag, Pure}
 use Rattle.gs_grammar.specs.Ambiguity.{IsUnambiguous, ShowsFirstShare}
 use Rattle.gs_grammar.specs.Levels.{LevelForm, item_lists}
-use Rattle.gs_tables.specs.declared.level_tables.LevelTables.{LevelTables}
-use Rattle.gs_tables.specs.Tables.{IsShaped, TableRows, level_of, level_rows}
+use Rattle.gs_rows.specs.declared.level_tables.LevelTables.{LevelTables}
+use Rattle.gs_rows.specs.Tables.{IsShaped, TableRows, level_of, level_rows}
 
 -- the levels of a set, by their names
 abbrev pub levels_of : TableRows → LevelName → LevelForm

@@ -2,11 +2,11 @@ pub use Rattle.gs_builtin.specs.BuiltIn
 pub use Rattle.gs_document.specs.Documents
 pub use Rattle.gs_document.specs.Items
 pub use Rattle.gs_document.specs.Readings
-pub mod Forms
-pub mod Rules
+pub use Rattle.gs_rows.specs.Forms
+pub use Rattle.gs_rows.specs.KeptRules
+pub use Rattle.gs_rows.specs.Numbers
+pub use Rattle.gs_rows.specs.Rules
+pub use Rattle.gs_rows.specs.Tables
 pub mod Founds
-pub mod Tables
-pub mod KeptRules
-pub mod Numbers
 pub mod Judged
 pub mod Shapes

@@ -7,7 +7,7 @@ use Rattle.gs_document.specs.declared.level_name.LevelName.{LevelName}
 use Rattle.gs_document.specs.Readings.{Holds, IsFormFault}
 use Rattle.gs_builtin.specs.BuiltIn.{builtin_document}
 use Rattle.gs_tables.specs.Judged.{Judged}
-use Rattle.gs_tables.specs.Tables.{TableRows, IsAnswer, refusals, row_refusals, set_of}
+use Rattle.gs_rows.specs.Tables.{TableRows, IsAnswer, refusals, row_refusals, set_of}
 
 -- the answer by the rows of the document that the bytes are
 abbrev pub ByRows : List ℕ → Result TableRows LoadFault → Type 0

@@ -2,11 +2,11 @@ ghost use Rattle.std.specs.Prelude.{◌≡◌, ◌≤◌, SomeIff};
 ghost use Rattle.gs_grammar.specs.Limits.{most_symbols};
 ghost use Rattle.gs_tables.specs.Founds.{IsFound};
 ghost use Rattle.gs_document.specs.Items.{present};
-ghost use Rattle.gs_tables.specs.Rules.{has_room, is_digits, is_filter, is_free, items_of_field, keeps_gcp, keeps_level, keeps_rest, keeps_serial, longest_of, size_there};
+ghost use Rattle.gs_rows.specs.Rules.{has_room, is_digits, is_filter, is_free, items_of_field, keeps_gcp, keeps_level, keeps_rest, keeps_serial, longest_of, size_there};
 
-use crate::form::KeyForm;
 use gs_document::{Field, FieldItem, LevelName};
 use gs_grammar::{Item, MOST_SYMBOLS};
+use gs_rows::KeyForm;
 
 /// What is found of the items of a field.
 #[derive(Clone, Copy)]
@@ -91,7 +91,7 @@ fn is_free(most: usize, item: &Item) -> bool
 }
 
 /// Whether the prefix has a length that the key leaves room for, in the one item of it.
-#[tactic(auto, unfolding(crate::specs::Rules::keeps_gcp))]
+#[tactic(auto, unfolding(gs_rows::specs::Rules::keeps_gcp))]
 pub(crate) fn keeps_gcp(form: KeyForm, lead: u64, n: u64, items: &[Option<FieldItem>]) -> bool
     ensures { result ≡ keeps_gcp form lead n (items_of_field Field.Gcp (present items.now)) }
 {
@@ -111,7 +111,7 @@ pub(crate) fn keeps_gcp(form: KeyForm, lead: u64, n: u64, items: &[Option<FieldI
 
 /// Whether the digits or characters of the key that are left beside the prefix stand in one item, or in none where no
 /// digit is left.
-#[tactic(auto, unfolding(crate::specs::Rules::keeps_rest))]
+#[tactic(auto, unfolding(gs_rows::specs::Rules::keeps_rest))]
 pub(crate) fn keeps_rest(form: KeyForm, n: u64, items: &[Option<FieldItem>]) -> bool
     ensures { result ≡ keeps_rest form n (items_of_field Field.Rest (present items.now)) }
 {
@@ -128,7 +128,7 @@ pub(crate) fn keeps_rest(form: KeyForm, n: u64, items: &[Option<FieldItem>]) -> 
 }
 
 /// Whether there is one serial item where there is a serial, with a longest value that it has room for, and else none.
-#[tactic(auto, unfolding(crate::specs::Rules::keeps_serial))]
+#[tactic(auto, unfolding(gs_rows::specs::Rules::keeps_serial))]
 pub(crate) fn keeps_serial(room: Option<u8>, items: &[Option<FieldItem>]) -> bool
     ensures { result ≡ keeps_serial room (items_of_field Field.Serial (present items.now)) }
 {
@@ -157,7 +157,7 @@ pub(crate) fn size_within_limit(items: &[Option<FieldItem>]) -> Option<usize>
 
 /// Whether the option has what a level asks for beside its kind: the name of an encoding, a filter value and whole words of
 /// 16 bits.
-#[tactic(auto, unfolding(crate::specs::Rules::keeps_level))]
+#[tactic(auto, unfolding(gs_rows::specs::Rules::keeps_level))]
 pub(crate) fn keeps_level(
     level: LevelName,
     encoding: &[u8],

@@ -1,14 +1,13 @@
 ghost use Rattle.std.specs.Prelude.{◌≡◌, map};
 ghost use Rattle.gs_tables.specs.Judged.{AreOfRows, RuledAnswer, levels_of_rows};
-ghost use Rattle.gs_tables.specs.Tables.{kind_of, rule_refusals};
+ghost use Rattle.gs_rows.specs.Tables.{kind_of, rule_refusals};
 
 use crate::ambiguity::judge_levels;
-use crate::level_tables::{LevelTables, OptionRows};
-use crate::make::{make_kinds, make_levels};
 use crate::rules::check_rows;
 use gs_ai::AiTable;
 use gs_chars::List;
 use gs_document::{Kind, KindRow, LoadFault};
+use gs_rows::{LevelTables, OptionRows, make_kinds, make_levels};
 use std::alloc::Global;
 
 /// The levels of the rows, or the first refusal: of a kind, of an option, or of a level that is ambiguous.

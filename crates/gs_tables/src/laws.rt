@@ -1,9 +1,9 @@
 ghost use Rattle.std.specs.Prelude.{◌≡◌, ℕ, List, Result, length};
 ghost use Rattle.gs_document.specs.declared.fault.LoadFault.{LoadFault};
 ghost use Rattle.gs_document.specs.declared.level_name.LevelName.{LevelName};
-ghost use Rattle.gs_tables.specs.KeptRules.{AreKept};
+ghost use Rattle.gs_rows.specs.KeptRules.{AreKept};
 ghost use Rattle.gs_tables.specs.Shapes.{BuiltInAnswer, BuiltInAnswersAreAlike, HasMemory, LoadAnswer, LoadAnswersAreAlike};
-ghost use Rattle.gs_tables.specs.Tables.{IsShaped, TableRows, level_rows};
+ghost use Rattle.gs_rows.specs.Tables.{IsShaped, TableRows, level_rows};
 
 /// All bytes have one answer of `TableSet::load` beside want of memory, and no other but for the text of an ambiguous level.
 pub fn bytes_have_one_answer()

@@ -2,15 +2,14 @@ ghost use Rattle.std.specs.Prelude.{◌≡◌, ◌≤◌, length, position};
 ghost use Rattle.gs_grammar.specs.Items.{size_of_all};
 ghost use Rattle.std.specs.List.{find};
 ghost use Rattle.std.specs.Option.{option_copied};
-ghost use Rattle.gs_tables.specs.Rules.{fits_kind, has_name, keeps_form};
-ghost use Rattle.gs_tables.specs.Tables.{IsFirst, fits, is_bad_item, is_same, items_alone, items_there, option_refusals};
+ghost use Rattle.gs_rows.specs.Rules.{fits_kind, has_name, keeps_form};
+ghost use Rattle.gs_rows.specs.Tables.{IsFirst, fits, is_bad_item, is_same, items_alone, items_there, option_refusals};
 
 use crate::field_items::{keeps_gcp, keeps_level, keeps_rest, keeps_serial, size_within_limit};
-use crate::form::KeyForm;
-use crate::forms::{form_at, serial_room};
 use crate::kind_rules::are_visible;
 use gs_ai::AiTable;
 use gs_document::{FieldItem, KindRow, LevelName, LimitName, LoadFault, OptionRow};
+use gs_rows::{KeyForm, form_at, serial_room};
 
 /// The index of the first item that is not there or breaks a bound of the level.
 fn first_bad(bits: bool, items: &[Option<FieldItem>]) -> Option<usize>
@@ -23,7 +22,7 @@ fn first_bad(bits: bool, items: &[Option<FieldItem>]) -> Option<usize>
 }
 
 /// Whether two options have one kind, encoding and prefix length.
-#[tactic(auto, unfolding(crate::specs::Tables::is_same))]
+#[tactic(auto, unfolding(gs_rows::specs::Tables::is_same))]
 fn is_same(a: &OptionRow, b: &OptionRow) -> bool
     ensures { result ≡ is_same a.now b.now }
 {

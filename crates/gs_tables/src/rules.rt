@@ -1,9 +1,9 @@
 ghost use Rattle.std.specs.Prelude.{◌≡◌, ◌==◌, ◌||◌, ◌++◌, not, length, take};
 ghost use Rattle.std.specs.List.{flat_map, enumerate_from};
-ghost use Rattle.gs_tables.specs.Rules.{is_kind};
+ghost use Rattle.gs_rows.specs.Rules.{is_kind};
 ghost use Rattle.gs_document.specs.Documents.{is_bits};
 ghost use Rattle.gs_document.specs.Limits.{most_rows};
-ghost use Rattle.gs_tables.specs.Tables.{IsFirst, has_long, kind_refusals, kinds_refusals, level_refusals, limit_refusals, more_than, option_refusals, refuse_if, rule_refusals};
+ghost use Rattle.gs_rows.specs.Tables.{IsFirst, has_long, kind_refusals, kinds_refusals, level_refusals, limit_refusals, more_than, option_refusals, refuse_if, rule_refusals};
 
 use crate::kind_rules::is_kind;
 use crate::option_rules::check_option;
@@ -39,7 +39,7 @@ fn has_many_ais(document: &Document) -> bool
 }
 
 /// The first of the limits of the numbers of rows that is passed.
-#[tactic(auto, unfolding(crate::specs::Tables::limit_refusals))]
+#[tactic(auto, unfolding(gs_rows::specs::Tables::limit_refusals))]
 pub(crate) fn check_limits(document: &Document) -> Result<(), LoadFault>
     ensures { IsFirst (limit_refusals document.now) result }
 {

@@ -1,18 +1,17 @@
 ghost use Rattle.std.specs.Prelude.{◌≡◌};
 ghost use Rattle.gs_tables.specs.Judged.{IsClear, IsLoaded, Judged};
-ghost use Rattle.gs_tables.specs.Tables.{level_rows, IsShaped, IsAnswer, row_refusals, set_of};
-ghost use Rattle.gs_tables.specs.Numbers.{numbers_of};
+ghost use Rattle.gs_rows.specs.Tables.{level_rows, IsShaped, IsAnswer, row_refusals, set_of};
+ghost use Rattle.gs_rows.specs.Numbers.{numbers_of};
 ghost use Rattle.gs_tables.specs.Shapes.{LoadAnswer};
 
 use crate::judging::judged_parts;
-use crate::level_table::LevelTable;
-use crate::level_tables::{LevelTables, OptionRows};
 use crate::make::make_ais;
 use crate::rules::{check_limits, check_version};
 use gs_ai::AiTable;
 use gs_chars::List;
 use gs_document::{Document, Kind, LevelName, LoadFault, OptInfo, read_document};
 use gs_level::Level;
+use gs_rows::{LevelTable, LevelTables, OptionRows};
 use std::alloc::Global;
 use std::marker::Model;
 
@@ -37,7 +36,7 @@ impl Drop for TableSet {
 
 impl Model for TableSet {
     ghost use Rattle.gs_tables.specs.Judged.{IsLoaded};
-    ghost use Rattle.gs_tables.specs.Tables.{TableRows, set_with};
+    ghost use Rattle.gs_rows.specs.Tables.{TableRows, set_with};
 
     ghost Value = { TableRows };
 

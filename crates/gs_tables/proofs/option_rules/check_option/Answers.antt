@@ -4,7 +4,7 @@ use Rattle.gs_grammar.specs.Limits.{most_symbols}
 use Rattle.gs_document.specs.declared.fault.LimitName.TheVariants as limits
 use Rattle.gs_document.specs.declared.fault.LoadFault.TheVariants.{BadItem, Limit, Mismatch, Duplicate}
 use Rattle.gs_document.specs.Documents.{is_bits}
-use Rattle.gs_tables.specs.Tables.{fits, is_bad_item, is_same, items_alone, option_refusals}
+use Rattle.gs_rows.specs.Tables.{fits, is_bad_item, is_same, items_alone, option_refusals}
 use Rattle.gs_tables.proofs.OptionLemmas.{bad_first, size_next, mismatch_next, twin_last, no_refusal, above_limit, within_limit}
 use Rattle.gs_tables.proofs.option_rules.check_option.Goals as goal
 

@@ -1,5 +1,5 @@
 use Rattle.std.proofs.Common.{arith, rules}
-use Rattle.gs_tables.specs.Tables.{kind_refusals, kinds_refusals}
+use Rattle.gs_rows.specs.Tables.{kind_refusals, kinds_refusals}
 use Rattle.gs_document.proofs.FaultLists.{first_row, more_row, all_rows}
 use Rattle.gs_tables.proofs.RefusalLists.{kind_refused, kind_in_order}
 use Rattle.gs_tables.proofs.rules.check_kinds.Goals as goal

@@ -1,6 +1,6 @@
 use Rattle.std.proofs.Common.{◌≡◌, [], take}
 use Rattle.std.specs.List.{flat_map, enumerate_from}
-use Rattle.gs_tables.specs.Tables.{kind_refusals}
+use Rattle.gs_rows.specs.Tables.{kind_refusals}
 use Rattle.gs_tables.proofs.rules.check_kinds.Given as goal
 
 abbrev pub invariant-loop-i : goal.invariant-loop-i

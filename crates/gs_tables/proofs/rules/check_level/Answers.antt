@@ -1,6 +1,6 @@
 use Rattle.std.proofs.Common.{arith, rules}
 use Rattle.std.proofs.lemmas.Result.{err_from_is_err_and}
-use Rattle.gs_tables.specs.Tables.{level_refusals, option_refusals}
+use Rattle.gs_rows.specs.Tables.{level_refusals, option_refusals}
 use Rattle.gs_document.proofs.FaultLists.{first_row, more_row, all_rows}
 use Rattle.gs_tables.proofs.rules.check_level.Goals as goal
 

@@ -2,7 +2,7 @@ use Rattle.std.proofs.Common.{◌++◌}
 use Rattle.std.specs.Prelude.{Err}
 use Rattle.std.proofs.lemmas.Result.{err_from_is_err_and}
 use Rattle.gs_document.specs.declared.level_name.LevelName.TheVariants.{Binary, Tag, Pure}
-use Rattle.gs_tables.specs.Tables.{kinds_refusals, level_refusals}
+use Rattle.gs_rows.specs.Tables.{kinds_refusals, level_refusals}
 use Rattle.gs_tables.proofs.RefusalLists.{first_in_front, first_behind}
 use Rattle.gs_tables.proofs.rules.check_rows.Goals as goal
 

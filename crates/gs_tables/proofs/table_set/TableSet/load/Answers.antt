@@ -1,6 +1,6 @@
 use Rattle.std.proofs.lemmas.Result.{err_from_is_err_and}
 use Rattle.gs_tables.specs.Shapes.{Shape}
-use Rattle.gs_tables.specs.Tables.{IsAnswer, row_refusals, set_of}
+use Rattle.gs_rows.specs.Tables.{IsAnswer, row_refusals, set_of}
 use Rattle.gs_tables.proofs.JudgedLevels.{judged_as}
 use Rattle.gs_tables.proofs.SetLemmas.{form_answer, rows_answer, version_refused}
 use Rattle.gs_tables.proofs.table_set.TableSet.load.Goals as goal

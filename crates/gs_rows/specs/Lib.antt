@@ -1,0 +1,5 @@
+pub mod Forms
+pub mod Rules
+pub mod Tables
+pub mod KeptRules
+pub mod Numbers
