@@ -110,3 +110,18 @@ returns-in-None-clause-named c = rw (← c.self.view_is) c.add.ensures
 
 pub returns-in-None-clause-planned : goal.returns-in-None-clause-planned
 returns-in-None-clause-planned c = rw (← c.self.view_is) (inr (found_none _ _ _ _ c.place_of-found.ensures c.as_slice.ensures.value c.in-None.is))
+
+pub invariant_of-self : goal.invariant_of-self
+invariant_of-self c = tt
+
+pub invariant_of-self-in-None : goal.invariant_of-self-in-None
+invariant_of-self-in-None c = tt
+
+pub returns-in-Some-clause-not_opened : goal.returns-in-Some-clause-not_opened
+returns-in-Some-clause-not_opened c = refl
+
+pub returns-in-None-clause-not_opened : goal.returns-in-None-clause-not_opened
+returns-in-None-clause-not_opened c = refl
+
+pub returns-in-Some-2-clause-opened : goal.returns-in-Some-2-clause-opened
+returns-in-Some-2-clause-opened c = refl

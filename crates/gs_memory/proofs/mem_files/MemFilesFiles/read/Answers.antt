@@ -1,6 +1,6 @@
 use Rattle.std.proofs.lemmas.Bool.{false≢true}
 use Rattle.std.proofs.Common.{refl, arith, ◌≡◌, ◌∙◌, Some, ap, sym}
-use Rattle.gs_port.proofs.Pieces.{front_moved}
+use Rattle.gs_port.proofs.Pieces.{front_moved, number_moved, zero_at_end}
 use Rattle.gs_memory.specs.Objects.{MemFolder}
 use Rattle.gs_memory.specs.Folder.{bytes_at, rest_of, told_files}
 use Rattle.gs_memory.proofs.mem_files.MemFilesFiles.read.Goals as goal
@@ -86,3 +86,22 @@ returns-clause-unplanned c = rw (← c.self.view_is) (λ fails. false≢true (sy
 
 pub returns-clause-within : goal.returns-clause-within
 returns-clause-within c = omega (arith, c.copy_front-moved.ensures.number)
+
+pub returns-clause-end : goal.returns-clause-end
+returns-clause-end c =
+    let files = told_files c.self.inside.files.items in
+    let bytes : c.contents_at.result.now ≡ bytes_at files c.in-Some.place.file = c.contents_at.ensures ∙ ap (λ all. bytes_at (told_files all) c.in-Some.place.file) c.as_slice.ensures.value in
+    let current = ap (λ (folder : MemFolder). folder.current) (sym c.self.view_is) ∙ ap (rest_of files) c.in-Some.is in
+    let number = number_moved (bytes_at files c.in-Some.place.file) c.in-Some.place.at _ _ c.copy_front-moved.result (rw bytes at c.copy_front-moved.ensures.number) in
+    rw current (zero_at_end _ _ _ _ c.requires.room (rw c.copy_front-moved.auto.buf c.requires.room) number)
+
+pub returns-clause-most : goal.returns-clause-most
+returns-clause-most c =
+    let files = told_files c.self.inside.files.items in
+    let bytes : c.contents_at.result.now ≡ bytes_at files c.in-Some.place.file = c.contents_at.ensures ∙ ap (λ all. bytes_at (told_files all) c.in-Some.place.file) c.as_slice.ensures.value in
+    let current = ap (λ (folder : MemFolder). folder.current) (sym c.self.view_is) ∙ ap (rest_of files) c.in-Some.is in
+    let number = number_moved (bytes_at files c.in-Some.place.file) c.in-Some.place.at _ _ c.copy_front-moved.result (rw bytes at c.copy_front-moved.ensures.number) in
+    rw current (omega (arith, number, c.copy_front-moved.auto.buf))
+
+pub returns-clause-stays_open : goal.returns-clause-stays_open
+returns-clause-stays_open c = refl
