@@ -1,4 +1,4 @@
-use Rattle.std.proofs.Common.{sym, take}
+use Rattle.std.proofs.Common.{arith, refl, sym, take}
 use Rattle.std.specs.Prelude.{Some}
 use Rattle.gs_port.specs.Contents.{append_nothing}
 use Rattle.gs_http.proofs.StreamLaws.{some_reply}
@@ -8,3 +8,36 @@ pub returns-in_default-clause-answered : goal.returns-in_default-clause-answered
 returns-in_default-clause-answered g c =
     let some = some_reply c.args.table.now c.args.store.now c.args.settings.now (Some (take c.args.len c.args.bytes.now)) c.args.last in
     record { reply = some.0; is_reply = some.1; delivers = (0, sym (append_nothing _)) }
+
+pub returns-in_default-clause-lets_go : goal.returns-in_default-clause-lets_go
+returns-in_default-clause-lets_go g c = tt
+
+pub returns-in_default-clause-write_count : goal.returns-in_default-clause-write_count
+returns-in_default-clause-write_count g c = refl
+
+pub returns-in_default-clause-read_count : goal.returns-in_default-clause-read_count
+returns-in_default-clause-read_count g c = refl
+
+pub returns-in_default-clause-same_left : goal.returns-in_default-clause-same_left
+returns-in_default-clause-same_left g c = refl
+
+pub returns-in_default-clause-same_taken : goal.returns-in_default-clause-same_taken
+returns-in_default-clause-same_taken g c = refl
+
+pub returns-in_default-clause-same_aside : goal.returns-in_default-clause-same_aside
+returns-in_default-clause-same_aside g c = refl
+
+pub returns-in_default-clause-same_ends : goal.returns-in_default-clause-same_ends
+returns-in_default-clause-same_ends g c = refl
+
+pub returns-in_default-clause-write_counts : goal.returns-in_default-clause-write_counts
+returns-in_default-clause-write_counts g c = omega arith
+
+pub returns-in_default-clause-read_counts : goal.returns-in_default-clause-read_counts
+returns-in_default-clause-read_counts g c = omega arith
+
+pub returns-in_default-clause-stays_open : goal.returns-in_default-clause-stays_open
+returns-in_default-clause-stays_open g c = c.requires.current
+
+pub returns-in-Over-clause-lets_go : goal.returns-in-Over-clause-lets_go
+returns-in-Over-clause-lets_go g c = tt
