@@ -41,3 +41,57 @@ returns-in_default-clause-stays_open g c = c.requires.current
 
 pub returns-in-Over-clause-lets_go : goal.returns-in-Over-clause-lets_go
 returns-in-Over-clause-lets_go g c = tt
+
+pub returns-in-Over-clause-write_count : goal.returns-in-Over-clause-write_count
+returns-in-Over-clause-write_count g c = c.in-Over.ensures.write_count
+
+pub returns-in-Over-clause-read_count : goal.returns-in-Over-clause-read_count
+returns-in-Over-clause-read_count g c = c.in-Over.ensures.read_count
+
+pub returns-in-Over-clause-write_counts : goal.returns-in-Over-clause-write_counts
+returns-in-Over-clause-write_counts g c = c.in-Over.ensures.write_counts
+
+pub returns-in-Over-clause-read_counts : goal.returns-in-Over-clause-read_counts
+returns-in-Over-clause-read_counts g c = c.in-Over.ensures.read_counts
+
+pub returns-in-Over-clause-same_left : goal.returns-in-Over-clause-same_left
+returns-in-Over-clause-same_left g c = c.in-Over.ensures.same_left
+
+pub returns-in-Over-clause-same_taken : goal.returns-in-Over-clause-same_taken
+returns-in-Over-clause-same_taken g c = c.in-Over.ensures.same_taken
+
+pub returns-in-Over-clause-stays_open : goal.returns-in-Over-clause-stays_open
+returns-in-Over-clause-stays_open g c = c.in-Over.ensures.stays_open
+
+pub returns-in-Over-clause-same_aside : goal.returns-in-Over-clause-same_aside
+returns-in-Over-clause-same_aside g c = c.in-Over.ensures.same_aside
+
+pub returns-in-Over-clause-same_ends : goal.returns-in-Over-clause-same_ends
+returns-in-Over-clause-same_ends g c = c.in-Over.ensures.same_ends
+
+pub returns-clause-write_count : goal.returns-clause-write_count
+returns-clause-write_count g c = c.in-Stays.ensures.write_count
+
+pub returns-clause-read_count : goal.returns-clause-read_count
+returns-clause-read_count g c = c.in-Stays.ensures.read_count
+
+pub returns-clause-write_counts : goal.returns-clause-write_counts
+returns-clause-write_counts g c = c.in-Stays.ensures.write_counts
+
+pub returns-clause-read_counts : goal.returns-clause-read_counts
+returns-clause-read_counts g c = c.in-Stays.ensures.read_counts
+
+pub returns-clause-same_left : goal.returns-clause-same_left
+returns-clause-same_left g c = c.in-Stays.ensures.same_left
+
+pub returns-clause-same_taken : goal.returns-clause-same_taken
+returns-clause-same_taken g c = c.in-Stays.ensures.same_taken
+
+pub returns-clause-stays_open : goal.returns-clause-stays_open
+returns-clause-stays_open g c = c.in-Stays.ensures.stays_open
+
+pub returns-clause-same_aside : goal.returns-clause-same_aside
+returns-clause-same_aside g c = c.in-Stays.ensures.same_aside
+
+pub returns-clause-same_ends : goal.returns-clause-same_ends
+returns-clause-same_ends g c = c.in-Stays.ensures.same_ends
