@@ -5,10 +5,11 @@
 //! - `take N HEX WIDTH..`: for each width the number of the next bits or `Short`, then how many are left.
 //! - `push_bits N NUMBER WIDTH ..`: `Full` for each number without room, then the bits.
 //! - `get N HEX I`: bit I.
+//! - `are_bit_digits TEXT`: whether the text writes bits.
 
 ghost use Rattle.std.specs.Prelude.{◌≤◌, ◌<◌, ◌^◌, IfSome, IsTrue};
 
-use gs_bits::{BitBuf, Cursor, Full};
+use gs_bits::{BitBuf, Cursor, Full, are_bit_digits};
 use gs_chars::Text;
 use std::alloc::Global;
 use vector_cases::{Done, Line, Refusal, behind, bytes_at, named, number_in};
@@ -30,8 +31,13 @@ const CALLS: [(&str, Call); 4] = [
 
 /// Answers a call of gs_bits.
 pub fn answer(alloc: Global, line: &mut Line, call: &[u8], args: &[Text]) -> Done {
+    let first = bytes_at(args, 0);
+    if call == b"are_bit_digits".as_slice() {
+        line.debug(are_bit_digits(first));
+        return Ok(());
+    }
     let others = behind(args, 1);
-    match number_in(bytes_at(args, 0)) {
+    match number_in(first) {
         Some(0) => answer_of::<0>(alloc, line, call, others),
         Some(2) => answer_of::<2>(alloc, line, call, others),
         Some(5) => answer_of::<5>(alloc, line, call, others),

@@ -1,16 +1,17 @@
 //! Calls of gs_json. The part of a document DOC that is asked is found by STEPs from the whole: `.NAME` is the member of this
-//! name, `?NAME` the same where there may be none, `!NAME` where there may be no object either, and `#I` the item of this
+//! name, `?NAME` the same where there may be none, `~NAME` where this may be no object either, and `#I` the item of this
 //! number.
 //!
 //! - `parse DOC`: `Ok`, or the fault.
 //! - `text DOC STEP..`, `number`, `truth`, `count`, `names`: what the part is, or the fault; `None` where a step finds none.
+//! - `value DOC STEP..`: the part, as JSON without spaces. `items_len DOC STEP..`: how many items it has, where it is an array.
 //! - `shaped DOC PLAN..`: `Ok`, or the fault. PLAN is pairs of a name behind `+` where it is required, else behind `-`, and
 //!   its sort: `Text`, `Number`, `Truth`, `Array`, `Texts`, `Arrays`.
 //!
 //! A fault is `Syntax`, or `Lacks`, `Kind` or `Unknown` and the place.
 
 use gs_chars::{Memory, Text};
-use gs_json::{Doc, Entry, JsonFault, Node, Sort};
+use gs_json::{Doc, JsonFault, Node, Sort, plan_of};
 use std::alloc::Global;
 use std::fmt::Debug;
 use vector_cases::{Done, Line, Refusal, behind, bytes_at, named, number_in, push};
@@ -26,20 +27,24 @@ enum Call {
 #[derive(Clone, Copy)]
 enum Asked {
     Count,
+    ItemsLen,
     Names,
     Number,
     Text,
     Truth,
+    Value,
 }
 
-const CALLS: [(&str, Call); 7] = [
+const CALLS: [(&str, Call); 9] = [
     ("count", Call::Part(Asked::Count)),
+    ("items_len", Call::Part(Asked::ItemsLen)),
     ("names", Call::Part(Asked::Names)),
     ("number", Call::Part(Asked::Number)),
     ("parse", Call::Parse),
     ("shaped", Call::Shaped),
     ("text", Call::Part(Asked::Text)),
     ("truth", Call::Part(Asked::Truth)),
+    ("value", Call::Part(Asked::Value)),
 ];
 
 /// Answers a call of gs_json.
@@ -121,7 +126,7 @@ fn stepped<'a>(alloc: Global, node: &Node<'a>, step: &[u8]) -> Result<Walked<'a>
     match *kind {
         b'.' => Ok(walk_to(node.member(alloc, word))),
         b'?' => Ok(walk_maybe(node.maybe(alloc, word))),
-        b'!' => walk_found(node.find(alloc, word)),
+        b'~' => walk_found(node.find(alloc, word)),
         b'#' => item_at(alloc, node, rest),
         _ => Err(Refusal::NoCase),
     }
@@ -155,10 +160,12 @@ fn followed<'a>(alloc: Global, doc: &'a Doc, steps: &[Text]) -> Result<Walked<'a
 fn add_asked(alloc: Global, line: &mut Line, asked: Asked, node: &Node<'_>) {
     match asked {
         Asked::Count => add_value(line, node.count(alloc)),
+        Asked::ItemsLen => line.debug(node.items_len()),
         Asked::Names => add_names(alloc, line, node),
         Asked::Number => add_value(line, node.number(alloc)),
         Asked::Text => add_text(alloc, line, node),
         Asked::Truth => add_value(line, node.truth(alloc)),
+        Asked::Value => add_json(alloc, line, node),
     }
 }
 
@@ -174,6 +181,14 @@ fn add_text(alloc: Global, line: &mut Line, node: &Node<'_>) {
     match node.text(alloc) {
         Ok(text) => line.bytes(text.as_bytes()),
         Err(fault) => line.fault(fault),
+    }
+}
+
+/// Writes the part as JSON without spaces.
+fn add_json(alloc: Global, line: &mut Line, node: &Node<'_>) {
+    match node.value().to_vec(alloc) {
+        Ok(text) => line.bytes(text.as_slice()),
+        Err(_) => line.want_memory(),
     }
 }
 
@@ -197,34 +212,31 @@ const SORTS: [(&str, Sort); 6] = [
     ("Truth", Sort::Truth),
 ];
 
-/// The name and the sort of an entry.
-fn entry_of(alloc: Global, pair: &[Text]) -> Result<Entry, Refusal> {
+/// The name of a member, whether it is required, and its sort.
+fn planned(pair: &[Text]) -> Result<(&[u8], bool, Sort), Refusal> {
     let [kind, name @ ..] = bytes_at(pair, 0) else {
         return Err(Refusal::NoCase);
     };
-    let Some(sort) = named(&SORTS, bytes_at(pair, 1)) else {
-        return Err(Refusal::NoCase);
-    };
-    Ok(Entry {
-        name: Text::from_bytes(alloc, name)?,
-        required: *kind == b'+',
-        sort,
-    })
+    match named(&SORTS, bytes_at(pair, 1)) {
+        Some(sort) => Ok((name, *kind == b'+', sort)),
+        None => Err(Refusal::NoCase),
+    }
 }
 
-/// The entries of these pairs.
-fn plan_of(alloc: Global, words: &[Text]) -> Result<Vec<Entry>, Refusal> {
-    let mut plan = Vec::new(alloc);
+/// The members that these pairs plan.
+fn members_of(alloc: Global, words: &[Text]) -> Result<Vec<(&[u8], bool, Sort)>, Refusal> {
+    let mut members = Vec::new(alloc);
     for pair in words.chunks(2) {
-        push(&mut plan, entry_of(alloc, pair))?;
+        push(&mut members, planned(pair))?;
     }
-    Ok(plan)
+    Ok(members)
 }
 
 /// Writes whether a document is of a plan.
 fn shaped(alloc: Global, line: &mut Line, doc: &Doc, words: &[Text]) -> Done {
-    let plan = plan_of(alloc, words)?;
-    match doc.root(alloc).shaped(alloc, plan.as_slice()) {
+    let members = members_of(alloc, words)?;
+    let plan = plan_of(alloc, members.as_slice())?;
+    match doc.root(alloc).shaped(alloc, plan.items()) {
         Ok(()) => line.plain("Ok"),
         Err(fault) => line.fault(fault),
     }
