@@ -1,5 +1,5 @@
 -- The items of an option as a table document writes them: an array that begins with the item's name. This project's own.
-use Rattle.std.specs.Prelude.{ℕ, ◌+◌, ◌==◌, ◌^◌, nat_lt, Bool, true, false, if◌then◌else◌, List, map, codes, Option, Some, None, option_map, option_and_then, option_to_list, Result, Ok, Err, ◌≡◌, ◌-◌, ◌||◌}
+use Rattle.std.specs.Prelude.{ℕ, ◌+◌, ◌==◌, ◌^◌, nat_lt, Bool, true, false, if◌then◌else◌, List, map, codes, Option, Some, None, option_map, option_and_then, option_to_list, Result, Ok, Err, ◌≡◌, ◌-◌}
 use Rattle.std.specs.List.{flat_map}
 use Rattle.std.specs.Str.{bytes_eq}
 use Rattle.serde_json.specs.Data.{Data}
