@@ -25,5 +25,6 @@ pub fn answer(alloc: Global, set: &TableSet, from: Form, text: &[u8]) -> Result<
 fn write_canonical(alloc: Global, meaning: &Meaning) -> Result<Text, Reason>
     ensures { UnlessMemory result (IsCanonical meaning.now result) }
 {
-    Ok(canonical(alloc, &meaning.identity)?)
+    let link = canonical(alloc, &meaning.identity)?;
+    Ok(link)
 }
