@@ -3,7 +3,7 @@ use Rattle.std.proofs.Common.{◌≡◌, ℕ, ◌<◌, ◌+◌, ◌-◌, List, [
 use Rattle.std.proofs.lemmas.List.{append_assoc, append-nil, drop_more, drop_all}
 use Rattle.gs_machine.specs.declared.edge.Edge.{Edge}
 use Rattle.gs_compile.specs.EscapeTables.{with_ranges}
-use Rattle.gs_compile.specs.Tables.{edge, run_table, fill_table, lower_state, bound_rest, bound_edges, bound_table}
+use Rattle.gs_compile.specs.Tables.{edge, lit_table, run_table, fill_table, lower_state, bound_rest, bound_edges, bound_table}
 
 pub one_more : (whole new : List (List Edge)) (row : List Edge) → new ≡ whole ++ row ∷ [] → length new ≡ length whole + 1
 one_more whole new row e = let m = ap length e in let l = length-append whole (row ∷ []) in omega arith
@@ -34,6 +34,21 @@ ranges_end ranges to place row all l h =
     let none : drop place ranges ≡ [] = drop_all place ranges l in
     let whole : row ++ [] ≡ all = rw none at h in
     sym (append-nil row) ∙ whole
+
+-- the state of one symbol more, in front of those that are still to come
+pub literal_step : (symbols : List ℕ) (place : ℕ) (whole new all : List (List Edge)) → place < length symbols → whole ++ lit_table (drop place symbols) (length whole) ≡ all → new ≡ whole ++ (edge (get_or symbols place 0) (get_or symbols place 0) (length whole + 1) ∷ []) ∷ [] → new ++ lit_table (drop (place + 1) symbols) (length new) ≡ all
+literal_step symbols place whole new all l h e =
+    let row : List Edge = edge (get_or symbols place 0) (get_or symbols place 0) (length whole + 1) ∷ [] in
+    let len = one_more whole new row e in
+    let front : whole ++ row ∷ lit_table (drop (place + 1) symbols) (length whole + 1) ≡ all = rw (drop_more symbols place 0 l) at h in
+    next_row whole new (lit_table (drop (place + 1) symbols) (length new)) row e
+    ∙ ap (λ (b : ℕ). whole ++ row ∷ lit_table (drop (place + 1) symbols) b) len
+    ∙ front
+
+pub literal_end : (symbols : List ℕ) (place : ℕ) (whole all : List (List Edge)) → length symbols ≤ place → whole ++ lit_table (drop place symbols) (length whole) ≡ all → whole ≡ all
+literal_end symbols place whole all l h =
+    let none : whole ++ [] ≡ all = rw (drop_all place symbols l) at h in
+    sym (append-nil whole) ∙ none
 
 -- fillings
 
