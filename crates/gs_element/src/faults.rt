@@ -4,7 +4,7 @@ use gs_ai::{ElementFault, ElementWhy};
 use gs_chars::Memory;
 
 /// Why a text gives no pairs.
-#[derive(Clone, Copy, Debug)]
+#[derive(Clone, Copy)]
 pub enum ElementsFault {
     /// The text is no element string: where, and why.
     Element(ElementFault),

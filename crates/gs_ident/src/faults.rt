@@ -3,7 +3,7 @@ ghost use Rattle.std.specs.Prelude.{◌≡◌};
 use gs_chars::{Memory, Text};
 
 /// Why a list of pairs has no identity.
-#[derive(Debug, Drop)]
+#[derive(Drop)]
 pub enum IdentFault {
     /// The code stands a second time with another value.
     Repeat(Text),

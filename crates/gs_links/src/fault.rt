@@ -3,7 +3,7 @@ use gs_dlink::LinkFault;
 use gs_ident::IdentFault;
 
 /// Why an anchor is none.
-#[derive(Debug, Drop)]
+#[derive(Drop)]
 pub enum AnchorWhy {
     /// It is no link, or no target of a link where it begins with a slash.
     Link(LinkFault),
@@ -14,7 +14,7 @@ pub enum AnchorWhy {
 }
 
 /// Why a linkset is no store. Contexts, the relations of a context and the targets of a relation are counted from 0.
-#[derive(Debug, Drop)]
+#[derive(Drop)]
 pub enum StoreFault {
     /// It has more than 65,536 targets.
     TooMany,

@@ -32,28 +32,15 @@ const CALLS: [(&str, Call); 4] = [
 
 /// Answers a call of gs_ident.
 pub fn answer(alloc: Global, line: &mut Line, table: &AiTable, call: &[u8], args: &[Text]) -> Done {
+    let first = bytes_at(args, 0);
+    let others = behind(args, 1);
     match named(&CALLS, call) {
         Some(Call::Canonical) => answer_of(alloc, line, table, args, Asked::Canonical),
         Some(Call::Make) => answer_of(alloc, line, table, args, Asked::Parts),
-        Some(call) => answer_behind(alloc, line, table, call, args),
+        Some(Call::Prefix) => answer_of(alloc, line, table, others, Asked::Prefix(first)),
+        Some(Call::Spell) => answer_of(alloc, line, table, others, Asked::Under(first)),
         None => Err(Refusal::NoCase),
     }
-}
-
-/// Answers a call whose first word is no part of the pairs.
-fn answer_behind(
-    alloc: Global,
-    line: &mut Line,
-    table: &AiTable,
-    call: Call,
-    args: &[Text],
-) -> Done {
-    let first = bytes_at(args, 0);
-    let asked = match call {
-        Call::Prefix => Asked::Prefix(first),
-        _ => Asked::Under(first),
-    };
-    answer_of(alloc, line, table, behind(args, 1), asked)
 }
 
 /// What is asked of an identity.
@@ -156,7 +143,7 @@ pub fn pairs_of(alloc: Global, table: &AiTable, words: &[Text]) -> Result<Vec<Pa
 }
 
 /// Writes a refusal.
-fn add_refusal(line: &mut Line, fault: IdentFault) {
+pub fn add_refusal(line: &mut Line, fault: IdentFault) {
     match fault {
         IdentFault::Repeat(code) => add_coded(line, "Repeat", code),
         IdentFault::NoKey => line.plain("NoKey"),

@@ -8,12 +8,12 @@
 
 ghost use Rattle.std.specs.Prelude.{◌≡◌, IfOk, vec_len};
 
-use crate::identities::made;
+use crate::identities::{add_refusal, made};
 use crate::many_links;
 use gs_ai::AiTable;
 use gs_chars::Text;
 use gs_ident::{Identity, canonical};
-use gs_links::{Link, Store, StoreFault, Want};
+use gs_links::{AnchorWhy, Link, Store, StoreFault, Want};
 use gs_linkset::LinkDoc;
 use std::alloc::{AllocError, Global};
 use vector_cases::{Done, Line, Refusal, behind, bytes_at, named};
@@ -92,11 +92,39 @@ fn answer_from(
     }
 }
 
-/// Writes a refusal in Rust's words, as one word.
+/// Writes a refusal.
 pub fn add_fault(line: &mut Line, fault: StoreFault) {
     match fault {
+        StoreFault::TooMany => line.plain("TooMany"),
+        StoreFault::BadAnchor(context, why) => add_anchor_fault(line, context, why),
+        StoreFault::BadHref(context, relation, target) => {
+            line.plain("BadHref(");
+            line.more_debug(context);
+            line.more(",\\x20");
+            line.more_debug(relation);
+            line.more(",\\x20");
+            line.more_debug(target);
+            line.more(")");
+        }
         StoreFault::Memory => line.want_memory(),
-        fault => line.debug_shown(fault),
+    }
+}
+
+/// Writes which anchor is none, and why. The refusal of an identity stands behind it.
+fn add_anchor_fault(line: &mut Line, context: usize, why: AnchorWhy) {
+    line.plain("BadAnchor(");
+    line.more_debug(context);
+    match why {
+        AnchorWhy::Link(fault) => {
+            line.more(",\\x20Link(");
+            line.more_debug(fault);
+            line.more("))");
+        }
+        AnchorWhy::Ident(fault) => {
+            line.more(",\\x20Ident)");
+            add_refusal(line, fault);
+        }
+        AnchorWhy::Attributes => line.more(",\\x20Attributes)"),
     }
 }
 
