@@ -12,7 +12,7 @@ ghost use Rattle.gs_chars.specs.Characters.{are_digits};
 
 use gs_chars::{CharSet, List, Rows, Text, check_digit, read_escape, write_escape};
 use std::alloc::Global;
-use vector_cases::{Done, Line, Refusal, bytes_at, named, number};
+use vector_cases::{Done, Line, Refusal, bytes_at, named, number_in};
 
 #[derive(Clone, Copy)]
 enum Call {
@@ -112,16 +112,25 @@ fn escape_written(line: &mut Line, characters: &[u8]) -> Done {
     Ok(())
 }
 
-fn key(args: &[Text], i: usize) -> Result<u32, Refusal> {
-    let Ok(key) = u32::try_from(number(args, i)?) else {
-        return Err(Refusal::NoCase);
-    };
-    Ok(key)
+/// The key at a place, where there is one.
+fn key(args: &[Text], i: usize) -> Option<u32> {
+    match number_in(bytes_at(args, i)) {
+        Some(number) => u32::try_from(number).ok(),
+        None => None,
+    }
 }
 
 fn rows(line: &mut Line, args: &[Text]) -> Done {
-    match Rows::new([key(args, 0)?, key(args, 1)?, key(args, 2)?]) {
-        Some(rows) => line.debug(rows.find(key(args, 3)?)),
+    let (Some(a), Some(b), Some(c), Some(key)) = (
+        key(args, 0),
+        key(args, 1),
+        key(args, 2),
+        key(args, 3),
+    ) else {
+        return Err(Refusal::NoCase);
+    };
+    match Rows::new([a, b, c]) {
+        Some(rows) => line.debug(rows.find(key)),
         None => line.plain("refused"),
     }
     Ok(())

@@ -14,17 +14,23 @@ use vector_cases::{Done, Line, Refusal, behind, bytes_at, named, push};
 
 #[derive(Clone, Copy)]
 enum Call {
-    Copy,
     New,
+    Over(Asked),
+}
+
+/// What is asked of a linkset.
+#[derive(Clone, Copy)]
+enum Asked {
+    Copy,
     Read,
     Write,
 }
 
 const CALLS: [(&str, Call); 4] = [
-    ("copy", Call::Copy),
+    ("copy", Call::Over(Asked::Copy)),
     ("new", Call::New),
-    ("read", Call::Read),
-    ("write", Call::Write),
+    ("read", Call::Over(Asked::Read)),
+    ("write", Call::Over(Asked::Write)),
 ];
 
 /// Answers a call of gs_linkset.
@@ -32,15 +38,15 @@ pub fn answer(alloc: Global, line: &mut Line, call: &[u8], args: &[Text]) -> Don
     let first = bytes_at(args, 0);
     match named(&CALLS, call) {
         Some(Call::New) => made(alloc, line, first, behind(args, 1)),
-        Some(over) => answer_over(alloc, line, over, first),
+        Some(Call::Over(asked)) => answer_over(alloc, line, asked, first),
         None => Err(Refusal::NoCase),
     }
 }
 
 /// Answers a call over a document.
-fn answer_over(alloc: Global, line: &mut Line, call: Call, document: &[u8]) -> Done {
+fn answer_over(alloc: Global, line: &mut Line, asked: Asked, document: &[u8]) -> Done {
     match gs_linkset::read(alloc, document) {
-        Ok(doc) => told(alloc, line, call, &doc),
+        Ok(doc) => told(alloc, line, asked, &doc),
         Err(fault) => {
             line.fault(fault);
             Ok(())
@@ -179,12 +185,12 @@ fn add_copy(alloc: Global, line: &mut Line, target: Option<&Target>) -> Done {
     Ok(())
 }
 
-/// Writes what a call tells of a linkset.
-fn told(alloc: Global, line: &mut Line, call: Call, doc: &LinkDoc) -> Done {
-    match call {
-        Call::Copy => return add_copy(alloc, line, first_target(doc)),
-        Call::Write => line.text_made(gs_linkset::write(alloc, doc)),
-        Call::New | Call::Read => add_contexts(line, doc.contexts()),
+/// Writes what is asked of a linkset.
+fn told(alloc: Global, line: &mut Line, asked: Asked, doc: &LinkDoc) -> Done {
+    match asked {
+        Asked::Copy => return add_copy(alloc, line, first_target(doc)),
+        Asked::Read => add_contexts(line, doc.contexts()),
+        Asked::Write => line.text_made(gs_linkset::write(alloc, doc)),
     }
     Ok(())
 }

@@ -16,7 +16,7 @@ use gs_grammar::Opt;
 use gs_machine::{Auto, Edge};
 use gs_share::first_share;
 use std::alloc::Global;
-use vector_cases::{Done, Line, Refusal, behind, bytes_at, named, number_of, numbers_of, push};
+use vector_cases::{Done, Line, Refusal, behind, bytes_at, named, number_in, numbers_of, push};
 
 #[derive(Clone, Copy)]
 enum Call {
@@ -45,12 +45,12 @@ pub fn answer(alloc: Global, line: &mut Line, call: &[u8], args: &[Text]) -> Don
     }
 }
 
-/// The symbol that a word tells.
-fn symbol_of(word: &str) -> Result<u8, Refusal> {
-    let Ok(symbol) = u8::try_from(number_of(word.as_bytes())?) else {
-        return Err(Refusal::NoCase);
-    };
-    Ok(symbol)
+/// The symbol that a word tells, where it tells one.
+fn symbol_in(word: &str) -> Option<u8> {
+    match number_in(word.as_bytes()) {
+        Some(number) => u8::try_from(number).ok(),
+        None => None,
+    }
 }
 
 fn edge_of(text: &str) -> Result<Edge, Refusal> {
@@ -60,11 +60,14 @@ fn edge_of(text: &str) -> Result<Edge, Refusal> {
     let Some((lo, hi)) = symbols.split_once('-') else {
         return Err(Refusal::NoCase);
     };
-    Ok(Edge {
-        lo: symbol_of(lo)?,
-        hi: symbol_of(hi)?,
-        to: number_of(state.as_bytes())? as usize,
-    })
+    match (symbol_in(lo), symbol_in(hi), number_in(state.as_bytes())) {
+        (Some(lo), Some(hi), Some(to)) => Ok(Edge {
+            lo,
+            hi,
+            to: to as usize,
+        }),
+        _ => Err(Refusal::NoCase),
+    }
 }
 
 fn row_of(alloc: Global, text: &str) -> Result<List<Edge>, Refusal> {
