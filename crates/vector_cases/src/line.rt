@@ -87,14 +87,6 @@ impl Line {
         self.more_debug(value);
     }
 
-    /// Writes a value in Rust's words, as one word.
-    pub fn debug_shown<T: Debug + Drop>(&mut self, value: T) {
-        match debug_word(self.alloc, &value) {
-            Ok(words) => self.bytes(words.as_bytes()),
-            Err(refusal) => self.note(Err(refusal)),
-        }
-    }
-
     /// Writes the word that stands for a text.
     pub fn text(&mut self, text: Text) {
         self.bytes(text.as_bytes());
