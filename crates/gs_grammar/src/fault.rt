@@ -22,7 +22,7 @@ pub enum Why {
 }
 
 /// Why values are not written.
-#[derive(Clone, Copy, Debug)]
+#[derive(Clone, Copy)]
 pub enum WriteFault {
     /// The item of this number is the first that does not hold its value.
     CannotHold { item: usize, why: Why },
