@@ -2,7 +2,7 @@ ghost use Rattle.std.specs.Prelude.{◌≡◌, ◌↔◌, ◌==◌, ◌&&◌, �
 ghost use Rattle.gs_chars.specs.Characters.{are_digits};
 ghost use Rattle.gs_grammar.specs.Items.{IsItem};
 ghost use Rattle.gs_grammar.specs.Words.{IsWord, SpellsEach, Word, WritesNumber, number_of_word};
-ghost use Rattle.gs_grammar.specs.declared.item.Item.TheVariants.{Esc, Int, Lit, Num, NumPad, Pad};
+ghost use Rattle.gs_grammar.specs.declared.item.Item.TheVariants.{Ascii7, Esc, Int, Lit, Num, NumPad, Pad};
 
 use crate::bit_words::{are_zeros, number_in_bits, packed_count, unpacked};
 use crate::escaped::{read_spelled, spelled_count};
@@ -25,6 +25,63 @@ fn are_n_digits(symbols: &[u8], n: usize) -> bool
     symbols.len() == n && all_digits(symbols)
 }
 
+/// Whether the symbols are a word of the item `Int`.
+fn is_integer(symbols: &[u8], max: u64) -> bool
+    requires { IsItem (Int max) }
+    ensures { IsTrue result ↔ IsWord (Int max) symbols.now }
+{
+    match numeral(symbols) {
+        Some(whole) => whole <= max,
+        None => false,
+    }
+}
+
+/// Whether the symbols are a word of the item `Esc`.
+fn is_escaped(symbols: &[u8], lo: u8, hi: u8) -> bool
+    ensures { IsTrue result ↔ IsWord (Esc lo hi) symbols.now }
+{
+    match spelled_count(symbols) {
+        Some(count) => is_within(usize::from(lo), usize::from(hi), count),
+        None => false,
+    }
+}
+
+/// Whether the symbols are a word of the item `NumPad`.
+fn is_padded(symbols: &[u8], bits: u8, n: u8) -> bool
+    requires narrow { bits ≤ 64 }
+    requires few { n ≤ 18 }
+    ensures { IsTrue result ↔ IsWord (NumPad bits n) symbols.now }
+{
+    match number_in_bits(symbols, usize::from(bits)) {
+        Some(number) => has_at_most_digits(number, n),
+        None => false,
+    }
+}
+
+/// Whether the symbols are a word of the item `Num`.
+fn is_number(symbols: &[u8], bits: u8, max: u64) -> bool
+    requires { bits ≤ 64 }
+    ensures { IsTrue result ↔ IsWord (Num bits max) symbols.now }
+{
+    match number_in_bits(symbols, usize::from(bits)) {
+        Some(number) => number <= max,
+        None => false,
+    }
+}
+
+/// Whether the symbols are a word of the item `Ascii7`.
+fn is_packed(symbols: &[u8], lo: u8, hi: u8, bits: u16) -> bool
+    ensures { IsTrue result ↔ IsWord (Ascii7 lo hi bits) symbols.now }
+{
+    if symbols.len() != usize::from(bits) {
+        return false;
+    }
+    match packed_count(symbols) {
+        Some(count) => is_within(usize::from(lo), usize::from(hi), count),
+        None => false,
+    }
+}
+
 /// Whether the symbols are a word of the item. The item keeps its bounds.
 pub fn is_word(item: &Item, symbols: &[u8]) -> bool
     requires { IsItem item.now }
@@ -33,31 +90,11 @@ pub fn is_word(item: &Item, symbols: &[u8]) -> bool
     match item {
         Item::Lit(literal) => literal.as_bytes() == symbols,
         Item::Pad { n } => are_n_digits(symbols, usize::from(*n)),
-        Item::Int { max } => match numeral(symbols) {
-            Some(whole) => whole <= *max,
-            None => false,
-        },
-        Item::Esc { lo, hi } => match spelled_count(symbols) {
-            Some(count) => is_within(usize::from(*lo), usize::from(*hi), count),
-            None => false,
-        },
-        Item::NumPad { bits, n } => match number_in_bits(symbols, usize::from(*bits)) {
-            Some(number) => has_at_most_digits(number, *n),
-            None => false,
-        },
-        Item::Num { bits, max } => match number_in_bits(symbols, usize::from(*bits)) {
-            Some(number) => number <= *max,
-            None => false,
-        },
-        Item::Ascii7 { lo, hi, bits } => {
-            if symbols.len() != usize::from(*bits) {
-                return false;
-            }
-            match packed_count(symbols) {
-                Some(count) => is_within(usize::from(*lo), usize::from(*hi), count),
-                None => false,
-            }
-        }
+        Item::Int { max } => is_integer(symbols, *max),
+        Item::Esc { lo, hi } => is_escaped(symbols, *lo, *hi),
+        Item::NumPad { bits, n } => is_padded(symbols, *bits, *n),
+        Item::Num { bits, max } => is_number(symbols, *bits, *max),
+        Item::Ascii7 { lo, hi, bits } => is_packed(symbols, *lo, *hi, *bits),
         Item::Fill { a, b } => {
             are_zeros(symbols, usize::from(*a)) || are_zeros(symbols, usize::from(*b))
         }
