@@ -1,23 +1,24 @@
-ghost use Rattle.std.specs.Prelude.{◌≡◌, ◌++◌, [], if◌then◌else◌, IfOk, OnOk};
+ghost use Rattle.std.specs.Prelude.{◌≡◌, ◌++◌, [], codes, if◌then◌else◌, IfOk};
+ghost use Rattle.std.specs.List.{flat_map};
 ghost use Rattle.gs_http.specs.Answers.{said};
-ghost use Rattle.gs_http.specs.Replies.{body_of, close_field, length_field, line, own_field, reply_bytes, status_of};
+ghost use Rattle.gs_http.specs.Replies.{body_of, close_field, line, own_field, reply_bytes, status_of};
 
 use crate::answer::Answer;
 use gs_chars::{Memory, Text};
 use std::alloc::Global;
 
-/// The status code and its phrase.
-fn status_of(answer: &Answer<'_>) -> &'static [u8]
-    ensures { result.now ≡ status_of (said answer.now) }
+/// The line with the status code and its phrase.
+fn status_line<'b>(answer: &'b Answer<'_>) -> &'b [u8]
+    ensures { result.now ≡ line (codes "HTTP/1.1 " ++ status_of (said answer.now)) }
 {
     match answer {
-        Answer::Description(_) => b"200 OK",
-        Answer::Linkset(_) => b"200 OK",
-        Answer::Choices(_) => b"300 Multiple Choices",
-        Answer::Redirect(_) => b"307 Temporary Redirect",
-        Answer::BadRequest => b"400 Bad Request",
-        Answer::NotFound => b"404 Not Found",
-        Answer::NotAllowed => b"405 Method Not Allowed",
+        Answer::Description(_) => b"HTTP/1.1 200 OK\r\n",
+        Answer::Linkset(_) => b"HTTP/1.1 200 OK\r\n",
+        Answer::Choices(_) => b"HTTP/1.1 300 Multiple Choices\r\n",
+        Answer::Redirect(_) => b"HTTP/1.1 307 Temporary Redirect\r\n",
+        Answer::BadRequest => b"HTTP/1.1 400 Bad Request\r\n",
+        Answer::NotFound => b"HTTP/1.1 404 Not Found\r\n",
+        Answer::NotAllowed => b"HTTP/1.1 405 Method Not Allowed\r\n",
     }
 }
 
@@ -36,62 +37,64 @@ fn body_of<'b>(answer: &'b Answer<'_>) -> &'b [u8]
     }
 }
 
-/// Appends a line of a name and a value.
-fn append_line(out: &mut Vec<u8>, name: &[u8], value: &[u8]) -> Result<(), Memory>
-    ensures { OnOk result (out.new.items ≡ out.old.items ++ line (name.now ++ value.now)) }
-{
-    out.extend_from_slice(name)?;
-    out.extend_from_slice(value)?;
-    out.extend_from_slice(b"\r\n")?;
-    Ok(())
-}
-
-/// Appends the field that only this answer has.
-fn append_own_field(out: &mut Vec<u8>, answer: &Answer<'_>) -> Result<(), Memory>
-    ensures { OnOk result (out.new.items ≡ out.old.items ++ own_field (said answer.now)) }
+/// The field that only this answer has: its name, its value and the end of its line.
+fn own_field<'b>(answer: &'b Answer<'_>) -> (&'b [u8], &'b [u8], &'b [u8])
+    ensures { result.0.now ++ (result.1.now ++ result.2.now) ≡ own_field (said answer.now) }
 {
     match answer {
-        Answer::Description(_) => append_line(out, b"Content-Type: ", b"application/json"),
-        Answer::Linkset(_) => append_line(out, b"Content-Type: ", b"application/linkset+json"),
-        Answer::Choices(_) => append_line(out, b"Content-Type: ", b"application/linkset+json"),
-        Answer::Redirect(href) => append_line(out, b"Location: ", href),
-        Answer::BadRequest => Ok(()),
-        Answer::NotFound => Ok(()),
-        Answer::NotAllowed => append_line(out, b"Allow: ", b"GET, HEAD"),
+        Answer::Description(_) => (b"Content-Type: ", b"application/json", b"\r\n"),
+        Answer::Linkset(_) => (b"Content-Type: ", b"application/linkset+json", b"\r\n"),
+        Answer::Choices(_) => (b"Content-Type: ", b"application/linkset+json", b"\r\n"),
+        Answer::Redirect(href) => (b"Location: ", href, b"\r\n"),
+        Answer::BadRequest => (b"", b"", b""),
+        Answer::NotFound => (b"", b"", b""),
+        Answer::NotAllowed => (b"Allow: ", b"GET, HEAD", b"\r\n"),
     }
 }
 
-/// Appends the field with the length of the body.
-fn append_length(alloc: Global, out: &mut Vec<u8>, len: usize) -> Result<(), Memory>
-    ensures { OnOk result (out.new.items ≡ out.old.items ++ length_field len) }
-{
-    let number = format!(in alloc; "{len}")?;
-    append_line(out, b"Content-Length: ", number.as_bytes())
-}
-
-/// Appends the field by which the connection ends, where it does.
-fn append_close(out: &mut Vec<u8>, close: bool) -> Result<(), Memory>
-    ensures { OnOk result (out.new.items ≡ out.old.items ++ close_field close) }
+/// The end of the head, with the field by which the connection ends, where it does.
+fn head_end(close: bool) -> &'static [u8]
+    ensures { result.now ≡ close_field close ++ line [] }
 {
     if close {
-        append_line(out, b"Connection: ", b"close")
+        b"Connection: close\r\n\r\n"
     } else {
-        Ok(())
+        b"\r\n"
     }
 }
 
-/// Appends the body, but where only the head is asked for.
-fn append_body(out: &mut Vec<u8>, head_only: bool, body: &[u8]) -> Result<(), Memory>
-    ensures { OnOk result (out.new.items ≡ out.old.items ++ (if head_only then [] else body.now)) }
+/// The body, but nothing where only the head is asked for.
+fn sent_body(head_only: bool, body: &[u8]) -> &[u8]
+    ensures { result.now ≡ (if head_only then [] else body.now) }
 {
-    if !head_only {
-        out.extend_from_slice(body)?;
-    }
-    Ok(())
+    if head_only { &[] } else { body }
+}
+
+/// The bytes of the parts, one behind the other.
+fn joined(alloc: Global, parts: &[&[u8]]) -> Result<Text, Memory>
+    ensures { IfOk result (λ text. text ≡ flat_map (λ part. part.now) parts.now) }
+{
+    Ok(Text::from_vec(parts.concat(alloc)?))
+}
+
+/// The bytes of a reply, with its field of the length, the end of its head and what is sent of its body at hand.
+fn written<'p>(
+    alloc: Global,
+    answer: &'p Answer<'_>,
+    length: &'p [u8],
+    end: &'p [u8],
+    body: &'p [u8],
+) -> Result<Text, Memory>
+    ensures { IfOk result (λ bytes. bytes ≡
+        (((line (codes "HTTP/1.1 " ++ status_of (said answer.now)) ++ own_field (said answer.now))
+        ++ length.now) ++ end.now) ++ body.now) }
+{
+    let (name, value, close) = own_field(answer);
+    let parts = [status_line(answer), name, value, close, length, end, body];
+    joined(alloc, &parts)
 }
 
 /// The bytes of a reply.
-#[tactic(auto, unfolding(crate::specs::Replies::reply_bytes))]
 pub(crate) fn reply_bytes(
     alloc: Global,
     head_only: bool,
@@ -101,12 +104,12 @@ pub(crate) fn reply_bytes(
     ensures { IfOk result (λ bytes. bytes ≡ reply_bytes head_only close (said answer.now)) }
 {
     let body = body_of(answer);
-    let mut out = Vec::new(alloc);
-    append_line(&mut out, b"HTTP/1.1 ", status_of(answer))?;
-    append_own_field(&mut out, answer)?;
-    append_length(alloc, &mut out, body.len())?;
-    append_close(&mut out, close)?;
-    append_line(&mut out, b"", b"")?;
-    append_body(&mut out, head_only, body)?;
-    Ok(Text::from_vec(out))
+    let length = format!(in alloc; "Content-Length: {}\r\n", body.len())?;
+    written(
+        alloc,
+        answer,
+        length.as_bytes(),
+        head_end(close),
+        sent_body(head_only, body),
+    )
 }
