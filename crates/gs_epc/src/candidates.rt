@@ -9,6 +9,9 @@ use gs_chars::{Memory, Text};
 use gs_tables::{Field, LevelName};
 use std::alloc::Global;
 
+/// The texts of the filter values.
+const DIGITS: &[u8] = b"01234567";
+
 /// Whether the name of an encoding is the one that is asked for.
 pub(crate) fn is_asked(level: LevelName, asked: &Text, name: &Text) -> bool
     ensures { result ≡ is_asked level asked.now name.now }
@@ -20,36 +23,36 @@ pub(crate) fn is_asked(level: LevelName, asked: &Text, name: &Text) -> bool
 }
 
 /// The text of a filter value.
-fn filter_digit(alloc: Global, filter: Option<u8>) -> Result<Text, Memory>
+fn filter_digit(filter: Option<u8>) -> &'static [u8]
     requires { HasFilter filter }
-    ensures { IfOk result (λ text. text ≡ option_map_or decimal filter []) }
+    ensures { result.now ≡ option_map_or decimal filter [] }
 {
     match filter {
-        Some(filter) => Text::from_bytes(alloc, &[b'0' + filter]),
+        Some(filter) => &DIGITS[usize::from(filter)..][..1],
         None => unreachable!(),
     }
 }
 
 /// The text of the filter value, empty on the level of pure identities.
-fn filter_text(alloc: Global, level: LevelName, filter: Option<u8>) -> Result<Text, Memory>
+fn filter_text(level: LevelName, filter: Option<u8>) -> &'static [u8]
     requires { HasFilterOn level filter }
-    ensures { IfOk result (λ text. text ≡ filter_text level filter) }
+    ensures { result.now ≡ filter_text level filter }
 {
     match level {
-        LevelName::Pure => Ok(Text::new(alloc)),
-        LevelName::Tag => filter_digit(alloc, filter),
-        LevelName::Binary => filter_digit(alloc, filter),
+        LevelName::Pure => &[],
+        LevelName::Tag => filter_digit(filter),
+        LevelName::Binary => filter_digit(filter),
     }
 }
 
 /// The value of the items that stand for a field.
-fn value_for<'a>(epc: &'a Epc, filter: &'a Text, field: Option<Field>) -> &'a [u8]
+fn value_for<'a>(epc: &'a Epc, filter: &'a [u8], field: Option<Field>) -> &'a [u8]
     ensures { (level : LevelName) → filter.now ≡ filter_text level epc.now.filter
         → result.now ≡ value_for level epc.now field }
 {
     match field {
         None => &[],
-        Some(Field::Filter) => filter.as_bytes(),
+        Some(Field::Filter) => filter,
         Some(Field::Gcp) => epc.prefix.as_bytes(),
         Some(Field::Rest) => epc.rest.as_bytes(),
         Some(Field::Serial) => epc.serial.as_bytes(),
@@ -66,10 +69,10 @@ pub(crate) fn values_for(
     requires { HasFilterOn level epc.now.filter }
     ensures { IfOk result (λ values. values.items ≡ map (value_for level epc.now) fields.now) }
 {
-    let filter = filter_text(alloc, level, epc.filter)?;
+    let filter = filter_text(level, epc.filter);
     let mut values = Vec::with_capacity(alloc, fields.len())?;
     for field in fields {
-        values.push(Text::from_bytes(alloc, value_for(epc, &filter, *field))?)?;
+        values.push(Text::from_bytes(alloc, value_for(epc, filter, *field))?)?;
     }
     Ok(values)
 }

@@ -6,6 +6,7 @@ ghost use Rattle.gs_epc.specs.Layout.{AreKeyDigits, IsLaidOut, key_digits, key_v
 
 use crate::epc::Epc;
 use crate::kept::kind_of;
+use crate::taking::joined;
 use gs_ai::{AiTable, Pair, Part};
 use gs_chars::{Memory, Text, check_digit};
 use gs_ident::{IdentFault, Identity, make};
@@ -75,15 +76,6 @@ fn digits_value(alloc: Global, parts: &[Part], kind: &Kind, epc: &Epc) -> Result
     Ok(value)
 }
 
-/// The value of a key of characters: the prefix and the rest, as they are.
-fn characters_value(alloc: Global, prefix: &[u8], rest: &[u8]) -> Result<Text, Memory>
-    ensures { IfOk result (λ value. value ≡ prefix.now ++ rest.now) }
-{
-    let mut value = Text::from_bytes(alloc, prefix)?;
-    value.extend_from_slice(rest)?;
-    Ok(value)
-}
-
 /// The value of the key, by the parts of its row.
 fn key_value(alloc: Global, ais: &AiTable, kind: &Kind, epc: &Epc) -> Result<Text, Memory>
     requires { FitKind ais.now kind.now epc.now.prefix epc.now.rest epc.now.serial }
@@ -95,7 +87,7 @@ fn key_value(alloc: Global, ais: &AiTable, kind: &Kind, epc: &Epc) -> Result<Tex
     };
     let parts = row.parts.items();
     if are_characters(parts) {
-        return characters_value(alloc, epc.prefix.as_bytes(), epc.rest.as_bytes());
+        return joined(alloc, epc.prefix.as_bytes(), epc.rest.as_bytes());
     }
     digits_value(alloc, parts, kind, epc)
 }

@@ -78,7 +78,7 @@ fn prefix_in<'a>(parts: &[Part], lead: u8, gcp: u8, value: &'a [u8]) -> &'a [u8]
 }
 
 /// The two texts joined.
-fn joined(alloc: Global, first: &[u8], others: &[u8]) -> Result<Text, Memory>
+pub(crate) fn joined(alloc: Global, first: &[u8], others: &[u8]) -> Result<Text, Memory>
     ensures { IfOk result (λ text. text ≡ first.now ++ others.now) }
 {
     let mut text = Text::from_bytes(alloc, first)?;
@@ -189,11 +189,11 @@ pub fn fields_of(
     let value = identity.key().value.as_bytes();
     Ok(Epc {
         kind,
-        encoding: Text::new(alloc),
         filter: None,
         gcp,
         prefix: Text::from_bytes(alloc, prefix_in(parts, row.lead, gcp, value))?,
         rest: rest_in(alloc, parts, row.lead, gcp, value)?,
         serial: Text::from_bytes(alloc, serial)?,
+        encoding: Text::new(alloc),
     })
 }

@@ -14,7 +14,7 @@ all_made f xs i made all h so_far = sym (append-nil made) ∙ ap (λ rest. made 
 
 pub loop-field-preserved : goal.loop-field-preserved
 loop-field-preserved c =
-    let value = c.in_ok-from_bytes.ensures ∙ c.value_for.ensures c.args.level c.in_ok-filter.ensures in
+    let value = c.in_ok-from_bytes.ensures ∙ c.value_for.ensures c.args.level c.filter_text-filter.ensures in
     one_more (value_for c.args.level c.args.epc.now) c.args.fields.now c.loop-field.field-index _ c.loop-field.values.items c.push.new.self.items _ c.in_ok-from_bytes.field-0 c.loop-field-test.true c.loop-field.invariant value c.in_ok-push.ensures.items
 
 pub returns : goal.returns
