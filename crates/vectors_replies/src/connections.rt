@@ -6,56 +6,13 @@
 
 ghost use Rattle.std.specs.Prelude.{◌<◌};
 
-use crate::site::{Site, site_of};
+use crate::site::Site;
 use gs_ai::AiTable;
 use gs_chars::Text;
 use gs_http::{Served, serve_one};
 use gs_port::{MemSink, MemSource, Pair};
 use std::alloc::Global;
-use vector_cases::{
-    Answer, Refusal, Word, add_shown, add_words, arg, debug_word, joined, number, section, sink_of,
-    source_of,
-};
-
-/// The answer to a call of gs_http over connections.
-pub fn answer(alloc: Global, table: &AiTable, call: &str, args: &[Text]) -> Answer {
-    let [store, ..] = args else {
-        return Err(Refusal::NoCase);
-    };
-    let site = site_of(alloc, table, store.as_bytes(), b"-")?;
-    answer_from(alloc, table, &site, call, args)
-}
-
-/// The answer from this site, which is lent so that it is dropped at one exit.
-fn answer_from(alloc: Global, table: &AiTable, site: &Site, call: &str, args: &[Text]) -> Answer {
-    match call {
-        "serve" => serve(alloc, table, site, args),
-        "cuts" => over_cuts(alloc, table, site, arg(args, 1)?),
-        "many" => many(alloc, table, site, args),
-        _ => Err(Refusal::NoCase),
-    }
-}
-
-/// The input that the second part of the arguments tells.
-fn input_at(alloc: Global, args: &[Text]) -> Result<MemSource, Refusal> {
-    source_of(alloc, section(args, 1)?)
-}
-
-/// The output that the third part of the arguments tells.
-fn output_at(alloc: Global, args: &[Text]) -> Result<MemSink, Refusal> {
-    sink_of(alloc, section(args, 2)?)
-}
-
-fn serve(alloc: Global, table: &AiTable, site: &Site, args: &[Text]) -> Answer {
-    let mut input = input_at(alloc, args)?;
-    let mut output = output_at(alloc, args)?;
-    outcome(alloc, table, site, &mut input, &mut output)
-}
-
-fn many(alloc: Global, table: &AiTable, site: &Site, args: &[Text]) -> Answer {
-    let bytes = repeated(alloc, number(args, 1)?, arg(args, 2)?)?;
-    of_bytes(alloc, table, site, bytes)
-}
+use vector_cases::{Answer, Done, Line, Refusal, bytes_at, number, section, sink_of, source_of};
 
 /// How serving ends. Apart from what becomes of it, since it promises much.
 fn served(
@@ -69,68 +26,86 @@ fn served(
     serve_one(alloc, &mut conn, table, &site.store, &site.settings)
 }
 
-fn outcome(
+/// Writes how serving ended, and what was written.
+fn add_outcome(line: &mut Line, ended: Served, written: &[u8]) {
+    line.debug(ended);
+    line.bytes(written);
+}
+
+/// Answers a call of `serve`.
+pub fn serve(alloc: Global, line: &mut Line, table: &AiTable, site: &Site, args: &[Text]) -> Done {
+    let from = section(args, 1)?;
+    let to = section(args, 2)?;
+    let mut input = source_of(alloc, from)?;
+    let mut output = sink_of(alloc, to)?;
+    let ended = served(alloc, table, site, &mut input, &mut output);
+    add_outcome(line, ended, output.bytes());
+    Ok(())
+}
+
+/// Writes the outcome where reads and writes move at most so many bytes.
+fn add_at_cut(
     alloc: Global,
+    line: &mut Line,
     table: &AiTable,
     site: &Site,
-    input: &mut MemSource,
-    output: &mut MemSink,
-) -> Answer {
-    let ended = served(alloc, table, site, input, output);
-    served_words(alloc, ended, output.bytes())
-}
-
-/// How serving ended, and what was written.
-fn served_words(alloc: Global, ended: Served, written: &[u8]) -> Answer {
-    let mut answer = debug_word(alloc, &ended)?;
-    add_shown(alloc, &mut answer, written)?;
-    Ok(answer)
-}
-
-/// The input of a copy of these bytes.
-fn input_of(alloc: Global, bytes: &[u8], cut: usize) -> Result<MemSource, Refusal>
+    bytes: &[u8],
+    cut: usize,
+) -> Done
     requires { 0 < cut }
 {
-    Ok(MemSource::new(alloc, bytes.to_vec(alloc)?, cut, Vec::new(alloc)))
+    let mut input = MemSource::new(alloc, bytes.to_vec(alloc)?, cut, Vec::new(alloc));
+    let mut output = MemSink::new(alloc, cut, Vec::new(alloc));
+    let ended = served(alloc, table, site, &mut input, &mut output);
+    add_outcome(line, ended, output.bytes());
+    Ok(())
 }
 
 /// The outcome where reads and writes move at most so many bytes.
 fn at_cut(alloc: Global, table: &AiTable, site: &Site, bytes: &[u8], cut: usize) -> Answer
     requires { 0 < cut }
 {
-    let mut input = input_of(alloc, bytes, cut)?;
-    let mut output = MemSink::new(alloc, cut, Vec::new(alloc));
-    outcome(alloc, table, site, &mut input, &mut output)
+    let mut line = Line::new(alloc);
+    let done = add_at_cut(alloc, &mut line, table, site, bytes, cut);
+    line.finish(done)
 }
 
 /// Whether an outcome is another than this one.
-fn differs(outcome: Answer, whole: &String) -> Result<bool, Refusal> {
+fn differs(outcome: Answer, whole: &str) -> Result<bool, Refusal> {
     let outcome = outcome?;
-    Ok(outcome != *whole)
+    Ok(outcome.as_str() != whole)
 }
 
-/// The first number of bytes below all at which the outcome is not this one.
-fn first_other(
+/// Writes this outcome, or the first number of bytes below all at which it is another.
+fn add_alike(
     alloc: Global,
+    line: &mut Line,
     table: &AiTable,
     site: &Site,
     bytes: &[u8],
-    whole: &String,
-) -> Result<Option<usize>, Refusal> {
+    whole: &str,
+) -> Done {
     for cut in 1..bytes.len() {
         if differs(at_cut(alloc, table, site, bytes, cut), whole)? {
-            return Ok(Some(cut));
+            line.plain("differ at");
+            line.debug(cut);
+            return Ok(());
         }
     }
-    Ok(None)
+    line.plain(whole);
+    Ok(())
 }
 
-fn over_cuts(alloc: Global, table: &AiTable, site: &Site, bytes: &[u8]) -> Answer {
+/// Answers a call of `cuts`.
+pub fn over_cuts(
+    alloc: Global,
+    line: &mut Line,
+    table: &AiTable,
+    site: &Site,
+    bytes: &[u8],
+) -> Done {
     let whole = at_cut(alloc, table, site, bytes, 65_536)?;
-    match first_other(alloc, table, site, bytes, &whole)? {
-        Some(cut) => joined(alloc, &[Word::Plain("differ at"), Word::Number(cut as u64)]),
-        None => Ok(whole),
-    }
+    add_alike(alloc, line, table, site, bytes, whole.as_str())
 }
 
 /// So many copies of a head.
@@ -142,19 +117,19 @@ fn repeated(alloc: Global, count: u64, head: &[u8]) -> Result<Vec<u8>, Refusal> 
     Ok(bytes)
 }
 
-/// How serving these bytes ends, how many bytes were written, and the last of these.
-fn of_bytes(alloc: Global, table: &AiTable, site: &Site, bytes: Vec<u8>) -> Answer {
+/// Writes how serving ended, how many bytes were written, and the last 64 of these.
+fn add_summary(line: &mut Line, ended: Served, written: &[u8]) {
+    line.debug(ended);
+    line.debug(written.len());
+    line.bytes(&written[written.len() - written.len().min(64)..]);
+}
+
+/// Answers a call of `many`.
+pub fn many(alloc: Global, line: &mut Line, table: &AiTable, site: &Site, args: &[Text]) -> Done {
+    let bytes = repeated(alloc, number(args, 1)?, bytes_at(args, 2))?;
     let mut input = MemSource::new(alloc, bytes, 65_536, Vec::new(alloc));
     let mut output = MemSink::new(alloc, 65_536, Vec::new(alloc));
     let ended = served(alloc, table, site, &mut input, &mut output);
-    summary(alloc, ended, output.bytes())
-}
-
-/// How serving ended, how many bytes were written, and the last 64 of these.
-fn summary(alloc: Global, ended: Served, written: &[u8]) -> Answer {
-    let last = &written[written.len() - written.len().min(64)..];
-    let mut answer = debug_word(alloc, &ended)?;
-    let words = [Word::Number(written.len() as u64), Word::Bytes(last)];
-    add_words(alloc, &mut answer, &words)?;
-    Ok(answer)
+    add_summary(line, ended, output.bytes());
+    Ok(())
 }

@@ -7,7 +7,7 @@ use gs_http::Settings;
 use gs_links::Store;
 use gs_linkset::LinkDoc;
 use std::alloc::Global;
-use vector_cases::Refusal;
+use vector_cases::{Refusal, named};
 
 /// What `gs1:` stands for.
 const VOC: &[u8] = b"https://ref.gs1.org/voc/";
@@ -20,6 +20,8 @@ const LOTS: &[u8] =
 const PLACE: &[u8] =
     br#"{"linkset":[{"anchor":"/414/0614141000012","gs1:defaultLink":[{"href":"https://a.example/1"},{"href":"https://a.example/2"}]}]}"#;
 
+const LINKSETS: [(&str, &[u8]); 2] = [("lots", LOTS), ("place", PLACE)];
+
 /// The links and the settings that requests are answered from.
 #[derive(Drop)]
 pub struct Site {
@@ -29,13 +31,7 @@ pub struct Site {
 
 /// The linkset of a name, or the text itself.
 fn linkset_of(name: &[u8]) -> &[u8] {
-    if name == b"lots".as_slice() {
-        LOTS
-    } else if name == b"place".as_slice() {
-        PLACE
-    } else {
-        name
-    }
+    named(&LINKSETS, name).unwrap_or(name)
 }
 
 /// The linkset of a text.

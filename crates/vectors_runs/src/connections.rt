@@ -7,85 +7,58 @@
 
 ghost use Rattle.std.specs.Prelude.{◌≡◌, false, true, is_some};
 
-use crate::outside::write_word;
+use crate::outside::add_taken;
 use gs_chars::Text;
 use gs_memory::MemDoor;
-use gs_port::{
-    AcceptAnswer, Conn, Door, MemSink, MemSource, OpenAnswer, Pair, ReadAnswer, WriteAnswer,
-};
+use gs_port::{AcceptAnswer, Conn, Door, MemSink, MemSource, OpenAnswer, Pair, ReadAnswer};
 use std::alloc::Global;
-use vector_cases::{
-    Answer, Refusal, add_answer, add_shown, debug_word, door_of, said, section, shown, sink_of,
-    source_of,
-};
+use vector_cases::{Done, Line, door_of, section, sink_of, source_of};
 
-/// The answer to a call of gs_port over connections.
-pub fn answer(alloc: Global, call: &str, args: &[Text]) -> Answer {
-    match call {
-        "pair" => pair(alloc, args),
-        "door" => door(alloc, args),
-        _ => Err(Refusal::NoCase),
-    }
-}
-
-/// The bytes that a read moved, and what the write of these answers.
-fn turn_words(alloc: Global, moved: &[u8], taken: WriteAnswer) -> Answer {
-    let mut answer = shown(alloc, moved)?;
-    add_answer(&mut answer, write_word(alloc, taken))?;
-    Ok(answer)
-}
-
-/// What a turn answers.
-fn turn<C: Conn>(alloc: Global, conn: &mut C) -> Answer
+/// Writes what a turn answers.
+fn add_turn<C: Conn>(line: &mut Line, conn: &mut C)
     requires { C.is_open conn.old ≡ true }
     ensures open { C.is_open conn.new ≡ true }
     ensures aside { C.aside conn.new ≡ C.aside conn.old }
 {
     let mut block = [0; 4];
-    let moved = conn.read(&mut block);
-    match moved {
+    match conn.read(&mut block) {
         ReadAnswer::Got(n) => {
-            let taken = conn.write(&block[..n]);
-            turn_words(alloc, &block[..n], taken)
+            line.bytes(&block[..n]);
+            add_taken(line, conn.write(&block[..n]));
         }
-        ReadAnswer::Failed => said(alloc, "Failed"),
+        ReadAnswer::Failed => line.plain("Failed"),
     }
 }
 
-/// What three turns answer.
-fn turns<C: Conn>(alloc: Global, conn: &mut C) -> Answer
+/// Writes what three turns answer.
+fn add_turns<C: Conn>(line: &mut Line, conn: &mut C)
     requires { C.is_open conn.old ≡ true }
     ensures open { C.is_open conn.new ≡ true }
     ensures aside { C.aside conn.new ≡ C.aside conn.old }
 {
-    let mut answer = turn(alloc, conn)?;
-    add_answer(&mut answer, turn(alloc, conn))?;
-    add_answer(&mut answer, turn(alloc, conn))?;
-    Ok(answer)
+    add_turn(line, conn);
+    add_turn(line, conn);
+    add_turn(line, conn);
 }
 
-/// What three turns over a source and a sink answer.
-fn paired(alloc: Global, source: &mut MemSource, sink: &mut MemSink) -> Answer {
-    turns(alloc, &mut Pair::new(source, sink))
+/// Writes what three turns over a source and a sink answer.
+fn add_paired(line: &mut Line, source: &mut MemSource, sink: &mut MemSink) {
+    add_turns(line, &mut Pair::new(source, sink));
 }
 
-/// What three turns over a source and a sink answer, then what the sink holds.
-fn pair_words(alloc: Global, source: &mut MemSource, sink: &mut MemSink) -> Answer {
-    let mut answer = paired(alloc, source, sink)?;
-    add_shown(alloc, &mut answer, sink.bytes())?;
-    Ok(answer)
-}
-
-fn pair(alloc: Global, args: &[Text]) -> Answer {
-    let to = section(args, 1)?;
+/// Answers a call of `pair`.
+pub fn pair(alloc: Global, line: &mut Line, args: &[Text]) -> Done {
     let from = section(args, 0)?;
+    let to = section(args, 1)?;
     let mut source = source_of(alloc, from)?;
     let mut sink = sink_of(alloc, to)?;
-    pair_words(alloc, &mut source, &mut sink)
+    add_paired(line, &mut source, &mut sink);
+    line.bytes(sink.bytes());
+    Ok(())
 }
 
-/// What an accept answers, or the turns of the connection, which is finished then.
-fn visit(alloc: Global, door: &mut MemDoor) -> Answer
+/// Writes what an accept answers, or the turns of the connection, which is finished then.
+fn add_visit(line: &mut Line, door: &mut MemDoor)
     requires none_open { is_some door.old.current ≡ false }
     requires listening { door.old.opened ≡ true }
     ensures none_open { is_some door.new.current ≡ false }
@@ -93,63 +66,40 @@ fn visit(alloc: Global, door: &mut MemDoor) -> Answer
 {
     match door.accept() {
         AcceptAnswer::Accepted => {
-            let answer = turns(alloc, door);
+            add_turns(line, door);
             door.finish();
-            answer
         }
-        AcceptAnswer::Closed => said(alloc, "Closed"),
-        AcceptAnswer::Failed => said(alloc, "Failed"),
+        AcceptAnswer::Closed => line.plain("Closed"),
+        AcceptAnswer::Failed => line.plain("Failed"),
     }
 }
 
-/// What three visits answer.
-fn visits(alloc: Global, door: &mut MemDoor) -> Answer
+/// Writes the number of finished connections, and what each was written.
+pub fn add_finished(line: &mut Line, door: &MemDoor) {
+    line.debug(door.finished());
+    for i in 0..door.finished() {
+        line.bytes(door.written(i));
+    }
+}
+
+/// Writes what three visits at an open door answer, and what became of it.
+fn add_visits(line: &mut Line, door: &mut MemDoor)
     requires none_open { is_some door.old.current ≡ false }
     requires listening { door.old.opened ≡ true }
 {
-    let mut answer = visit(alloc, door)?;
-    add_answer(&mut answer, visit(alloc, door))?;
-    add_answer(&mut answer, visit(alloc, door))?;
-    Ok(answer)
+    add_visit(line, door);
+    add_visit(line, door);
+    add_visit(line, door);
+    add_finished(line, door);
 }
 
-/// Appends what each finished connection was written.
-fn add_written(alloc: Global, answer: &mut String, door: &MemDoor) -> Result<(), Refusal> {
-    for i in 0..door.finished() {
-        add_shown(alloc, answer, door.written(i))?;
+/// Answers a call of `door`.
+pub fn door(alloc: Global, line: &mut Line, args: &[Text]) -> Done {
+    let mut door = door_of(alloc, args)?;
+    match door.open("memory") {
+        OpenAnswer::Opened => add_visits(line, &mut door),
+        OpenAnswer::Failed => line.plain("Failed"),
+        OpenAnswer::Memory => line.want_memory(),
     }
     Ok(())
-}
-
-/// The number of finished connections, and what each was written.
-pub fn finished(alloc: Global, door: &MemDoor) -> Answer {
-    let mut answer = debug_word(alloc, &door.finished())?;
-    add_written(alloc, &mut answer, door)?;
-    Ok(answer)
-}
-
-/// What three visits at an open door answer, and what became of it.
-fn visits_told(alloc: Global, door: &mut MemDoor) -> Answer
-    requires none_open { is_some door.old.current ≡ false }
-    requires listening { door.old.opened ≡ true }
-{
-    let mut answer = visits(alloc, door)?;
-    add_answer(&mut answer, finished(alloc, door))?;
-    Ok(answer)
-}
-
-/// What an open answers, or what the visits do behind it.
-fn open_word(alloc: Global, door: &mut MemDoor) -> Answer
-    requires { is_some door.old.current ≡ false }
-{
-    match door.open("memory") {
-        OpenAnswer::Opened => visits_told(alloc, door),
-        OpenAnswer::Failed => said(alloc, "Failed"),
-        OpenAnswer::Memory => Err(Refusal::Memory),
-    }
-}
-
-fn door(alloc: Global, args: &[Text]) -> Answer {
-    let mut door = door_of(alloc, args)?;
-    open_word(alloc, &mut door)
 }

@@ -5,12 +5,12 @@
 
 ghost use Rattle.std.specs.Prelude.{◌<◌, ◌^◌};
 
-use crate::runs::{outcome, status_words};
+use crate::runs::{add_outcome, add_status};
 use gs_chars::{Memory, Text};
 use gs_lines::{Answerer, Status, answer_lines, print_line};
 use gs_port::{MemSink, MemSource};
 use std::alloc::Global;
-use vector_cases::{Answer, Refusal, arg, number, section, sink_of, source_of};
+use vector_cases::{Done, Line, Refusal, bytes_at, named, number, section, sink_of, source_of};
 
 /// Accepts each text of at most 2,048 bytes, and answers it by itself; of any other it says that it is long.
 struct Echo;
@@ -44,12 +44,23 @@ impl Answerer for Echo {
     ] };
 }
 
-/// The answer to a call of gs_lines.
-pub fn answer(alloc: Global, call: &str, args: &[Text]) -> Answer {
-    match call {
-        "answer_lines" => answered(alloc, args),
-        "print_line" => printed(alloc, args),
-        _ => Err(Refusal::NoCase),
+#[derive(Clone, Copy)]
+enum Call {
+    AnswerLines,
+    PrintLine,
+}
+
+const CALLS: [(&str, Call); 2] = [
+    ("answer_lines", Call::AnswerLines),
+    ("print_line", Call::PrintLine),
+];
+
+/// Answers a call of gs_lines.
+pub fn answer(alloc: Global, line: &mut Line, call: &[u8], args: &[Text]) -> Done {
+    match named(&CALLS, call) {
+        Some(Call::AnswerLines) => answered(alloc, line, args),
+        Some(Call::PrintLine) => printed(alloc, line, args),
+        None => Err(Refusal::NoCase),
     }
 }
 
@@ -60,30 +71,22 @@ fn status_of(alloc: Global, input: &mut MemSource, output: &mut MemSink, limit: 
     answer_lines(alloc, &Echo, input, output, limit)
 }
 
-/// The input that the second part of the arguments tells.
-fn input_at(alloc: Global, args: &[Text]) -> Result<MemSource, Refusal> {
-    source_of(alloc, section(args, 1)?)
-}
-
-/// The output that a part of the arguments tells.
-fn output_at(alloc: Global, args: &[Text], number: usize) -> Result<MemSink, Refusal> {
-    sink_of(alloc, section(args, number)?)
-}
-
-fn answered(alloc: Global, args: &[Text]) -> Answer {
+fn answered(alloc: Global, line: &mut Line, args: &[Text]) -> Done {
     let limit = number(args, 0)?;
     if limit > 4_294_967_296 {
         return Err(Refusal::NoCase);
     }
-    let mut input = input_at(alloc, args)?;
-    let mut output = output_at(alloc, args, 2)?;
+    let from = section(args, 1)?;
+    let to = section(args, 2)?;
+    let mut input = source_of(alloc, from)?;
+    let mut output = sink_of(alloc, to)?;
     let status = status_of(alloc, &mut input, &mut output, limit);
-    outcome(alloc, status, &mut input, &output)
+    add_outcome(alloc, line, status, &mut input, &output)
 }
 
-fn printed(alloc: Global, args: &[Text]) -> Answer {
-    let line = arg(args, 0)?;
-    let mut output = output_at(alloc, args, 1)?;
-    let status = print_line(&mut output, line, Status::Usage);
-    status_words(alloc, status, output.bytes())
+fn printed(alloc: Global, line: &mut Line, args: &[Text]) -> Done {
+    let mut output = sink_of(alloc, section(args, 1)?)?;
+    let status = print_line(&mut output, bytes_at(args, 0), Status::Usage);
+    add_status(line, status, output.bytes());
+    Ok(())
 }

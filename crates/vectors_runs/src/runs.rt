@@ -9,23 +9,30 @@
 
 ghost use Rattle.std.specs.Prelude.{◌≡◌, IfOk, false, is_some};
 
-use crate::connections::finished;
+use crate::connections::add_finished;
 use crate::run_objects::{RunObjects, no_door, objects_of, objects_over};
 use gs_chars::Text;
 use gs_port::{MemSink, MemSource, ReadAnswer, Source};
 use gs_program::Status;
 use std::alloc::Global;
 use vector_cases::{
-    Answer, Refusal, Word, add_answer, add_shown, add_words, arg, cut_of, debug_word, number, push,
-    said, section, text_of,
+    Done, Line, Refusal, bytes_at, cut_of, named, number, push, said, section, text_of,
 };
 
-/// The answer to a call of gs_program.
-pub fn answer(alloc: Global, call: &str, args: &[Text]) -> Answer {
-    match call {
-        "run" => ran(alloc, args),
-        "repeated" => repeated(alloc, args),
-        _ => Err(Refusal::NoCase),
+#[derive(Clone, Copy)]
+enum Call {
+    Repeated,
+    Run,
+}
+
+const CALLS: [(&str, Call); 2] = [("repeated", Call::Repeated), ("run", Call::Run)];
+
+/// Answers a call of gs_program.
+pub fn answer(alloc: Global, line: &mut Line, call: &[u8], args: &[Text]) -> Done {
+    match named(&CALLS, call) {
+        Some(Call::Repeated) => repeated(alloc, line, args),
+        Some(Call::Run) => ran(alloc, line, args),
+        None => Err(Refusal::NoCase),
     }
 }
 
@@ -33,7 +40,9 @@ fn string_of(alloc: Global, word: &[u8]) -> Result<String, Refusal> {
     said(alloc, text_of(word)?)
 }
 
-fn strings_of(alloc: Global, words: &[Text]) -> Result<Vec<String>, Refusal> {
+/// The words of a run.
+fn words_at(alloc: Global, args: &[Text]) -> Result<Vec<String>, Refusal> {
+    let words = section(args, 0)?;
     let mut strings = Vec::new(alloc);
     for word in words {
         push(&mut strings, string_of(alloc, word.as_bytes()))?;
@@ -55,45 +64,46 @@ fn left_of(alloc: Global, input: &mut MemSource) -> Result<Vec<u8>, Refusal> {
     Ok(left)
 }
 
-/// Appends what is left of an input.
-fn add_left(alloc: Global, answer: &mut String, input: &mut MemSource) -> Result<(), Refusal> {
+/// Writes a status, and what an output holds.
+pub fn add_status(line: &mut Line, status: Status, written: &[u8]) {
+    line.debug(status);
+    line.bytes(written);
+}
+
+/// Writes the status, what an output holds, and what is left of an input.
+pub fn add_outcome(
+    alloc: Global,
+    line: &mut Line,
+    status: Status,
+    input: &mut MemSource,
+    output: &MemSink,
+) -> Done {
     let left = left_of(alloc, input)?;
-    add_shown(alloc, answer, left.as_slice())
+    add_status(line, status, output.bytes());
+    line.bytes(left.as_slice());
+    Ok(())
 }
 
-/// A status, and what an output holds.
-pub fn status_words(alloc: Global, status: Status, written: &[u8]) -> Answer {
-    let mut answer = debug_word(alloc, &status)?;
-    add_shown(alloc, &mut answer, written)?;
-    Ok(answer)
-}
-
-/// The status, what an output holds, and what is left of an input.
-pub fn outcome(alloc: Global, status: Status, input: &mut MemSource, output: &MemSink) -> Answer {
-    let mut answer = status_words(alloc, status, output.bytes())?;
-    add_left(alloc, &mut answer, input)?;
-    Ok(answer)
-}
-
-/// What became of a run: its outcome and, where a door is told, its finished connections.
-fn told(alloc: Global, args: &[Text], status: Status, objects: &mut RunObjects) -> Answer {
-    let mut answer = outcome(alloc, status, &mut objects.input, &objects.output)?;
+/// Writes what became of a run: its outcome and, where a door is told, its finished connections.
+fn add_told(
+    alloc: Global,
+    line: &mut Line,
+    args: &[Text],
+    status: Status,
+    objects: &mut RunObjects,
+) -> Done {
+    add_outcome(alloc, line, status, &mut objects.input, &objects.output)?;
     if section(args, 4).is_ok() {
-        add_answer(&mut answer, finished(alloc, &objects.door))?;
+        add_finished(line, &objects.door);
     }
-    Ok(answer)
+    Ok(())
 }
 
-/// The words of a run.
-fn words_at(alloc: Global, args: &[Text]) -> Result<Vec<String>, Refusal> {
-    strings_of(alloc, section(args, 0)?)
-}
-
-fn ran(alloc: Global, args: &[Text]) -> Answer {
+fn ran(alloc: Global, line: &mut Line, args: &[Text]) -> Done {
     let words = words_at(alloc, args)?;
     let mut objects = objects_of(alloc, args)?;
     let status = objects.run(alloc, &words);
-    told(alloc, args, status, &mut objects)
+    add_told(alloc, line, args, status, &mut objects)
 }
 
 /// Appends a line and a line feed.
@@ -122,30 +132,20 @@ fn lines_equal(bytes: &[u8], line: &[u8]) -> u64 {
     count
 }
 
-/// The status, the length of an output, how many of its lines are equal to the first, and that line.
-fn counted(alloc: Global, status: Status, output: &[u8]) -> Answer {
+/// Writes the status, the length of an output, how many of its lines are equal to the first, and that line.
+fn add_counted(line: &mut Line, status: Status, output: &[u8]) {
     let first = output.split(|c| *c == b'\n').next().unwrap_or_default();
-    let count = lines_equal(output, first);
-    let mut answer = debug_word(alloc, &status)?;
-    let words = [
-        Word::Number(output.len() as u64),
-        Word::Number(count),
-        Word::Bytes(first),
-    ];
-    add_words(alloc, &mut answer, &words)?;
-    Ok(answer)
-}
-
-/// The copies of a line that two words tell.
-fn told_copies(alloc: Global, words: &[Text]) -> Result<Vec<u8>, Refusal> {
-    copies(alloc, arg(words, 1)?, number(words, 2)?)
+    line.debug(status);
+    line.debug(output.len());
+    line.debug(lines_equal(output, first));
+    line.bytes(first);
 }
 
 /// The input of copies of a line.
 fn input_of_copies(alloc: Global, args: &[Text]) -> Result<MemSource, Refusal> {
     let lines = section(args, 2)?;
     let cut = cut_of(lines, 0)?;
-    let bytes = told_copies(alloc, lines)?;
+    let bytes = copies(alloc, bytes_at(lines, 1), number(lines, 2)?)?;
     Ok(MemSource::new(alloc, bytes, cut, Vec::new(alloc)))
 }
 
@@ -158,9 +158,10 @@ fn objects_of_copies(alloc: Global, args: &[Text]) -> Result<RunObjects, Refusal
     objects_over(alloc, args, input, door)
 }
 
-fn repeated(alloc: Global, args: &[Text]) -> Answer {
+fn repeated(alloc: Global, line: &mut Line, args: &[Text]) -> Done {
     let words = words_at(alloc, args)?;
     let mut objects = objects_of_copies(alloc, args)?;
     let status = objects.run(alloc, &words);
-    counted(alloc, status, objects.output.bytes())
+    add_counted(line, status, objects.output.bytes());
+    Ok(())
 }
