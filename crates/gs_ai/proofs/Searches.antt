@@ -1,7 +1,7 @@
 -- Searches of lists: the first place at which a test passes, and equality of bytes.
 use Rattle.std.proofs.Common.{◌≡◌, ℕ, zero, suc, ◌+◌, ◌<◌, Bool, true, false, not, cond, nat_lt, List, [], ◌∷◌, ◌++◌, length, get_or, map, position, find, Option, Some, None, slice_get, refl, sym, ap, ◌∙◌, arith, if◌then◌else◌, option_map, ◌⊎◌, inl, inr}
 use Rattle.std.specs.List.{position_or_len, list_any}
-use Rattle.std.specs.Option.{option_or, IfSome}
+use Rattle.std.specs.Option.{option_or}
 use Rattle.std.proofs.lemmas.Bool.Decides.{nat_tests}
 pub use Rattle.gs_chars.proofs.TruthsAndLists.{equal_bytes, same_bytes, within, get_take, get_of_take, read_at, false_from}
 
@@ -104,10 +104,6 @@ position_within p xs i e = let s = position_some p xs i e in within xs i s.0 s.1
 -- the element at the place that `position` gives is the one that `find` gives
 pub find_read : {X : Type 0} (p : X → Bool) (xs : List X) (i : ℕ) (x : X) → position p xs ≡ Some i → x ≡ get_or xs i x → find p xs ≡ Some x
 find_read p xs i x e r = find_at_place p xs i x e (read_at xs i x (position_within p xs i e) r)
-
-pub some_within : {X : Type 0} (p : X → Bool) (xs : List X) (r : Option ℕ) → r ≡ position p xs → IfSome r (λ i. i < length xs)
-some_within p xs None e = tt
-some_within p xs (Some i) e = position_within p xs i (sym e)
 
 pub none_any : {X : Type 0} (p : X → Bool) (xs : List X) → ((j : ℕ) (y : X) → slice_get xs j ≡ Some y → p y ≡ false) → list_any p xs ≡ false
 none_any p [] none = refl

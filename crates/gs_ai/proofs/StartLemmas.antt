@@ -26,9 +26,6 @@ rising x (y ∷ ys) h (suc k) l =
 pub starts_rise : IsStrictlyIncreasing STARTS
 starts_rise = rising 0 (drop 1 STARTS) refl
 
-columns : predefined_lengths ≡ zip STARTS LENGTHS
-columns = refl
-
 found : (s : ℕ) (ks ls : List ℕ) (i : ℕ) → length ks ≡ length ls → position (λ k. k == s) ks ≡ Some i → option_map (λ row. row.1) (find (λ row. row.0 == s) (zip ks ls)) ≡ Some (get_or ls i 0)
 found s [] ls i l e = absurd (let f : None ≡ Some i = e in cc)
 found s (k ∷ ks) [] i l e = absurd (omega arith)
@@ -52,6 +49,3 @@ at_start r s e = rw e
 
 pub length_found : (code : List ℕ) (s i : ℕ) → 2 ≤ length code → s ≡ 10 * (get_or code 0 0 - 48) + (get_or code 1 0 - 48) → position (λ k. k == s) STARTS ≡ Some i → predefined_length code ≡ Some (get_or LENGTHS i 0)
 length_found code s i h e p = at_start (start_of code) s (start_from code h ∙ ap Some (sym e)) ∙ found s STARTS LENGTHS i refl p
-
-pub length_not_found : (code : List ℕ) (s : ℕ) → 2 ≤ length code → s ≡ 10 * (get_or code 0 0 - 48) + (get_or code 1 0 - 48) → position (λ k. k == s) STARTS ≡ None → predefined_length code ≡ None
-length_not_found code s h e p = at_start (start_of code) s (start_from code h ∙ ap Some (sym e)) ∙ not_found s STARTS LENGTHS p

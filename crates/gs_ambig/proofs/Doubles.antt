@@ -72,9 +72,6 @@ none_more machines i j h none k symbols a b = elim (cases_eq k j) as (λ _. Shar
 abbrev pub NoneAbove : List AutoForm → ℕ → Type 0
 NoneAbove machines i = (k l : ℕ) (symbols : List ℕ) → k < i → k ≤ l → Share machines k l symbols → ⊥
 
-pub above_none : (machines : List AutoForm) → NoneAbove machines 0
-above_none machines k l symbols b = absurd (omega arith)
-
 pub above_more : (machines : List AutoForm) (i : ℕ) → NoneAbove machines i → SharesNone machines i (length machines) → NoneAbove machines (i + 1)
 above_more machines i h none k l symbols b c = elim (cases_eq k i) as (λ _. Share machines k l symbols → ⊥) [
   | inl e ↦ λ s.

@@ -9,12 +9,6 @@ use Rattle.gs_machine.specs.Machines.{AutoForm, states_of, accept_of}
 use Rattle.gs_ambig.specs.Searches.{Leads, LeadsBehind, IsDead, IsDeadBehind, MarksDead}
 use Rattle.gs_ambig.proofs.Steps.{fits_more, fits_at, pair_first, pair_second}
 
--- both states are the accepting ones
-pub leads_here : (m n : AutoForm) (p q : ℕ) (word : List ℕ) → p ≡ accept_of m → q ≡ accept_of n → word ≡ [] → Leads m n p q word
-leads_here m n p q word e f w =
-    let here : Leads m n p q [] = record { run = []; other_run = []; walk = e; other_walk = f } in
-    rw w here
-
 -- a marked pair is dead
 pub dead_marked : (m n : AutoForm) (p q pair : ℕ) (marks : List ℕ) → MarksDead m n marks → q < states_of n → pair ≡ p * states_of n + q → Contains marks pair → IsDead m n p q
 dead_marked m n p q pair marks h l e c =
@@ -71,9 +65,6 @@ leads_by m n p q edges i edge least word e l r b =
     rw b.whole whole
 
 -- the edges of the second state
-
-pub behind_none : (m n : AutoForm) (edge : Edge) (edges : List Edge) (least : ℕ) → IsDeadBehind m n edge (take 0 edges) least
-behind_none m n edge edges least symbol next low high f = absurd f
 
 pub behind_skip : (m n : AutoForm) (edge : Edge) (edges : List Edge) (i : ℕ) (other : Edge) (least : ℕ) → IsDeadBehind m n edge (take i edges) least → i < length edges → other ≡ get_or edges i other → ((symbol : ℕ) → edge.lo ≤ symbol → symbol ≤ edge.hi → other.lo ≤ symbol → symbol ≤ other.hi → least ≤ other.to → IsDead m n edge.to other.to) → IsDeadBehind m n edge (take (i + 1) edges) least
 behind_skip m n edge edges i other least h l e d symbol next low high f above = elim (fits_more edges i other symbol next l e f) as (λ _. IsDead m n edge.to next) [

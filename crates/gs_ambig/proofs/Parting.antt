@@ -12,9 +12,6 @@ use Rattle.gs_ambig.proofs.Steps.{fits_more, fits_at}
 
 -- forks of the edges that were gone by
 
-pub fork_none : (m : AutoForm) (edges others : List Edge) → HasNoFork m (take 0 edges) others
-fork_none m edges others symbol next other f = absurd f
-
 pub fork_more : (m : AutoForm) (edges others : List Edge) (i : ℕ) (edge : Edge) → HasNoFork m (take i edges) others → i < length edges → edge ≡ get_or edges i edge → IsDeadBehind m m edge others (edge.to + 1) → HasNoFork m (take (i + 1) edges) others
 fork_more m edges others i edge h l e d symbol next other f g b = elim (fits_more edges i edge symbol next l e f) as (λ _. IsDead m m next other) [
   | inl old ↦ h symbol next other old g b
@@ -45,9 +42,6 @@ parts_here m p edges i edge word e l r b =
 
 abbrev pub SingleBy : AutoForm → List Edge → Type 0
 SingleBy m edges = (symbol next : ℕ) → Fits edges symbol next → IsSingle m next
-
-pub single_none : (m : AutoForm) (edges : List Edge) → SingleBy m (take 0 edges)
-single_none m edges symbol next f = absurd f
 
 pub single_more : (m : AutoForm) (edges : List Edge) (i : ℕ) (edge : Edge) → SingleBy m (take i edges) → i < length edges → edge ≡ get_or edges i edge → (edge.lo ≤ edge.hi → IsSingle m edge.to) → SingleBy m (take (i + 1) edges)
 single_more m edges i edge h l e s symbol next f = elim (fits_more edges i edge symbol next l e f) as (λ _. IsSingle m next) [

@@ -1,6 +1,6 @@
 -- Edges one by one, and numbers of pairs of states.
 use Rattle.std.proofs.Common.{◌≡◌, ◌⊎◌, ℕ, ◌<◌, ◌≤◌, ◌+◌, ◌*◌, ◌^◌, ◌/◌, ◌%◌, List, [], ◌∷◌, ◌++◌, length, get_or, take, zero, suc, sym, ◌∙◌, ap, inl, inr, arith, Result, Ok, Err, Option, Some, None}
-use Rattle.std.proofs.Math.Nat.{mul-le-mul_right, mul-add-mod_self_right, mod-eq_of_lt}
+use Rattle.std.proofs.Math.Nat.{mul-add-mod_self_right, mod-eq_of_lt}
 use Rattle.std.proofs.lemmas.Nat.{div-mul-add}
 use Rattle.std.proofs.lemmas.List.{take_more, get_or_default}
 use Rattle.gs_machine.specs.declared.edge.Edge.{Edge}
@@ -26,9 +26,6 @@ fits_more edges i edge symbol state l e f =
     let front : take (i + 1) edges ≡ take i edges ++ edge ∷ [] = take_more edges i edge l ∙ ap (λ (x : Edge). take i edges ++ x ∷ []) (sym e) in
     fits_push (take i edges) edge symbol state (rw front at f)
 
-pub fits_none : (edges : List Edge) (symbol state : ℕ) → Fits (take 0 edges) symbol state → ⊥
-fits_none edges symbol state f = f
-
 -- an edge of the list fits
 pub fits_at : (edges : List Edge) (i : ℕ) (edge : Edge) (symbol : ℕ) → i < length edges → edge ≡ get_or edges i edge → edge.lo ≤ symbol → symbol ≤ edge.hi → Fits edges symbol edge.to
 fits_at [] i edge symbol l e low high = absurd (omega arith)
@@ -37,23 +34,11 @@ fits_at (first ∷ edges) (suc i) edge symbol l e low high = inr (fits_at edges 
 
 -- the number of a pair is below the product, and gives the pair back
 
-pub pair_below : (p q states others limit : ℕ) → p < states → q < others → states * others < limit → p * others + q < limit
-pair_below p q states others limit l m r =
-    let more : suc p * others ≤ states * others = mul-le-mul_right others l in
-    let step : suc p * others ≡ p * others + others = omega arith in
-    omega arith
-
 pub pair_first : (p q others : ℕ) → q < others → (p * others + q) / others ≡ p
 pair_first p q others l = div-mul-add p others q l
 
 pub pair_second : (p q others : ℕ) → q < others → (p * others + q) % others ≡ q
 pair_second p q others l = mul-add-mod_self_right p others q ∙ mod-eq_of_lt l
-
--- a state has a number below its own count, which has room
-pub next_fits : (state states : ℕ) → state < states → states * states < 2 ^ 64 → state + 1 < 2 ^ 64
-next_fits state states l r =
-    let more : 1 * states ≤ states * states = mul-le-mul_right states (omega arith) in
-    omega arith
 
 -- the edge at a place, whatever stands for one past the end
 pub self_at : (edges : List Edge) (i : ℕ) (edge : Edge) → i < length edges → get_or edges i edge ≡ get_or edges i (get_or edges i edge)

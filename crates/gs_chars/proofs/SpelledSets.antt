@@ -4,10 +4,10 @@ use Rattle.std.specs.List.{list_any, list_all}
 use Rattle.std.specs.Prelude.{codes}
 use Rattle.std.proofs.lemmas.Bool.{eqb-true, leb-true}
 use Rattle.std.proofs.lemmas.Bool.Decides.{nat_tests}
-use Rattle.gs_chars.specs.Characters.{are_digits, are_in_set82, is_digit, is_in_set82}
+use Rattle.gs_chars.specs.Characters.{is_digit, is_in_set82}
 use Rattle.gs_chars.specs.Escapes.{is_escaped, Spells}
 use Rattle.gs_chars.proofs.Sets.{in_ranges, ranges_of_set82}
-use Rattle.gs_chars.proofs.TruthsAndLists.{and_first, and_second, and_true, true_or_false}
+use Rattle.gs_chars.proofs.TruthsAndLists.{and_first, and_second, true_or_false}
 
 in_range : (c : ℕ) → 48 ≤ c → c ≤ 57 → in_ranges c ≡ true
 in_range c low high = grind (arith, nat_tests)
@@ -18,11 +18,6 @@ digit_in_set82 c h =
     let low : 48 ≤ c = leb-true 48 c (and_first (leb 48 c) (leb c 57) h) in
     let high : c ≤ 57 = leb-true c 57 (and_second (leb 48 c) (leb c 57) h) in
     ranges_of_set82 c (omega arith) ∙ in_range c low high
-
-pub digits_in_set82 : (text : List ℕ) → are_digits text ≡ true → are_in_set82 text ≡ true
-digits_in_set82 [] h = refl
-digits_in_set82 (c ∷ text) h =
-    and_true (is_in_set82 c) (are_in_set82 text) (digit_in_set82 c (and_first (is_digit c) (are_digits text) h)) (digits_in_set82 text (and_second (is_digit c) (are_digits text) h))
 
 -- what holds of each listed number holds of one that is listed
 pub listed_all : (p : ℕ → Bool) (c : ℕ) (xs : List ℕ) → list_any (λ x. eqb x c) xs ≡ true → list_all p xs ≡ true → p c ≡ true

@@ -81,10 +81,6 @@ pub mapped_some : {X Y : Type 0} (f : X → Y) (o : Option X) (y : Y) → option
 mapped_some f None y h = absurd (let e : None ≡ Some y = h in cc)
 mapped_some f (Some x) y h = (x, refl, let e : Some (f x) ≡ Some y = h in cc)
 
-pub mapped_none : {X Y : Type 0} (f : X → Y) (o : Option X) → option_map f o ≡ None → o ≡ None
-mapped_none f None h = refl
-mapped_none f (Some x) h = absurd (let e : Some (f x) ≡ None = h in cc)
-
 -- ---- lists
 
 pub equal_bytes : (a b : List ℕ) → bytes_eq a b ≡ true → a ≡ b

@@ -1,6 +1,6 @@
 -- The states of characters that were added to a table.
 use Rattle.std.proofs.Common.{◌≡◌, ℕ, ◌<◌, ◌≤◌, ◌+◌, ◌-◌, ◌*◌, ◌^◌, List, [], ◌∷◌, ◌++◌, length, zero, suc, refl, sym, ◌∙◌, ap, arith, add-one, length-append}
-use Rattle.std.proofs.Math.Nat.{pow-succ', one-le-pow, mul-le-mul_left}
+use Rattle.std.proofs.Math.Nat.{pow-succ'}
 use Rattle.std.proofs.lemmas.List.{append_assoc}
 use Rattle.gs_machine.specs.declared.edge.Edge.{Edge}
 use Rattle.gs_compile.specs.Tables.{edge, run_table}
@@ -22,15 +22,6 @@ pub trie_less : (front more : ℕ) → 0 < more → (front + 1) * 2 ^ (more + 1)
 trie_less front more l h =
     let big = trie_room front more l h in
     let step : (front + front + 1 + 1) * 2 ^ (more - 1 + 1) ≡ (front + front + 1) * 2 ^ (more - 1 + 1) + 2 ^ (more - 1 + 1) = omega arith in
-    omega arith
-
-pub front_small : (front more : ℕ) → (front + 1) * 2 ^ (more + 1) ≤ 128 → front < 64
-front_small front more h =
-    let power : 2 ^ (more + 1) ≡ 2 * 2 ^ more = rw add-one (pow-succ' 2 more) in
-    let some = one-le-pow more 2 (omega arith) in
-    let whole : (front + 1) * 2 ^ (more + 1) ≡ (front + 1) * (2 * 2 ^ more) = ap (λ (k : ℕ). (front + 1) * k) power in
-    let least : (front + 1) * 1 ≤ (front + 1) * 2 ^ more = mul-le-mul_left (front + 1) some in
-    let twice : (front + 1) * (2 * 2 ^ more) ≡ 2 * ((front + 1) * 2 ^ more) = omega arith in
     omega arith
 
 trie_parts : (n front next : ℕ) (table forked low new : List (List Edge)) → forked ≡ table ++ (edge 0 0 (length table + 1) ∷ edge 1 1 (length table + 2 ^ suc n) ∷ []) ∷ [] → low ≡ forked ++ trie_table (suc n) (front + front) (length forked) next → new ≡ low ++ trie_table (suc n) (front + front + 1) (length low) next → new ≡ table ++ trie_table (suc (suc n)) front (length table) next
@@ -56,11 +47,6 @@ trie_added (suc n) front next table forked low new l e f g =
     let b : new ≡ low ++ trie_table (suc n) (front + front + 1) (length low) next = g ∙ ap (λ (k : ℕ). low ++ trie_table k (front + front + 1) (length low) next) same in
     let whole : suc (suc n) ≡ suc n + 1 = omega arith in
     trie_parts n front next table forked low new e a b ∙ ap (λ (k : ℕ). table ++ trie_table k front (length table) next) whole
-
-pub leaf_added : (more front next : ℕ) (table new : List (List Edge)) → more ≡ 0 → new ≡ table ++ trie_table 1 front (length table) next → new ≡ table ++ trie_table (more + 1) front (length table) next
-leaf_added more front next table new z e =
-    let one : 1 ≡ more + 1 = omega arith in
-    e ∙ ap (λ (k : ℕ). table ++ trie_table k front (length table) next) one
 
 -- the four states of a character
 

@@ -85,9 +85,6 @@ length_tight (suc n) rest base q = ap suc (length_tight n (rest % 10 ^ n) (base 
 
 -- the whole
 
-short_first : (w : List ℕ) → IsTight 1 0 w → FirstFrom 49 w
-short_first w t f = let a = t.some in let b = t.most in omega arith
-
 one_digit : (greatest : ℕ) (w : List ℕ) → IsTight 1 greatest w → FirstFrom 49 w
 one_digit greatest w t f = let a = t.some in let b = t.most in omega arith
 

@@ -32,10 +32,6 @@ range_test c (inr (inr (inr (inr (inr (inr (inr h))))))) = absurd h
 pub range_plain : (c : ℕ) → InRanges plain_ranges c → is_plain c ≡ true
 range_plain c h = let t = range_test c h in plain_is c t.1 ∙ t.0
 
-or_cases : (a b : Bool) → (a || b) ≡ true → (a ≡ true) ⊎ (b ≡ true)
-or_cases true b h = inl refl
-or_cases false b h = inr h
-
 test_range : (c : ℕ) → plain_test c ≡ true → InRanges plain_ranges c
 test_range c h = grind (arith, nat_tests)
 

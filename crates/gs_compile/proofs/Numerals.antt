@@ -1,6 +1,6 @@
 -- Decimal texts up to a greatest number.
 use Rattle.std.proofs.Common.{◌≡◌, ℕ, ◌<◌, ◌≤◌, ◌+◌, ◌-◌, ◌*◌, ◌^◌, true, IsTrue, List, [], ◌∷◌, length, get_or, zero, suc, refl, ◌∙◌, ap, inl, inr, arith}
-use Rattle.std.proofs.Math.Nat.{one-le-pow, mul-le-mul_right}
+use Rattle.std.proofs.Math.Nat.{mul-le-mul_right}
 use Rattle.std.proofs.lemmas.Bool.{cases_eq, cases_lt}
 use Rattle.std.proofs.lemmas.Bool.Decides.{nat_tests}
 use Rattle.gs_chars.specs.Characters.{are_digits, is_digit}
@@ -106,9 +106,6 @@ FreeOrEnd zero w = IsEmpty w
 FreeOrEnd (suc n) w = IsFree (suc n) w
 
 -- digits that are those of the greatest so far
-
-pow_some : (n : ℕ) → 1 ≤ 10 ^ n
-pow_some n = one-le-pow n 10 (omega arith)
 
 value_small : (n : ℕ) (w : List ℕ) → IsTrue (are_digits w) → length w ≡ n → decimal_value w < 10 ^ n
 value_small n w d l = value_below w n d l

@@ -1,5 +1,5 @@
 -- The key path in which segments end: there is at most one.
-use Rattle.std.proofs.Common.{◌≡◌, ℕ, zero, suc, ◌+◌, ◌-◌, ◌≤◌, ◌||◌, Bool, true, false, List, [], ◌∷◌, ◌++◌, length, map, take, drop, find, slice_get, Option, Some, None, option_map, bytes_eq, refl, sym, ap, ◌∙◌, arith, ◌⊎◌, inl, inr, true≢false, append_assoc, append-nil, reverse, take-append-drop}
+use Rattle.std.proofs.Common.{◌≡◌, ℕ, zero, suc, ◌+◌, ◌-◌, ◌≤◌, ◌||◌, Bool, true, false, List, [], ◌∷◌, ◌++◌, length, map, take, drop, find, slice_get, Option, Some, None, option_map, bytes_eq, refl, sym, ap, ◌∙◌, arith, ◌⊎◌, inl, inr, true≢false, append_assoc, reverse, take-append-drop}
 use Rattle.std.specs.List.{list_any}
 use Rattle.std.proofs.lemmas.List.{reverse-append}
 use Rattle.gs_chars.proofs.TruthsAndLists.{and_first, and_second, equal_bytes, or_first, or_second, true_or_false}
@@ -176,9 +176,6 @@ pub record Walked (table : List AiRow) (at : ℕ) (path front : List ℕ) (pairs
   pub cut : segments at path ≡ segments at front ++ behind
   pub in_pairs : paired behind ≡ Some pairs
   pub no_key : list_any (λ code. is_key_of table code) (codes_of pairs) ≡ false
-
-pub walk_begins : (table : List AiRow) (at : ℕ) (path : List ℕ) → Walked table at path path []
-walk_begins table at path = record { within = omega arith; behind = []; cut = sym (append-nil (segments at path)); in_pairs = refl; no_key = refl }
 
 module _ (table : List AiRow) (rules : KeepsRules table) (at : ℕ) (path front : List ℕ) (pairs : List Written) (walked : Walked table at path front pairs) where
   -- no segment is left

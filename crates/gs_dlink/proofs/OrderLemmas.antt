@@ -1,12 +1,12 @@
 -- Codes in the order of a list, and escapes, one after the other.
-use Rattle.std.proofs.Common.{◌≡◌, ℕ, zero, suc, ◌+◌, ◌≤◌, ◌<◌, ◌==◌, ◌&&◌, ◌||◌, not, Bool, true, false, List, [], ◌∷◌, length, get_or, drop, map, bytes_eq, refl, sym, ap, ◌∙◌, arith, add-one, drop-cons, true≢false}
+use Rattle.std.proofs.Common.{◌≡◌, ℕ, zero, suc, ◌+◌, ◌≤◌, ◌<◌, ◌==◌, ◌&&◌, ◌||◌, Bool, true, false, List, [], ◌∷◌, length, get_or, drop, map, bytes_eq, refl, sym, ap, ◌∙◌, arith, add-one, drop-cons, true≢false}
 use Rattle.std.proofs.lemmas.Bool.Decides.{nat_tests}
 use Rattle.std.proofs.lemmas.Option.{slice_get-map, slice_get_past}
 use Rattle.gs_chars.proofs.TruthsAndLists.{read_at}
 use Rattle.gs_dlink.specs.declared.written.WrittenPair.{WrittenPair}
 use Rattle.gs_dlink.specs.Paths.{codes_of, is_code_at, is_in_order}
 use Rattle.gs_dlink.specs.Uris.{Written}
-use Rattle.gs_dlink.specs.Values.{are_escapes, begins_hex, written_of}
+use Rattle.gs_dlink.specs.Values.{written_of}
 
 -- ---- codes
 
@@ -41,9 +41,6 @@ pub record Ordered (list : List (List ℕ)) (pairs : List Written) (index next :
   pub within : next ≤ length pairs
   pub left : is_in_order list (codes_of pairs) ≡ is_in_order (drop index list) (codes_of (drop next pairs))
 
-pub order_begins : (list : List (List ℕ)) (pairs : List Written) → Ordered list pairs 0 0
-order_begins list pairs = record { within = omega arith; left = refl }
-
 code_within : (pairs : List Written) (n : ℕ) (code : List ℕ) → is_code_at pairs n code ≡ true → n < length pairs
 code_within [] n code h = absurd (true≢false (sym h))
 code_within (w ∷ pairs) zero code h = omega arith
@@ -67,26 +64,3 @@ drop_all (x ∷ xs) (suc n) h = drop_all xs n (omega arith)
 
 pub order_ends : (list : List (List ℕ)) (pairs : List Written) (index next size : ℕ) → Ordered list pairs index next → length list ≤ index → length pairs ≡ size → (next == size) ≡ is_in_order list (codes_of pairs)
 order_ends list pairs index next size ordered all e = ap (λ (n : ℕ). next == n) (sym e) ∙ at_end pairs next ordered.within ∙ sym (ordered.left ∙ rw (drop_all list index all) refl)
-
--- ---- escapes
-
-escape_at : (text : List ℕ) (i : ℕ) → i < length text → are_escapes (drop i text) ≡ ((not (get_or text i 0 == 37) || begins_hex (drop (i + 1) text)) && are_escapes (drop (i + 1) text))
-escape_at text i low = rw (drop-cons text i 0 low, add-one) refl
-
-pub escape_missing : (text : List ℕ) (i : ℕ) → i < length text → get_or text i 0 ≡ 37 → begins_hex (drop (i + 1) text) ≡ false → are_escapes text ≡ are_escapes (drop i text) → false ≡ are_escapes text
-escape_missing text i low percent other so_far = sym (so_far ∙ escape_at text i low ∙ rw (percent, other) refl)
-
-pub plain_passed : (text : List ℕ) (i : ℕ) → i < length text → (get_or text i 0 ≡ 37 → ⊥) → are_escapes text ≡ are_escapes (drop i text) → are_escapes text ≡ are_escapes (drop (i + 1) text)
-plain_passed text i low plain so_far =
-    let t : (get_or text i 0 == 37) ≡ false = grind (arith, nat_tests) in
-    so_far ∙ escape_at text i low ∙ rw t refl
-
-pub escape_passed : (text : List ℕ) (i : ℕ) → i < length text → begins_hex (drop (i + 1) text) ≡ true → are_escapes text ≡ are_escapes (drop i text) → are_escapes text ≡ are_escapes (drop (i + 1) text)
-escape_passed text i low hex so_far = so_far ∙ escape_at text i low ∙ rw hex (by (not (get_or text i 0 == 37)))
-  where
-    by : (b : Bool) → ((b || true) && are_escapes (drop (i + 1) text)) ≡ are_escapes (drop (i + 1) text)
-    by true = refl
-    by false = refl
-
-pub escapes_end : (text : List ℕ) (i : ℕ) → length text ≤ i → are_escapes text ≡ are_escapes (drop i text) → true ≡ are_escapes text
-escapes_end text i all so_far = sym (so_far ∙ rw (drop_all text i all) refl)

@@ -159,9 +159,6 @@ found_skip item items w cut Twice h none = h
 pub at_cut : (item : Item) (items : List Item) (w : List ℕ) (cut : ℕ) → cut ≤ length w → IsWord item (take cut w) → IsDerived items (drop cut w) → AtCut item items w cut
 at_cut item items w cut l h d = record { within = l; value = h.0; word = h.1; values = d.values; words = d.words; rest = d.derives }
 
-first_ways : (items : List Item) (w : List ℕ) → TwoWays items w → IsDerived items w
-first_ways items w t = record { values = t.values; words = t.words; derives = t.derives }
-
 two_at_cut : (item : Item) (items : List Item) (w : List ℕ) (cut : ℕ) → cut ≤ length w → IsWord item (take cut w) → TwoWays items (drop cut w) → TwoCuts item items w
 two_at_cut item items w cut l h t =
     record {
@@ -278,9 +275,6 @@ other_items items item others e h = All-tail IsItem item others (rw e at h)
 pub record Tallies (items : List Item) (w : List ℕ) (left : List Item) (rest : List ℕ) (numbers : List ℕ) : Type 0 where
   pub back : (values words : List (List ℕ)) → Derives left rest values words → HasNumbers items w (numbers ++ numbers_of_words left words)
   pub derived : IsDerived left rest
-
-pub tallies_start : (items : List Item) (w : List ℕ) → IsDerived items w → Tallies items w items w []
-tallies_start items w d = record { back = λ vs ws e. record { values = vs; words = ws; derives = e; numbers_are = refl }; derived = d }
 
 pub tallies_step : (items : List Item) (w : List ℕ) (left : List Item) (rest : List ℕ) (numbers : List ℕ) (item : Item) (others : List Item) (cut number : ℕ) → Tallies items w left rest numbers → left ≡ item ∷ others → AtCut item others rest cut → number ≡ number_of_word item (take cut rest) → Tallies items w others (drop cut rest) (numbers ++ number ∷ [])
 tallies_step items w left rest numbers item others cut number t s split n =

@@ -1,16 +1,15 @@
 -- What the reader tests of a list of symbols tells whether it is a word of an item, and which value the word has.
-use Rattle.std.proofs.Common.{◌≡◌, ◌↔◌, ℕ, ◌<◌, ◌≤◌, ◌^◌, ◌&&◌, ◌⊎◌, Bool, true, false, IsTrue, nat_eq, List, [], length, refl, sym, ◌∙◌, ap, arith, leb, decimal, inl, inr, replicate}
+use Rattle.std.proofs.Common.{◌≡◌, ◌↔◌, ℕ, ◌<◌, ◌≤◌, ◌^◌, ◌&&◌, ◌⊎◌, Bool, true, false, IsTrue, nat_eq, List, [], length, refl, sym, ◌∙◌, ap, arith, leb, decimal, inl, inr}
 use Rattle.std.proofs.lemmas.Bool.{leb-true, le-leb}
 use Rattle.std.proofs.lemmas.Bool.Decides.{nat_tests}
 use Rattle.std.proofs.lemmas.Fmt.{decimal_injective}
 use Rattle.std.specs.Cmp.Derive.{both_true}
 use Rattle.gs_chars.specs.Characters.{are_digits}
 use Rattle.gs_grammar.specs.declared.item.Item.{Item}
-use Rattle.gs_grammar.specs.declared.item.Item.TheVariants.{Pad, Int, Esc, NumPad, Num, Ascii7, Fill}
+use Rattle.gs_grammar.specs.declared.item.Item.TheVariants.{Pad, Int, Esc, NumPad, Num, Ascii7}
 use Rattle.gs_grammar.specs.Items.{is_between, IsItem}
 use Rattle.gs_grammar.specs.Words.{Word, IsWord, SpellsEach, SpellsMany, WritesNumber, IsPacked, PacksMany, decimal_value, number_of_word}
 use Rattle.gs_grammar.specs.Languages.{Language}
-use Rattle.gs_grammar.specs.Numerals.{IsPadded}
 use Rattle.gs_grammar.proofs.Spelled.{spelled_fixes}
 use Rattle.gs_grammar.proofs.Packs.{writes_one, writes_number, packed_fixes}
 use Rattle.gs_grammar.proofs.WordLaws.{int_bounds, numpad_bounds, num_bounds}
@@ -81,17 +80,6 @@ int_test item greatest number w i g small e =
     ) in
     rw i (of_language (Int greatest) w (leb number greatest) both)
 
-pub int_none : (item : Item) (greatest : ℕ) (w : List ℕ) → item ≡ Int greatest → IsItem item → ((number : ℕ) → number < 2 ^ 64 → w ≡ decimal number → ⊥) → IsTrue false ↔ IsWord item w
-int_none item greatest w i g none =
-    let bound = int_bounds greatest (rw i at g) in
-    rw i (not_word (Int greatest) w (λ h. let s = h.1.small in none h.0 (omega arith) h.1.text))
-
-pub int_value : (item : Item) (greatest : ℕ) (w : List ℕ) → item ≡ Int greatest → IsWord item w → Word item w w
-int_value item greatest w i h =
-    let k : IsWord (Int greatest) w = rw i at h in
-    let whole : Word (Int greatest) w w = ((language_is (Int greatest) w).0 k, refl) in
-    rw i whole
-
 -- numbers in bits
 
 pub numpad_test : (item : Item) (bits n number : ℕ) (w : List ℕ) (answer : Bool) → item ≡ NumPad bits n → WritesNumber bits number w → (IsTrue answer ↔ (number < 10 ^ n)) → IsTrue answer ↔ IsWord item w
@@ -101,9 +89,6 @@ numpad_test item bits n number w answer i h e =
       λ k. let same = writes_one bits number k.number w h k.written in e.1 (rw same k.small),
     ) in
     rw i (of_language (NumPad bits n) w answer both)
-
-pub numpad_none : (item : Item) (bits n : ℕ) (w : List ℕ) → item ≡ NumPad bits n → ((number : ℕ) → WritesNumber bits number w → ⊥) → IsTrue false ↔ IsWord item w
-numpad_none item bits n w i none = rw i (not_word (NumPad bits n) w (λ h. none h.number h.written))
 
 pub num_test : (item : Item) (bits greatest number : ℕ) (w : List ℕ) → item ≡ Num bits greatest → WritesNumber bits number w → IsTrue (leb number greatest) ↔ IsWord item w
 num_test item bits greatest number w i h =
@@ -115,9 +100,6 @@ num_test item bits greatest number w i h =
     ) in
     rw i (of_language (Num bits greatest) w (leb number greatest) both)
 
-pub num_none : (item : Item) (bits greatest : ℕ) (w : List ℕ) → item ≡ Num bits greatest → ((number : ℕ) → WritesNumber bits number w → ⊥) → IsTrue false ↔ IsWord item w
-num_none item bits greatest w i none = rw i (not_word (Num bits greatest) w (λ h. none h.number h.written))
-
 pub numpad_writes : (item : Item) (bits n : ℕ) (w : List ℕ) → item ≡ NumPad bits n → IsWord item w → (number : ℕ) × WritesNumber bits number w
 numpad_writes item bits n w i h = let k : IsWord (NumPad bits n) w = rw i at h in (decimal_value k.0, k.1.2)
 
@@ -127,11 +109,6 @@ numpad_fits item bits n number w i h e =
     let d = (language_is (NumPad bits n) w).0 k in
     let same = writes_one bits number d.number w e d.written in
     rw same d.small
-
-pub numpad_value : (item : Item) (bits n number : ℕ) (w out : List ℕ) → item ≡ NumPad bits n → WritesNumber bits number w → IsPadded n number out → Word item out w
-numpad_value item bits n number w out i e p =
-    let whole : Word (NumPad bits n) out w = (p.count, p.all_digits, rw p.value e) in
-    rw i whole
 
 pub num_writes : (item : Item) (bits greatest : ℕ) (w : List ℕ) → item ≡ Num bits greatest → IsWord item w → (number : ℕ) × WritesNumber bits number w
 num_writes item bits greatest w i h = let k : IsWord (Num bits greatest) w = rw i at h in (k.1.0, k.1.1.1)
@@ -188,34 +165,10 @@ ascii_test item lo hi bits count w answer i l p e =
 pub ascii_none : (item : Item) (lo hi bits : ℕ) (w : List ℕ) → item ≡ Ascii7 lo hi bits → ((value : List ℕ) → IsPacked value w → ⊥) → IsTrue false ↔ IsWord item w
 ascii_none item lo hi bits w i none = rw i (not_word (Ascii7 lo hi bits) w (λ h. none h.1.packed.value h.1.packed.packed))
 
-pub ascii_width : (item : Item) (lo hi bits : ℕ) (w : List ℕ) → item ≡ Ascii7 lo hi bits → (length w ≡ bits → ⊥) → IsTrue false ↔ IsWord item w
-ascii_width item lo hi bits w i none = rw i (not_word (Ascii7 lo hi bits) w (λ h. none h.0))
-
-pub ascii_packs : (item : Item) (lo hi bits : ℕ) (w : List ℕ) → item ≡ Ascii7 lo hi bits → IsWord item w → (value : List ℕ) × IsPacked value w
-ascii_packs item lo hi bits w i h = let k : IsWord (Ascii7 lo hi bits) w = rw i at h in (k.0, k.1.1)
-
 pub ascii_value : (item : Item) (lo hi bits : ℕ) (w out : List ℕ) → item ≡ Ascii7 lo hi bits → IsWord item w → IsPacked out w → Word item out w
 ascii_value item lo hi bits w out i h p =
     let k : IsWord (Ascii7 lo hi bits) w = rw i at h in
     let same = packed_fixes k.0 out w k.1.1 p in
     let l = ap length same in
     let whole : Word (Ascii7 lo hi bits) out w = (record { least = let b = k.1.0.least in omega arith; most = let b = k.1.0.most in omega arith }, p, k.1.2) in
-    rw i whole
-
--- zeros
-
-pub fill_test : (item : Item) (a b : ℕ) (w : List ℕ) (answer : Bool) → item ≡ Fill a b → (w ≡ replicate a 0 → ⊥) → (IsTrue answer ↔ (w ≡ replicate b 0)) → IsTrue answer ↔ IsWord item w
-fill_test item a b w answer i none e =
-    let both : IsTrue answer ↔ Language (Fill a b) w = (λ h. inr (e.0 h), λ h. elim h as (λ _. IsTrue answer) [ inl f ↦ absurd (none f) | inr f ↦ e.1 f ]) in
-    rw i (of_language (Fill a b) w answer both)
-
-pub fill_first : (item : Item) (a b : ℕ) (w : List ℕ) → item ≡ Fill a b → w ≡ replicate a 0 → IsTrue true ↔ IsWord item w
-fill_first item a b w i e =
-    let both : IsTrue true ↔ Language (Fill a b) w = (λ h. inl e, λ h. refl) in
-    rw i (of_language (Fill a b) w true both)
-
-pub fill_value : (item : Item) (a b : ℕ) (w : List ℕ) → item ≡ Fill a b → IsWord item w → Word item [] w
-fill_value item a b w i h =
-    let k : IsWord (Fill a b) w = rw i at h in
-    let whole : Word (Fill a b) [] w = (refl, k.1.1) in
     rw i whole

@@ -64,9 +64,6 @@ count_order m n h small =
     let below = digits_value_short own (decimal n) (length (decimal n)) (digits_of_decimal n small) (omega arith) in
     length-decimal-le (length (decimal n)) m (decimal_nonempty n small) (omega arith) (omega arith)
 
-pub pow_small : (k : ℕ) → k ≤ 18 → 10 ^ k < 2 ^ 63
-pow_small k h = let l = pow-le-pow_right {n = 10} (omega arith) h in omega arith
-
 -- reading a numeral
 
 pub no_empty_numeral : (symbols : List ℕ) → length symbols ≡ 0 → (number : ℕ) → number < 2 ^ 64 → symbols ≡ decimal number → ⊥

@@ -1,10 +1,10 @@
 -- Bits of numbers and of packed characters.
-use Rattle.std.proofs.Common.{◌≡◌, ◌↔◌, ℕ, ◌<◌, ◌≤◌, ◌+◌, ◌*◌, ◌^◌, ◌&&◌, zero, suc, Bool, true, false, List, [], ◌∷◌, ◌++◌, length, take, drop, set, replicate, refl, sym, ◌∙◌, ap, subst, arith, add-one, IsTrue, get_or, length-append, All, eqb, leb, inl, inr}
+use Rattle.std.proofs.Common.{◌≡◌, ◌↔◌, ℕ, ◌<◌, ◌≤◌, ◌+◌, ◌*◌, ◌^◌, ◌&&◌, true, false, List, [], ◌∷◌, ◌++◌, length, take, drop, set, replicate, refl, sym, ◌∙◌, ap, subst, arith, add-one, get_or, length-append, All, eqb, leb, inl, inr}
 use Rattle.std.specs.List.{list_all, list_any, flat_map}
 use Rattle.std.proofs.Math.Nat.{mod-eq_of_lt, pow-succ'}
 use Rattle.std.proofs.lemmas.Bool.{leb-true}
 use Rattle.std.proofs.lemmas.Bool.Decides.{eqb_tells}
-use Rattle.std.proofs.lemmas.List.{take_more, take_more_set, take_at, drop_at, take-append-drop, append_assoc, length-drop, length-replicate, append-nil, take_all}
+use Rattle.std.proofs.lemmas.List.{take_more, take_at, drop_at, take-append-drop, append_assoc, length-drop, length-replicate, append-nil, take_all}
 use Rattle.std.proofs.lemmas.List.Elements.{All-append, All-get_or, All-cons, All-nil, All-head, All-tail, All-take, All-replicate}
 use Rattle.gs_chars.specs.Characters.{is_in_set82, are_in_set82, set82}
 use Rattle.gs_chars.proofs.TruthsAndLists.{and_parts}
@@ -36,9 +36,6 @@ pub record NumberSoFar (w : List ℕ) (i number : ℕ) : Type 0 where
   pub bits : AreBits (take i w)
   pub value : number ≡ number_of (take i w)
   pub small : number < 2 ^ i
-
-pub number_start : (w : List ℕ) → NumberSoFar w 0 0
-number_start w = record { bits = All-nil (λ b. b < 2); value = refl; small = omega arith }
 
 pub number_step : (w : List ℕ) (i number : ℕ) → i < length w → get_or w i 0 < 2 → NumberSoFar w i number → NumberSoFar w (i + 1) (2 * number + get_or w i 0)
 number_step w i number l b h =
@@ -238,9 +235,6 @@ pub record PackCollects (w rest out : List ℕ) : Type 0 where
   pub value : List ℕ
   pub packed : IsPacked value rest
 
-pub pack_collects_start : (w v : List ℕ) → IsPacked v w → PackCollects w w []
-pack_collects_start w v p = record { back = λ u q. q; value = v; packed = p }
-
 pub pack_collects_step : (w rest out : List ℕ) (c : ℕ) → PackCollects w rest out → HasCode rest c → PackCollects w (drop 7 rest) (out ++ c ∷ [])
 pack_collects_step w rest out c k h =
     let g = unpack k.value rest (drop 7 rest) c k.packed h.some h.small h.front in
@@ -259,25 +253,3 @@ pack_collects_end w rest out k none =
     let empty : IsPacked [] rest = subst (λ (x : List ℕ). IsPacked x rest) nil k.packed in
     let t = k.back [] empty in
     rw append-nil at t
-
--- zeros
-zeros_are : (w : List ℕ) → list_all (λ b. eqb b 0) w ≡ true → w ≡ replicate (length w) 0
-zeros_are [] h = refl
-zeros_are (x ∷ w) h =
-    let b = and_parts (eqb x 0) (list_all (λ b. eqb b 0) w) h in
-    elim (eqb_tells x 0) as (λ _. x ∷ w ≡ replicate (length (x ∷ w)) 0) [
-      | inl e ↦ let same = e.1 in let tail = zeros_are w b.1 in cc
-      | inr e ↦ absurd (let f : false ≡ true = sym e.0 ∙ b.0 in cc)
-    ]
-
-all_zeros : (n : ℕ) → list_all (λ b. eqb b 0) (replicate n 0) ≡ true
-all_zeros zero = refl
-all_zeros (suc n) = all_zeros n
-
-pub zeros_word : (w : List ℕ) (n : ℕ) (answer : Bool) → length w ≡ n → answer ≡ list_all (λ b. eqb b 0) w → IsTrue answer ↔ (w ≡ replicate n 0)
-zeros_word w n answer l e = (λ h. rw (← l) (zeros_are w (sym e ∙ h)), λ h. e ∙ ap (list_all (λ b. eqb b 0)) h ∙ all_zeros n)
-
--- one more bit at the front of an array of symbols
-pub unpack_step : (symbols bits : List ℕ) (i b : ℕ) → i < length symbols → i < length bits → take i symbols ≡ take i bits → b ≡ get_or bits i 0 → take (i + 1) (set symbols i b) ≡ take (i + 1) bits
-unpack_step symbols bits i b l m e f =
-    take_more_set symbols i b l ∙ ap (λ front. front ++ b ∷ []) e ∙ ap (λ (x : ℕ). take i bits ++ x ∷ []) f ∙ sym (take_more bits i 0 m)

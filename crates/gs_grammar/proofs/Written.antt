@@ -46,9 +46,6 @@ symbols_step t all symbols i l b e =
     let bit = one_bit (get_or symbols i 0) b in
     rw bit (append_assoc t (get_or symbols i 0 ∷ []) (drop (i + 1) symbols) ∙ ap (λ r. t ++ r) (sym (drop_more symbols i 0 l)) ∙ e)
 
-pub symbols_end : (t all symbols : List ℕ) (i : ℕ) → length symbols ≤ i → t ++ drop i symbols ≡ all → t ≡ all
-symbols_end t all symbols i l e = sym (append-nil t) ∙ ap (λ r. t ++ r) (sym (drop_all i symbols l)) ∙ e
-
 same_zeros : (m n : ℕ) → m ≡ n → replicate {A = ℕ} m 0 ≡ replicate {A = ℕ} n 0
 same_zeros m n e = ap (λ (k : ℕ). replicate {A = ℕ} k 0) e
 

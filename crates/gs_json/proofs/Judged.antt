@@ -6,11 +6,10 @@ use Rattle.std.proofs.lemmas.List.{drop_all, drop_more}
 use Rattle.serde_json.specs.Data.{Members}
 use Rattle.serde_json.specs.View.{members_view}
 use Rattle.serde_json.specs.declared.value.Value.{Value as Tree}
-use Rattle.gs_json.specs.Answers.{OrMemory}
 use Rattle.gs_json.specs.Places.{member_place}
 use Rattle.gs_json.specs.Shapes.{IsFirst, entry_faults, first_fault, is_named, members_faults, unknown_among, unknown_faults}
 use Rattle.gs_json.specs.declared.fault.JsonFault.{JsonFault}
-use Rattle.gs_json.specs.declared.fault.JsonFault.TheVariants.{Syntax, Lacks, Kind, Unknown, Memory}
+use Rattle.gs_json.specs.declared.fault.JsonFault.TheVariants.{Unknown}
 use Rattle.gs_json.specs.declared.plan.Entry.{Entry}
 use Rattle.gs_json.proofs.Looked.{names_are_keys}
 
@@ -26,14 +25,6 @@ module _ (place : List ℕ) (plan : List Entry) (entries : List (String Global �
 first_stays : (fault : JsonFault) (faults more : List JsonFault) → Err fault ≡ first_fault faults → Err fault ≡ first_fault (faults ++ more)
 first_stays fault [] more h = cc h
 first_stays fault (first ∷ faults) more h = h
-
--- a fault stays the first where more come behind it
-pub fault_stays : (fault : JsonFault) (faults more : List JsonFault) → OrMemory {X = Unit {0}} (Err fault) (first_fault faults) → OrMemory {X = Unit {0}} (Err fault) (first_fault (faults ++ more))
-fault_stays Syntax faults more h = first_stays Syntax faults more h
-fault_stays (Lacks at) faults more h = first_stays (Lacks at) faults more h
-fault_stays (Kind at) faults more h = first_stays (Kind at) faults more h
-fault_stays (Unknown at) faults more h = first_stays (Unknown at) faults more h
-fault_stays Memory faults more h = tt
 
 pub no_first : (faults : List JsonFault) → Ok tt ≡ first_fault faults → faults ≡ []
 no_first [] h = refl

@@ -3,7 +3,7 @@ use Rattle.std.proofs.Common.{◌≡◌, ℕ, ◌<◌, ◌≤◌, ◌+◌, ◌-�
 use Rattle.std.specs.List.{slice_get}
 use Rattle.std.proofs.lemmas.Bool.{cases_eq}
 use Rattle.std.proofs.lemmas.Bool.Decides.{nat_tests}
-use Rattle.std.proofs.lemmas.List.{take_more, length-take-le, length-drop}
+use Rattle.std.proofs.lemmas.List.{take_more, length-take-le}
 use Rattle.gs_machine.specs.declared.edge.Edge.{Edge}
 use Rattle.gs_machine.specs.Walks.{Fits, edges_at, Walk}
 use Rattle.gs_machine.specs.Machines.{AutoForm, IsMachine, states_of, start_of, accept_of, Accepts}
@@ -147,12 +147,6 @@ pub parted : (borders : List ℕ) → 0 < length borders → Parted borders
 parted [] l = absurd (omega arith)
 parted (border ∷ rest) l = record { border = border; rest = rest; whole = refl }
 
-pub followed_start : (form : AutoForm) (symbols borders above before cuts : List ℕ) (start : ℕ) → IsMachine form → borders ≡ form.borders → above ≡ drop 1 borders → start ≡ start_of form → start_of form < states_of form → before ≡ [] → cuts ≡ before ++ 0 ∷ [] → Followed form symbols 0 start cuts above
-followed_start form symbols borders above before cuts start m b a s l n c =
-    let p = parted form.borders m.bordered in
-    let left : above ≡ p.rest = a ∙ ap (drop 1) (b ∙ p.whole) in
-    started form symbols p.border p.rest above cuts start m p.whole left s l (c ∙ ap (λ (xs : List ℕ). xs ++ 0 ∷ []) n)
-
 -- one symbol more
 
 pub way_of : (form : AutoForm) (state : ℕ) (states symbols : List ℕ) (n : ℕ) → Walk form.table state states (drop n symbols) (accept_of form) → HasWay form state (slice_get symbols n)
@@ -215,6 +209,3 @@ pub refused : (form : AutoForm) (symbols : List ℕ) (n state accept : ℕ) (cut
 refused form symbols n state accept cuts above h l a none run r =
     let g = h.goes run r in
     none (ends_at form symbols n state g.rest l g.walk ∙ sym a)
-
-pub above_first : (borders : List ℕ) → take (length borders - 1) (drop 1 borders) ≡ drop 1 borders
-above_first borders = all_taken (drop 1 borders) (length borders - 1) (let c = length-drop 1 borders in omega arith)

@@ -17,9 +17,6 @@ pub record Ahead (left : List Item) (rest : List ℕ) (place number : ℕ) (cuts
   pub derives : Derives left rest values words
   pub cuts_are : drop number cuts ≡ cuts_from place words
 
-pub ahead_start : (items : List Item) (symbols cuts : List ℕ) → HasCuts items symbols cuts → Ahead items symbols 0 0 cuts
-ahead_start items symbols cuts h = record { values = h.values; words = h.words; derives = h.derives; cuts_are = h.cuts_are }
-
 pub derived_by : (items : List Item) (symbols cuts : List ℕ) → HasCuts items symbols cuts → IsDerived items symbols
 derived_by items symbols cuts h = record { values = h.values; words = h.words; derives = h.derives }
 
@@ -71,9 +68,6 @@ next_cut left item others rest place number cuts e h =
 pub record Gathers (items : List Item) (w : List ℕ) (left : List Item) (rest : List ℕ) (values : List (List ℕ)) : Type 0 where
   pub back : (vs : List (List ℕ)) → HasValues left rest vs → HasValues items w (values ++ vs)
   pub derived : IsDerived left rest
-
-pub gathers_start : (items : List Item) (w : List ℕ) → IsDerived items w → Gathers items w items w []
-gathers_start items w d = record { back = λ vs h. h; derived = d }
 
 pub gathers_step : (items : List Item) (w : List ℕ) (left : List Item) (rest : List ℕ) (values : List (List ℕ)) (item : Item) (others : List Item) (cut : ℕ) (value : List ℕ) → Gathers items w left rest values → left ≡ item ∷ others → AtCut item others rest cut → Word item value (take cut rest) → Gathers items w others (drop cut rest) (values ++ value ∷ [])
 gathers_step items w left rest values item others cut value g s split word =

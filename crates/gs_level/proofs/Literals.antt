@@ -21,9 +21,6 @@ use Rattle.gs_level.specs.Guides.{StandsAt, HasLiteral, BeginAll, AreGroupsFrom}
 pub record Leads (items left : List Item) (place : ℕ) : Type 0 where
   pub leads : (w : List ℕ) → IsDerived items w → IsDerived left (drop place w)
 
-pub leads_start : (items : List Item) → Leads items items 0
-leads_start items = record { leads = λ w d. d }
-
 -- the word of the first item, and what is behind it
 record Behind (item : Item) (others : List Item) (w : List ℕ) : Type 0 where
   first : List ℕ

@@ -1,24 +1,15 @@
 -- Readings by the widths of items.
-use Rattle.std.proofs.Common.{◌≡◌, ℕ, ◌<◌, ◌≤◌, List, [], ◌∷◌, ◌++◌, length, take, drop, refl, sym, ◌∙◌, ap, arith}
+use Rattle.std.proofs.Common.{◌≡◌, ℕ, ◌<◌, ◌≤◌, List, [], ◌∷◌, ◌++◌, length, take, drop, refl, ◌∙◌, ap, arith}
 use Rattle.std.proofs.lemmas.List.{take_at, drop_at, length-append, append_assoc, append-nil, nil_from_length, take-append-drop}
 use Rattle.gs_grammar.specs.declared.item.Item.{Item}
 use Rattle.gs_grammar.specs.Items.{IsItem, size_of, shortest_of}
 use Rattle.gs_grammar.specs.Words.{Word, IsWord}
 use Rattle.gs_grammar.specs.Derivations.{Derives, IsDerived, HasValues, no_item}
-use Rattle.gs_grammar.proofs.Cuts.{derives_uncons, derives_cons, derives_nil}
+use Rattle.gs_grammar.proofs.Cuts.{derives_uncons, derives_cons}
 use Rattle.gs_grammar.proofs.WordLaws.{word_length}
 use Rattle.gs_level.specs.Widths.{HasWidth}
 
 -- the width of one item
-
-pub last_width : (item : Item) (others : List Item) (w : List ℕ) → length others ≡ 0 → HasWidth item others w (length w)
-last_width item others w e = record {
-  is = λ word rest whole i d.
-      let nil : others ≡ [] = nil_from_length others e in
-      let last : IsDerived [] rest = rw nil at d in
-      let none : rest ≡ [] = (derives_nil rest last.values last.words last.derives).0 in
-      ap length (sym (whole ∙ ap (λ (x : List ℕ). word ++ x) none ∙ append-nil word));
-}
 
 pub one_width : (item : Item) (others : List Item) (w : List ℕ) (size : ℕ) → IsItem item → size ≡ size_of item → shortest_of item ≡ size → HasWidth item others w size
 one_width item others w size i s b = record {
@@ -33,9 +24,6 @@ one_width item others w size i s b = record {
 pub record Measures (items left : List Item) (w rest : List ℕ) (values : List (List ℕ)) : Type 0 where
   pub back : (vs : List (List ℕ)) → HasValues left rest vs → HasValues items w (values ++ vs)
   pub on : IsDerived items w → IsDerived left rest
-
-pub measures_start : (items : List Item) (w : List ℕ) (values : List (List ℕ)) → values ≡ [] → Measures items items w w values
-measures_start items w values e = rw e (record { back = λ vs h. h; on = λ d. d })
 
 -- the word that begins what is left, where the items derive the symbols
 record Front (item : Item) (others : List Item) (rest : List ℕ) (width : ℕ) : Type 0 where
@@ -89,10 +77,3 @@ measured items left w rest values list m l r e =
     let empty : HasValues [] [] [] = record { words = []; derives = record { each = no_item; joined = refl } } in
     let all = m.back [] (rw (nil, none) empty) in
     rw e (rw append-nil at all)
-
-pub more_left : (items left : List Item) (w rest : List ℕ) (values : List (List ℕ)) → Measures items left w rest values → length left ≡ 0 → (length rest ≡ 0 → ⊥) → IsDerived items w → ⊥
-more_left items left w rest values m l r d =
-    let nil : left ≡ [] = nil_from_length left l in
-    let here : IsDerived [] rest = rw nil at (m.on d) in
-    let none : rest ≡ [] = (derives_nil rest here.values here.words here.derives).0 in
-    r (ap length none)

@@ -1,5 +1,5 @@
 -- Where a symbol leads by the edges of a state.
-use Rattle.std.proofs.Common.{◌≡◌, ℕ, ◌<◌, ◌≤◌, ◌+◌, ◌⊎◌, Bool, true, false, IsTrue, List, [], ◌∷◌, ◌++◌, length, get_or, take, Option, Some, refl, sym, ◌∙◌, ap, subst, inl, inr, arith}
+use Rattle.std.proofs.Common.{◌≡◌, ℕ, ◌<◌, ◌≤◌, ◌+◌, ◌⊎◌, Bool, true, false, IsTrue, List, [], ◌∷◌, ◌++◌, length, get_or, take, Option, Some, refl, sym, ◌∙◌, ap, subst, inl, inr}
 use Rattle.std.specs.List.{list_any}
 use Rattle.std.proofs.lemmas.List.{take_more}
 use Rattle.gs_chars.proofs.TruthsAndLists.{true_or_false, or_true}
@@ -10,7 +10,6 @@ use Rattle.gs_level.specs.declared.alone.Next.{Next}
 use Rattle.gs_level.specs.declared.alone.Next.TheVariants.{One, Nowhere, Many}
 use Rattle.gs_level.specs.Trails.{leads_with}
 use Rattle.gs_level.specs.Alone.{HasWay, LeadsOn, LeadsOnly, LeadsNowhere, IsNext}
-use Rattle.gs_level.proofs.Dropped.{all_taken}
 use Rattle.gs_level.proofs.Layers.{leads_fits, fits_leads}
 
 -- some edge leads with the symbol
@@ -99,35 +98,9 @@ next_found form edges n edge symbol following next b h l e test t is =
 pub none_first : (form : AutoForm) (symbol : ℕ) (following : Option ℕ) → LeadsNowhere form [] symbol following
 none_first form symbol following = record { none = λ other f way. f }
 
-pub next_whole : (form : AutoForm) (edges : List Edge) (n symbol : ℕ) (following : Option ℕ) (next : Next) → IsNext form (take n edges) symbol following next → length edges ≤ n → IsNext form edges symbol following next
-next_whole form edges n symbol following next h l = rw (all_taken edges n l) at h
-
 -- one edge alone
 
 pub one_leads : (form : AutoForm) (edge : Edge) (symbol : ℕ) (following : Option ℕ) (b : Bool) → b ≡ leads_with edge symbol → b ≡ true → LeadsOnly form (edge ∷ []) symbol following edge.to
 one_leads form edge symbol following b e t =
     let f = leads_fits edge symbol (sym e ∙ t) in
     record { fits = inl (f.0, f.1, refl); only = λ other g way. elim g as (λ _. other ≡ edge.to) [ inl here ↦ sym here.2 | inr none ↦ absurd none ] }
-
-pub none_leads : (form : AutoForm) (edge : Edge) (symbol : ℕ) (following : Option ℕ) (b : Bool) → b ≡ leads_with edge symbol → b ≡ false → LeadsNowhere form (edge ∷ []) symbol following
-none_leads form edge symbol following b e f = record {
-  none = λ other g way. elim g as (λ _. ⊥) [
-    | inl here ↦ let t = fits_leads edge symbol here.0 here.1 in let u : false ≡ true = sym f ∙ e ∙ t in cc
-    | inr none ↦ none
-  ];
-}
-
-pub of_one : (form : AutoForm) (edges : List Edge) (edge : Edge) (symbol : ℕ) (following : Option ℕ) (next : Next) → length edges ≡ 1 → edge ≡ get_or edges 0 edge → IsNext form (edge ∷ []) symbol following next → IsNext form edges symbol following next
-of_one form [] edge symbol following next l e h = absurd (omega arith)
-of_one form (first ∷ []) edge symbol following next l e h = let same : edge ≡ first = e in rw (sym same) h
-of_one form (first ∷ second ∷ edges) edge symbol following next l e h = absurd (omega arith)
-
--- both tests of an edge
-
-pub on_both : (form : AutoForm) (edge : Edge) (symbol : ℕ) (following : Option ℕ) (b : Bool) → leads_with edge symbol ≡ true → ((IsTrue b → HasWay form edge.to following) × (HasWay form edge.to following → IsTrue b)) → (IsTrue b → LeadsOn form edge symbol following) × (LeadsOn form edge symbol following → IsTrue b)
-on_both form edge symbol following b t test =
-    let f = leads_fits edge symbol t in
-    (λ u. record { low = f.0; high = f.1; way = test.0 u }, λ on. test.1 on.way)
-
-pub not_on : (form : AutoForm) (edge : Edge) (symbol : ℕ) (following : Option ℕ) → leads_with edge symbol ≡ false → LeadsOn form edge symbol following → ⊥
-not_on form edge symbol following f on = let t = fits_leads edge symbol on.low on.high in let u : false ≡ true = sym f ∙ t in cc

@@ -65,9 +65,6 @@ take_whole [] (suc i) h = refl
 take_whole (x ∷ xs) zero h = absurd (omega arith)
 take_whole (x ∷ xs) (suc i) h = ap (λ ys. x ∷ ys) (take_whole xs i (omega arith))
 
-pub first_all : (first pairs : List Pair) (i : ℕ) → length first ≤ i → are_first (take i first) pairs ≡ true → true ≡ are_first first pairs
-first_all first pairs i all h = sym (rw (take_whole first i all) at h)
-
 pub get_at : {X : Type 0} (xs : List X) (k : ℕ) (d : X) → k < length xs → slice_get xs k ≡ Some (get_or xs k d)
 get_at [] k d h = absurd (omega arith)
 get_at (x ∷ xs) zero d h = refl

@@ -148,10 +148,6 @@ none_beyond links identity want d h = elim (cases_lt d (length identity.qualifie
 
 -- ---- an index of more links
 
-pub index_none : (index : Index) → ((n : ℕ) → listed index n ≡ []) → (links : List Link) → IsIndexOf index (take 0 links)
-index_none index none [] n = none n
-index_none index none (x ∷ links) n = none n
-
 pub index_more : (old new : Index) (links : List Link) (i : ℕ) (link : Link) (m : ℕ) → slice_get links i ≡ Some link → m ≡ anchor_number link.anchor → IsIndexOf old (take i links) → ((n : ℕ) → listed new n ≡ with_last (listed old n) m i n) → IsIndexOf new (take (i + 1) links)
 index_more old new links i link m at e so_far own n =
     let next : i + 1 ≡ suc i = omega arith in

@@ -10,7 +10,6 @@ use Rattle.gs_ai.specs.Tables.{is_empty}
 use Rattle.gs_ai.specs.declared.pair.Pair.{Pair}
 use Rattle.gs_ai.specs.declared.row.AiRow.{AiRow}
 use Rattle.gs_chars.proofs.TruthsAndLists.{nil_parts}
-use Rattle.gs_dlink.specs.Answers.{fault_in}
 use Rattle.gs_dlink.specs.declared.fault.LinkFault.{LinkFault}
 use Rattle.gs_ident.specs.Elements.{Elements}
 use Rattle.gs_ident.specs.Identities.{IsMadeWith, identity_of_pairs}
@@ -26,10 +25,6 @@ use Rattle.gs_links.specs.declared.fault.StoreFault.TheVariants.{TooMany, BadAnc
 use Rattle.gs_links.specs.declared.link.Link.{Link}
 
 -- ---- anchors
-
-pub fault_is : (answer : Result (List Pair) LinkFault) (e : LinkFault) → fault_in answer ≡ Some e → answer ≡ Err e
-fault_is (Ok pairs) e h = absurd (let g : None ≡ Some e = h in cc)
-fault_is (Err f) e h = let same : f ≡ e = (let g : Some f ≡ Some e = h in cc) in ap Err same
 
 module _ (table : List AiRow) (text : List ℕ) where
   pub no_link : (fault : LinkFault) → pairs_answer table text ≡ Err fault → Err (NoLink fault) ≡ anchor_answer table text
@@ -68,10 +63,6 @@ pub no_attributes : (table : List AiRow) (text : List ℕ) (anchor : Elements) �
 unfolding anchor_answer
 no_attributes table text anchor h = bare_pairs table (pairs_answer table text) anchor (sym h)
 
--- all qualifiers of an anchor give the anchor
-pub whole_anchor : (anchor : Elements) → anchor.attributes ≡ [] → record { key = anchor.key; qualifiers = take (length anchor.qualifiers) anchor.qualifiers; attributes = [] } ≡ anchor
-whole_anchor anchor none = ap (λ q. record { key = anchor.key; qualifiers = q; attributes = [] }) (take_whole anchor.qualifiers (length anchor.qualifiers) (omega arith)) ∙ ap (λ a. record { key = anchor.key; qualifiers = anchor.qualifiers; attributes = a }) (sym none)
-
 -- ---- what is added for each thing of a list
 
 pub mapped_more : {X Y : Type 0} (f : X → Y) (first : List Y) (xs : List X) (x : X) (old new : List Y) (y : Y) → old ≡ first ++ map f xs → y ≡ f x → new ≡ old ++ y ∷ [] → new ≡ first ++ map f (xs ++ x ∷ [])
@@ -79,18 +70,6 @@ mapped_more f first xs x old new y h own e = rw (e, h, own, map-append) (append_
 
 pub flat_more : {X Y : Type 0} (f : X → List Y) (first : List Y) (xs : List X) (x : X) (old new : List Y) → old ≡ first ++ flat_map f xs → new ≡ old ++ f x → new ≡ first ++ flat_map f (xs ++ x ∷ [])
 flat_more f first xs x old new h e = rw (e, h, flat_map-append f xs (x ∷ []), append-nil (f x)) (append_assoc first (flat_map f xs) (f x))
-
--- ---- the targets of relations
-
-pub relations_more : (relations : List Relation) (i : ℕ) (relation : Relation) → slice_get relations i ≡ Some relation → relations_count (take (i + 1) relations) ≡ relations_count (take i relations) + length relation.targets
-relations_more relations i relation at =
-    rw (take_next relations i relation at, flat_map-append (λ (r : Relation). r.targets) (take i relations) (relation ∷ []), append-nil relation.targets)
-    (length-append (flat_map (λ (r : Relation). r.targets) (take i relations)) relation.targets)
-
-pub contexts_more : (contexts : List Context) (i : ℕ) (context : Context) → slice_get contexts i ≡ Some context → targets_count (take (i + 1) contexts) ≡ targets_count (take i contexts) + relations_count context.relations
-contexts_more contexts i context at =
-    rw (take_next contexts i context at, flat_map-append (λ (c : Context). flat_map (λ (r : Relation). r.targets) c.relations) (take i contexts) (context ∷ []), append-nil (flat_map (λ (r : Relation). r.targets) context.relations))
-    (length-append (flat_map (λ (c : Context). flat_map (λ (r : Relation). r.targets) c.relations) (take i contexts)) (flat_map (λ (r : Relation). r.targets) context.relations))
 
 -- ---- faults one after the other
 

@@ -34,14 +34,6 @@ no_fault a x z (inl h) = absurd (let g : Ok z ≡ Err Memory = h in cc)
 no_fault [] x z (inr h) = (refl, let g : Ok z ≡ Ok x = h in cc)
 no_fault (f ∷ a) x z (inr h) = absurd (let g : Ok z ≡ Err f = h in cc)
 
-pub fault_behind : {X Y : Type 0} (a b : List JsonFault) (x : X) (y : Y) (e : JsonFault) → a ≡ [] → OrMemory (Err e) (first_or b x) → OrMemory (Err e) (first_or (a ++ b) y)
-fault_behind a b x y e none h = rw none (other b x y e h)
-  where
-    other : {X Y : Type 0} (b : List JsonFault) (x : X) (y : Y) (e : JsonFault) → OrMemory (Err e) (first_or b x) → OrMemory (Err e) (first_or b y)
-    other b x y e (inl h) = inl (let same : e ≡ Memory = cc in ap Err same)
-    other [] x y e (inr h) = absurd (let g : Err e ≡ Ok x = h in cc)
-    other (f ∷ b) x y e (inr h) = inr (let same : e ≡ f = cc in ap Err same)
-
 -- the same fault, whatever would be read
 pub same_fault : {X Y : Type 0} (a : List JsonFault) (x : X) (y : Y) (e : JsonFault) → OrMemory (Err e) (first_or a x) → OrMemory (Err e) (first_or a y)
 same_fault a x y e (inl h) = inl (let same : e ≡ Memory = cc in ap Err same)

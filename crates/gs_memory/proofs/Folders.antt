@@ -1,24 +1,16 @@
 -- Finding a file by its name.
-use Rattle.std.proofs.Common.{◌≡◌, ◌<◌, ◌+◌, ◌∙◌, ℕ, true, false, cond, List, [], ◌∷◌, Option, Some, None, String, Vec, length, drop, ap, sym, option_map, get_or, string_bytes, bytes_eq, find}
+use Rattle.std.proofs.Common.{◌≡◌, ◌<◌, ◌+◌, ◌∙◌, ℕ, false, cond, List, [], ◌∷◌, Option, Some, None, String, Vec, length, drop, ap, sym, option_map, get_or, string_bytes, bytes_eq, find}
 use Rattle.std.specs.declared.alloc.Global.{Global}
-use Rattle.std.proofs.lemmas.List.{at_drop_more, get_or-map}
+use Rattle.std.proofs.lemmas.List.{at_drop_more}
 use Rattle.gs_port.specs.Files.{file_of}
 use Rattle.gs_memory.specs.Folder.{IsPlaceOf, bytes_at, told_files}
 
 abbrev pub named : List ℕ → List (String Global × Vec ℕ Global) → Option (List ℕ)
 named name files = file_of (told_files files) name
 
--- the bytes of the file at a place
-pub bytes_there : (files : List (String Global × Vec ℕ Global)) (i : ℕ) (file : String Global × Vec ℕ Global) → i < length files → file ≡ get_or files i file → bytes_at (told_files files) i ≡ file.1.items
-bytes_there files i file lt is = ap (λ (f : List ℕ × List ℕ). f.1) (get_or-map (λ (f : String Global × Vec ℕ Global). (string_bytes f.0, f.1.items)) files i file ([], []) lt) ∙ ap (λ (f : String Global × Vec ℕ Global). f.1.items) (sym is)
-
 -- one step further along files
 pub named_step : (name : List ℕ) (files : List (String Global × Vec ℕ Global)) (i : ℕ) (file : String Global × Vec ℕ Global) → i < length files → file ≡ get_or files i file → named name (drop i files) ≡ option_map (λ (f : List ℕ × List ℕ). f.1) (cond (bytes_eq (string_bytes file.0) name) (Some (string_bytes file.0, file.1.items)) (find (λ (f : List ℕ × List ℕ). bytes_eq f.0 name) (told_files (drop (i + 1) files))))
 named_step name files i file lt is = at_drop_more (named name) files i file lt ∙ ap (λ f. named name (f ∷ drop (i + 1) files)) (sym is)
-
--- the file at this place has the name
-pub found_here : (name : List ℕ) (files : List (String Global × Vec ℕ Global)) (i : ℕ) (file : String Global × Vec ℕ Global) → i < length files → file ≡ get_or files i file → bytes_eq (string_bytes file.0) name ≡ true → named name (drop i files) ≡ named name files → named name files ≡ Some (bytes_at (told_files files) i)
-found_here name files i file lt is same rest = sym rest ∙ rw same at (named_step name files i file lt is) ∙ ap Some (sym (bytes_there files i file lt is))
 
 -- the file at this place has another name
 pub not_here : (name : List ℕ) (files : List (String Global × Vec ℕ Global)) (i : ℕ) (file : String Global × Vec ℕ Global) → i < length files → file ≡ get_or files i file → bytes_eq (string_bytes file.0) name ≡ false → named name (drop i files) ≡ named name files → named name (drop (i + 1) files) ≡ named name files

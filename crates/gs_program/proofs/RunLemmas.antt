@@ -3,10 +3,10 @@ use Rattle.std.proofs.Common.{◌≡◌, ◌≢◌, ◌⊎◌, inl, inr, ℕ, �
 use Rattle.std.specs.List.{Contains}
 use Rattle.gs_lines.specs.declared.status.Status.{Status}
 use Rattle.gs_lines.specs.declared.status.Status.TheVariants as status
-use Rattle.gs_lines.specs.Inputs.{IsAtEnd, TakesAtMost}
+use Rattle.gs_lines.specs.Inputs.{TakesAtMost}
 use Rattle.gs_lines.specs.Outputs.{Appends}
 use Rattle.gs_lines.specs.Printing.{IsInitialPart, PrintedAs}
-use Rattle.gs_lines.specs.Statuses.{OnAnswered, OnCutShort, OnInputLong, OnReadFault, OnRefused, OnUsage, OnWritten, is_answered, is_cut_short, is_read_fault, is_refusal, is_written}
+use Rattle.gs_lines.specs.Statuses.{OnCutShort, OnReadFault, OnRefused, OnWritten, is_cut_short, is_read_fault, is_refusal, is_written}
 use Rattle.gs_lines.proofs.StatusLemmas.{when_always, when_map}
 use Rattle.gs_port.specs.Connections.{Finished}
 use Rattle.gs_port.specs.Counts.{Rises}
@@ -16,7 +16,7 @@ use Rattle.gs_words.specs.Requests.{Asked, AsksFor, AsksForHeads, AsksForLines, 
 use Rattle.gs_words.proofs.RequestLemmas.{one_request}
 use Rattle.gs_program.specs.Asking.{AskedRan, ReadCause}
 use Rattle.gs_program.specs.Ran.{BeginsOne}
-use Rattle.gs_program.specs.Runs.{AskedEnded, AskedRun, AskedServes, BeginsRun, Counts, DefinedRun, EndedRun, FinishedRun, IsMissing, IsRefused, ServesInput, World, by_disorder, by_order, by_request, by_usage}
+use Rattle.gs_program.specs.Runs.{AskedRun, AskedServes, BeginsRun, Counts, DefinedRun, FinishedRun, IsMissing, IsRefused, ServesInput, World, by_disorder, by_order, by_request, by_usage}
 use Rattle.gs_program.specs.Works.{Leaves, Outcome, input_limit, outcome_of}
 use Rattle.gs_program.proofs.RanLemmas.{PrintedCase, fault, leaves_door, no_memory, printed_case, whole}
 
@@ -39,9 +39,6 @@ same_test test words asked order asks =
     let same : asked ≡ asks.asked = one_request words asked asks.asked order asks.order in
     ap (λ (x : Asked). test x.command) same ∙ asks.passes
 
-pub to_end_of : (words : List (List ℕ)) (asked : Asked) (left : Option (List ℕ)) (s : Status) → WordsInOrder words asked → OnAnswered s (answers_lines asked.command ≡ true → IsAtEnd left) → AsksForLines words → OnAnswered s (IsAtEnd left)
-to_end_of words asked left s order end lines = when_map (is_answered s) (λ e. e (same_test answers_lines words asked order lines)) end
-
 pub few_of : (words : List (List ℕ)) (asked : Asked) (input left : Option (List ℕ)) → WordsInOrder words asked → (answers_lines asked.command ≡ true → TakesAtMost (input_limit + 1) input left) → AsksForLines words → TakesAtMost (input_limit + 1) input left
 few_of words asked input left order few lines = few (same_test answers_lines words asked order lines)
 
@@ -49,19 +46,6 @@ few_of words asked input left order few lines = few (same_test answers_lines wor
 pub served_of : (AsItWas : Type 0) (words : List (List ℕ)) (asked : Asked) (files : Option (List (List ℕ × List ℕ))) (left left' held held' : Option (List ℕ)) (s : Status) → WordsInOrder words asked → (answers_heads asked.command ≡ true → AskedServes AsItWas asked files s left left' held held') → AsksForHeads words → ServesInput AsItWas words files s left left' held held'
 served_of AsItWas words asked files left left' held held' s order serves heads =
     record { asked = asked; order = order; serves = serves (same_test answers_heads words asked order heads) }
-
-never_usage : (s : Status) (fact : Type 0) → s ≢ status.Usage → OnUsage s fact
-never_usage status.Done fact un = tt
-never_usage status.SomeRefused fact un = tt
-never_usage status.Usage fact un = absurd (un refl)
-never_usage status.Refused fact un = tt
-never_usage status.ReadFault fact un = tt
-never_usage status.WriteFault fact un = tt
-never_usage status.InputLong fact un = tt
-never_usage status.Memory fact un = tt
-
-pub usage_of : (fact : Type 0) (asked : Asked) (world : World) (before now : Counts) (left : Option (List ℕ)) (outcome : Outcome) → AskedRan asked world before now left outcome → OnUsage outcome.status fact
-usage_of fact asked world before now left outcome r = never_usage outcome.status fact r.no_usage
 
 pub refused_of : (words : List (List ℕ)) (asked : Asked) (world : World) (before now : Counts) (left : Option (List ℕ)) (outcome : Outcome) → WordsInOrder words asked → AskedRan asked world before now left outcome → OnRefused outcome.status (IsRefused words world.files)
 refused_of words asked world before now left outcome order r = when_map (is_refusal outcome.status) (λ x. record { asked = asked; order = order; refusal = x.0; gives = x.1 }) r.refusal
@@ -73,13 +57,6 @@ cause_of words asked world before now order (inr (inr gives)) = inr (inr (record
 
 pub read_fault_of : (words : List (List ℕ)) (asked : Asked) (world : World) (before now : Counts) (left : Option (List ℕ)) (outcome : Outcome) → WordsInOrder words asked → AskedRan asked world before now left outcome → OnReadFault outcome.status ((Rises before.input_faults now.input_faults ⊎ Rises before.door_faults now.door_faults) ⊎ (Rises before.file_faults now.file_faults ⊎ IsMissing words world.files))
 read_fault_of words asked world before now left outcome order r = when_map (is_read_fault outcome.status) (cause_of words asked world before now order) r.read_fault
-
-ended_words : (nothing rises : Type 0) (words : List (List ℕ)) (asked : Asked) (files : Option (List (List ℕ × List ℕ))) (old left held holds : Option (List ℕ)) → WordsInOrder words asked → nothing ⊎ (rises × Appends held holds (AskedEnded asked files old left)) → nothing ⊎ (rises × Appends held holds (EndedRun words files old left))
-ended_words nothing rises words asked files old left held holds order (inl n) = inl n
-ended_words nothing rises words asked files old left held holds order (inr e) = inr (e.0, (e.1.0, e.1.1, record { asked = asked; order = order; ended = e.1.2 }))
-
-pub ended_of : (nothing rises : Type 0) (words : List (List ℕ)) (asked : Asked) (files : Option (List (List ℕ × List ℕ))) (old left held holds : Option (List ℕ)) (s : Status) → WordsInOrder words asked → OnReadFault s (nothing ⊎ (rises × Appends held holds (AskedEnded asked files old left))) → OnReadFault s (nothing ⊎ (rises × Appends held holds (EndedRun words files old left)))
-ended_of nothing rises words asked files old left held holds s order e = when_map (is_read_fault s) (ended_words nothing rises words asked files old left held holds order) e
 
 not_true : (b : Bool) → (b ≡ true → ⊥) → b ≡ false
 not_true true f = absurd (f refl)
@@ -120,44 +97,3 @@ usage_begun words world held holds s not a = by (printed_case status.Usage usage
 
 pub usage_finished : (words : List (List ℕ)) (world : World) (held holds : Option (List ℕ)) (ended : Option (List Finished)) (s : Status) → NotInOrder words → Appends held holds (λ out. PrintedAs status.Usage usage_line out s) → OnCutShort s (Leaves held holds ended ended s (FinishedRun words world))
 usage_finished words world held holds ended s not a = when_always (is_cut_short s) (leaves_door held holds ended s (FinishedRun words world) (a.0, a.1, by_disorder not refl))
-
--- the statuses that a usage line may end with
-pub usage_answered : (fact : Type 0) (output : List ℕ) (s : Status) → PrintedAs status.Usage usage_line output s → OnAnswered s fact
-usage_answered fact output s p = by (printed_case status.Usage usage_line output s p)
-  where
-    by : PrintedCase status.Usage usage_line output s → OnAnswered s fact
-    by (whole e f) = rw e tt
-    by (fault e p) = rw e tt
-    by (no_memory e p) = rw e tt
-
-pub usage_refused : (fact : Type 0) (output : List ℕ) (s : Status) → PrintedAs status.Usage usage_line output s → OnRefused s fact
-usage_refused fact output s p = by (printed_case status.Usage usage_line output s p)
-  where
-    by : PrintedCase status.Usage usage_line output s → OnRefused s fact
-    by (whole e f) = rw e tt
-    by (fault e p) = rw e tt
-    by (no_memory e p) = rw e tt
-
-pub usage_read_fault : (fact : Type 0) (output : List ℕ) (s : Status) → PrintedAs status.Usage usage_line output s → OnReadFault s fact
-usage_read_fault fact output s p = by (printed_case status.Usage usage_line output s p)
-  where
-    by : PrintedCase status.Usage usage_line output s → OnReadFault s fact
-    by (whole e f) = rw e tt
-    by (fault e p) = rw e tt
-    by (no_memory e p) = rw e tt
-
-pub usage_long : (fact : Type 0) (output : List ℕ) (s : Status) → PrintedAs status.Usage usage_line output s → OnInputLong s fact
-usage_long fact output s p = by (printed_case status.Usage usage_line output s p)
-  where
-    by : PrintedCase status.Usage usage_line output s → OnInputLong s fact
-    by (whole e f) = rw e tt
-    by (fault e p) = rw e tt
-    by (no_memory e p) = rw e tt
-
-pub usage_is : (output : List ℕ) (s : Status) → PrintedAs status.Usage usage_line output s → OnWritten s (s ≡ status.Usage)
-usage_is output s p = by (printed_case status.Usage usage_line output s p)
-  where
-    by : PrintedCase status.Usage usage_line output s → OnWritten s (s ≡ status.Usage)
-    by (whole e f) = rw e refl
-    by (fault e p) = rw e tt
-    by (no_memory e p) = rw e tt

@@ -7,7 +7,7 @@ use Rattle.gs_document.specs.declared.document.KindRow.{KindRow}
 use Rattle.gs_document.specs.declared.document.OptionRow.{OptionRow}
 use Rattle.gs_document.specs.declared.level_name.LevelName.{LevelName}
 use Rattle.gs_document.specs.declared.opt_info.OptInfo.{OptInfo}
-use Rattle.gs_rows.specs.Numbers.{AreNumbered, AreOfKinds, AreOfLengths, AreWithin, OfKind, is_of, numbers_from, numbers_of}
+use Rattle.gs_rows.specs.Numbers.{AreNumbered, AreWithin, is_of, numbers_from, numbers_of}
 use Rattle.gs_rows.specs.Rules.{has_name}
 use Rattle.gs_rows.specs.Tables.{info_of, items_there, level_refusals}
 use Rattle.gs_rows.proofs.KeptRows.{gcp_kept, placed, row_at}
@@ -20,13 +20,6 @@ behind P [] y all last zero x e = let same : y ≡ x = cc in subst (P 0) same la
 behind P [] y all last (suc k) x e = absurd (let f : None ≡ Some x = e in cc)
 behind P (z ∷ xs) y all last zero x e = all 0 x e
 behind P (z ∷ xs) y all last (suc k) x e = behind (λ (j : ℕ). P (suc j)) xs y (λ j x e. all (suc j) x e) last k x e
-
-pub length_more : (infos : List OptInfo) (kind gcp : ℕ) (lists : List (List ℕ)) (numbers : List ℕ) → length lists ≡ gcp → AreOfLengths infos kind lists → numbers ≡ numbers_of kind gcp infos → AreOfLengths infos kind (lists ++ numbers ∷ [])
-length_more infos kind gcp lists numbers count all is =
-    behind (λ (g : ℕ) (ns : List ℕ). ns ≡ numbers_of kind g infos) lists numbers all (rw count is)
-
-pub kind_more : (infos : List OptInfo) (kind : ℕ) (kinds : List (List (List ℕ))) (lists : List (List ℕ)) → length kinds ≡ kind → AreOfKinds infos kinds → OfKind infos kind lists → AreOfKinds infos (kinds ++ lists ∷ [])
-kind_more infos kind kinds lists count all is = behind (λ (k : ℕ) (ls : List (List ℕ)). OfKind infos k ls) kinds lists all (rw count is)
 
 -- ---- no numbers
 

@@ -1,5 +1,5 @@
 -- The turns at a door.
-use Rattle.std.proofs.Common.{append-nil, ◌≡◌, ◌<◌, ℕ, ◌+◌, ◌≤◌, Bool, true, false, List, [], ◌∷◌, ◌++◌, length, refl, sym, ap, ◌∙◌, inl, inr, arith}
+use Rattle.std.proofs.Common.{append-nil, ◌≡◌, ◌<◌, ℕ, ◌+◌, ◌≤◌, Bool, true, false, List, [], ◌∷◌, ◌++◌, length, refl, sym, ap, ◌∙◌, inr, arith}
 use Rattle.gs_serve.specs.declared.serving.Session.TheVariants as session
 use Rattle.gs_serve.specs.Doors.{NoneWaits}
 use Rattle.gs_serve.specs.Sites.{SiteData}
@@ -52,16 +52,6 @@ none_came site a b c finished faults count x y low opened = record {
 
     same_faults : faults_of (x.visits ++ []) ≡ faults
     same_faults = ap faults_of (append-nil x.visits) ∙ x.failed
-
--- as many were served as were asked for
-pub all_served : (site : SiteData) (a b : DoorState) (count faults : ℕ) → SoFar site a b count faults → b.aside.opened ≡ true
-    → SessionDid (session.Over (record { finished = count; faults = faults })) site count a b
-all_served site a b count faults x opened = record {
-  visits = x.visits;
-  visited = x.visited;
-  few = let e = x.number in omega arith;
-  are = (record { reached = inl x.number; served = x.served; opened = opened }, sym x.number, sym x.failed);
-}
 
 -- no connection could be accepted
 pub none_accepted : (site : SiteData) (a b c : DoorState) (finished faults count : ℕ) → SoFar site a b finished faults → Visited site b c [] → finished ≤ count → SessionDid session.Failed site count a c

@@ -20,7 +20,7 @@ use Rattle.gs_grammar.proofs.DecidedShares.{share_decided}
 use Rattle.gs_grammar.proofs.WordLaws.{all_items}
 use Rattle.gs_rows.specs.declared.level_table.LevelTable.{LevelTable}
 use Rattle.gs_rows.specs.declared.level_tables.LevelTables.{LevelTables}
-use Rattle.gs_tables.specs.Judged.{AreClear, AreClearBefore, AreJudged, AreOfRows, IsClear, IsFirstAmbiguous, IsLevelJudged, Judged, by_name, levels_of, levels_of_rows}
+use Rattle.gs_tables.specs.Judged.{AreClear, AreClearBefore, AreJudged, AreOfRows, IsClear, IsFirstAmbiguous, Judged, by_name, levels_of, levels_of_rows}
 use Rattle.gs_rows.specs.Tables.{IsAnswer, IsShaped, TableRows, level_of, level_rows, limit_refusals, row_refusals, rule_refusals, kind_of, set_of}
 use Rattle.gs_tables.proofs.KeptSets.{as_many_said, options_kept}
 use Rattle.gs_tables.proofs.SetLemmas.{others_refused, rules_kept, set_made}
@@ -74,24 +74,6 @@ level_decided levels items = elim (share_decided (item_lists (levels Binary).opt
     ]
   ]
 ]
-
--- ---- the levels of a set, judged one after the other
-
-pub judged_first : (name : LevelName) (levels : LevelName → LevelForm) (e : LoadFault) → AreClearBefore levels name → IsLevelJudged name (levels name) (Err e) → AreJudged levels (Err e)
-judged_first name levels (Ambiguous other i j text) before h = rw h.0 (record { before = before; share = h.1 })
-judged_first name levels Memory before h = tt
-judged_first name levels (Json fault) before h = absurd h
-judged_first name levels Version before h = absurd h
-judged_first name levels (Limit limit) before h = absurd h
-judged_first name levels (Ai fault) before h = absurd h
-judged_first name levels (BadKind i) before h = absurd h
-judged_first name levels (BadItem level i k) before h = absurd h
-judged_first name levels (Mismatch level i) before h = absurd h
-judged_first name levels (Duplicate level i j) before h = absurd h
-
-pub judged_last : (levels : LevelName → LevelForm) (answer : Result (Unit {0}) LoadFault) → IsClear (levels Binary) → IsClear (levels Tag) → IsLevelJudged Pure (levels Pure) answer → AreJudged levels answer
-judged_last levels (Ok _) b t h = all_clear levels b t h
-judged_last levels (Err e) b t h = judged_first Pure levels e (b, t) h
 
 -- ---- the answer to a document
 

@@ -1,22 +1,11 @@
 -- Words that are pairs, and the look-up of a name in them.
 use Rattle.std.proofs.Common.{◌≡◌, ℕ, ◌<◌, Bool, true, false, List, [], ◌∷◌, Option, Some, None, length, refl, sym, ◌∙◌, ap, arith}
-use Rattle.std.specs.Prelude.{bytes_eq, is_none, is_some, map, not, ◌==◌}
+use Rattle.std.specs.Prelude.{is_none, is_some, map, not, ◌==◌}
 use Rattle.std.specs.Borrow.{Bor}
 use Rattle.std.proofs.lemmas.Bool.{eqb-true}
 use Rattle.gs_words.specs.declared.name.NameRow.{NameRow}
 use Rattle.gs_words.specs.Requests.{told_name}
 use Rattle.gs_words.specs.Names.{AreOfRows, ArePairs, AreTaken, look_up, no_pair, none_taken, one_pair, one_taken, takes}
-
--- fewer than two words are no pair
-pub none_of_few : (words : List (List ℕ)) (pairs : List (List ℕ × List ℕ)) (name : List ℕ) → length words < 2 → ArePairs words pairs → None ≡ look_up name pairs
-none_of_few words pairs name few no_pair = refl
-none_of_few words pairs name few (one_pair n v rest others are) = absurd (omega arith)
-
-pub first_found : (n v name : List ℕ) (words : List (List ℕ)) (pairs : List (List ℕ × List ℕ)) → bytes_eq n name ≡ true → ArePairs (n ∷ v ∷ words) pairs → Some v ≡ look_up name pairs
-first_found n v name words pairs e (one_pair _ _ _ others are) = rw e refl
-
-pub later_found : (n v name : List ℕ) (words : List (List ℕ)) (pairs : List (List ℕ × List ℕ)) (found : Option (List ℕ)) → bytes_eq n name ≡ false → ArePairs (n ∷ v ∷ words) pairs → ((others : List (List ℕ × List ℕ)) → ArePairs words others → found ≡ look_up name others) → found ≡ look_up name pairs
-later_found n v name words pairs found e (one_pair _ _ _ others are) h = rw e (h others are)
 
 -- ---- pairs that rows take
 
