@@ -5,7 +5,7 @@ use Rattle.std.specs.Int.{bit_at}
 use Rattle.std.proofs.lemmas.List.{flat_map_more, map-append, take_all, take_more}
 use Rattle.std.specs.List.{flat_map, list_all}
 use Rattle.gs_bits.specs.Bits.{bits_of}
-use Rattle.gs_builtin.specs.BuiltIn.{asset_encodings, behind_prefix, document_encodings, encodings, item_encodings, there}
+use Rattle.gs_builtin.specs.BuiltIn.{asset_encodings, behind_prefix, document_encodings, encodings, rests_fit, item_encodings, there}
 use Rattle.gs_document.specs.Items.{FieldItem}
 use Rattle.gs_grammar.specs.declared.item.Item.{Item}
 
@@ -39,7 +39,10 @@ rows_whole f xs i start new all h = let whole : take i xs ≡ xs = take_all i xs
 pub flat_whole : {X R : Type 0} (f : X → List R) (xs : List X) (i : ℕ) (new : List R) → length xs ≤ i → new ≡ flat_map f (take i xs) → new ≡ flat_map f xs
 flat_whole f xs i new all h = let whole : take i xs ≡ xs = take_all i xs all in rw whole at h
 
+-- the numbers of the encodings have at most 64 bits
+pub rests_of_encodings_fit : list_all rests_fit encodings ≡ true
 unfolding encodings item_encodings asset_encodings document_encodings
+rests_of_encodings_fit = refl
 
 -- the rows of one more of those that the rows are made for
 pub rows_more : {X R : Type 0} (f : X → List R) (xs : List X) (i : ℕ) (x : X) (old new : List R) → i < length xs → x ≡ get_or xs i x → old ≡ flat_map f (take i xs) → new ≡ old ++ f x → new ≡ flat_map f (take (i + 1) xs)
