@@ -26,6 +26,4 @@ pub use case::{
 pub use item_words::{add_item, item_of};
 pub use line::{Done, Line};
 pub use objects::{cut_of, door_of, files_of, section, sink_of, source_of};
-pub use words::{
-    Word, add, add_answer, add_shown, add_words, debug_word, joined, said, shown, shown_all,
-};
+pub use words::said;

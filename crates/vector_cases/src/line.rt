@@ -1,5 +1,5 @@
 use crate::case::{Answer, Refusal};
-use crate::words::{debug_word, shown, shown_all};
+use crate::words::{debug_word, push_shown};
 use gs_chars::{Memory, Text};
 use gs_json::JsonFault;
 use std::alloc::Global;
@@ -44,22 +44,29 @@ impl Line {
         }
     }
 
-    /// Writes what was made of a value as more of the last word.
-    fn more_of(&mut self, made: Answer) {
-        match made {
-            Ok(part) => self.more(part.as_str()),
-            Err(refusal) => self.note(Err(refusal)),
+    /// Writes what stands for a byte as more of the last word.
+    fn more_byte(&mut self, c: u8) {
+        if push_shown(&mut self.text, c).is_err() {
+            self.want_memory();
         }
     }
 
     /// Writes what stands for some bytes as more of the last word.
     pub fn more_bytes(&mut self, bytes: &[u8]) {
-        self.more_of(shown(self.alloc, bytes));
+        if bytes.is_empty() {
+            self.more("\\e");
+        }
+        for c in bytes {
+            self.more_byte(*c);
+        }
     }
 
     /// Writes a value in Rust's words as more of the last word.
     pub fn more_debug<T: Debug + Drop>(&mut self, value: T) {
-        self.more_of(debug_word(self.alloc, &value));
+        match debug_word(self.alloc, &value) {
+            Ok(word) => self.more(word.as_str()),
+            Err(refusal) => self.note(Err(refusal)),
+        }
     }
 
     /// Writes the space between two words.
@@ -110,7 +117,10 @@ impl Line {
     /// Writes the words that stand for some texts, in brackets.
     pub fn bracketed(&mut self, texts: &[Text]) {
         self.plain("[");
-        self.more_of(shown_all(self.alloc, texts));
+        for (i, text) in texts.iter().enumerate() {
+            self.more(if i == 0 { "" } else { " " });
+            self.more_bytes(text.as_bytes());
+        }
         self.more("]");
     }
 
