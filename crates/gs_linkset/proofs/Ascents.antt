@@ -1,5 +1,5 @@
 -- Names that ascend, and texts that are no UTF-8.
-use Rattle.std.proofs.Common.{◌≡◌, ℕ, zero, suc, ◌+◌, ◌-◌, ◌<◌, ◌≤◌, ◌&&◌, Bool, true, false, List, [], ◌∷◌, length, take, map, get_or, Some, None, slice_get, refl, sym, ap, ◌∙◌, inl, inr, not, Option, Less, arith}
+use Rattle.std.proofs.Common.{◌≡◌, ℕ, zero, suc, ◌+◌, ◌-◌, ◌<◌, ◌≤◌, ◌&&◌, Bool, true, false, List, [], ◌∷◌, length, take, map, get_or, Some, None, slice_get, refl, sym, ◌∙◌, inl, inr, not, Option, Less, arith}
 use Rattle.std.specs.Cmp.Lexicographic.{slice_cmp}
 use Rattle.std.specs.List.{AllByRecursion, cons_option, filter_map, list_all, position, position_from}
 use Rattle.std.specs.List.Sorted.{IsStrictlySortedBy}
@@ -41,21 +41,18 @@ module _ {X : Type 0} (name : X → List ℕ) where
       let rest = and_second (is_below (name x) (name y)) (ascend (map name (take (suc i) (y ∷ xs)))) so_far in
       rw (first, goes_on (y ∷ xs) i a b at next h rest) refl
 
-  as_read : (xs : List X) (i j : ℕ) (a b : X) (t : Bool) → a ≡ get_or xs i a → b ≡ get_or xs j b → is_below (name (get_or xs i a)) (name (get_or xs j b)) ≡ t → is_below (name a) (name b) ≡ t
-  as_read xs i j a b t at next h = ap (λ x. is_below (name x) (name b)) at ∙ (ap (λ y. is_below (name (get_or xs i a)) (name y)) next ∙ h)
-
-  pub more : (xs : List X) (i : ℕ) (a b : X) → 1 ≤ i → i < length xs → a ≡ get_or xs (i - 1) a → b ≡ get_or xs i b → is_below (name (get_or xs (i - 1) a)) (name (get_or xs i b)) ≡ true → ascend (map name (take i xs)) ≡ true → ascend (map name (take (i + 1) xs)) ≡ true
+  pub more : (xs : List X) (i : ℕ) (a b : X) → 1 ≤ i → i < length xs → a ≡ get_or xs (i - 1) a → b ≡ get_or xs i b → is_below (name a) (name b) ≡ true → ascend (map name (take i xs)) ≡ true → ascend (map name (take (i + 1) xs)) ≡ true
   more xs zero a b low within at next h so_far = absurd (omega arith)
   more xs (suc i) a b low within here next h so_far =
       let own : suc i + 1 ≡ suc (suc i) = omega arith in
       let before : suc i - 1 ≡ i = omega arith in
-      rw own (goes_on xs i a b (read_at xs i a (omega arith) (rw before at here)) (read_at xs (suc i) b within next) (as_read xs (suc i - 1) (suc i) a b true here next h) so_far)
+      rw own (goes_on xs i a b (read_at xs i a (omega arith) (rw before at here)) (read_at xs (suc i) b within next) h so_far)
 
-  pub stops : (xs : List X) (i : ℕ) (a b : X) → 1 ≤ i → i < length xs → a ≡ get_or xs (i - 1) a → b ≡ get_or xs i b → is_below (name (get_or xs (i - 1) a)) (name (get_or xs i b)) ≡ false → false ≡ ascend (map name xs)
+  pub stops : (xs : List X) (i : ℕ) (a b : X) → 1 ≤ i → i < length xs → a ≡ get_or xs (i - 1) a → b ≡ get_or xs i b → is_below (name a) (name b) ≡ false → false ≡ ascend (map name xs)
   stops xs zero a b low within at next h = absurd (omega arith)
   stops xs (suc i) a b low within here next h =
       let before : suc i - 1 ≡ i = omega arith in
-      sym (breaks xs i a b (read_at xs i a (omega arith) (rw before at here)) (read_at xs (suc i) b within next) (as_read xs (suc i - 1) (suc i) a b false here next h))
+      sym (breaks xs i a b (read_at xs i a (omega arith) (rw before at here)) (read_at xs (suc i) b within next) h)
 
 none_breaks : {X : Type 0} (t : X → Bool) (xs : List X) (i : ℕ) → position_from (λ x. not (t x)) i xs ≡ None → list_all t xs ≡ true
 none_breaks t [] i h = refl

@@ -3,41 +3,51 @@ ghost use Rattle.std.specs.List.{list_all};
 ghost use Rattle.std.specs.Str.{is_utf8};
 ghost use Rattle.serde_json.specs.Data.{put, string};
 ghost use Rattle.serde_json.specs.View.{members_view, view};
-ghost use Rattle.gs_linkset.specs.LinkShapes.{ascend, is_attr, is_context, is_relation, is_tagged_text, is_target};
-ghost use Rattle.gs_linkset.specs.Written.{array_by, attr_members, context_tree, relation_members};
-ghost use Rattle.gs_linkset.specs.Written.{tagged_tree, target_tree, tree_of, value_tree, with_language, written};
+ghost use Rattle.gs_linkset.specs.LinkShapes.{ascend, is_context};
+ghost use Rattle.gs_linkset.specs.Written.{array_by, members_by, tree_of, value_tree, with_language, written};
 
 use crate::doc::LinkDoc;
+use crate::link_shapes::Shaped;
 use crate::link_types::{Attr, AttrValue, Context, Relation, Target};
 use gs_chars::{Memory, Text};
 use serde_json::{Map, Value};
 use std::alloc::Global;
 use std::str;
 
-/// The characters of a text.
-fn characters(text: &Text) -> &str
-    requires { is_utf8 text.now ≡ true }
-    ensures { result.now ≡ text.now }
-{
-    str::from_utf8(text.as_bytes()).unwrap()
+/// What is written as a value.
+trait ToValue: Shaped {
+    ghost use Rattle.serde_json.specs.Data.{Data};
+
+    /// What it is written as.
+    ghost tree: { Self → Data };
+
+    /// What it is written as.
+    fn to_value(&self, alloc: Global) -> Result<Value, Memory>
+        requires { Self.shape self.now ≡ true }
+        ensures { IfOk result (λ value. view value ≡ tree self.now) };
 }
 
-/// A text as a value.
-fn text_value(alloc: Global, text: &Text) -> Result<Value, Memory>
-    requires { is_utf8 text.now ≡ true }
-    ensures { IfOk result (λ value. view value ≡ string text.now) }
-{
-    Ok(Value::try_from_str(alloc, characters(text))?)
+/// What is written as a member of an object.
+trait Member: ToValue {
+    ghost use Rattle.std.specs.Prelude.{List, ℕ};
+
+    /// The name of the member.
+    ghost key_of: { Self → List ℕ };
+
+    /// The name of the member.
+    fn key(&self) -> &str
+        requires { Self.shape self.now ≡ true }
+        ensures { result.now ≡ key_of self.now };
 }
 
-/// Texts as an array.
-fn texts_value(alloc: Global, texts: &[Text]) -> Result<Value, Memory>
-    requires { list_all is_utf8 texts.now ≡ true }
-    ensures { IfOk result (λ value. view value ≡ array_by string texts.now) }
+/// Things as an array.
+fn array_of<T: ToValue>(alloc: Global, things: &[T]) -> Result<Value, Memory>
+    requires { list_all T.shape things.now ≡ true }
+    ensures { IfOk result (λ value. view value ≡ array_by T.tree things.now) }
 {
     let mut values = Vec::new(alloc);
-    for text in texts {
-        values.push(text_value(alloc, text)?)?;
+    for thing in things {
+        values.push(thing.to_value(alloc)?)?;
     }
     Ok(Value::Array(values))
 }
@@ -56,131 +66,139 @@ fn put(
     Ok(())
 }
 
-/// Adds the language, where there is one.
-fn put_language(
+/// Things as members, by their names.
+fn members_of<T: Member>(alloc: Global, things: &[T]) -> Result<Map<String, Value>, Memory>
+    requires shape { list_all T.shape things.now ≡ true }
+    requires ascending { ascend (map T.key_of things.now) ≡ true }
+    ensures { IfOk result (λ members. members_view members.entries ≡ members_by T.key_of T.tree things.now) }
+{
+    let mut members = Map::new(alloc);
+    for thing in things {
+        let value = thing.to_value(alloc)?;
+        put(alloc, &mut members, thing.key(), value)?;
+    }
+    Ok(members)
+}
+
+/// Members with one more.
+fn with_member(
     alloc: Global,
-    members: &mut Map<String, Value>,
+    mut members: Map<String, Value>,
+    name: &str,
+    value: Value,
+) -> Result<Map<String, Value>, Memory>
+    ensures { IfOk result (λ all.
+        members_view all.entries ≡ put name.now (view value) (members_view members.entries)) }
+{
+    put(alloc, &mut members, name, value)?;
+    Ok(members)
+}
+
+/// The characters of a text.
+fn characters(text: &Text) -> &str
+    requires { is_utf8 text.now ≡ true }
+    ensures { result.now ≡ text.now }
+{
+    str::from_utf8(text.as_bytes()).unwrap()
+}
+
+impl ToValue for Text {
+    ghost tree = { string };
+
+    fn to_value(&self, alloc: Global) -> Result<Value, Memory> {
+        Ok(Value::try_from_str(alloc, characters(self))?)
+    }
+}
+
+/// Members with the language, where there is one.
+fn with_language(
+    alloc: Global,
+    members: Map<String, Value>,
     language: &Text,
-) -> Result<(), Memory>
+) -> Result<Map<String, Value>, Memory>
     requires { is_utf8 language.now ≡ true }
-    ensures { IfOk result (λ _.
-        members_view members.new.entries ≡ with_language language.now (members_view members.old.entries)) }
+    ensures { IfOk result (λ all.
+        members_view all.entries ≡ with_language language.now (members_view members.entries)) }
 {
     if language.as_bytes().is_empty() {
-        return Ok(());
+        return Ok(members);
     }
-    let value = text_value(alloc, language)?;
-    put(alloc, members, "language", value)
+    let value = language.to_value(alloc)?;
+    with_member(alloc, members, "language", value)
 }
 
-/// A text with its language as an object.
-fn tagged_value(alloc: Global, pair: &(Text, Text)) -> Result<Value, Memory>
-    requires { is_tagged_text pair.now ≡ true }
-    ensures { IfOk result (λ value. view value ≡ tagged_tree pair.now) }
-{
-    let mut members = Map::new(alloc);
-    let value = text_value(alloc, &pair.0)?;
-    put(alloc, &mut members, "value", value)?;
-    put_language(alloc, &mut members, &pair.1)?;
-    Ok(Value::Object(members))
-}
+impl ToValue for (Text, Text) {
+    ghost use Rattle.gs_linkset.specs.Written.{tagged_tree};
 
-/// Texts with their languages as an array.
-fn tagged_values(alloc: Global, pairs: &[(Text, Text)]) -> Result<Value, Memory>
-    requires { list_all is_tagged_text pairs.now ≡ true }
-    ensures { IfOk result (λ value. view value ≡ array_by tagged_tree pairs.now) }
-{
-    let mut values = Vec::new(alloc);
-    for pair in pairs {
-        values.push(tagged_value(alloc, pair)?)?;
-    }
-    Ok(Value::Array(values))
-}
+    ghost tree = { tagged_tree };
 
-/// The value of an attribute.
-fn attr_value(alloc: Global, attr: &Attr) -> Result<Value, Memory>
-    requires { is_attr attr.now ≡ true }
-    ensures { IfOk result (λ value. view value ≡ value_tree attr.now.value) }
-{
-    match &attr.value {
-        AttrValue::One(text) => text_value(alloc, text),
-        AttrValue::Many(texts) => texts_value(alloc, texts.items()),
-        AttrValue::Tagged(pairs) => tagged_values(alloc, pairs.items()),
+    fn to_value(&self, alloc: Global) -> Result<Value, Memory> {
+        let text = self.0.to_value(alloc)?;
+        let members = with_member(alloc, Map::new(alloc), "value", text)?;
+        Ok(Value::Object(with_language(alloc, members, &self.1)?))
     }
 }
 
-/// The members of attributes.
-fn attr_members(alloc: Global, attrs: &[Attr]) -> Result<Map<String, Value>, Memory>
-    requires shape { list_all is_attr attrs.now ≡ true }
-    requires ascending { ascend (map (λ attr. attr.name) attrs.now) ≡ true }
-    ensures { IfOk result (λ members. members_view members.entries ≡ attr_members attrs.now) }
-{
-    let mut members = Map::new(alloc);
-    for attr in attrs {
-        let value = attr_value(alloc, attr)?;
-        put(alloc, &mut members, characters(&attr.name), value)?;
+impl ToValue for Attr {
+    ghost tree = { λ attr. value_tree attr.value };
+
+    fn to_value(&self, alloc: Global) -> Result<Value, Memory> {
+        match &self.value {
+            AttrValue::One(text) => text.to_value(alloc),
+            AttrValue::Many(texts) => array_of(alloc, texts.items()),
+            AttrValue::Tagged(pairs) => array_of(alloc, pairs.items()),
+        }
     }
-    Ok(members)
 }
 
-/// A target as an object.
-fn target_value(alloc: Global, target: &Target) -> Result<Value, Memory>
-    requires { is_target target.now ≡ true }
-    ensures { IfOk result (λ value. view value ≡ target_tree target.now) }
-{
-    let mut members = attr_members(alloc, target.attrs.items())?;
-    let href = text_value(alloc, &target.href)?;
-    put(alloc, &mut members, "href", href)?;
-    Ok(Value::Object(members))
-}
+impl Member for Attr {
+    ghost key_of = { λ attr. attr.name };
 
-/// Targets as an array.
-fn targets_value(alloc: Global, targets: &[Target]) -> Result<Value, Memory>
-    requires { list_all is_target targets.now ≡ true }
-    ensures { IfOk result (λ value. view value ≡ array_by target_tree targets.now) }
-{
-    let mut values = Vec::new(alloc);
-    for target in targets {
-        values.push(target_value(alloc, target)?)?;
+    fn key(&self) -> &str {
+        characters(&self.name)
     }
-    Ok(Value::Array(values))
 }
 
-/// The members of relations.
-fn relation_members(alloc: Global, relations: &[Relation]) -> Result<Map<String, Value>, Memory>
-    requires shape { list_all is_relation relations.now ≡ true }
-    requires ascending { ascend (map (λ relation. relation.name) relations.now) ≡ true }
-    ensures { IfOk result (λ members. members_view members.entries ≡ relation_members relations.now) }
-{
-    let mut members = Map::new(alloc);
-    for relation in relations {
-        let targets = targets_value(alloc, relation.targets.items())?;
-        put(alloc, &mut members, characters(&relation.name), targets)?;
+impl ToValue for Target {
+    ghost use Rattle.gs_linkset.specs.Written.{target_tree};
+
+    ghost tree = { target_tree };
+
+    fn to_value(&self, alloc: Global) -> Result<Value, Memory> {
+        let members = members_of(alloc, self.attrs.items())?;
+        let href = self.href.to_value(alloc)?;
+        Ok(Value::Object(with_member(alloc, members, "href", href)?))
     }
-    Ok(members)
 }
 
-/// A context as an object.
-fn context_value(alloc: Global, context: &Context) -> Result<Value, Memory>
-    requires { is_context context.now ≡ true }
-    ensures { IfOk result (λ value. view value ≡ context_tree context.now) }
-{
-    let mut members = relation_members(alloc, context.relations.items())?;
-    let anchor = text_value(alloc, &context.anchor)?;
-    put(alloc, &mut members, "anchor", anchor)?;
-    Ok(Value::Object(members))
-}
+impl ToValue for Relation {
+    ghost use Rattle.gs_linkset.specs.Written.{target_tree};
 
-/// Contexts as an array.
-fn contexts_value(alloc: Global, contexts: &[Context]) -> Result<Value, Memory>
-    requires { list_all is_context contexts.now ≡ true }
-    ensures { IfOk result (λ value. view value ≡ array_by context_tree contexts.now) }
-{
-    let mut values = Vec::new(alloc);
-    for context in contexts {
-        values.push(context_value(alloc, context)?)?;
+    ghost tree = { λ relation. array_by target_tree relation.targets };
+
+    fn to_value(&self, alloc: Global) -> Result<Value, Memory> {
+        array_of(alloc, self.targets.items())
     }
-    Ok(Value::Array(values))
+}
+
+impl Member for Relation {
+    ghost key_of = { λ relation. relation.name };
+
+    fn key(&self) -> &str {
+        characters(&self.name)
+    }
+}
+
+impl ToValue for Context {
+    ghost use Rattle.gs_linkset.specs.Written.{context_tree};
+
+    ghost tree = { context_tree };
+
+    fn to_value(&self, alloc: Global) -> Result<Value, Memory> {
+        let members = members_of(alloc, self.relations.items())?;
+        let anchor = self.anchor.to_value(alloc)?;
+        Ok(Value::Object(with_member(alloc, members, "anchor", anchor)?))
+    }
 }
 
 /// A document as a value.
@@ -188,10 +206,8 @@ fn document_value(alloc: Global, contexts: &[Context]) -> Result<Value, Memory>
     requires { list_all is_context contexts.now ≡ true }
     ensures { IfOk result (λ value. view value ≡ tree_of contexts.now) }
 {
-    let mut members = Map::new(alloc);
-    let contexts = contexts_value(alloc, contexts)?;
-    put(alloc, &mut members, "linkset", contexts)?;
-    Ok(Value::Object(members))
+    let contexts = array_of(alloc, contexts)?;
+    Ok(Value::Object(with_member(alloc, Map::new(alloc), "linkset", contexts)?))
 }
 
 /// The text of a linkset in JSON (RFC 9264, section 4.2): no space, the members of each object in ascending order of

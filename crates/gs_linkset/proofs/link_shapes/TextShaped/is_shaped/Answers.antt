@@ -1,0 +1,10 @@
+use Rattle.std.proofs.Common.{sym}
+use Rattle.std.proofs.lemmas.Str.{is_utf8-from_IsUtf8}
+use Rattle.gs_linkset.proofs.Ascents.{no_utf8}
+use Rattle.gs_linkset.proofs.link_shapes.TextShaped.is_shaped.Goals as goal
+
+pub returns-in-Ok : goal.returns-in-Ok
+returns-in-Ok c = rw (← c.as_bytes.ensures) (sym (is_utf8-from_IsUtf8 _ c.in-Ok.ensures.cases.1))
+
+pub returns-in-Err : goal.returns-in-Err
+returns-in-Err c = rw (← c.as_bytes.ensures) (sym (no_utf8 _ c.in-Err.ensures.cases.0))
