@@ -1,4 +1,5 @@
 pub mod Agreement
+pub mod Answers
 pub mod Elements
 pub mod Identities
 pub mod Keys

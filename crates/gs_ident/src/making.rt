@@ -1,8 +1,8 @@
-ghost use Rattle.std.specs.Prelude.{◌≡◌, ◌≢◌, ◌<◌, All, Ok, Err, Some, IfOk, IfErr, false, length, slice_get, true};
+ghost use Rattle.std.specs.Prelude.{◌≡◌, ◌≢◌, ◌<◌, All, Ok, Err, IfOk, IfErr, false, length, true};
 ghost use Rattle.std.specs.List.{list_any};
-ghost use Rattle.gs_ai.specs.declared.pair.Pair.{Pair};
 ghost use Rattle.gs_ai.specs.Tables.{are_distinct, is_key_of};
-ghost use Rattle.gs_ident.specs.Identities.{counted, identity_of_counted, identity_of_pairs, IsInOrder, IsMadeWith};
+ghost use Rattle.gs_ident.specs.Identities.{counted, identity_of_pairs, IsInOrder, IsMadeWith};
+ghost use Rattle.gs_ident.specs.Answers.{IsOnlyKey};
 ghost use Rattle.gs_ident.specs.Keys.{AreKeys, HasFirstKey, IsList};
 ghost use Rattle.gs_ident.specs.Moves.{HasElements};
 
@@ -65,28 +65,26 @@ fn keys_of_counted(table: &AiTable, pairs: &mut Vec<Pair>) -> Keys
     keys_among(table, pairs.as_slice())
 }
 
-/// The identity of pairs of which each counts, and whose keys these are.
-fn make_counted(
+/// The key of pairs that agree and have no other: each of them counts, and these are the keys among them by the table.
+fn only_key(
     alloc: Global,
     table: &AiTable,
-    pairs: Vec<Pair>,
+    pairs: &[Pair],
     keys: Keys,
-) -> Result<Identity, IdentFault>
-    requires { AreKeys table.now pairs.items keys }
-    ensures made { IfOk result (λ identity. identity_of_counted table.now pairs.items ≡ Ok identity) }
-    ensures refused { IfErr result (λ fault. fault ≢ IdentFault.Memory
-        → identity_of_counted table.now pairs.items ≡ Err fault) }
+) -> Result<KeyPlace, IdentFault>
+    requires { AreKeys table.now pairs.now keys }
+    ensures { IsOnlyKey table.now pairs.now result }
 {
-    if let Some(pair) = find_contradiction(pairs.as_slice()) {
+    if let Some(pair) = find_contradiction(pairs) {
         return Err(IdentFault::Repeat(pair.code.copy(alloc)?));
     }
     let Some(first) = keys.first else {
         return Err(IdentFault::NoKey);
     };
-    if let Some(other) = keys.other {
-        return Err(IdentFault::TwoKeys(pairs[other].code.copy(alloc)?));
+    match keys.other {
+        Some(other) => Err(IdentFault::TwoKeys(pairs[other].code.copy(alloc)?)),
+        None => Ok(first),
     }
-    Ok(elements_of(alloc, table, pairs, first)?)
 }
 
 /// The identity of the pairs. Pairs whose value stands for none are dropped first; equal repeats count once. A refusal is the
@@ -102,5 +100,6 @@ pub fn make(alloc: Global, table: &AiTable, pairs: Vec<Pair>) -> Result<Identity
 {
     let mut counted = pairs;
     let keys = keys_of_counted(table, &mut counted);
-    make_counted(alloc, table, counted, keys)
+    let first = only_key(alloc, table, counted.as_slice(), keys)?;
+    Ok(elements_of(alloc, table, counted, first)?)
 }

@@ -1,16 +1,25 @@
-use Rattle.std.proofs.Common.{◌≡◌, Ok}
-use Rattle.std.proofs.lemmas.Result.{IfOk-weaker}
-use Rattle.gs_ident.specs.Identities.{identity_of_pairs, IsMadeWith}
+use Rattle.std.proofs.Common.{Ok, ◌∙◌, ap, sym}
+use Rattle.std.proofs.lemmas.Result.{err_from_is_err_and}
+use Rattle.gs_ident.specs.Elements.{Elements}
 use Rattle.gs_ident.proofs.IdentityLemmas.{made_with}
 use Rattle.gs_ident.proofs.making.make.Goals as goal
 
+pub elements_of-requires : goal.elements_of-requires
+elements_of-requires c = rw c.as_slice.ensures.value at c.in_ok-first.ensures.first
+
 pub returns-clause-made : goal.returns-clause-made
-returns-clause-made c = rw c.keys_of_counted-keys.ensures.counted at c.make_counted.ensures.made
+returns-clause-made c =
+    let key = rw (c.as_slice.ensures.value, c.keys_of_counted-keys.ensures.counted) at c.in_ok-first.ensures in
+    let elements = rw c.keys_of_counted-keys.ensures.counted at c.in_ok-elements_of.ensures in
+    key.only key.first.0 key.first.1 ∙ sym (ap (λ (e : Elements). Ok e) (elements key.first.0 key.first.1))
 
 pub returns-clause-with_table : goal.returns-clause-with_table
 returns-clause-with_table c =
-    let made = rw c.keys_of_counted-keys.ensures.counted at c.make_counted.ensures.made in
-    IfOk-weaker c.make_counted.result (λ identity. identity_of_pairs c.args.table.now c.args.pairs.items ≡ Ok identity) (λ identity. IsMadeWith c.args.table.now identity) (λ identity e. made_with c.args.table.now c.args.pairs.items identity c.requires e) made
+    let key = rw (c.as_slice.ensures.value, c.keys_of_counted-keys.ensures.counted) at c.in_ok-first.ensures in
+    let elements = rw c.keys_of_counted-keys.ensures.counted at c.in_ok-elements_of.ensures in
+    made_with c.args.table.now c.args.pairs.items c.in_ok-elements_of.field-0 c.requires (key.only key.first.0 key.first.1 ∙ sym (ap (λ (e : Elements). Ok e) (elements key.first.0 key.first.1)))
 
-pub returns-clause-refused : goal.returns-clause-refused
-returns-clause-refused c = rw c.keys_of_counted-keys.ensures.counted at c.make_counted.ensures.refused
+pub returns-in_err-first-clause-refused : goal.returns-in_err-first-clause-refused
+returns-in_err-first-clause-refused c =
+    let p = err_from_is_err_and c.from_residual.result c.from_residual.ensures.1 in
+    rw (p.1, p.2) (rw (c.as_slice.ensures.value, c.keys_of_counted-keys.ensures.counted) at c.in_err-first.ensures)

@@ -1,0 +1,19 @@
+-- What pairs that count are told of their identity, step by step. This is the project's own.
+use Rattle.std.specs.Prelude.{◌≡◌, ◌≢◌, List, Some, Result, Ok, Err, slice_get}
+use Rattle.gs_ai.specs.declared.pair.Pair.{Pair}
+use Rattle.gs_ai.specs.declared.row.AiRow.{AiRow}
+use Rattle.gs_ident.specs.declared.faults.IdentFault.{IdentFault}
+use Rattle.gs_ident.specs.declared.faults.IdentFault.TheVariants.{Memory}
+use Rattle.gs_ident.specs.declared.keys.KeyPlace.{KeyPlace}
+use Rattle.gs_ident.specs.Identities.{elements_of, identity_of_counted}
+use Rattle.gs_ident.specs.Keys.{HasFirstKey}
+
+-- The first key stands at this place, and has this row. The pairs have an identity, and it is that of this key.
+pub record HasOnlyKey (table : List AiRow) (pairs : List Pair) (place : KeyPlace) : Type 0 where
+  pub first : HasFirstKey table pairs place
+  pub only : (key : Pair) → slice_get pairs place.pair ≡ Some key → identity_of_counted table pairs ≡ Ok (elements_of table pairs key)
+
+-- the pairs have this only key, or no identity for this reason; want of memory says nothing
+abbrev pub IsOnlyKey : List AiRow → List Pair → Result KeyPlace IdentFault → Type 0
+IsOnlyKey table pairs (Ok place) = HasOnlyKey table pairs place
+IsOnlyKey table pairs (Err fault) = fault ≢ Memory → identity_of_counted table pairs ≡ Err fault
