@@ -38,7 +38,12 @@ pub enum Alone {
 fn some_leads(edges: &[Edge], symbol: u8) -> bool
     ensures { result ≡ list_any (λ edge. leads_with edge symbol) edges.now }
 {
-    edges.iter().any(|edge| leads_with(edge, symbol))
+    for edge in edges {
+        if leads_with(edge, symbol) {
+            return true;
+        }
+    }
+    false
 }
 
 /// Whether a run can go on from the state with this symbol, or ends there where there is none.

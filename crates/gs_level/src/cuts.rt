@@ -1,17 +1,16 @@
-ghost use Rattle.std.specs.Prelude.{◌≡◌, OnOk, IfOk};
+ghost use Rattle.std.specs.Prelude.{◌≡◌, OnOk};
 ghost use Rattle.gs_compile.specs.Places.{is_border};
 ghost use Rattle.gs_level.specs.Trails.{IsTrail, AreCuts, with_cut};
 
 use crate::trail::Entry;
 use gs_chars::Memory;
 use gs_machine::Auto;
-use std::alloc::Global;
 
 /// Whether the state is one of the borders.
 fn is_border(borders: &[usize], state: usize) -> bool
     ensures { result ≡ is_border borders.now state }
 {
-    borders.iter().any(|border| *border == state)
+    borders.contains(&state)
 }
 
 /// Puts the place in front of the cuts where the state is a border.
@@ -29,26 +28,26 @@ fn push_cut(
     Ok(())
 }
 
-/// The cuts of the accepting run whose last entry has this number.
-pub fn cuts_of(
-    alloc: Global,
+/// Writes anew the cuts of the accepting run whose last entry has this number.
+pub fn cut_back(
     machine: &Auto,
     trail: &[Entry],
     number: usize,
     symbols: &[u8],
-) -> Result<Vec<usize>, Memory>
+    cuts: &mut Vec<usize>,
+) -> Result<(), Memory>
     requires { IsTrail machine.now trail.now symbols.now number }
-    ensures { IfOk result (λ cuts. AreCuts machine.now symbols.now cuts.items) }
+    ensures { OnOk result (AreCuts machine.now symbols.now cuts.new.items) }
 {
+    cuts.clear();
     let borders = machine.borders();
-    let mut cuts = Vec::with_capacity(alloc, borders.len())?;
     let mut entry = number;
     let mut place = symbols.len();
-    push_cut(&mut cuts, borders, trail[entry].state, place)?;
+    push_cut(cuts, borders, trail[entry].state, place)?;
     while place > 0 {
         entry = trail[entry].back;
         place -= 1;
-        push_cut(&mut cuts, borders, trail[entry].state, place)?;
+        push_cut(cuts, borders, trail[entry].state, place)?;
     }
-    Ok(cuts)
+    Ok(())
 }

@@ -5,7 +5,7 @@ ghost use Rattle.gs_machine.specs.Machines.{IsMachine};
 ghost use Rattle.gs_compile.specs.Readers.{ReadsItems};
 
 use crate::alone::{Alone, follow_alone};
-use crate::cuts::cuts_of;
+use crate::cuts::cut_back;
 use crate::measured::Measured;
 use crate::trail::{Entry, follow};
 use crate::values::values_of;
@@ -38,7 +38,7 @@ fn read_by_trail(
     machine: &Auto,
     items: &[Item],
     symbols: &[u8],
-    trail: &mut Vec<Entry>,
+    scratch: &mut Scratch,
 ) -> Result<Option<List<Text>>, Memory>
     requires rules { IsMachine machine.now }
     requires reads { ReadsItems machine.now items.now }
@@ -46,11 +46,12 @@ fn read_by_trail(
     ensures found { IfOk result (λ found. IfSome found (λ values. HasValues items.now symbols.now values)) }
     ensures none { IfOk result (λ found. IfNone found (IsDerived items.now symbols.now → ⊥)) }
 {
-    let Some(number) = follow(machine, symbols, trail)? else {
+    let Some(number) = follow(machine, symbols, &mut scratch.trail)? else {
         return Ok(None);
     };
-    let cuts = cuts_of(alloc, machine, trail.as_slice(), number, symbols)?;
-    let values = values_of(alloc, items, symbols, cuts.as_slice())?;
+    let trail = scratch.trail.as_slice();
+    cut_back(machine, trail, number, symbols, &mut scratch.cuts)?;
+    let values = values_of(alloc, items, symbols, scratch.cuts.as_slice())?;
     Ok(Some(values))
 }
 
@@ -74,7 +75,7 @@ fn read_by_machine(
             Ok(Some(values))
         }
         Alone::Refused => Ok(None),
-        Alone::Unsure => read_by_trail(alloc, machine, items, symbols, &mut scratch.trail),
+        Alone::Unsure => read_by_trail(alloc, machine, items, symbols, scratch),
     }
 }
 

@@ -1,5 +1,5 @@
 use Rattle.gs_level.proofs.CutsBack.{Back}
-use Rattle.gs_level.proofs.cuts.cuts_of.Given as goal
+use Rattle.gs_level.proofs.cuts.cut_back.Given as goal
 
 abbrev pub invariant-loop-place : goal.invariant-loop-place
 invariant-loop-place l = Back l.machine l.trail l.symbols l.place l.entry l.cuts.items

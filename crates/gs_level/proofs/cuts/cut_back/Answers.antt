@@ -1,9 +1,9 @@
 use Rattle.std.proofs.Common.{arith, refl}
 use Rattle.gs_level.proofs.CutsBack.{back_end, back_start, back_step, back_within, before_within, trail_within}
-use Rattle.gs_level.proofs.cuts.cuts_of.Goals as goal
+use Rattle.gs_level.proofs.cuts.cut_back.Goals as goal
 
 pub loop-place-init : goal.loop-place-init
-loop-place-init c = back_start _ _ _ _ _ _ _ _ c.requires refl c.borders-borders.ensures c.in_ok-cuts.ensures.items c.in_ok-push_cut.ensures
+loop-place-init c = back_start _ _ _ _ _ _ _ _ c.requires refl c.borders-borders.ensures c.clear.ensures.items c.in_ok-push_cut.ensures
 
 pub loop-place-preserved : goal.loop-place-preserved
 loop-place-preserved c = back_step _ _ _ _ _ _ _ _ _ _ c.loop-place.invariant c.loop-place-test.true refl refl c.borders-borders.ensures c.in_ok-push_cut-2.ensures
