@@ -1,5 +1,5 @@
 -- What the reader tests of a list of symbols tells whether it is a word of an item, and which value the word has.
-use Rattle.std.proofs.Common.{◌≡◌, ◌↔◌, ℕ, ◌<◌, ◌≤◌, ◌^◌, ◌&&◌, ◌⊎◌, Bool, true, false, IsTrue, nat_eq, List, [], length, refl, sym, ◌∙◌, ap, arith, leb, decimal, inl, inr}
+use Rattle.std.proofs.Common.{◌≡◌, ◌↔◌, ℕ, ◌<◌, ◌≤◌, ◌^◌, ◌&&◌, ◌⊎◌, Bool, true, false, IsTrue, nat_eq, List, length, refl, sym, ◌∙◌, ap, arith, leb, decimal, inl, inr}
 use Rattle.std.proofs.lemmas.Bool.{leb-true, le-leb}
 use Rattle.std.proofs.lemmas.Bool.Decides.{nat_tests}
 use Rattle.std.proofs.lemmas.Fmt.{decimal_injective}
@@ -8,6 +8,7 @@ use Rattle.gs_chars.specs.Characters.{are_digits}
 use Rattle.gs_grammar.specs.declared.item.Item.{Item}
 use Rattle.gs_grammar.specs.declared.item.Item.TheVariants.{Pad, Int, Esc, NumPad, Num, Ascii7}
 use Rattle.gs_grammar.specs.Items.{is_between, IsItem}
+use Rattle.gs_grammar.specs.Numerals.{IsPadded}
 use Rattle.gs_grammar.specs.Words.{Word, IsWord, SpellsEach, SpellsMany, WritesNumber, IsPacked, PacksMany, decimal_value, number_of_word}
 use Rattle.gs_grammar.specs.Languages.{Language}
 use Rattle.gs_grammar.proofs.Spelled.{spelled_fixes}
@@ -109,6 +110,12 @@ numpad_fits item bits n number w i h e =
     let d = (language_is (NumPad bits n) w).0 k in
     let same = writes_one bits number d.number w e d.written in
     rw same d.small
+
+pub numpad_value : (item : Item) (bits n number : ℕ) (w out : List ℕ) → item ≡ NumPad bits n → WritesNumber bits number w → IsPadded n number out → Word item out w
+numpad_value item bits n number w out i e p =
+    let written : WritesNumber bits (decimal_value out) w = rw p.value e in
+    let whole : Word (NumPad bits n) out w = (p.count, p.all_digits, written) in
+    rw i whole
 
 pub num_writes : (item : Item) (bits greatest : ℕ) (w : List ℕ) → item ≡ Num bits greatest → IsWord item w → (number : ℕ) × WritesNumber bits number w
 num_writes item bits greatest w i h = let k : IsWord (Num bits greatest) w = rw i at h in (k.1.0, k.1.1.1)

@@ -1,5 +1,5 @@
 -- Bits of numbers and of packed characters.
-use Rattle.std.proofs.Common.{◌≡◌, ◌↔◌, ℕ, ◌<◌, ◌≤◌, ◌+◌, ◌*◌, ◌^◌, ◌&&◌, true, false, List, [], ◌∷◌, ◌++◌, length, take, drop, set, replicate, refl, sym, ◌∙◌, ap, subst, arith, add-one, get_or, length-append, All, eqb, leb, inl, inr}
+use Rattle.std.proofs.Common.{◌≡◌, ℕ, ◌<◌, ◌≤◌, ◌+◌, ◌*◌, ◌^◌, ◌&&◌, true, false, List, [], ◌∷◌, ◌++◌, length, take, drop, replicate, refl, sym, ◌∙◌, ap, subst, arith, add-one, get_or, length-append, All, eqb, leb, inl, inr}
 use Rattle.std.specs.List.{list_all, list_any, flat_map}
 use Rattle.std.proofs.Math.Nat.{mod-eq_of_lt, pow-succ'}
 use Rattle.std.proofs.lemmas.Bool.{leb-true}

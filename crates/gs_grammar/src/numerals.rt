@@ -138,6 +138,5 @@ pub fn decimal_text(alloc: Global, number: u64) -> Result<Text, Memory>
         let text = format!(in alloc; "{number}")?;
         return Ok(Text::from_vec(text.into_bytes()));
     }
-    let digits = padded(alloc, number, count as u8)?;
-    Ok(digits)
+    padded(alloc, number, count as u8)
 }

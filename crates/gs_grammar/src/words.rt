@@ -133,16 +133,10 @@ pub fn value_of(alloc: Global, item: &Item, word: &[u8]) -> Result<Text, Memory>
     match item {
         Item::Lit(_) | Item::Fill { .. } => Ok(Text::new(alloc)),
         Item::Pad { .. } | Item::Int { .. } => Text::from_bytes(alloc, word),
-        Item::Esc { .. } => Ok(spelled(alloc, word)?),
-        Item::NumPad { bits, n } => {
-            let number = number_of_bits(word, *bits);
-            Ok(padded(alloc, number, *n)?)
-        }
-        Item::Num { bits, .. } => {
-            let number = number_of_bits(word, *bits);
-            Ok(decimal_text(alloc, number)?)
-        }
-        Item::Ascii7 { .. } => Ok(unpacked(alloc, word)?),
+        Item::Esc { .. } => spelled(alloc, word),
+        Item::NumPad { bits, n } => padded(alloc, number_of_bits(word, *bits), *n),
+        Item::Num { bits, .. } => decimal_text(alloc, number_of_bits(word, *bits)),
+        Item::Ascii7 { .. } => unpacked(alloc, word),
     }
 }
 
@@ -156,10 +150,7 @@ fn read_padded(alloc: Global, symbols: &[u8], bits: u8, n: u8) -> Result<Option<
     let Some(number) = number_in_bits(symbols, usize::from(bits)) else {
         return Ok(None);
     };
-    match padded_within(alloc, number, n)? {
-        Some(digits) => Ok(Some(digits)),
-        None => Ok(None),
-    }
+    padded_within(alloc, number, n)
 }
 
 /// The decimal text of the number that the symbols are in bits, where they are a word of the item `Num`.

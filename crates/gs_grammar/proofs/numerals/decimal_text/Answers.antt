@@ -1,4 +1,5 @@
 use Rattle.std.proofs.Common.{arith, ◌<◌, ◌^◌}
+use Rattle.std.proofs.lemmas.Result.{IfOk-weaker}
 use Rattle.gs_grammar.proofs.Numbers.{below_count, padded_decimal}
 use Rattle.gs_grammar.proofs.numerals.decimal_text.Goals as goal
 
@@ -10,4 +11,4 @@ padded-requires-clause-fits c =
 pub returns : goal.returns
 returns c =
     let small : c.args.number < 2 ^ 64 = omega arith in
-    padded_decimal c.args.number _ _ small c.digit_count-count.ensures.count c.in_ok-digits.ensures
+    IfOk-weaker _ _ _ (λ digits. padded_decimal c.args.number _ digits small c.digit_count-count.ensures.count) c.padded.ensures
