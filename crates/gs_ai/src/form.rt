@@ -1,4 +1,4 @@
-ghost use Rattle.std.specs.Prelude.{◌≡◌, ◌≤◌, true, not, IsTrue, length, is_none};
+ghost use Rattle.std.specs.Prelude.{◌≡◌, ◌≤◌, ◌&&◌, true, not, IsTrue, length, is_none};
 ghost use Rattle.std.specs.List.{list_all};
 ghost use Rattle.gs_ai.specs.Parts.{is_open, is_part};
 ghost use Rattle.gs_ai.specs.Tables.{is_code, are_parts, keeps_role, are_distinct, is_gtin, is_empty, is_row, keeps_predefined};
@@ -7,8 +7,8 @@ ghost use Rattle.gs_ai.specs.Values.{parts_fault};
 use crate::part::{Part, Role};
 use crate::predefined::Predefined;
 use crate::row::AiRow;
-use crate::value::{are_digits, greatest_length_of, least_length_of, parts_ok};
-use gs_chars::Text;
+use crate::value::{greatest_length_of, least_length_of, parts_ok};
+use gs_chars::{Text, are_digits};
 
 /// Whether the code is 2 to 4 digits.
 fn is_code(code: &[u8]) -> bool
@@ -17,28 +17,24 @@ fn is_code(code: &[u8]) -> bool
     are_digits(code) && 2 <= code.len() && code.len() <= 4
 }
 
-/// Whether no part is written with `..`.
+/// Whether each part is one of the list, and none is written with `..`.
 fn are_closed(parts: &[Part]) -> bool
-    ensures { result ≡ list_all (λ p. not (is_open p)) parts.now }
+    ensures { result ≡ list_all (λ p. is_part p && not (is_open p)) parts.now }
 {
-    parts.iter().all(|part| !part.is_open())
-}
-
-/// Whether each part is one of the list.
-fn are_listed(parts: &[Part]) -> bool
-    ensures { result ≡ list_all is_part parts.now }
-{
-    parts.iter().all(|part| part.is_listed())
+    parts.iter().all(|part| part.is_listed() && !part.is_open())
 }
 
 /// Whether these are 1 to 3 parts of the list, of which none but the last is written with `..`.
 fn are_parts(parts: &[Part]) -> bool
     ensures { result ≡ are_parts parts.now }
 {
-    if parts.is_empty() || parts.len() > 3 || !are_listed(parts) {
+    let Some((last, others)) = parts.split_last() else {
+        return false;
+    };
+    if parts.len() > 3 {
         return false;
     }
-    are_closed(&parts[..parts.len() - 1])
+    last.is_listed() && are_closed(others)
 }
 
 /// Whether no code stands twice.

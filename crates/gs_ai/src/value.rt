@@ -6,14 +6,7 @@ ghost use Rattle.gs_ai.specs.Values.{has_length_of, least_of, greatest_of, piece
 
 use crate::faults::ValueFault;
 use crate::part::Part;
-use gs_chars::check_digit;
-
-/// Whether each byte is a digit.
-pub fn are_digits(text: &[u8]) -> bool
-    ensures { result ≡ are_digits text.now }
-{
-    text.iter().all(|c| c.is_ascii_digit())
-}
+use gs_chars::{are_digits, check_digit};
 
 /// The fewest characters of all parts together. There are at most three.
 pub fn least_length_of(parts: &[Part]) -> usize

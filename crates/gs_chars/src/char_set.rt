@@ -1,4 +1,5 @@
 ghost use Rattle.std.specs.Prelude.{◌≡◌};
+ghost use Rattle.gs_chars.specs.Characters.{are_digits};
 ghost use Rattle.gs_chars.specs.CharSets.{is_in_set};
 
 /// A set of characters that a value may be made of.
@@ -26,4 +27,11 @@ impl CharSet {
             CharSet::Visible => c.is_ascii_graphic(),
         }
     }
+}
+
+/// Whether each byte is a digit.
+pub fn are_digits(text: &[u8]) -> bool
+    ensures { result ≡ are_digits text.now }
+{
+    text.iter().all(|c| c.is_ascii_digit())
 }

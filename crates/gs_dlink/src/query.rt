@@ -3,10 +3,9 @@ ghost use Rattle.gs_dlink.specs.Uris.{part_pairs, query_pairs};
 ghost use Rattle.gs_dlink.specs.Values.{IsPlaced, written_of};
 
 use crate::cuts::{part_len, place_of};
-use crate::value::are_digits;
 use crate::written::WrittenPair;
 use gs_ai::AiTable;
-use gs_chars::Memory;
+use gs_chars::{Memory, are_digits};
 
 /// What stands behind a place of the text, and nothing where the text ends there.
 pub(crate) fn behind(text: &[u8], place: usize) -> &[u8]

@@ -1,6 +1,5 @@
 ghost use Rattle.std.specs.Prelude.{◌≡◌, IfOk};
 ghost use Rattle.gs_dlink.specs.Answers.{OrMemory};
-ghost use Rattle.gs_chars.specs.Characters.{are_digits};
 ghost use Rattle.percent_encoding.specs.Percent.{percent_decode};
 ghost use Rattle.gs_dlink.specs.Values.{IsPlaced, is_short_gtin, padded, pair_answer, unescaped, written_of};
 
@@ -9,19 +8,12 @@ use crate::escapes::are_escapes;
 use crate::fault::LinkFault;
 use crate::written::WrittenPair;
 use gs_ai::{AiTable, ElementFault, ElementWhy, Pair, ValueFault};
-use gs_chars::{Memory, Text};
+use gs_chars::{Memory, Text, are_digits};
 use percent_encoding::percent_decode;
 use std::alloc::Global;
 
 /// The zeros that a GTIN of 8 digits lacks.
 const ZEROS: &[u8] = b"000000";
-
-/// Whether each byte is a digit.
-pub(crate) fn are_digits(text: &[u8]) -> bool
-    ensures { result ≡ are_digits text.now }
-{
-    text.iter().all(|c| c.is_ascii_digit())
-}
 
 /// Whether the text is a GTIN of 8, 12 or 13 digits.
 fn is_short_gtin(text: &[u8]) -> bool

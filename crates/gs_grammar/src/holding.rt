@@ -7,8 +7,7 @@ ghost use Rattle.gs_grammar.specs.Writing.{GivesReason, first_reason, is_too_lar
 use crate::fault::Why;
 use crate::item::{Item, fits_bits, is_within};
 use crate::numerals::{decimal_number, fits_wide_bits, has_leading_zero};
-use crate::words::all_digits;
-use gs_chars::CharSet;
+use gs_chars::{CharSet, are_digits};
 
 /// The first reason that fits.
 fn judge(char: bool, size: bool, zero: bool, large: bool) -> Result<(), Why>
@@ -79,9 +78,9 @@ fn reason_against(item: &Item, value: &[u8]) -> Result<(), Why>
 {
     let count = value.len();
     match item {
-        Item::Pad { n } => judge(!all_digits(value), count != usize::from(*n), false, false),
+        Item::Pad { n } => judge(!are_digits(value), count != usize::from(*n), false, false),
         Item::Int { max } => judge(
-            !all_digits(value),
+            !are_digits(value),
             count == 0,
             has_leading_zero(value),
             is_above(value, *max),
@@ -93,13 +92,13 @@ fn reason_against(item: &Item, value: &[u8]) -> Result<(), Why>
             false,
         ),
         Item::NumPad { bits, n } => judge(
-            !all_digits(value),
+            !are_digits(value),
             count != usize::from(*n),
             false,
             exceeds(value, *bits),
         ),
         Item::Num { bits, max } => judge(
-            !all_digits(value),
+            !are_digits(value),
             count == 0,
             has_leading_zero(value),
             is_too_large(value, *max, *bits),

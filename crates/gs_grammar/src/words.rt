@@ -8,21 +8,14 @@ use crate::bit_words::{are_zeros, number_in_bits, packed_count, unpacked};
 use crate::escaped::{read_spelled, spelled_count};
 use crate::item::{Item, is_within};
 use crate::numerals::{decimal_text, has_at_most_digits, numeral, padded, padded_within};
-use gs_chars::{CharSet, Memory, Text};
+use gs_chars::{Memory, Text, are_digits};
 use std::alloc::Global;
-
-/// Whether each symbol is a digit.
-pub fn all_digits(symbols: &[u8]) -> bool
-    ensures { result ≡ are_digits symbols.now }
-{
-    symbols.iter().all(|symbol| CharSet::Digits.holds(*symbol))
-}
 
 /// Whether the symbols are this many digits.
 fn are_n_digits(symbols: &[u8], n: usize) -> bool
     ensures { result ≡ ((length symbols.now == n) && are_digits symbols.now) }
 {
-    symbols.len() == n && all_digits(symbols)
+    symbols.len() == n && are_digits(symbols)
 }
 
 /// Whether the symbols are a word of the item `Int`.

@@ -1,5 +1,4 @@
 ghost use Rattle.std.specs.Prelude.{◌≡◌};
-ghost use Rattle.gs_chars.specs.Characters.{are_digits};
 ghost use Rattle.gs_prefix.specs.Answers.{first_or};
 ghost use Rattle.gs_prefix.specs.Lengths.{is_prefix};
 ghost use Rattle.gs_prefix.specs.Rules.{entry_refusals};
@@ -7,16 +6,10 @@ ghost use Rattle.gs_prefix.specs.Rules.{entry_refusals};
 use crate::entry::PrefixEntry;
 use crate::fault::PrefixFault;
 use crate::index::Index;
+use gs_chars::are_digits;
 
 /// The most digits that a company prefix has.
 const GREATEST_LENGTH: u64 = 12;
-
-/// Whether each byte is a digit.
-fn are_digits(text: &[u8]) -> bool
-    ensures { result ≡ are_digits text.now }
-{
-    text.iter().all(|c| c.is_ascii_digit())
-}
 
 /// Whether a text is 1 to 12 digits.
 fn is_prefix(text: &[u8]) -> bool
