@@ -85,6 +85,12 @@ abbrev pub is_qualifier : Role → Bool
 is_qualifier Qualifier = true
 is_qualifier _ = false
 
+-- the role is the one that is asked for, key or qualifier
+abbrev pub is_asked : Role → Role → Bool
+is_asked Key role = is_key role
+is_asked Qualifier role = is_qualifier role
+is_asked _ _ = false
+
 -- the code is that of a row of the role key
 abbrev pub is_key_of : List AiRow → List ℕ → Bool
 is_key_of rows code = list_any (λ row. has_code code row && is_key row.role) rows

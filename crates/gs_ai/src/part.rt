@@ -1,6 +1,6 @@
 ghost use Rattle.std.specs.Prelude.{◌≡◌, ◌≢◌, ◌<◌, ◌≤◌, ◌^◌, ◌++◌, ℕ, true, IfSome, IfNone};
 ghost use Rattle.gs_ai.specs.Parts.{WritesNoRole, number_text, is_part, part_text, role_text, least_length, greatest_length, is_of_part, is_open};
-ghost use Rattle.gs_ai.specs.Tables.{is_key, is_qualifier};
+ghost use Rattle.gs_ai.specs.Tables.{is_asked, is_key};
 
 use gs_chars::CharSet;
 
@@ -186,10 +186,14 @@ impl Role {
         matches!(self, Role::Key)
     }
 
-    /// Whether the role is that of a qualifier.
-    pub(crate) fn is_qualifier(self) -> bool
-        ensures { result ≡ is_qualifier self }
+    /// Whether the role is the one that is asked for, that of a key or of a qualifier.
+    pub(crate) fn is_asked(self, asked: Role) -> bool
+        ensures { result ≡ is_asked asked self }
     {
-        matches!(self, Role::Qualifier)
+        match asked {
+            Role::Key => self.is_key(),
+            Role::Qualifier => matches!(self, Role::Qualifier),
+            Role::Attribute | Role::Other => false,
+        }
     }
 }

@@ -1,9 +1,11 @@
-ghost use Rattle.std.specs.Prelude.{◌≡◌, ◌≤◌, ◌++◌, take, length, position};
+ghost use Rattle.std.specs.Prelude.{◌≡◌, ◌≤◌, ◌&&◌, ◌++◌, take, length, position};
 ghost use Rattle.std.specs.List.{flat_map, enumerate_from, list_all, list_any};
-ghost use Rattle.gs_ai.specs.Tables.{clash, is_key_of, is_qualifier_of, row_faults, list_faults, table_faults, IsFirstFault};
+ghost use Rattle.gs_ai.specs.Values.{has_code};
+ghost use Rattle.gs_ai.specs.Tables.{clash, is_asked, is_key_of, is_qualifier_of, row_faults, list_faults, table_faults, IsFirstFault};
 
 use crate::faults::AiFault;
 use crate::form::{is_row, keeps_predefined};
+use crate::part::Role;
 use crate::predefined::Predefined;
 use crate::row::AiRow;
 use gs_chars::Text;
@@ -16,19 +18,11 @@ fn clash(a: &[u8], b: &[u8]) -> bool
     b.starts_with(a) || a.starts_with(b)
 }
 
-/// Whether a row of the role key has the code.
-fn is_key_of(rows: &[AiRow], code: &[u8]) -> bool
-    ensures { result ≡ is_key_of rows.now code.now }
+/// Whether a row of the role has the code. The role is that of a key or of a qualifier.
+fn has_row(rows: &[AiRow], code: &[u8], role: Role) -> bool
+    ensures { result ≡ list_any (λ row. has_code code.now row && is_asked role row.role) rows.now }
 {
-    rows.iter()
-        .any(|row| code == row.code.as_bytes() && row.role.is_key())
-}
-
-/// Whether a row of the role qualifier has the code.
-fn is_qualifier_of(rows: &[AiRow], code: &[u8]) -> bool
-    ensures { result ≡ is_qualifier_of rows.now code.now }
-{
-    rows.iter().any(|row| code == row.code.as_bytes() && row.role.is_qualifier())
+    rows.iter().any(|row| code == row.code.as_bytes() && row.role.is_asked(role))
 }
 
 /// The index of the first row whose code clashes with this one.
@@ -44,7 +38,9 @@ fn find_clash(earlier: &[AiRow], code: &[u8]) -> Option<usize>
 fn lists_key(rows: &[AiRow], codes: &[Text]) -> bool
     ensures { result ≡ list_any (is_key_of rows.now) codes.now }
 {
-    codes.iter().any(|code| is_key_of(rows, code.as_bytes()))
+    codes
+        .iter()
+        .any(|code| has_row(rows, code.as_bytes(), Role::Key))
 }
 
 /// Whether all codes are those of qualifiers.
@@ -53,7 +49,7 @@ fn lists_qualifiers(rows: &[AiRow], codes: &[Text]) -> bool
 {
     codes
         .iter()
-        .all(|code| is_qualifier_of(rows, code.as_bytes()))
+        .all(|code| has_row(rows, code.as_bytes(), Role::Qualifier))
 }
 
 /// The first fault of row `i` by itself and beside the earlier rows.

@@ -1,6 +1,7 @@
 -- The first refusal of lists of refusals, one after the other.
-use Rattle.std.proofs.Common.{◌≡◌, ℕ, zero, suc, ◌+◌, ◌≤◌, List, [], ◌∷◌, ◌++◌, length, take, map, Some, None, slice_get, refl, ap, arith, inl, inr}
+use Rattle.std.proofs.Common.{◌≡◌, ℕ, zero, suc, ◌+◌, ◌<◌, ◌≤◌, List, [], ◌∷◌, ◌++◌, length, get_or, take, map, Some, None, slice_get, refl, ap, arith, inl, inr}
 use Rattle.std.specs.Prelude.{Result, Ok, Err}
+use Rattle.std.proofs.lemmas.List.{map-append, take_more}
 use Rattle.std.specs.List.{flat_map, enumerate_from}
 use Rattle.gs_chars.proofs.TruthsAndLists.{nil_parts}
 use Rattle.gs_json.specs.Answers.{OrMemory as JsonOrMemory}
@@ -103,3 +104,8 @@ take_next xs i x at = let next : i + 1 ≡ suc i = omega arith in rw next (take_
 
 pub mapped_all : {X Y : Type 0} (f : X → Y) (xs : List X) (i : ℕ) (ys : List Y) → length xs ≤ i → ys ≡ map f (take i xs) → ys ≡ map f xs
 mapped_all f xs i ys all so_far = rw (take_all xs i all) at so_far
+
+-- one item more that was read
+pub mapped_step : {X Y : Type 0} (f : X → Y) (xs : List X) (i : ℕ) (x : X) (done new : List Y) (y : Y) → i < length xs → x ≡ get_or xs i x → done ≡ map f (take i xs) → new ≡ done ++ y ∷ [] → y ≡ f x
+    → new ≡ map f (take (i + 1) xs)
+mapped_step f xs i x done new y low here so_far e own = rw (e, so_far, own, take_more xs i x low, map-append) (ap (λ z. map f (take i xs) ++ f z ∷ []) here)
