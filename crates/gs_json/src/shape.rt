@@ -25,8 +25,7 @@ pub(crate) fn judge(
     for entry in plan {
         judge_member(alloc, map, place, entry)?;
     }
-    judge_names(alloc, map, place, plan)?;
-    Ok(())
+    judge_names(alloc, map, place, plan)
 }
 
 /// Judges the member of an entry's name.
