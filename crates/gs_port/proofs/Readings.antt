@@ -1,12 +1,13 @@
 -- What is read piece after piece.
-use Rattle.std.proofs.Common.{◌≡◌, ◌∙◌, ◌↔◌, ◌≤◌, ◌+◌, ◌-◌, ℕ, List, [], ◌++◌, Option, None, Some, IfSome, Result, Ok, Err, length, take, drop, ap, sym, append-nil, arith}
+use Rattle.std.proofs.Common.{◌≡◌, ◌∙◌, ◌↔◌, ◌⊎◌, ◌≤◌, ◌+◌, ◌-◌, ℕ, List, [], ◌++◌, Option, None, Some, IfSome, Result, Ok, Err, length, take, drop, ap, refl, sym, append-nil, inl, arith}
 use Rattle.std.proofs.lemmas.List.{take-append-le}
 use Rattle.std.proofs.lemmas.Grind.{common_steps}
 use Rattle.gs_port.specs.Contents.{prepend_known, prepend_twice}
 use Rattle.gs_port.specs.declared.reading.FileFault.{FileFault}
 use Rattle.gs_port.specs.declared.reading.FileFault.TheVariants as fault
-use Rattle.gs_port.specs.Answers.{IfOver}
-use Rattle.gs_port.specs.Files.{IsAbsent, IsFile, told_file}
+use Rattle.gs_port.specs.Answers.{IfOver, OnFileFailed, count_after_file, count_after_rest}
+use Rattle.gs_port.specs.Counts.{Rises, counted}
+use Rattle.gs_port.specs.Files.{FilesHeld, IsAbsent, IsFile, counted_if_found, counted_if_there, file_of, told_file}
 
 -- one piece more
 pub read_further : (first now after : Option (List ℕ)) (bytes piece : List ℕ) → first ≡ prepend_known bytes now → now ≡ prepend_known piece after → first ≡ prepend_known (bytes ++ piece) after
@@ -41,3 +42,26 @@ room_kept front block asked e = grind (arith, common_steps)
 -- a piece that was taken from the front of a room
 pub piece_taken : (after bytes front behind : List ℕ) (n : ℕ) → after ≡ bytes ++ take n (front ++ behind) → n ≤ length front → after ≡ bytes ++ take n front
 piece_taken after bytes front behind n e h = e ∙ ap (λ piece. bytes ++ piece) (take-append-le n front behind h)
+
+-- a file that was opened and then not read: a fault was counted
+pub rest_failed : (files : Option FilesHeld) (name : List ℕ) (first opened now : ℕ) (result : Result (List ℕ) FileFault) → opened ≡ first → OnFileFailed result (Rises opened now) → OnFileFailed result (Rises first now ⊎ IsAbsent files name)
+rest_failed files name first opened now (Ok text) e h = tt
+rest_failed files name first opened now (Err (fault.Over text)) e h = tt
+rest_failed files name first opened now (Err fault.Failed) e h = inl (rw e at h)
+rest_failed files name first opened now (Err fault.Memory) e h = tt
+
+-- a fault at a file that is there is counted
+counted_there : (found : Option (List ℕ)) (count : ℕ) → ¬ (found ≡ None) → counted count ≡ counted_if_found found count
+counted_there None count there = absurd (there refl)
+counted_there (Some bytes) count there = refl
+
+counted_file : (files : Option FilesHeld) (name : List ℕ) (count : ℕ) → ¬ IsAbsent files name → counted count ≡ counted_if_there files name count
+counted_file None name count there = refl
+counted_file (Some files) name count there = counted_there (file_of files name) count there
+
+-- the same of the count after what a file that was opened answered
+pub rest_counted : (files : Option FilesHeld) (name : List ℕ) (first opened now : ℕ) (result : Result (List ℕ) FileFault) → opened ≡ first → ¬ IsAbsent files name → now ≡ count_after_rest result opened → now ≡ count_after_file result files name first
+rest_counted files name first opened now (Ok text) e there h = h ∙ e
+rest_counted files name first opened now (Err (fault.Over text)) e there h = h ∙ e
+rest_counted files name first opened now (Err fault.Failed) e there h = h ∙ ap counted e ∙ counted_file files name first there
+rest_counted files name first opened now (Err fault.Memory) e there h = h ∙ e

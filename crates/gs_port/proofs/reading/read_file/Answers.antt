@@ -1,6 +1,6 @@
 use Rattle.std.proofs.Common.{arith, sym, ◌∙◌}
 use Rattle.std.proofs.lemmas.Bool.{false≢true}
-use Rattle.gs_port.proofs.Readings.{over_read}
+use Rattle.gs_port.proofs.Readings.{over_read, rest_counted, rest_failed}
 use Rattle.gs_port.proofs.reading.read_file.Goals as goal
 
 pub returns-in-Opened-clause-over : goal.returns-in-Opened-clause-over
@@ -89,3 +89,9 @@ returns-in-Failed-clause-failed g c = c.in-Failed.ensures.failed
 
 pub returns-in-Memory-clause-failed : goal.returns-in-Memory-clause-failed
 returns-in-Memory-clause-failed g c = tt
+
+pub returns-in-Opened-clause-failed : goal.returns-in-Opened-clause-failed
+returns-in-Opened-clause-failed g c = rest_failed _ _ _ _ _ c.read_current.result c.in-Opened.ensures.count c.read_current.ensures.failed
+
+pub returns-in-Opened-clause-count : goal.returns-in-Opened-clause-count
+returns-in-Opened-clause-count g c = rest_counted _ _ _ _ _ c.read_current.result c.in-Opened.ensures.count c.in-Opened.ensures.there c.read_current.ensures.count
