@@ -1,10 +1,11 @@
 -- The refusals of entries and of documents.
-use Rattle.std.proofs.Common.{◌≡◌, ◌⊎◌, ℕ, ◌+◌, ◌<◌, ◌≤◌, nat_lt, nat_le, true, false, List, [], ◌∷◌, ◌++◌, length, take, map, Some, None, slice_get, refl, sym, ap, ◌∙◌, arith, inl, inr}
+use Rattle.std.proofs.Common.{◌≡◌, ◌⊎◌, ℕ, ◌+◌, ◌<◌, ◌≤◌, nat_lt, nat_le, true, false, List, [], ◌∷◌, ◌++◌, length, take, map, Some, None, slice_get, IfSome, refl, sym, ap, ◌∙◌, arith, inl, inr}
 use Rattle.std.specs.Prelude.{Result, Ok, Err}
 use Rattle.std.specs.List.{flat_map, enumerate_from, list_all, list_any}
 use Rattle.std.specs.Str.{IsUtf8, is_utf8}
 use Rattle.std.proofs.lemmas.Bool.Decides.{nat_tests}
 use Rattle.std.proofs.lemmas.List.{map-append}
+use Rattle.std.proofs.lemmas.Option.{slice_get_cases}
 use Rattle.std.proofs.lemmas.Str.{IsUtf8-from_is_utf8, is_utf8-from_IsUtf8}
 use Rattle.serde_json.specs.Data.{Data}
 use Rattle.serde_json.specs.Find.{as_object}
@@ -15,10 +16,10 @@ use Rattle.gs_json.specs.declared.fault.JsonFault.{JsonFault}
 use Rattle.gs_json.specs.declared.fault.JsonFault.TheVariants as json
 use Rattle.gs_prefix.specs.declared.entry.PrefixEntry.{PrefixEntry}
 use Rattle.gs_prefix.specs.declared.fault.PrefixFault.{PrefixFault}
-use Rattle.gs_prefix.specs.declared.fault.PrefixFault.TheVariants.{Json, BadPrefix, BadLength, Twice, Limit}
-use Rattle.gs_prefix.specs.Answers.{OrMemory, document_answer, document_of, first_or, load_answer, of_json}
+use Rattle.gs_prefix.specs.declared.fault.PrefixFault.TheVariants.{Json, BadPrefix, BadLength, Twice, Limit, Memory}
+use Rattle.gs_prefix.specs.Answers.{OrMemory, AddsEntry, document_answer, document_of, first_or, load_answer, of_json}
 use Rattle.gs_prefix.specs.Documents.{array_faults, entries_faults, entries_of, entry_plan, form_faults, list_plan, version_faults}
-use Rattle.gs_prefix.specs.Lengths.{has_prefix, is_entry, is_prefix}
+use Rattle.gs_prefix.specs.Lengths.{has_prefix, is_entry, is_prefix, with_entry}
 use Rattle.gs_prefix.specs.Rules.{entry_refusals, refusals, refusals_at}
 use Rattle.gs_prefix.proofs.FirstRefusals.{all_rows, first_behind, first_in_front, nothing_in_front, one_more, split_at, take_all, take_next}
 use Rattle.gs_chars.proofs.TruthsAndLists.{and_first, and_second, true_or_false}
@@ -87,13 +88,13 @@ within_limit : (es : List PrefixEntry) → length es ≤ 65536 → refusals es �
 unfolding refusals
 within_limit es h = let l : nat_lt 65536 (length es) ≡ false = grind (arith, nat_tests) in rw l refl
 
-pub entry_refused : (entries index : List PrefixEntry) (i : ℕ) (x : PrefixEntry) (e : PrefixFault) → length entries ≤ 65536 → SoFar entries index i → slice_get entries i ≡ Some x → Err e ≡ first_or (entry_refusals index i x) (tt {0}) → OrMemory {X = List PrefixEntry} (Err e) (first_or (refusals entries) entries)
+entry_refused : (entries index : List PrefixEntry) (i : ℕ) (x : PrefixEntry) (e : PrefixFault) → length entries ≤ 65536 → SoFar entries index i → slice_get entries i ≡ Some x → OrMemory (Err e) (first_or (entry_refusals index i x) (tt {0})) → OrMemory {X = List PrefixEntry} (Err e) (first_or (refusals entries) entries)
 entry_refused entries index i x e few so_far at h =
     let own = rw so_far.held at h in
     let split = split_at (refusals_at entries) entries i x at so_far.none in
-    rw (within_limit entries few, split.1) (first_in_front (refusals_at entries (i, x)) split.0 (tt {0}) entries e (inr own))
+    rw (within_limit entries few, split.1) (first_in_front (refusals_at entries (i, x)) split.0 (tt {0}) entries e own)
 
-pub one_entry_more : (entries index new : List PrefixEntry) (i : ℕ) (x : PrefixEntry) → SoFar entries index i → slice_get entries i ≡ Some x → Ok (tt {0}) ≡ first_or (entry_refusals index i x) (tt {0}) → new ≡ index ++ x ∷ [] → SoFar entries new (i + 1)
+one_entry_more : (entries index new : List PrefixEntry) (i : ℕ) (x : PrefixEntry) → SoFar entries index i → slice_get entries i ≡ Some x → Ok (tt {0}) ≡ first_or (entry_refusals index i x) (tt {0}) → new ≡ with_entry index x.prefix x.length → SoFar entries new (i + 1)
 one_entry_more entries index new i x so_far at h e =
     let k = kept index i x h in
     record {
@@ -101,6 +102,23 @@ one_entry_more entries index new i x so_far at h e =
       in_order = rw e (all_more index x so_far.in_order (is_kept x k.prefix k.short));
       none = one_more (refusals_at entries) entries i x at so_far.none (nothing (take i entries) i x (rw so_far.held at h));
     }
+
+-- what the call for one entry answered, of the list so far
+pub add_refused : (entries index after : List PrefixEntry) (i : ℕ) (e : PrefixFault) → length entries ≤ 65536 → SoFar entries index i → i < length entries → IfSome (slice_get entries i) (AddsEntry (Err e) i index after) → OrMemory {X = List PrefixEntry} (Err e) (first_or (refusals entries) entries)
+add_refused entries index after i e few so_far within h = elim (slice_get_cases entries i).1 [
+  | inl there ↦ let own = rw there.2 at h in entry_refused entries index i there.0 e few so_far there.2 own.0
+  | inr past ↦ absurd (let beyond : length entries ≤ i = past.0 in omega arith)
+]
+
+not_memory : (answer : Result (Unit {0}) PrefixFault) → OrMemory (Ok (tt {0})) answer → Ok (tt {0}) ≡ answer
+not_memory answer (inl h) = absurd (let bad : Ok (tt {0}) ≡ Err Memory = h in cc)
+not_memory answer (inr h) = h
+
+pub added : (entries index after : List PrefixEntry) (i : ℕ) → SoFar entries index i → i < length entries → IfSome (slice_get entries i) (AddsEntry (Ok (tt {0})) i index after) → SoFar entries after (i + 1)
+added entries index after i so_far within h = elim (slice_get_cases entries i).1 [
+  | inl there ↦ let own = rw there.2 at h in one_entry_more entries index after i there.0 so_far there.2 (not_memory (first_or (entry_refusals index i there.0) (tt {0})) own.0) own.1
+  | inr past ↦ absurd (let beyond : length entries ≤ i = past.0 in omega arith)
+]
 
 pub all_entries : (entries index : List PrefixEntry) (i : ℕ) → length entries ≤ 65536 → length entries ≤ i → SoFar entries index i → OrMemory {X = List PrefixEntry} (Ok index) (first_or (refusals entries) entries)
 all_entries entries index i few all so_far =

@@ -1,6 +1,6 @@
 -- The answer to the bytes of a list: its entries, or the first refusal. Each list of bytes has exactly one answer; want of
 -- memory may come in its place.
-use Rattle.std.specs.Prelude.{◌≡◌, ◌⊎◌, ℕ, List, [], ◌∷◌, ◌++◌, map, Option, None, if◌then◌else◌, Result, Ok, Err}
+use Rattle.std.specs.Prelude.{◌≡◌, ◌⊎◌, ℕ, List, [], ◌∷◌, ◌++◌, map, Option, None, if◌then◌else◌, Result, Ok, Err, IfOk}
 use Rattle.std.specs.Option.{option_map_or}
 use Rattle.std.specs.Str.{is_utf8}
 use Rattle.serde_json.specs.Data.{Data}
@@ -12,7 +12,8 @@ use Rattle.gs_prefix.specs.declared.entry.PrefixEntry.{PrefixEntry}
 use Rattle.gs_prefix.specs.declared.fault.PrefixFault.{PrefixFault}
 use Rattle.gs_prefix.specs.declared.fault.PrefixFault.TheVariants.{Json, Memory}
 use Rattle.gs_prefix.specs.Documents.{entries_of, form_faults}
-use Rattle.gs_prefix.specs.Rules.{refusals}
+use Rattle.gs_prefix.specs.Lengths.{with_entry}
+use Rattle.gs_prefix.specs.Rules.{entry_refusals, refusals}
 
 -- the first refusal, or what is made where there is none
 abbrev pub first_or : {X : Type 0} → List PrefixFault → X → Result X PrefixFault
@@ -22,6 +23,11 @@ first_or (fault ∷ _) made = Err fault
 -- the answer, or want of memory
 abbrev pub OrMemory : {X : Type 0} → Result X PrefixFault → Result X PrefixFault → Type 0
 OrMemory result answer = (result ≡ Err Memory) ⊎ (result ≡ answer)
+
+-- the answer to an entry beside the earlier ones: where no rule refuses it, it is behind them
+abbrev pub AddsEntry : Result Unit PrefixFault → ℕ → List PrefixEntry → List PrefixEntry → PrefixEntry → Type 0
+AddsEntry result i earlier after entry =
+    OrMemory result (first_or (entry_refusals earlier i entry) tt) × IfOk result (λ _. after ≡ with_entry earlier entry.prefix entry.length)
 
 -- the answer is the first of these faults of JSON, or want of memory
 abbrev pub IsFirst : Result Unit PrefixFault → List JsonFault → Type 0

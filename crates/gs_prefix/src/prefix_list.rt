@@ -1,6 +1,6 @@
-ghost use Rattle.std.specs.Prelude.{◌≡◌, ◌≤◌, [], IfSome, length};
+ghost use Rattle.std.specs.Prelude.{◌≡◌, ◌<◌, ◌≤◌, [], IfSome, length, slice_get};
 ghost use Rattle.serde_json.specs.View.{view};
-ghost use Rattle.gs_prefix.specs.Answers.{OrMemory, document_answer, first_or, load_answer};
+ghost use Rattle.gs_prefix.specs.Answers.{OrMemory, AddsEntry, document_answer, first_or, load_answer};
 ghost use Rattle.gs_prefix.specs.Lengths.{length_of_longest, prefix_length};
 ghost use Rattle.gs_prefix.specs.Rules.{refusals};
 
@@ -78,9 +78,8 @@ impl PrefixList {
             return Err(PrefixFault::Limit);
         }
         let mut index = Index::new(alloc);
-        for (i, entry) in entries.iter().enumerate() {
-            check_entry(&index, i, entry)?;
-            index.push(alloc, entry.prefix.as_bytes(), entry.length as u8)?;
+        for i in 0..entries.len() {
+            add_entry(alloc, &mut index, entries, i)?;
         }
         Ok(PrefixList { entries: index })
     }
@@ -119,4 +118,20 @@ impl PrefixList {
         }
         None
     }
+}
+
+/// Adds the entry of an index behind the earlier ones, unless it breaks a rule beside them.
+fn add_entry(
+    alloc: Global,
+    index: &mut Index,
+    entries: &[PrefixEntry],
+    i: usize,
+) -> Result<(), PrefixFault>
+    requires { i < length entries.now }
+    ensures { IfSome (slice_get entries.now i) (AddsEntry result i index.old index.new) }
+{
+    let entry = &entries[i];
+    check_entry(index, i, entry)?;
+    index.push(alloc, entry.prefix.as_bytes(), entry.length as u8)?;
+    Ok(())
 }
