@@ -1,21 +1,19 @@
 //! Calls of gs_chars.
 //!
 //! - `holds SET TEXT`, with SET `Digits` or `Set82`: for each byte `y` where the set has it, else `n`.
-//! - `check_digit DIGITS`: the digit.
+//! - `are_digits TEXT`: whether all bytes are digits. `check_digit DIGITS`: the digit.
 //! - `read_escape TEXT`: the character and the number of bytes, or `None`.
 //! - `write_escape C`: the number of bytes, and the three bytes of the buffer, which held `...` before.
 //! - `rows K K K KEY`: the index of the key, or `None`; `refused` where the keys are no rows.
 //! - `text TEXT`, `copy TEXT`: its bytes. `compare A B`: the order of two texts. `list BYTES`: the items, and those given back.
 
-ghost use Rattle.std.specs.Prelude.{◌≡◌};
-ghost use Rattle.gs_chars.specs.Characters.{are_digits};
-
-use gs_chars::{CharSet, List, Rows, Text, check_digit, read_escape, write_escape};
+use gs_chars::{CharSet, List, Rows, Text, are_digits, check_digit, read_escape, write_escape};
 use std::alloc::Global;
 use vector_cases::{Done, Line, Refusal, bytes_at, named, number_in};
 
 #[derive(Clone, Copy)]
 enum Call {
+    AreDigits,
     CheckDigit,
     Compare,
     Copy,
@@ -27,7 +25,8 @@ enum Call {
     WriteEscape,
 }
 
-const CALLS: [(&str, Call); 9] = [
+const CALLS: [(&str, Call); 10] = [
+    ("are_digits", Call::AreDigits),
     ("check_digit", Call::CheckDigit),
     ("compare", Call::Compare),
     ("copy", Call::Copy),
@@ -43,6 +42,10 @@ const CALLS: [(&str, Call); 9] = [
 pub fn answer(alloc: Global, line: &mut Line, call: &[u8], args: &[Text]) -> Done {
     let text = bytes_at(args, 0);
     match named(&CALLS, call) {
+        Some(Call::AreDigits) => {
+            line.debug(are_digits(text));
+            Ok(())
+        }
         Some(Call::CheckDigit) => digit(line, text),
         Some(Call::Compare) => compare(alloc, line, text, bytes_at(args, 1)),
         Some(Call::Copy) => copy(alloc, line, text),
@@ -59,13 +62,6 @@ pub fn answer(alloc: Global, line: &mut Line, call: &[u8], args: &[Text]) -> Don
     }
 }
 
-/// Whether each byte is a digit.
-fn all_digits(text: &[u8]) -> bool
-    ensures { result ≡ are_digits text.now }
-{
-    text.iter().all(|c| CharSet::Digits.holds(*c))
-}
-
 const SETS: [(&str, CharSet); 2] = [("Digits", CharSet::Digits), ("Set82", CharSet::Set82)];
 
 /// Whether a set has each byte of a text.
@@ -80,7 +76,7 @@ fn holds(line: &mut Line, set: &[u8], text: &[u8]) -> Done {
 }
 
 fn digit(line: &mut Line, digits: &[u8]) -> Done {
-    if digits.is_empty() || digits.len() > 18 || !all_digits(digits) {
+    if digits.is_empty() || digits.len() > 18 || !are_digits(digits) {
         return Err(Refusal::NoCase);
     }
     line.bytes(&[check_digit(digits)]);
