@@ -43,14 +43,6 @@ is_array (string s) n h = absurd (cc)
 is_array (array items) n h = refl
 is_array (object _) n h = absurd (cc)
 
-pub items_length : (d : Data) (n : ℕ) → Some n ≡ count_of d → length (items_of d) ≡ n
-items_length null n h = absurd (cc)
-items_length (boolean b) n h = absurd (cc)
-items_length (number m) n h = absurd (cc)
-items_length (string s) n h = absurd (cc)
-items_length (array items) n h = let e : n ≡ items_len items = cc in rw e (listed_length items)
-items_length (object _) n h = absurd (cc)
-
 pub counted : (d : Data) (n : ℕ) → n ≡ items_count d → length (items_of d) ≡ n
 counted null n h = sym h
 counted (boolean b) n h = sym h

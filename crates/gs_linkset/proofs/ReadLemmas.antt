@@ -1,19 +1,20 @@
 -- What is read item by item, and name by name.
-use Rattle.std.proofs.Common.{◌≡◌, Bool, true, false, if◌then◌else◌, codes, ℕ, zero, suc, ◌+◌, ◌≤◌, List, [], ◌∷◌, ◌++◌, length, take, map, Option, Some, None, slice_get, refl, sym, ap, ◌∙◌, inl, inr, arith}
+use Rattle.std.proofs.Common.{◌≡◌, Bool, true, false, codes, ℕ, zero, suc, ◌+◌, ◌≤◌, List, [], ◌∷◌, ◌++◌, length, take, map, Option, Some, None, slice_get, refl, sym, ap, ◌∙◌, inl, inr, arith}
 use Rattle.std.specs.Prelude.{IfSome, Result, Ok, Err, option_map, option_and_then, unwrap_or}
 use Rattle.std.specs.List.{cons_option, enumerate_from, filter_map, flat_map, list_all}
 use Rattle.std.proofs.lemmas.List.{append-nil, map-append}
 use Rattle.gs_chars.proofs.TruthsAndLists.{and_first, and_second, nil_parts}
 use Rattle.gs_json.specs.declared.fault.JsonFault.{JsonFault}
 use Rattle.gs_json.specs.declared.fault.JsonFault.TheVariants.{Memory}
-use Rattle.gs_linkset.specs.Answers.{ItemAnswer, OrMemory, first_or, member_answer}
+use Rattle.gs_json.specs.declared.plan.Sort.TheVariants.{Text}
+use Rattle.gs_linkset.specs.Answers.{ItemAnswer, OrMemory, first_or, member_answer, text_answer}
 use Rattle.std.specs.Str.{bytes_eq, is_utf8}
 use Rattle.serde_json.specs.Data.{Data}
 use Rattle.serde_json.specs.Find.{get}
-use Rattle.gs_linkset.specs.Attributes.{every, items_of, value_of}
+use Rattle.gs_linkset.specs.Attributes.{every, items_of}
 use Rattle.gs_json.specs.Answers.{count_of, names_of}
 use Rattle.gs_json.specs.Places.{item_place, member_place}
-use Rattle.gs_linkset.specs.Documents.{attr_named, attr_of, attr_with, item_faults, relation_faults, relation_of, relation_with, names_in, target_faults, target_of, targets_at}
+use Rattle.gs_linkset.specs.Documents.{member_faults, text_in, attr_of, attr_with, item_faults, relation_faults, relation_of, relation_with, names_in, target_faults, target_of, targets_at}
 use Rattle.gs_linkset.proofs.Parts.{is_array, items_at, no_array}
 use Rattle.gs_linkset.specs.LinkShapes.{ascend, is_attr, is_context, is_relation, is_target, is_value}
 use Rattle.gs_linkset.specs.declared.link_types.Attr.{Attr}
@@ -171,32 +172,11 @@ module _ {A X : Type 0} (h : A → Option X) where
       let few : length (map f ns) ≤ i = rw (map_length f ns) all in
       rw (take_all (map f ns) i few) at so_far
 
--- ---- attributes and relations have their names
-
-attr_by_value : (n : List ℕ) (x : Attr) (v : Option AttrValue) → option_map (attr_with n) v ≡ Some x → x.name ≡ n
-attr_by_value n x None h = absurd (let g : None ≡ Some x = h in cc)
-attr_by_value n x (Some v) h = let g : attr_with n v ≡ x = (let w : Some (attr_with n v) ≡ Some x = h in cc) in sym (ap (λ a. a.name) g)
-
-attr_by : (n : List ℕ) (x : Attr) (b : Bool) (o : Option Data) → (if b then None else option_and_then (attr_named n) o) ≡ Some x → x.name ≡ n
-attr_by n x true o h = absurd (let g : None ≡ Some x = h in cc)
-attr_by n x false None h = absurd (let g : None ≡ Some x = h in cc)
-attr_by n x false (Some d) h = attr_by_value n x (value_of n d) h
-
-pub attr_name : (d : Data) (n : List ℕ) (x : Attr) → attr_of d n ≡ Some x → x.name ≡ n
-unfolding attr_of
-attr_name d n x h = attr_by n x (bytes_eq n (codes "href")) (get n d) h
+-- ---- attributes and relations have their shape
 
 pub attr_shaped : (name : List ℕ) (value : AttrValue) → bytes_eq name (codes "href") ≡ false → is_utf8 name ≡ true → is_value name value ≡ true → is_attr (attr_with name value) ≡ true
 unfolding is_attr
 attr_shaped name value a b c = rw (a, b, c) refl
-
-relation_by : (n : List ℕ) (x : Relation) (o : Option (List Data)) → option_map (relation_with n) o ≡ Some x → x.name ≡ n
-relation_by n x None h = absurd (let g : None ≡ Some x = h in cc)
-relation_by n x (Some items) h = let g : relation_with n items ≡ x = (let w : Some (relation_with n items) ≡ Some x = h in cc) in sym (ap (λ r. r.name) g)
-
-pub relation_name : (d : Data) (n : List ℕ) (x : Relation) → relation_of d n ≡ Some x → x.name ≡ n
-unfolding relation_of
-relation_name d n x h = relation_by n x (targets_at d n) h
 
 pub relation_shaped : (name : List ℕ) (targets : List Target) → bytes_eq name (codes "anchor") ≡ false → is_utf8 name ≡ true → list_all is_target targets ≡ true → is_relation (record { name = name; targets = targets }) ≡ true
 unfolding is_relation
@@ -239,25 +219,33 @@ module _ {Y : Type 0} (faults : List ℕ → Data → List JsonFault) (made : Da
   array_read read i y more so_far (inl h) e = absurd (let g : Ok y ≡ Err Memory = h in cc)
   array_read read i y more so_far (inr p) e = item_read faults made place (items_of whole) read i p.0 y more so_far (items_at whole i ∙ sym p.1) p.2 e
 
--- ---- relations of a context, each with its faults and what it is read as
+-- ---- members of an object, each with its faults and what it is read as
 
-module _ (place : List ℕ) (d : Data) (names : List (List ℕ)) where
-  pub record Found (read : List Relation) (i : ℕ) : Type 0 where
-    pub none : flat_map (relation_faults place d) (take i names) ≡ []
-    pub made : read ≡ filter_map (relation_of d) (take i names)
-    pub shaped : list_all is_relation read ≡ true
+module _ {X : Type 0} (faults : List ℕ → List JsonFault) (made : List ℕ → Option X) (shape : X → Bool) (names : List (List ℕ)) where
+  pub record Found (read : List X) (i : ℕ) : Type 0 where
+    pub none : flat_map faults (take i names) ≡ []
+    pub kept : read ≡ filter_map made (take i names)
+    pub shaped : list_all shape read ≡ true
 
-  pub relation_fault : (read : List Relation) (i : ℕ) (name : List ℕ) (e : JsonFault) (all : List (List ℕ)) → names ≡ all → Found read i → slice_get names i ≡ Some name → OrMemory (Err e) (first_or (relation_faults place d name) (relation_of d name)) → OrMemory (Err e) (first_or (flat_map (relation_faults place d) all) (filter_map (relation_of d) all))
-  relation_fault read i name e all same so_far at h = rw (← same) (fault_at (relation_faults place d) names i name (relation_of d name) (filter_map (relation_of d) names) e at so_far.none h)
+  pub member_fault : (read : List X) (i : ℕ) (name : List ℕ) (e : JsonFault) (all : List (List ℕ)) → names ≡ all → Found read i → slice_get names i ≡ Some name → OrMemory (Err e) (first_or (faults name) (made name)) → OrMemory (Err e) (first_or (flat_map faults all) (filter_map made all))
+  member_fault read i name e all same so_far at h = rw (← same) (fault_at faults names i name (made name) (filter_map made names) e at so_far.none h)
 
-  pub relation_kept : (read : List Relation) (i : ℕ) (name : List ℕ) (r : Option Relation) (more : List Relation) → Found read i → slice_get names i ≡ Some name → OrMemory (Ok r) (first_or (relation_faults place d name) (relation_of d name)) → IfSome r (λ x. is_relation x ≡ true) → more ≡ read ++ cons_option r [] → Found more (i + 1)
-  relation_kept read i name r more so_far at h shape e =
-      let own = no_fault (relation_faults place d name) (relation_of d name) r h in
+  pub member_kept : (read : List X) (i : ℕ) (name : List ℕ) (r : Option X) (more : List X) → Found read i → slice_get names i ≡ Some name → OrMemory (Ok r) (first_or (faults name) (made name)) → IfSome r (λ x. shape x ≡ true) → more ≡ read ++ cons_option r [] → Found more (i + 1)
+  member_kept read i name r more so_far at h own_shape e =
+      let own = no_fault (faults name) (made name) r h in
       record {
-        none = none_more (relation_faults place d) names i name at so_far.none own.0;
-        made = kept_by (relation_of d) names i name r read more at so_far.made own.1 e;
-        shaped = rw e (all_by is_relation read r so_far.shaped shape);
+        none = none_more faults names i name at so_far.none own.0;
+        kept = kept_by made names i name r read more at so_far.kept own.1 e;
+        shaped = rw e (all_by shape read r so_far.shaped own_shape);
       }
+
+  pub members_read : (read : List X) (i : ℕ) (all : List (List ℕ)) → names ≡ all → Found read i → length names ≤ i → OrMemory (Ok read) (first_or (flat_map faults all) (filter_map made all))
+  members_read read i all same so_far few =
+      rw (← same) (all_read (flat_map faults names) (filter_map made names) read (none_all faults names i few so_far.none) (rw (take_all names i few) at so_far.kept))
+
+-- the names of an object without members
+pub no_members : {X : Type 0} (faults : List ℕ → List JsonFault) (made : List ℕ → Option X) (shape : X → Bool) (d : Data) → None ≡ names_of d → OrMemory (Ok []) (first_or (flat_map faults (names_in d)) (filter_map made (names_in d)))
+no_members faults made shape d h = rw (← h) (inr refl)
 
 pub listed_names : (d : Data) (names : List (List ℕ)) → Some names ≡ names_of d → names ≡ names_in d
 listed_names d names h = ap (λ o. unwrap_or o []) h
@@ -288,6 +276,35 @@ module _ (place : List ℕ) (d : Data) (name : List ℕ) where
   pub by_member : (e : Data) (r : Result (Option Relation) JsonFault) → bytes_eq name (codes "anchor") ≡ false → Some e ≡ get name d → OrMemory r (member_answer name (member_place place name) e) → OrMemory r (first_or (relation_faults place d name) (relation_of d name))
   unfolding relation_faults relation_of targets_at
   by_member e r other h answer = rw (other, ← h) answer
+
+-- ---- a target
+
+abbrev none_of : List ℕ → List JsonFault
+none_of n = []
+
+no_faults : (ns : List (List ℕ)) → flat_map none_of ns ≡ []
+no_faults [] = refl
+no_faults (n ∷ ns) = no_faults ns
+
+module _ (place : List ℕ) (d : Data) where
+  abbrev target_told : Result Target JsonFault
+  target_told = first_or (target_faults place d) (target_of d)
+
+  pub no_href : (e : JsonFault) → OrMemory (Err e) (text_answer (codes "href") place d) → OrMemory (Err e) target_told
+  unfolding target_faults
+  no_href e h = same_fault (member_faults Text (codes "href") place d) (text_in (codes "href") d) (target_of d) e h
+
+  pub attrs_refused : {X : Type 0} (x : X) (e : JsonFault) → OrMemory (Err e) (first_or (flat_map none_of (names_in d)) x) → OrMemory (Err e) target_told
+  attrs_refused x e (inl h) = inl (let same : e ≡ Memory = cc in ap Err same)
+  attrs_refused x e (inr h) = absurd (let g = rw (no_faults (names_in d)) at h in let bad : Err e ≡ Ok x = g in cc)
+
+  pub target_read : (href : List ℕ) (attrs : List Attr) → OrMemory (Ok href) (text_answer (codes "href") place d) → OrMemory (Ok attrs) (first_or (flat_map none_of (names_in d)) (filter_map (attr_of d) (names_in d)))
+      → OrMemory (Ok (record { href = href; attrs = attrs })) target_told
+  unfolding target_faults target_of
+  target_read href attrs h g =
+      let own = no_fault (member_faults Text (codes "href") place d) (text_in (codes "href") d) href h in
+      let all = no_fault (flat_map none_of (names_in d)) (filter_map (attr_of d) (names_in d)) attrs g in
+      rw (own.0, own.1, all.1) (inr refl)
 
 -- ---- shapes
 

@@ -28,6 +28,7 @@ mod link_shapes;
 mod link_types;
 mod members;
 mod read_attrs;
+mod read_members;
 mod reading;
 mod writing;
 

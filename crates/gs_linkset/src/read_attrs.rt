@@ -1,45 +1,69 @@
-ghost use Rattle.std.specs.Prelude.{◌≡◌, IfOk, IfSome, codes, false, map, option_map, true};
-ghost use Rattle.std.specs.List.{filter_map, list_all};
-ghost use Rattle.std.specs.Str.{bytes_eq, is_utf8};
-ghost use Rattle.serde_json.specs.Find.{as_str};
+ghost use Rattle.std.specs.Prelude.{◌≡◌, IfOk, IfSome, codes, false, map, option_and_then, option_map, true};
+ghost use Rattle.std.specs.List.{list_all};
+ghost use Rattle.std.specs.Str.{bytes_eq};
 ghost use Rattle.serde_json.specs.View.{view};
-ghost use Rattle.gs_json.specs.Answers.{AscendByBytes};
-ghost use Rattle.gs_linkset.specs.Attributes.{every, language_of, tagged_text, tagged_texts, texts_of, value_of};
-ghost use Rattle.gs_linkset.specs.Documents.{attr_named, attr_of, names_in};
-ghost use Rattle.gs_linkset.specs.LinkShapes.{ascend, is_attr, is_tagged_text, is_value};
+ghost use Rattle.gs_linkset.specs.Attributes.{array_in, every, language_of, tagged_text, value_of};
+ghost use Rattle.gs_linkset.specs.Documents.{attr_named};
+ghost use Rattle.gs_linkset.specs.LinkShapes.{is_attr, is_value};
 
-use crate::adding::push_some;
-use crate::link_shapes::{is_single, is_tagged};
+use crate::link_shapes::{Shaped, is_single, is_tagged};
 use crate::link_types::{Attr, AttrValue};
-use crate::members::{names_of, own_text};
+use crate::read_members::ReadMember;
 use gs_chars::{List, Memory, Text};
-use gs_json::Node;
+use gs_json::{JsonFault, Node};
 use serde_json::Value;
 use std::alloc::Global;
 
-/// The texts that these are, where all are texts.
-fn all_texts(alloc: Global, items: &[Value]) -> Result<Option<List<Text>>, Memory>
-    ensures texts { IfOk result (λ texts. texts ≡ every as_str (map view items.now)) }
-    ensures shape { IfOk result (λ texts. IfSome texts (λ texts. list_all is_utf8 texts ≡ true)) }
-{
-    let mut texts = Vec::new(alloc);
-    for item in items {
-        let Some(text) = own_text(alloc, item)? else {
-            return Ok(None);
-        };
-        texts.push(text)?;
-    }
-    Ok(Some(List::from_vec(texts)))
+/// What is read of the items of an array, where each of them is one.
+trait ReadEntry: Shaped + Drop {
+    ghost use Rattle.std.specs.Prelude.{Option};
+    ghost use Rattle.serde_json.specs.Data.{Data};
+
+    /// What an item is read as, where it is read as something.
+    ghost told: { Data → Option Self };
+
+    /// What an item is read as.
+    fn read(alloc: Global, item: &Value) -> Result<Option<Self>, Memory>
+        ensures told { IfOk result (λ entry. entry ≡ told (view item.now)) }
+        ensures shape { IfOk result (λ entry. IfSome entry (λ entry. Self.shape entry ≡ true)) };
 }
 
-/// The texts of an array, where it is one of texts alone.
-fn read_texts(alloc: Global, part: &Value) -> Result<Option<List<Text>>, Memory>
-    ensures texts { IfOk result (λ texts. texts ≡ texts_of (view part.now)) }
-    ensures shape { IfOk result (λ texts. IfSome texts (λ texts. list_all is_utf8 texts ≡ true)) }
+/// What is read of the items, where all are read as something.
+fn all_entries<T: ReadEntry>(alloc: Global, items: &[Value]) -> Result<Option<List<T>>, Memory>
+    ensures entries { IfOk result (λ entries. entries ≡ every T.told (map view items.now)) }
+    ensures shape { IfOk result (λ entries. IfSome entries (λ entries. list_all T.shape entries ≡ true)) }
+{
+    let mut entries = Vec::new(alloc);
+    for item in items {
+        let Some(entry) = T::read(alloc, item)? else {
+            return Ok(None);
+        };
+        entries.push(entry)?;
+    }
+    Ok(Some(List::from_vec(entries)))
+}
+
+/// What is read of the items of an array, where it is one of such items alone.
+fn read_entries<T: ReadEntry>(alloc: Global, part: &Value) -> Result<Option<List<T>>, Memory>
+    ensures entries { IfOk result (λ entries. entries ≡ option_and_then (every T.told) (array_in (view part.now))) }
+    ensures shape { IfOk result (λ entries. IfSome entries (λ entries. list_all T.shape entries ≡ true)) }
 {
     match part.as_array() {
-        Some(items) => all_texts(alloc, items.as_slice()),
+        Some(items) => all_entries(alloc, items.as_slice()),
         None => Ok(None),
+    }
+}
+
+impl ReadEntry for Text {
+    ghost use Rattle.serde_json.specs.Find.{as_str};
+
+    ghost told = { as_str };
+
+    fn read(alloc: Global, item: &Value) -> Result<Option<Text>, Memory> {
+        match item.as_str() {
+            Some(text) => Ok(Some(Text::from_bytes(alloc, text.as_bytes())?)),
+            None => Ok(None),
+        }
     }
 }
 
@@ -62,43 +86,17 @@ fn tagged_text(object: &Value) -> Option<(&str, &str)>
     Some((text, language))
 }
 
-/// The text and the language that an object says, of their own.
-fn read_tagged_text(alloc: Global, object: &Value) -> Result<Option<(Text, Text)>, Memory>
-    ensures pair { IfOk result (λ pair. pair ≡ tagged_text (view object.now)) }
-    ensures shape { IfOk result (λ pair. IfSome pair (λ pair. is_tagged_text pair ≡ true)) }
-{
-    match tagged_text(object) {
-        Some((text, language)) => Ok(Some((
-            Text::from_bytes(alloc, text.as_bytes())?,
-            Text::from_bytes(alloc, language.as_bytes())?,
-        ))),
-        None => Ok(None),
-    }
-}
+impl ReadEntry for (Text, Text) {
+    ghost told = { tagged_text };
 
-/// The texts with their languages that these are, where all are such objects.
-fn all_tagged_texts(alloc: Global, items: &[Value]) -> Result<Option<List<(Text, Text)>>, Memory>
-    ensures pairs { IfOk result (λ pairs. pairs ≡ every tagged_text (map view items.now)) }
-    ensures shape { IfOk result (λ pairs. IfSome pairs (λ pairs. list_all is_tagged_text pairs ≡ true)) }
-{
-    let mut pairs = Vec::new(alloc);
-    for item in items {
-        let Some(pair) = read_tagged_text(alloc, item)? else {
-            return Ok(None);
-        };
-        pairs.push(pair)?;
-    }
-    Ok(Some(List::from_vec(pairs)))
-}
-
-/// The texts with their languages of an array, where it is one of such objects alone.
-fn read_tagged_texts(alloc: Global, part: &Value) -> Result<Option<List<(Text, Text)>>, Memory>
-    ensures pairs { IfOk result (λ pairs. pairs ≡ tagged_texts (view part.now)) }
-    ensures shape { IfOk result (λ pairs. IfSome pairs (λ pairs. list_all is_tagged_text pairs ≡ true)) }
-{
-    match part.as_array() {
-        Some(items) => all_tagged_texts(alloc, items.as_slice()),
-        None => Ok(None),
+    fn read(alloc: Global, item: &Value) -> Result<Option<(Text, Text)>, Memory> {
+        match tagged_text(item) {
+            Some((text, language)) => Ok(Some((
+                Text::from_bytes(alloc, text.as_bytes())?,
+                Text::from_bytes(alloc, language.as_bytes())?,
+            ))),
+            None => Ok(None),
+        }
     }
 }
 
@@ -109,18 +107,18 @@ fn read_value(alloc: Global, name: &[u8], part: &Value) -> Result<Option<AttrVal
     ensures shape { IfOk result (λ value. IfSome value (λ value. is_value name.now value ≡ true)) }
 {
     if is_tagged(name) {
-        let Some(pairs) = read_tagged_texts(alloc, part)? else {
+        let Some(pairs) = read_entries(alloc, part)? else {
             return Ok(None);
         };
         return Ok(Some(AttrValue::Tagged(pairs)));
     }
     if is_single(name) {
-        let Some(text) = own_text(alloc, part)? else {
+        let Some(text) = Text::read(alloc, part)? else {
             return Ok(None);
         };
         return Ok(Some(AttrValue::One(text)));
     }
-    let Some(texts) = read_texts(alloc, part)? else {
+    let Some(texts) = read_entries(alloc, part)? else {
         return Ok(None);
     };
     Ok(Some(AttrValue::Many(texts)))
@@ -131,21 +129,6 @@ fn is_href(name: &[u8]) -> bool
     ensures { result ≡ bytes_eq name.now (codes "href") }
 {
     name == b"href".as_slice()
-}
-
-/// The attribute of a name, where the target has one.
-#[tactic(auto, unfolding(crate::specs::Documents::attr_of))]
-fn read_attr(alloc: Global, target: &Value, name: &str) -> Result<Option<Attr>, Memory>
-    ensures attr { IfOk result (λ attr. attr ≡ attr_of (view target.now) name.now) }
-    ensures shape { IfOk result (λ attr. IfSome attr (λ attr. is_attr attr ≡ true)) }
-{
-    if is_href(name.as_bytes()) {
-        return Ok(None);
-    }
-    match target.get(name) {
-        Some(member) => attr_at(alloc, member, name),
-        None => Ok(None),
-    }
 }
 
 /// The attribute of a name, where the member's value is of its kind.
@@ -164,32 +147,25 @@ fn attr_at(alloc: Global, member: &Value, name: &str) -> Result<Option<Attr>, Me
     }))
 }
 
-/// The attributes of a target, in ascending order of their names.
-pub(crate) fn read_attrs(alloc: Global, target: &Node<'_>) -> Result<List<Attr>, Memory>
-    ensures attrs { IfOk result (λ attrs.
-        attrs ≡ filter_map (attr_of (view target.now.tree)) (names_in (view target.now.tree))) }
-    ensures ascending { IfOk result (λ attrs. ascend (map (λ attr. attr.name) attrs) ≡ true) }
-    ensures shape { IfOk result (λ attrs. list_all is_attr attrs ≡ true) }
-{
-    match names_of(alloc, target)? {
-        Some(names) => named_attrs(alloc, target.value(), names.items()),
-        None => Ok(List::from_vec(Vec::new(alloc))),
-    }
-}
+impl ReadMember for Attr {
+    ghost use Rattle.std.specs.Prelude.{[]};
+    ghost use Rattle.gs_linkset.specs.Documents.{attr_of};
+    ghost use Rattle.gs_linkset.specs.Names.{attr_has_name};
 
-/// The attributes of a target, whose names these are, in the order of the names.
-fn named_attrs(alloc: Global, target: &Value, names: &[&str]) -> Result<List<Attr>, Memory>
-    requires names { map (λ name. name.now) names.now ≡ names_in (view target.now) }
-    requires ascending { AscendByBytes (map (λ name. name.now) names.now) }
-    ensures attrs { IfOk result (λ attrs.
-        attrs ≡ filter_map (attr_of (view target.now)) (names_in (view target.now))) }
-    ensures ascending { IfOk result (λ attrs. ascend (map (λ attr. attr.name) attrs) ≡ true) }
-    ensures shape { IfOk result (λ attrs. list_all is_attr attrs ≡ true) }
-{
-    let mut attrs = Vec::new(alloc);
-    for i in 0..names.len() {
-        let attr = read_attr(alloc, target, names[i])?;
-        push_some(&mut attrs, attr)?;
+    ghost faults = { λ _ _ _. [] };
+
+    ghost made = { attr_of };
+
+    ghost has_name = { attr_has_name };
+
+    #[tactic(auto, unfolding(crate::specs::Documents::attr_of))]
+    fn read(alloc: Global, object: &Node<'_>, name: &str) -> Result<Option<Attr>, JsonFault> {
+        if is_href(name.as_bytes()) {
+            return Ok(None);
+        }
+        match object.value().get(name) {
+            Some(member) => Ok(attr_at(alloc, member, name)?),
+            None => Ok(None),
+        }
     }
-    Ok(List::from_vec(attrs))
 }

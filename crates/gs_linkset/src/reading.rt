@@ -1,58 +1,87 @@
-ghost use Rattle.std.specs.Prelude.{◌≡◌, ◌<◌, [], Some, IfOk, IfSome, codes, false, map, true};
+ghost use Rattle.std.specs.Prelude.{◌≡◌, ◌<◌, [], IfOk, IfSome, codes, false, length, map, true};
 ghost use Rattle.std.specs.List.{list_all};
 ghost use Rattle.std.specs.Str.{bytes_eq};
 ghost use Rattle.serde_json.specs.View.{view};
-ghost use Rattle.gs_json.specs.Answers.{AscendByBytes, count_of, items_count};
-ghost use Rattle.gs_linkset.specs.Answers.{ItemAnswer, OrMemory, context_answer, contexts_answer, document_answer};
-ghost use Rattle.gs_linkset.specs.Answers.{member_answer, read_answer, relation_answer, relations_answer};
-ghost use Rattle.gs_linkset.specs.Answers.{target_answer, targets_answer};
-ghost use Rattle.gs_linkset.specs.Documents.{names_in};
-ghost use Rattle.gs_linkset.specs.LinkShapes.{ascend, is_context, is_relation, is_target, relation_names};
+ghost use Rattle.gs_json.specs.Answers.{items_count};
+ghost use Rattle.gs_linkset.specs.Answers.{ItemAnswer, OrMemory, document_answer, first_or, member_answer, read_answer};
+ghost use Rattle.gs_linkset.specs.Attributes.{items_of};
+ghost use Rattle.gs_linkset.specs.Documents.{item_faults};
+ghost use Rattle.gs_linkset.specs.LinkShapes.{is_context, is_relation};
 
-use crate::adding::{push, push_some};
+use crate::adding::push;
 use crate::doc::LinkDoc;
+use crate::link_shapes::Shaped;
 use crate::link_types::{Context, Relation, Target};
-use crate::members::{must_array, must_text, names_of};
-use crate::read_attrs::read_attrs;
+use crate::members::{must_array, must_text};
+use crate::read_members::{ReadMember, read_members};
 use gs_chars::{List, Text};
 use gs_json::{Doc, JsonFault, Node};
 use std::alloc::Global;
 
-/// A target.
-#[tactic(auto, unfolding(crate::specs::Documents::target_faults, crate::specs::Documents::target_of))]
-fn read_target(alloc: Global, object: &Node<'_>) -> Result<Target, JsonFault>
-    ensures answer { OrMemory result (target_answer object.now.place (view object.now.tree)) }
-    ensures shape { IfOk result (λ target. is_target target ≡ true) }
-{
-    let href = must_text(alloc, object, "href")?;
-    let attrs = read_attrs(alloc, object)?;
-    Ok(Target { href, attrs })
+/// What is read of each item of an array.
+trait ReadItem: Shaped + Drop {
+    ghost use Rattle.std.specs.Prelude.{List, ℕ};
+    ghost use Rattle.serde_json.specs.Data.{Data};
+    ghost use Rattle.gs_json.specs.declared.fault.JsonFault.{JsonFault};
+
+    /// The faults of an item at a place.
+    ghost faults: { List ℕ → Data → List JsonFault };
+
+    /// What an item without fault is read as.
+    ghost made: { Data → Self };
+
+    /// What an item is read as.
+    fn read(alloc: Global, item: &Node<'_>) -> Result<Self, JsonFault>
+        ensures answer { OrMemory result
+            (first_or (faults item.now.place (view item.now.tree)) (made (view item.now.tree))) }
+        ensures shape { IfOk result (λ read. Self.shape read ≡ true) };
 }
 
-/// The target at a number of an array.
-fn target_at(alloc: Global, array: &Node<'_>, i: usize) -> Result<Target, JsonFault>
+/// What is read of the item of an array at a number.
+fn item_at<T: ReadItem>(alloc: Global, array: &Node<'_>, i: usize) -> Result<T, JsonFault>
     requires { i < items_count (view array.now.tree) }
-    ensures answer { ItemAnswer target_answer array.now.place i (view array.now.tree) result }
-    ensures shape { IfOk result (λ target. is_target target ≡ true) }
+    ensures answer { ItemAnswer (λ place d. first_or (T.faults place d) (T.made d))
+        array.now.place i (view array.now.tree) result }
+    ensures shape { IfOk result (λ read. T.shape read ≡ true) }
 {
     match array.item(alloc, i) {
-        Ok(item) => read_target(alloc, &item),
+        Ok(item) => T::read(alloc, &item),
         Err(_) => Err(JsonFault::Memory),
     }
 }
 
-/// The targets of an array, in their order.
-fn read_targets(alloc: Global, array: &Node<'_>, count: usize) -> Result<List<Target>, JsonFault>
-    requires { Some count ≡ count_of (view array.now.tree) }
-    ensures answer { OrMemory result (targets_answer array.now.place (view array.now.tree)) }
-    ensures shape { IfOk result (λ targets. list_all is_target targets ≡ true) }
+/// What is read of the items of an array, in their order.
+fn read_items<T: ReadItem>(
+    alloc: Global,
+    array: &Node<'_>,
+    count: usize,
+) -> Result<List<T>, JsonFault>
+    requires { count ≡ items_count (view array.now.tree) }
+    ensures answer { OrMemory result (first_or
+        (item_faults T.faults array.now.place (items_of (view array.now.tree)))
+        (map T.made (items_of (view array.now.tree)))) }
+    ensures shape { IfOk result (λ read. list_all T.shape read ≡ true) }
 {
-    let mut targets = Vec::new(alloc);
+    let mut items = Vec::new(alloc);
     for i in 0..count {
-        let target = target_at(alloc, array, i)?;
-        push(&mut targets, target)?;
+        let item = item_at(alloc, array, i)?;
+        push(&mut items, item)?;
     }
-    Ok(List::from_vec(targets))
+    Ok(List::from_vec(items))
+}
+
+impl ReadItem for Target {
+    ghost use Rattle.gs_linkset.specs.Documents.{target_faults, target_of};
+
+    ghost faults = { target_faults };
+
+    ghost made = { target_of };
+
+    fn read(alloc: Global, item: &Node<'_>) -> Result<Target, JsonFault> {
+        let href = must_text(alloc, item, "href")?;
+        let attrs = read_members(alloc, item)?;
+        Ok(Target { href, attrs })
+    }
 }
 
 /// Whether the name is that of the member that is no relation.
@@ -60,24 +89,6 @@ fn is_anchor(name: &[u8]) -> bool
     ensures { result ≡ bytes_eq name.now (codes "anchor") }
 {
     name == b"anchor".as_slice()
-}
-
-/// The relation of a name, where the context has one.
-fn read_relation(
-    alloc: Global,
-    context: &Node<'_>,
-    name: &str,
-) -> Result<Option<Relation>, JsonFault>
-    ensures answer { OrMemory result (relation_answer context.now.place (view context.now.tree) name.now) }
-    ensures shape { IfOk result (λ relation. IfSome relation (λ relation. is_relation relation ≡ true)) }
-{
-    if is_anchor(name.as_bytes()) {
-        return Ok(None);
-    }
-    match context.find(alloc, name)? {
-        Some(member) => relation_at(alloc, &member, name),
-        None => Ok(None),
-    }
 }
 
 /// The relation of a name, where the member is one.
@@ -89,80 +100,47 @@ fn relation_at(alloc: Global, member: &Node<'_>, name: &str) -> Result<Option<Re
     let Some(count) = member.items_len() else {
         return Ok(None);
     };
-    let targets = read_targets(alloc, member, count)?;
+    let targets = read_items(alloc, member, count)?;
     Ok(Some(Relation {
         name: Text::from_bytes(alloc, name.as_bytes())?,
         targets,
     }))
 }
 
-/// The relations of a context, in ascending order of their names.
-fn read_relations(alloc: Global, context: &Node<'_>) -> Result<List<Relation>, JsonFault>
-    ensures answer { OrMemory result (relations_answer context.now.place (view context.now.tree)) }
-    ensures shape { IfOk result (λ relations. list_all is_relation relations ≡ true) }
-    ensures ascending { IfOk result (λ relations. ascend (relation_names relations) ≡ true) }
-{
-    match names_of(alloc, context)? {
-        Some(names) => named_relations(alloc, context, names.items()),
-        None => Ok(List::from_vec(Vec::new(alloc))),
+impl ReadMember for Relation {
+    ghost use Rattle.gs_linkset.specs.Documents.{relation_faults, relation_of};
+    ghost use Rattle.gs_linkset.specs.Names.{relation_has_name};
+
+    ghost faults = { relation_faults };
+
+    ghost made = { relation_of };
+
+    ghost has_name = { relation_has_name };
+
+    fn read(alloc: Global, object: &Node<'_>, name: &str) -> Result<Option<Relation>, JsonFault> {
+        if is_anchor(name.as_bytes()) {
+            return Ok(None);
+        }
+        match object.find(alloc, name)? {
+            Some(member) => relation_at(alloc, &member, name),
+            None => Ok(None),
+        }
     }
 }
 
-/// The relations of a context, whose names these are, in the order of the names.
-fn named_relations(
-    alloc: Global,
-    context: &Node<'_>,
-    names: &[&str],
-) -> Result<List<Relation>, JsonFault>
-    requires names { map (λ name. name.now) names.now ≡ names_in (view context.now.tree) }
-    requires ascending { AscendByBytes (map (λ name. name.now) names.now) }
-    ensures answer { OrMemory result (relations_answer context.now.place (view context.now.tree)) }
-    ensures shape { IfOk result (λ relations. list_all is_relation relations ≡ true) }
-    ensures ascending { IfOk result (λ relations. ascend (relation_names relations) ≡ true) }
-{
-    let mut relations = Vec::new(alloc);
-    for i in 0..names.len() {
-        let relation = read_relation(alloc, context, names[i])?;
-        push_some(&mut relations, relation)?;
-    }
-    Ok(List::from_vec(relations))
-}
+impl ReadItem for Context {
+    ghost use Rattle.gs_linkset.specs.Documents.{context_faults, context_of};
 
-/// A context: its anchor, and then its relations.
-#[tactic(auto, unfolding(crate::specs::Documents::context_faults, crate::specs::Documents::context_of))]
-fn read_context(alloc: Global, object: &Node<'_>) -> Result<Context, JsonFault>
-    ensures answer { OrMemory result (context_answer object.now.place (view object.now.tree)) }
-    ensures shape { IfOk result (λ context. is_context context ≡ true) }
-{
-    let anchor = must_text(alloc, object, "anchor")?;
-    let relations = read_relations(alloc, object)?;
-    Ok(Context { anchor, relations })
-}
+    ghost faults = { context_faults };
 
-/// The context at a number of an array.
-fn context_at(alloc: Global, array: &Node<'_>, i: usize) -> Result<Context, JsonFault>
-    requires { i < items_count (view array.now.tree) }
-    ensures answer { ItemAnswer context_answer array.now.place i (view array.now.tree) result }
-    ensures shape { IfOk result (λ context. is_context context ≡ true) }
-{
-    match array.item(alloc, i) {
-        Ok(item) => read_context(alloc, &item),
-        Err(_) => Err(JsonFault::Memory),
-    }
-}
+    ghost made = { context_of };
 
-/// The contexts of an array, in their order.
-fn read_contexts(alloc: Global, array: &Node<'_>, count: usize) -> Result<List<Context>, JsonFault>
-    requires { count ≡ items_count (view array.now.tree) }
-    ensures answer { OrMemory result (contexts_answer array.now.place (view array.now.tree)) }
-    ensures shape { IfOk result (λ contexts. list_all is_context contexts ≡ true) }
-{
-    let mut contexts = Vec::new(alloc);
-    for i in 0..count {
-        let context = context_at(alloc, array, i)?;
-        push(&mut contexts, context)?;
+    #[tactic(auto, unfolding(crate::specs::Documents::context_faults, crate::specs::Documents::context_of))]
+    fn read(alloc: Global, item: &Node<'_>) -> Result<Context, JsonFault> {
+        let anchor = must_text(alloc, item, "anchor")?;
+        let relations = read_members(alloc, item)?;
+        Ok(Context { anchor, relations })
     }
-    Ok(List::from_vec(contexts))
 }
 
 /// The contexts of a document.
@@ -173,7 +151,7 @@ fn read_document(alloc: Global, root: &Node<'_>) -> Result<List<Context>, JsonFa
 {
     let count = must_array(alloc, root, "linkset")?;
     match root.find(alloc, "linkset")? {
-        Some(array) => read_contexts(alloc, &array, count),
+        Some(array) => read_items(alloc, &array, count),
         None => Ok(List::from_vec(Vec::new(alloc))),
     }
 }

@@ -11,8 +11,8 @@ returns-in_err-count-clause-answer c =
     let p = err_from_is_err_and c.from_residual.result c.from_residual.ensures.1 in
     rw (p.1, p.2) (document_refused (view c.args.root.now.tree) (count_in (codes "linkset") (view c.args.root.now.tree)) c.in_err-count.field-0.0 (rw c.requires at c.in_err-count.ensures))
 
-pub read_contexts-requires : goal.read_contexts-requires
-read_contexts-requires c =
+pub read_items-requires : goal.read_items-requires
+read_items-requires c =
     count_read (view c.args.root.now.tree) (view c.in-Some.array.tree) c.in_ok-count.count (rw c.requires at c.in_ok-count.ensures) (rw c.in-Some.is at c.in_ok-array.ensures.part)
 
 pub returns-in-None-clause-answer : goal.returns-in-None-clause-answer
@@ -23,5 +23,5 @@ returns-in-None-clause-answer c =
 pub returns-in-Some-clause-answer : goal.returns-in-Some-clause-answer
 returns-in-Some-clause-answer c =
     let place = rw c.in-Some.is at c.in_ok-array.ensures.place in
-    document_read (view c.args.root.now.tree) (count_in (codes "linkset") (view c.args.root.now.tree)) c.in_ok-count.count (items_of (view c.in-Some.array.tree)) c.read_contexts.result (rw c.requires at c.in_ok-count.ensures)
-    (array_contexts (view c.args.root.now.tree) (view c.in-Some.array.tree) (rw c.in-Some.is at c.in_ok-array.ensures.part)) (rw (place, c.requires) at c.read_contexts.ensures.answer)
+    document_read (view c.args.root.now.tree) (count_in (codes "linkset") (view c.args.root.now.tree)) c.in_ok-count.count (items_of (view c.in-Some.array.tree)) c.read_items.result (rw c.requires at c.in_ok-count.ensures)
+    (array_contexts (view c.args.root.now.tree) (view c.in-Some.array.tree) (rw c.in-Some.is at c.in_ok-array.ensures.part)) (rw (place, c.requires) at c.read_items.ensures.answer)

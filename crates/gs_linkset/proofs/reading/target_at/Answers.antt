@@ -1,6 +1,0 @@
-use Rattle.std.proofs.Common.{inr}
-use Rattle.serde_json.specs.View.{view}
-use Rattle.gs_linkset.proofs.reading.target_at.Goals as goal
-
-pub returns-in-Ok-clause-answer : goal.returns-in-Ok-clause-answer
-returns-in-Ok-clause-answer c = inr (view c.in-Ok.item.tree, c.in-Ok.ensures.item, rw c.in-Ok.ensures.place at c.read_target.ensures.answer)

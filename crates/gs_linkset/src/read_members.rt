@@ -1,0 +1,88 @@
+ghost use Rattle.std.specs.Prelude.{◌≡◌, IfOk, IfSome, map, option_map, true};
+ghost use Rattle.std.specs.List.{filter_map, flat_map, list_all};
+ghost use Rattle.serde_json.specs.View.{view};
+ghost use Rattle.gs_json.specs.Answers.{AscendByBytes, names_of};
+ghost use Rattle.gs_linkset.specs.Answers.{OrMemory, first_or};
+ghost use Rattle.gs_linkset.specs.Documents.{names_in};
+ghost use Rattle.gs_linkset.specs.LinkShapes.{ascend};
+
+use crate::adding::push_some;
+use crate::link_shapes::Named;
+use gs_chars::{List, Memory};
+use gs_json::{JsonFault, Node};
+use std::alloc::Global;
+
+/// What is read of the members of an object, name by name.
+pub(crate) trait ReadMember: Named + Drop {
+    ghost use Rattle.std.specs.Prelude.{List, Option, Some, ℕ};
+    ghost use Rattle.serde_json.specs.Data.{Data};
+    ghost use Rattle.gs_json.specs.declared.fault.JsonFault.{JsonFault};
+
+    /// The faults of the member of a name, in an object at a place.
+    ghost faults: { List ℕ → Data → List ℕ → List JsonFault };
+
+    /// What the member of a name is read as, where it is read as something.
+    ghost made: { Data → List ℕ → Option Self };
+
+    /// What the member of a name is read as.
+    fn read(alloc: Global, object: &Node<'_>, name: &str) -> Result<Option<Self>, JsonFault>
+        ensures answer { OrMemory result
+            (first_or (faults object.now.place (view object.now.tree) name.now) (made (view object.now.tree) name.now)) }
+        ensures shape { IfOk result (λ read. IfSome read (λ read. Self.shape read ≡ true)) };
+
+    /// What is read of the member of a name has that name.
+    ghost has_name: { (d : Data) (name : List ℕ) (read : Self) → made d name ≡ Some read → Self.name_of read ≡ name };
+}
+
+/// The names of the members, in ascending order, where this is an object.
+fn names_of<'a>(alloc: Global, part: &Node<'a>) -> Result<Option<List<&'a str>>, Memory>
+    ensures names { IfOk result (λ names.
+        option_map (map (λ name. name.now)) names ≡ names_of (view part.now.tree)) }
+    ensures ascending { IfOk result (λ names.
+        IfSome names (λ names. AscendByBytes (map (λ name. name.now) names))) }
+{
+    match part.names(alloc) {
+        Ok(names) => Ok(Some(names)),
+        Err(JsonFault::Memory) => Err(Memory),
+        Err(_) => Ok(None),
+    }
+}
+
+/// What is read of the members of an object, in ascending order of their names.
+pub(crate) fn read_members<M: ReadMember>(
+    alloc: Global,
+    object: &Node<'_>,
+) -> Result<List<M>, JsonFault>
+    ensures answer { OrMemory result (first_or
+        (flat_map (M.faults object.now.place (view object.now.tree)) (names_in (view object.now.tree)))
+        (filter_map (M.made (view object.now.tree)) (names_in (view object.now.tree)))) }
+    ensures shape { IfOk result (λ all. list_all M.shape all ≡ true) }
+    ensures ascending { IfOk result (λ all. ascend (map M.name_of all) ≡ true) }
+{
+    match names_of(alloc, object)? {
+        Some(names) => named_members(alloc, object, names.items()),
+        None => Ok(List::from_vec(Vec::new(alloc))),
+    }
+}
+
+/// What is read of the members of an object, whose names these are, in the order of the names.
+fn named_members<M: ReadMember>(
+    alloc: Global,
+    object: &Node<'_>,
+    names: &[&str],
+) -> Result<List<M>, JsonFault>
+    requires names { map (λ name. name.now) names.now ≡ names_in (view object.now.tree) }
+    requires ascending { AscendByBytes (map (λ name. name.now) names.now) }
+    ensures answer { OrMemory result (first_or
+        (flat_map (M.faults object.now.place (view object.now.tree)) (names_in (view object.now.tree)))
+        (filter_map (M.made (view object.now.tree)) (names_in (view object.now.tree)))) }
+    ensures shape { IfOk result (λ all. list_all M.shape all ≡ true) }
+    ensures ascending { IfOk result (λ all. ascend (map M.name_of all) ≡ true) }
+{
+    let mut all = Vec::new(alloc);
+    for i in 0..names.len() {
+        let read = M::read(alloc, object, names[i])?;
+        push_some(&mut all, read)?;
+    }
+    Ok(List::from_vec(all))
+}
