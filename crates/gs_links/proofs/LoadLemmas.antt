@@ -216,29 +216,44 @@ not_over n h = elim (cases_lt 65536 n) [
   | inr few ↦ few
 ]
 
+-- the answer to contexts, whatever their number of targets
+abbrev by_contexts : List AiRow → List ℕ → List Context → Result (List Link) StoreFault
+by_contexts table voc contexts = first_or (flat_map (λ row. context_faults table row.0 row.1) (enumerate_from 0 contexts)) (links_of table voc contexts)
+
 module _ (table : List AiRow) (voc : List ℕ) (contexts : List Context) (i : ℕ) where
   -- what is known where the contexts before a place are loaded
   pub record Loaded (links : List Link) : Type 0 where
     pub none : NoneBefore (context_faults table) contexts i
     pub made : links ≡ flat_map (context_links table voc) (take i contexts)
 
-  pub few_links : (links : List Link) → Loaded links → length contexts ≤ i → nat_lt 65536 (targets_count contexts) ≡ false → length links ≤ 65536
-  few_links links so_far all few =
+  pub contexts_refused : (links : List Link) (context : Context) (e : StoreFault) → Loaded links → slice_get contexts i ≡ Some context → OrMemory {X = Unit {0}} (Err e) (first_or (context_faults table i context) tt) → OrMemory {X = List Link} (Err e) (by_contexts table voc contexts)
+  contexts_refused links context e so_far at h = fault_at (context_faults table) contexts i context tt (links_of table voc contexts) e at so_far.none h
+
+  pub contexts_made : (links : List Link) → Loaded links → length contexts ≤ i → OrMemory {X = List Link} (Ok links) (by_contexts table voc contexts)
+  unfolding links_of
+  contexts_made links so_far all =
+      let none = none_all (context_faults table) contexts i all so_far.none in
       let made = rw (take_whole contexts i all) at so_far.made in
+      rw (none, made) (inr refl)
+
+made_by : {X : Type 0} (faults : List StoreFault) (x z : X) → OrMemory (Ok z) (first_or faults x) → z ≡ x
+made_by faults x z (inl h) = absurd (let g : Ok z ≡ Err Memory = h in cc)
+made_by [] x z (inr h) = let g : Ok z ≡ Ok x = h in cc
+made_by (f ∷ faults) x z (inr h) = absurd (let g : Ok z ≡ Err f = h in cc)
+
+-- the contexts of a linkset that has not too many targets
+module _ (table : List AiRow) (voc : List ℕ) (contexts : List Context) (few : nat_lt 65536 (targets_count contexts) ≡ false) where
+  pub store_answer : (r : Result (List Link) StoreFault) → OrMemory r (by_contexts table voc contexts) → OrMemory r (load_answer table voc contexts)
+  unfolding load_answer store_faults
+  store_answer r h = rw few h
+
+  pub few_links : (links : List Link) → OrMemory {X = List Link} (Ok links) (by_contexts table voc contexts) → length links ≤ 65536
+  unfolding links_of
+  few_links links h =
+      let made = made_by (flat_map (λ row. context_faults table row.0 row.1) (enumerate_from 0 contexts)) (links_of table voc contexts) links h in
       let low = links_few table voc contexts in
       let high = not_over (targets_count contexts) few in
       rw made (omega (arith, low, high))
-
-  pub store_refused : (links : List Link) (context : Context) (e : StoreFault) → Loaded links → slice_get contexts i ≡ Some context → nat_lt 65536 (targets_count contexts) ≡ false → OrMemory {X = Unit {0}} (Err e) (first_or (context_faults table i context) tt) → OrMemory {X = List Link} (Err e) (load_answer table voc contexts)
-  unfolding load_answer store_faults
-  store_refused links context e so_far at few h = rw few (fault_at (context_faults table) contexts i context tt (links_of table voc contexts) e at so_far.none h)
-
-  pub store_made : (links : List Link) → Loaded links → length contexts ≤ i → nat_lt 65536 (targets_count contexts) ≡ false → OrMemory {X = List Link} (Ok links) (load_answer table voc contexts)
-  unfolding load_answer store_faults links_of
-  store_made links so_far all few =
-      let none = none_all (context_faults table) contexts i all so_far.none in
-      let made = rw (take_whole contexts i all) at so_far.made in
-      rw (few, none, made) (inr refl)
 
 pub loaded_more : (table : List AiRow) (voc : List ℕ) (contexts : List Context) (i : ℕ) (links more : List Link) (context : Context) → Loaded table voc contexts i links → slice_get contexts i ≡ Some context → OrMemory {X = Unit {0}} (Ok tt) (first_or (context_faults table i context) tt) → more ≡ links ++ context_links table voc context → Loaded table voc contexts (i + 1) more
 loaded_more table voc contexts i links more context so_far at own e = record {

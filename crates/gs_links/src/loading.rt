@@ -1,12 +1,12 @@
 ghost use Rattle.std.specs.Prelude.{◌≡◌, ◌++◌, [], IfErr, IfOk, Ok, map, not, position, true};
 ghost use Rattle.gs_linkset.specs.LinkShapes.{is_context};
 ghost use Rattle.gs_links.specs.Shapes.{is_link};
-ghost use Rattle.std.specs.List.{flat_map, list_all};
+ghost use Rattle.std.specs.List.{enumerate_from, flat_map, list_all};
 ghost use Rattle.gs_ident.specs.Identities.{IsMadeWith};
 ghost use Rattle.gs_links.specs.Loading.{IsRefusal, OrMemory, anchor_answer, context_faults, context_links};
 ghost use Rattle.gs_links.specs.Loading.{expanded, first_or};
 ghost use Rattle.gs_chars.specs.Characters.{is_visible};
-ghost use Rattle.gs_links.specs.Loading.{is_reference, link_with, relation_links, relations_faults};
+ghost use Rattle.gs_links.specs.Loading.{is_reference, link_with, links_of, relation_links, relations_faults};
 
 use crate::anchors::read_anchor;
 use crate::fault::StoreFault;
@@ -159,7 +159,7 @@ fn judge_context(
 }
 
 /// Adds the links of the context at an index, or answers its first refusal.
-pub(crate) fn push_context(
+fn push_context(
     alloc: Global,
     table: &AiTable,
     voc: &[u8],
@@ -179,4 +179,27 @@ pub(crate) fn push_context(
     let anchor = judge_context(alloc, table, i, &context)?;
     push_relations(alloc, voc, &anchor, context.relations, links)?;
     Ok(())
+}
+
+/// The links of contexts, in their order, or the first refusal, context by context.
+pub(crate) fn links_of(
+    alloc: Global,
+    table: &AiTable,
+    voc: &[u8],
+    contexts: List<Context>,
+) -> Result<List<Link>, StoreFault>
+    requires voc { list_all is_visible voc.now ≡ true }
+    requires shape { list_all is_context contexts ≡ true }
+    ensures answer { OrMemory result
+        (first_or (flat_map (λ row. context_faults table.now row.0 row.1) (enumerate_from 0 contexts))
+        (links_of table.now voc.now contexts)) }
+    ensures shape { IfOk result (λ links. list_all is_link links ≡ true) }
+{
+    let mut links = Vec::new(alloc);
+    let mut i = 0;
+    for context in contexts.into_vec() {
+        push_context(alloc, table, voc, i, context, &mut links)?;
+        i += 1;
+    }
+    Ok(List::from_vec(links))
 }
