@@ -241,6 +241,11 @@ made_by faults x z (inl h) = absurd (let g : Ok z ≡ Err Memory = h in cc)
 made_by [] x z (inr h) = let g : Ok z ≡ Ok x = h in cc
 made_by (f ∷ faults) x z (inr h) = absurd (let g : Ok z ≡ Err f = h in cc)
 
+-- what is made of an answer that is no fault
+pub stored : {X : Type 0} (r answer : Result X StoreFault) (x : X) → OrMemory r (Ok x) → OrMemory (Ok x) answer → OrMemory r answer
+stored r answer x (inl h) own = inl h
+stored r answer x (inr h) own = rw h own
+
 -- the contexts of a linkset that has not too many targets
 module _ (table : List AiRow) (voc : List ℕ) (contexts : List Context) (few : nat_lt 65536 (targets_count contexts) ≡ false) where
   pub store_answer : (r : Result (List Link) StoreFault) → OrMemory r (by_contexts table voc contexts) → OrMemory r (load_answer table voc contexts)

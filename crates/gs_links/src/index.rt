@@ -78,8 +78,7 @@ impl Index {
             list.push(i)?;
             return Ok(());
         }
-        let mut list = Vec::new(alloc);
-        list.push(i)?;
+        let list = Vec::from_slice(alloc, &[i])?;
         self.lists.insert(number, list)?;
         Ok(())
     }
