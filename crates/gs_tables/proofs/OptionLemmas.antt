@@ -1,10 +1,10 @@
 -- Chains of tests, and the refusals of an option.
 use Rattle.std.proofs.Common.{◌≡◌, ℕ, Bool, true, false, not, ◌&&◌, ◌≤◌, nat_lt, arith, List, [], ◌++◌, Option, Some, None, slice_get, refl, sym, option_map}
 use Rattle.std.proofs.lemmas.Grind.{common_steps}
-use Rattle.std.specs.Prelude.{option_to_list}
+use Rattle.std.specs.Prelude.{Result, option_to_list}
 use Rattle.std.specs.Option.{option_map_or}
 use Rattle.gs_document.specs.declared.fault.LoadFault.{LoadFault}
-use Rattle.gs_rows.specs.Tables.{refuse_if}
+use Rattle.gs_rows.specs.Tables.{IsFirst, refuse_if}
 
 -- ---- three tests, one after the other
 
@@ -40,11 +40,15 @@ size_next bad twin f twins large fit size mismatch e g = rw (e, g) refl
 pub mismatch_next : (bad twin : Option ℕ) (f twins : ℕ → LoadFault) (large fit : Bool) (size mismatch : LoadFault) → bad ≡ None → large ≡ false → fit ≡ false → slice_get (listed bad twin f twins large fit size mismatch) 0 ≡ Some mismatch
 mismatch_next bad twin f twins large fit size mismatch e g h = rw (e, g, h) refl
 
-pub twin_last : (bad twin : Option ℕ) (f twins : ℕ → LoadFault) (large fit : Bool) (size mismatch : LoadFault) (j : ℕ) → bad ≡ None → large ≡ false → fit ≡ true → twin ≡ Some j → slice_get (listed bad twin f twins large fit size mismatch) 0 ≡ Some (twins j)
-twin_last bad twin f twins large fit size mismatch j e g h i = rw (e, g, h, i) refl
+-- what decides where the first three tests refuse nothing
+pub twin_decides : (bad twin : Option ℕ) (f twins : ℕ → LoadFault) (large fit : Bool) (size mismatch : LoadFault) (answer : Result (Unit {0}) LoadFault) → bad ≡ None → large ≡ false → fit ≡ true → IsFirst (option_to_list (option_map twins twin)) answer → IsFirst (listed bad twin f twins large fit size mismatch) answer
+twin_decides bad twin f twins large fit size mismatch answer e g h i = rw (e, g, h) i
 
-pub no_refusal : (bad twin : Option ℕ) (f twins : ℕ → LoadFault) (large fit : Bool) (size mismatch : LoadFault) → bad ≡ None → large ≡ false → fit ≡ true → twin ≡ None → listed bad twin f twins large fit size mismatch ≡ []
-no_refusal bad twin f twins large fit size mismatch e g h i = rw (e, g, h, i) refl
+pub found_same : (twin : Option ℕ) (twins : ℕ → LoadFault) (j : ℕ) → twin ≡ Some j → slice_get (option_to_list (option_map twins twin)) 0 ≡ Some (twins j)
+found_same twin twins j e = rw e refl
+
+pub none_same : (twin : Option ℕ) (twins : ℕ → LoadFault) → twin ≡ None → option_to_list (option_map twins twin) ≡ []
+none_same twin twins e = rw e refl
 
 pub above_limit : (limit size : ℕ) → (size ≤ limit → ⊥) → nat_lt limit size ≡ true
 above_limit limit size h = grind (arith, common_steps)

@@ -4,6 +4,7 @@ ghost use Rattle.std.specs.List.{find};
 ghost use Rattle.std.specs.Option.{option_copied};
 ghost use Rattle.gs_rows.specs.Rules.{fits_kind, has_name, keeps_form};
 ghost use Rattle.gs_rows.specs.Tables.{IsFirst, fits, is_bad_item, is_same, items_alone, items_there, option_refusals};
+ghost use Rattle.gs_tables.specs.Founds.{same_refusals};
 
 use crate::field_items::{keeps_gcp, keeps_level, keeps_rest, keeps_serial, size_within_limit};
 use crate::kind_rules::are_visible;
@@ -86,6 +87,21 @@ fn first_same(rows: &[OptionRow], row: &OptionRow) -> Option<usize>
     rows.iter().position(|other| is_same(other, row))
 }
 
+/// Refuses option `i` where it is the same as an earlier one.
+fn check_unlike(
+    level: LevelName,
+    earlier: &[OptionRow],
+    i: usize,
+    row: &OptionRow,
+) -> Result<(), LoadFault>
+    ensures { IsFirst (same_refusals level earlier.now i row.now) result }
+{
+    match first_same(earlier, row) {
+        Some(j) => Err(LoadFault::Duplicate(level, j, i)),
+        None => Ok(()),
+    }
+}
+
 /// The first refusal of option `i` of a level.
 pub(crate) fn check_option(
     ais: &AiTable,
@@ -108,8 +124,5 @@ pub(crate) fn check_option(
     if !fits(ais, kinds, level, size, row) {
         return Err(LoadFault::Mismatch(level, i));
     }
-    match first_same(&rows[..i], row) {
-        Some(j) => Err(LoadFault::Duplicate(level, j, i)),
-        None => Ok(()),
-    }
+    check_unlike(level, &rows[..i], i, row)
 }

@@ -5,7 +5,7 @@ use Rattle.gs_document.specs.declared.fault.LimitName.TheVariants as limits
 use Rattle.gs_document.specs.declared.fault.LoadFault.TheVariants.{BadItem, Limit, Mismatch, Duplicate}
 use Rattle.gs_document.specs.Documents.{is_bits}
 use Rattle.gs_rows.specs.Tables.{fits, is_bad_item, is_same, items_alone, option_refusals}
-use Rattle.gs_tables.proofs.OptionLemmas.{bad_first, size_next, mismatch_next, twin_last, no_refusal, above_limit, within_limit}
+use Rattle.gs_tables.proofs.OptionLemmas.{bad_first, size_next, mismatch_next, twin_decides, above_limit, within_limit}
 use Rattle.gs_tables.proofs.option_rules.check_option.Goals as goal
 
 pub returns-in-Some : goal.returns-in-Some
@@ -26,14 +26,8 @@ returns-then-not-fits c =
     mismatch_next (position (is_bad_item (is_bits c.args.level)) c.args.row.now.items) (position (λ other. is_same other c.args.row.now) (take c.args.i c.args.rows.now)) (λ k. BadItem c.args.level c.args.i k) (λ j. Duplicate c.args.level j c.args.i) (nat_lt most_symbols (size_of_all (items_alone c.args.row.now))) (fits c.args.ais.now c.args.kinds.now c.args.level c.args.row.now) (Limit limits.Size) (Mismatch c.args.level c.args.i)
     (search rules) (within_limit most_symbols (size_of_all (items_alone c.args.row.now)) (search rules)) (search rules)
 
-pub returns-in-Some-first_same : goal.returns-in-Some-first_same
+pub returns : goal.returns
 unfolding option_refusals
-returns-in-Some-first_same c =
-    twin_last (position (is_bad_item (is_bits c.args.level)) c.args.row.now.items) (position (λ other. is_same other c.args.row.now) (take c.args.i c.args.rows.now)) (λ k. BadItem c.args.level c.args.i k) (λ j. Duplicate c.args.level j c.args.i) (nat_lt most_symbols (size_of_all (items_alone c.args.row.now))) (fits c.args.ais.now c.args.kinds.now c.args.level c.args.row.now) (Limit limits.Size) (Mismatch c.args.level c.args.i)
-    c.in-Some-first_same.j (search rules) (within_limit most_symbols (size_of_all (items_alone c.args.row.now)) (search rules)) (search rules) (search rules)
-
-pub returns-in-None : goal.returns-in-None
-unfolding option_refusals
-returns-in-None c =
-    no_refusal (position (is_bad_item (is_bits c.args.level)) c.args.row.now.items) (position (λ other. is_same other c.args.row.now) (take c.args.i c.args.rows.now)) (λ k. BadItem c.args.level c.args.i k) (λ j. Duplicate c.args.level j c.args.i) (nat_lt most_symbols (size_of_all (items_alone c.args.row.now))) (fits c.args.ais.now c.args.kinds.now c.args.level c.args.row.now) (Limit limits.Size) (Mismatch c.args.level c.args.i)
-    (search rules) (within_limit most_symbols (size_of_all (items_alone c.args.row.now)) (search rules)) (search rules) (search rules)
+returns c =
+    twin_decides (position (is_bad_item (is_bits c.args.level)) c.args.row.now.items) (position (λ other. is_same other c.args.row.now) (take c.args.i c.args.rows.now)) (λ k. BadItem c.args.level c.args.i k) (λ j. Duplicate c.args.level j c.args.i) (nat_lt most_symbols (size_of_all (items_alone c.args.row.now))) (fits c.args.ais.now c.args.kinds.now c.args.level c.args.row.now) (Limit limits.Size) (Mismatch c.args.level c.args.i)
+    c.check_unlike.result (search rules) (within_limit most_symbols (size_of_all (items_alone c.args.row.now)) (search rules)) (search rules) c.check_unlike.ensures
