@@ -81,7 +81,7 @@ pub(crate) fn values_for(
 fn has_item(field: Field, fields: &[Option<Field>]) -> bool
     ensures { result ≡ list_any (is_field field) fields.now }
 {
-    fields.iter().any(|named| *named == Some(field))
+    fields.contains(&Some(field))
 }
 
 /// Whether a text is not empty, and no item stands for its field.

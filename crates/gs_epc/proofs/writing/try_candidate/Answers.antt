@@ -48,3 +48,9 @@ pub returns-in-Err-CannotHold : goal.returns-in-Err-CannotHold
 returns-in-Err-CannotHold c = λ candidate.
     let is = is_read _ _ _ _ candidate _ _ _ _ _ _ _ _ c.level.ensures.rows c.options.ensures.options c.index-options-i.is c.info.ensures.rows c.index-info-i.is c.items-fields.ensures c.in_ok-values.ensures c.deref.ensures.value in
     refuses_at _ _ _ _ _ _ _ _ is _ _ _ (rw c.in-Err-CannotHold.field-0-is at c.in-Err-CannotHold.ensures.refused) c.field_at.ensures
+
+pub values_for-requires : goal.values_for-requires
+values_for-requires c = c.requires.filter
+
+pub returns : goal.returns
+returns c = λ candidate. tt
