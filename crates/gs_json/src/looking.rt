@@ -5,6 +5,7 @@ ghost use Rattle.gs_json.specs.Answers.{count_of};
 ghost use Rattle.gs_json.specs.Places.{member_place};
 
 use crate::node::Node;
+use crate::place::Step;
 use gs_chars::Memory;
 use serde_json::Value;
 use std::alloc::Global;
@@ -31,7 +32,7 @@ impl<'a> Node<'a> {
         match map.get_key_value(name) {
             Some((key, value)) => Ok(Some(Node {
                 value,
-                place: self.place.member(alloc, key.as_str())?,
+                place: self.place.then(alloc, Step::Member(key.as_str()))?,
             })),
             None => Ok(None),
         }

@@ -6,7 +6,7 @@ ghost use Rattle.gs_json.specs.Answers.{AscendByBytes, names_lent};
 ghost use Rattle.gs_json.specs.Places.{item_place, member_place};
 
 use crate::fault::JsonFault;
-use crate::place::Place;
+use crate::place::{Place, Step};
 use crate::plan::Entry;
 use crate::shape::judge;
 use gs_chars::{List, Memory, Text};
@@ -130,7 +130,7 @@ impl<'a> Node<'a> {
         };
         Ok(Node {
             value: &items[i],
-            place: self.place.item(alloc, i)?,
+            place: self.place.then(alloc, Step::Item(i))?,
         })
     }
 

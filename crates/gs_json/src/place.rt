@@ -8,7 +8,9 @@ use std::marker::Model;
 /// A step from a part of a document to one that it holds.
 #[derive(Clone, Copy)]
 pub(crate) enum Step<'a> {
+    /// To the member of this name.
     Member(&'a str),
+    /// To the item of this number, counted from 0.
     Item(usize),
 }
 
@@ -38,20 +40,6 @@ impl<'a> Place<'a> {
         Place {
             steps: Vec::new(alloc),
         }
-    }
-
-    /// The place of the member of this name.
-    pub(crate) fn member(&self, alloc: Global, name: &'a str) -> Result<Place<'a>, Memory>
-        ensures { IfOk result (λ place. place ≡ member_place self.now name.now) }
-    {
-        self.then(alloc, Step::Member(name))
-    }
-
-    /// The place of the item of this number, counted from 0.
-    pub(crate) fn item(&self, alloc: Global, i: usize) -> Result<Place<'a>, Memory>
-        ensures { IfOk result (λ place. place ≡ item_place self.now i) }
-    {
-        self.then(alloc, Step::Item(i))
     }
 
     /// The JSON Pointer of the place.
@@ -85,7 +73,8 @@ impl<'a> Place<'a> {
         Ok(Text::from_vec(text))
     }
 
-    fn then(&self, alloc: Global, step: Step<'a>) -> Result<Place<'a>, Memory>
+    /// The place of the part to which a step leads from the one here.
+    pub(crate) fn then(&self, alloc: Global, step: Step<'a>) -> Result<Place<'a>, Memory>
         ensures { IfOk result (λ place. place ≡ self.now ++ step_text step.entry) }
     {
         let mut steps = Vec::from_slice(alloc, self.steps.as_slice())?;
