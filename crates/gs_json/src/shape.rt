@@ -25,7 +25,8 @@ pub(crate) fn judge(
     for entry in plan {
         judge_member(alloc, map, place, entry)?;
     }
-    judge_names(alloc, map, place, plan)
+    judge_names(alloc, map, place, plan)?;
+    Ok(())
 }
 
 /// Judges the member of an entry's name.

@@ -13,11 +13,12 @@ loop-entry-preserved c =
     c.loop-entry.invariant ∙ entries_from faults c.args.plan.now c.loop-entry.entry-index c.entry-item.result c.loop-entry-test.true c.entry-item.is
     ∙ ap (λ fs. fs ++ flat_map faults (drop (c.loop-entry.entry-index + 1) c.args.plan.now)) own
 
-pub returns : goal.returns
-returns c =
+pub returns-in_err-judge_names : goal.returns-in_err-judge_names
+returns-in_err-judge_names c =
     let members = members_view c.in-Some.map.now.entries in
+    let p = err_from_is_err_and c.from_residual-in_err-judge_names.result c.from_residual-in_err-judge_names.ensures.1 in
     let none = c.loop-entry.invariant ∙ entries_end (entry_faults c.args.place.now members) c.args.plan.now c.loop-entry.entry-index (omega arith) in
-    names_only c.args.place.now c.args.plan.now members _ c.judge_names.result c.in-Some.ensures none c.judge_names.ensures
+    rw (p.1, p.2) (names_only c.args.place.now c.args.plan.now members _ (Err c.in_err-judge_names.field-0.0) c.in-Some.ensures none c.in_err-judge_names.ensures)
 
 pub returns-in_err-judge_member : goal.returns-in_err-judge_member
 returns-in_err-judge_member c =
