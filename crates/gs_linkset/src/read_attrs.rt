@@ -45,7 +45,8 @@ fn all_entries<T: ReadEntry>(alloc: Global, items: &[Value]) -> Result<Option<Li
 
 /// What is read of the items of an array, where it is one of such items alone.
 fn read_entries<T: ReadEntry>(alloc: Global, part: &Value) -> Result<Option<List<T>>, Memory>
-    ensures entries { IfOk result (λ entries. entries ≡ option_and_then (every T.told) (array_in (view part.now))) }
+    ensures entries { IfOk result (λ entries.
+        entries ≡ option_and_then (every T.told) (array_in (view part.now))) }
     ensures shape { IfOk result (λ entries. IfSome entries (λ entries. list_all T.shape entries ≡ true)) }
 {
     match part.as_array() {

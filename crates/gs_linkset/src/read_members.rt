@@ -26,12 +26,14 @@ pub(crate) trait ReadMember: Named + Drop {
 
     /// What the member of a name is read as.
     fn read(alloc: Global, object: &Node<'_>, name: &str) -> Result<Option<Self>, JsonFault>
-        ensures answer { OrMemory result
-            (first_or (faults object.now.place (view object.now.tree) name.now) (made (view object.now.tree) name.now)) }
+        ensures answer { OrMemory result (first_or
+            (faults object.now.place (view object.now.tree) name.now)
+            (made (view object.now.tree) name.now)) }
         ensures shape { IfOk result (λ read. IfSome read (λ read. Self.shape read ≡ true)) };
 
     /// What is read of the member of a name has that name.
-    ghost has_name: { (d : Data) (name : List ℕ) (read : Self) → made d name ≡ Some read → Self.name_of read ≡ name };
+    ghost has_name: { (d : Data) (name : List ℕ) (read : Self) → made d name ≡ Some read
+        → Self.name_of read ≡ name };
 }
 
 /// The names of the members, in ascending order, where this is an object.
