@@ -1,17 +1,11 @@
 ghost use Rattle.std.specs.Prelude.{◌≡◌, ◌≤◌, ◌<◌, ◌^◌, true, IfSome, SomeIff};
 ghost use Rattle.std.specs.Char.{is_ascii_graphic};
 ghost use Rattle.std.specs.List.{list_all};
-ghost use Rattle.gs_chars.specs.Characters.{are_digits};
 ghost use Rattle.gs_grammar.specs.Words.{decimal_value};
 ghost use Rattle.gs_grammar.specs.Writing.{has_leading_zero};
 ghost use Rattle.gs_words.specs.Ranges.{count_of, filter_of, gcp_of, is_numeral, is_vocabulary, lines_of, most_lines, number_within};
 
-/// Whether each byte is a digit.
-fn are_digits(bytes: &[u8]) -> bool
-    ensures { result ≡ are_digits bytes.now }
-{
-    bytes.iter().all(|c| c.is_ascii_digit())
-}
+use gs_chars::are_digits;
 
 /// Whether digits begin with a zero that is not the whole of them.
 fn has_leading_zero(digits: &[u8]) -> bool
