@@ -6,7 +6,7 @@ use Rattle.std.proofs.lemmas.List.{take_all}
 use Rattle.std.proofs.lemmas.List.Elements.{All-cons, All-head, All-nil, All-tail}
 use Rattle.gs_ai.specs.declared.pair.Pair.{Pair}
 pub use Rattle.gs_chars.proofs.TruthsAndLists.{true_or_false as two_ways, place_left, place_right}
-use Rattle.gs_chars.proofs.TruthsAndLists.{false_from, read_at, same_at}
+use Rattle.gs_chars.proofs.TruthsAndLists.{false_from, read_at}
 use Rattle.gs_ident.specs.Identities.{contradicts, contradiction}
 
 -- ---- the first place at which a test passes
@@ -186,19 +186,3 @@ place_absent p n (x ∷ xs) a =
     let zero_plus : n ≡ n + 0 = omega arith in
     let first : p (n, x) ≡ false = rw zero_plus (a zero x refl) in
     rw first (place_absent p (n + 1) xs (λ i y at. let next : n + 1 + i ≡ n + suc i = omega arith in rw next (a (suc i) y at)))
-
-under_next : (j i : ℕ) → j < i + 1 → (j < i) ⊎ (j ≡ i)
-under_next zero zero h = inr refl
-under_next zero (suc i) h = inl (omega arith)
-under_next (suc j) zero h = absurd (omega arith)
-under_next (suc j) (suc i) h = elim (under_next j i (omega arith)) [
-  | inl low ↦ inl (omega arith)
-  | inr same ↦ inr (ap suc same)
-]
-
--- one more pair that a test passes over
-pub one_more_passed : {X : Type 0} (p : X → Bool) (xs : List X) (i : ℕ) (x : X) → i < length xs → x ≡ get_or xs i x → p x ≡ false → ((j : ℕ) (y : X) → j < i → slice_get xs j ≡ Some y → p y ≡ false) → (j : ℕ) (y : X) → j < i + 1 → slice_get xs j ≡ Some y → p y ≡ false
-one_more_passed p xs i x low is fails before j y h at = elim (under_next j i h) [
-  | inl under ↦ before j y under at
-  | inr same ↦ let e : y ≡ x = same_at xs j i y x at (read_at xs i x low is) same in rw e fails
-]
