@@ -1,4 +1,5 @@
 pub mod Fitted
+pub mod FirstFailing
 pub mod Judged
 pub mod Looked
 pub mod Walked
