@@ -1,6 +1,7 @@
 pub mod Copied
 pub mod Ascents
 pub mod Parts
+pub mod MustHave
 pub mod ReadLemmas
 pub mod Trees
 pub mod DocumentLemmas
