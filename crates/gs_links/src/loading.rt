@@ -69,7 +69,6 @@ fn expand(alloc: Global, voc: &[u8], name: Text) -> Result<Text, Memory>
 }
 
 /// The link of an anchor by a relation to a target.
-#[tactic(auto, using(crate::proofs::LoadLemmas::whole_anchor))]
 fn link_with(
     alloc: Global,
     anchor: &Identity,
