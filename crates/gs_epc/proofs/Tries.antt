@@ -9,14 +9,15 @@ use Rattle.gs_chars.proofs.TruthsAndLists.{and_parts, read_at}
 use Rattle.gs_document.specs.declared.field.Field.{Field}
 use Rattle.gs_document.specs.declared.field.Field.TheVariants.{Filter}
 use Rattle.gs_document.specs.declared.level_name.LevelName.{LevelName}
-use Rattle.gs_document.specs.declared.level_name.LevelName.TheVariants.{Binary}
+use Rattle.gs_document.specs.declared.level_name.LevelName.TheVariants.{Binary, Tag, Pure}
 use Rattle.gs_document.specs.declared.opt_info.OptInfo.{OptInfo}
+use Rattle.gs_document.specs.Documents.{is_bits}
 use Rattle.gs_document.specs.Items.{FieldItem, alone}
 use Rattle.gs_grammar.specs.declared.item.Item.{Item}
 use Rattle.gs_grammar.specs.declared.fault.Why.{Why}
 use Rattle.gs_grammar.specs.declared.fault.Why.TheVariants.{Length}
 use Rattle.gs_grammar.specs.Items.{size_of_all}
-use Rattle.gs_grammar.specs.Levels.{LevelForm, OptionForm}
+use Rattle.gs_grammar.specs.Levels.{AreOfKind, LevelForm, OptionForm}
 use Rattle.gs_grammar.specs.Writing.{AreHeld, IsFirstRefusal, written}
 use Rattle.gs_tables.specs.KeptRules.{KeptOption}
 use Rattle.gs_tables.specs.Rules.{is_filter, is_one, items_of_field, keeps_level}
@@ -46,6 +47,21 @@ unfolding keeps_level
 whole set items info kept =
     let both = and_parts (not (is_empty info.encoding) && is_one is_filter (items_of_field Filter kept.parts)) (size_of_all (alone kept.parts) % 16 == 0) kept.of_level in
     rw kept.items_are (eighth (size_of_all (alone kept.parts)) both.1)
+
+-- ---- what kind of symbols an option has
+
+-- a level's symbols are bits, or they are not
+level_bits : (set : TableRows) (level : LevelName) → IsShaped set → (level_rows level set).level.bit_level ≡ is_bits level
+level_bits set Binary shaped = rw shaped.made refl
+level_bits set Tag shaped = rw shaped.made refl
+level_bits set Pure shaped = rw shaped.made refl
+
+-- an option has the symbols of its level
+pub of_level : (set : TableRows) (level : LevelName) (form : LevelForm) (options : List OptionForm) (option : OptionForm) (i : ℕ) → IsShaped set → form ≡ (level_rows level set).level → AreOfKind form.bit_level form.options → options ≡ form.options → i < length options → option ≡ get_or options i option → option.bit_level ≡ is_bits level
+of_level set level form options option i shaped same kinds rows low read =
+    let all : AreOfKind form.bit_level options = rw rows kinds in
+    let kind : (get_or options i option).bit_level ≡ form.bit_level = all i option low in
+    ap (λ (o : OptionForm). o.bit_level) read ∙ kind ∙ ap (λ (f : LevelForm). f.bit_level) same ∙ level_bits set level shaped
 
 -- ---- what is read of a candidate
 

@@ -1,6 +1,6 @@
 use Rattle.std.proofs.Common.{arith, refl}
 use Rattle.std.proofs.lemmas.Result.{err_from_is_err_and}
-use Rattle.gs_epc.proofs.Tries.{holds_all, info_low, is_read, leaves_out, of_bytes, one_each, option_low, refuses_at}
+use Rattle.gs_epc.proofs.Tries.{holds_all, info_low, is_read, leaves_out, of_bytes, of_level, one_each, option_low, refuses_at}
 use Rattle.gs_epc.proofs.writing.try_candidate.Goals as goal
 
 pub offset_bounds-info-i : goal.offset_bounds-info-i
@@ -23,6 +23,11 @@ offset_bounds-options-i c =
 
 pub bounds-options-i : goal.bounds-options-i
 bounds-options-i c = option_low _ _ _ _ c.requires.candidate _ c.options.result.now c.level.ensures.rows c.options.ensures.options
+
+pub write_option-requires-clause-of_level : goal.write_option-requires-clause-of_level
+write_option-requires-clause-of_level c =
+    let low = option_low _ _ _ _ c.requires.candidate _ c.options.result.now c.level.ensures.rows c.options.ensures.options in
+    of_level _ _ _ _ _ _ c.level.ensures.shaped c.level.ensures.rows c.options.ensures.of_kind c.options.ensures.options low c.index-options-i.is
 
 pub write_option-requires-clause-one_each : goal.write_option-requires-clause-one_each
 write_option-requires-clause-one_each c =
