@@ -39,7 +39,7 @@ as_many : (set : TableRows) (level : LevelName) → IsShaped set → length (opt
 as_many set level shaped = length-map (level_rows level set).level.options (λ (option : OptionForm). option.items) ∙ as_many_said set level shaped
 
 -- something is said of the option of a derivation
-option_low : (set : TableRows) (level : LevelName) (symbols : List ℕ) (option : ℕ) (values : List (List ℕ)) (infos : List OptInfo) → IsShaped set → OneDerivation (options_of level set) symbols option values → infos ≡ (level_rows level set).info → option < length infos
+pub option_low : (set : TableRows) (level : LevelName) (symbols : List ℕ) (option : ℕ) (values : List (List ℕ)) (infos : List OptInfo) → IsShaped set → OneDerivation (options_of level set) symbols option values → infos ≡ (level_rows level set).info → option < length infos
 option_low set level symbols option values infos shaped one rows =
     let d = one.derivation in
     let place = one.of_option in
