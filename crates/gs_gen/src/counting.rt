@@ -24,6 +24,13 @@ fn reason_length(alloc: Global, reason: &Reason) -> Result<usize, Memory>
     Ok(text.len())
 }
 
+/// The bytes of the line of an answer, by those of its text.
+fn line_length(text: usize) -> u128
+    ensures { result ≡ text + 4 }
+{
+    text as u128 + FRAME
+}
+
 /// The counts with one answer more.
 fn count_answer(
     alloc: Global,
@@ -39,14 +46,14 @@ fn count_answer(
     match answer {
         Ok(text) => Ok(Counts {
             ok: counts.ok + 1,
-            bytes: counts.bytes + text.as_bytes().len() as u128 + FRAME,
+            bytes: counts.bytes + line_length(text.as_bytes().len()),
         }),
         Err(Reason::Memory) => Err(Memory),
         Err(reason) => {
             let len = reason_length(alloc, &reason)?;
             Ok(Counts {
                 ok: counts.ok,
-                bytes: counts.bytes + len as u128 + FRAME,
+                bytes: counts.bytes + line_length(len),
             })
         }
     }
