@@ -1,4 +1,4 @@
-ghost use Rattle.std.specs.Prelude.{◌≡◌, ◌≤◌, ◌<◌, ◌||◌, ℕ, List, All, IfOk, length};
+ghost use Rattle.std.specs.Prelude.{◌≡◌, ◌≤◌, ◌<◌, ◌==◌, ◌||◌, ℕ, List, All, IfOk, length};
 ghost use Rattle.gs_dlink.specs.Answers.{target_answer};
 ghost use Rattle.gs_ident.specs.Elements.{Elements};
 ghost use Rattle.gs_ident.specs.Identities.{IsInOrder, identity_of_pairs};
@@ -83,6 +83,13 @@ fn text_of(
     write(alloc, &document)
 }
 
+/// Whether one link alone is chosen.
+fn is_single(chosen: &[u32]) -> bool
+    ensures { result ≡ (length chosen.now == 1) }
+{
+    chosen.len() == 1
+}
+
 /// The answer to who asks for a relation, by the chosen links, of which there is one at least.
 fn by_count<'a>(
     alloc: Global,
@@ -95,7 +102,7 @@ fn by_count<'a>(
     ensures { (name : List ℕ) → IfOk result (λ answer.
         said answer ≡ by_links (Relation name) (linked store.now chosen.now)) }
 {
-    if chosen.len() == 1 {
+    if is_single(chosen) {
         return Ok(Answer::Redirect(store.link(chosen[0] as usize).target.href.as_bytes()));
     }
     Ok(Answer::Choices(text_of(alloc, store, identity, chosen)?))
