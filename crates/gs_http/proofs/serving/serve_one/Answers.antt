@@ -1,4 +1,5 @@
-use Rattle.std.proofs.Common.{◌-◌, ◌==◌, refl, ◌∙◌, arith}
+use Rattle.std.proofs.Common.{◌-◌, ◌==◌, ap, refl, ◌∙◌, arith}
+use Rattle.gs_http.specs.Serving.{reads_when, writes_when}
 use Rattle.gs_http.proofs.Connections.{at_start, before_last, goes_on, is_over, not_last, nothing_done}
 use Rattle.gs_http.proofs.serving.serve_one.Goals as goal
 
@@ -37,3 +38,24 @@ loop-turn-preserved g c =
       same_aside = c.in-Stays.ensures.same_aside ∙ c.loop-turn.invariant.same_aside;
       same_ends = c.in-Stays.ensures.same_ends ∙ c.loop-turn.invariant.same_ends;
     }
+
+pub returns-in-Over-clause-reads : goal.returns-in-Over-clause-reads
+returns-in-Over-clause-reads g c = c.in-Over.ensures.read_count ∙ ap (reads_when c.in-Over.served) c.loop-turn.invariant.reads
+
+pub returns-in-Over-clause-writes : goal.returns-in-Over-clause-writes
+returns-in-Over-clause-writes g c = c.in-Over.ensures.write_count ∙ ap (writes_when c.in-Over.served) c.loop-turn.invariant.writes
+
+pub returns-in-Over-clause-read_counts : goal.returns-in-Over-clause-read_counts
+returns-in-Over-clause-read_counts g c = omega (arith, c.loop-turn.invariant.reads, c.in-Over.ensures.read_counts)
+
+pub returns-in-Over-clause-write_counts : goal.returns-in-Over-clause-write_counts
+returns-in-Over-clause-write_counts g c = omega (arith, c.loop-turn.invariant.writes, c.in-Over.ensures.write_counts)
+
+pub returns-in-Over-clause-stays_open : goal.returns-in-Over-clause-stays_open
+returns-in-Over-clause-stays_open g c = c.in-Over.ensures.stays_open
+
+pub returns-in-Over-clause-same_aside : goal.returns-in-Over-clause-same_aside
+returns-in-Over-clause-same_aside g c = c.in-Over.ensures.same_aside ∙ c.loop-turn.invariant.same_aside
+
+pub returns-in-Over-clause-same_ends : goal.returns-in-Over-clause-same_ends
+returns-in-Over-clause-same_ends g c = c.in-Over.ensures.same_ends ∙ c.loop-turn.invariant.same_ends
