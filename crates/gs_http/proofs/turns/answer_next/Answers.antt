@@ -1,5 +1,7 @@
 use Rattle.gs_http.specs.declared.filling.Filled.TheVariants as filled
-use Rattle.std.proofs.Common.{◌∙◌, ap, arith}
+use Rattle.gs_http.specs.declared.served.Served.TheVariants.{Done, Memory, ReadFault}
+use Rattle.gs_http.specs.declared.served.Turn.TheVariants.{Over}
+use Rattle.std.proofs.Common.{◌∙◌, ap, arith, refl}
 use Rattle.gs_http.specs.Serving.{reads_at, writes_at}
 use Rattle.gs_http.proofs.Connections.{turned_with}
 use Rattle.gs_http.proofs.Fronts.{within}
@@ -118,3 +120,24 @@ returns-in-Head-clause-write_counts g c = omega (arith, c.answer_head.ensures.wr
 
 pub returns-in-Head-clause-read_counts : goal.returns-in-Head-clause-read_counts
 returns-in-Head-clause-read_counts g c = omega (arith, c.answer_head.ensures.read_counts, c.in-Head.ensures.counts)
+
+pub returns-in-Ended-clause-turned : goal.returns-in-Ended-clause-turned
+returns-in-Ended-clause-turned g c =
+    turned_with c.args.table.now c.args.store.now c.args.settings.now (Over Done) c.args.last c.args.bytes.now c.fill.new.bytes c.fill.new.bytes filled.Ended
+    _ _ _ _ _ _ _ _ _ c.in-Ended.ensures.reads c.in-Ended.ensures.begins c.in-Ended.ensures.few c.in-Ended.ensures.same_held refl refl (refl, refl)
+
+pub returns-in-Failed-clause-turned : goal.returns-in-Failed-clause-turned
+returns-in-Failed-clause-turned g c =
+    turned_with c.args.table.now c.args.store.now c.args.settings.now (Over ReadFault) c.args.last c.args.bytes.now c.fill.new.bytes c.fill.new.bytes filled.Failed
+    _ _ _ _ _ _ _ _ _ c.in-Failed.ensures.reads c.in-Failed.ensures.begins c.in-Failed.ensures.few c.in-Failed.ensures.same_held refl refl (refl, refl)
+
+pub returns-in-Memory-clause-turned : goal.returns-in-Memory-clause-turned
+returns-in-Memory-clause-turned g c =
+    turned_with c.args.table.now c.args.store.now c.args.settings.now (Over Memory) c.args.last c.args.bytes.now c.fill.new.bytes c.fill.new.bytes filled.Memory
+    _ _ _ _ _ _ _ _ _ c.in-Memory.ensures.reads c.in-Memory.ensures.begins c.in-Memory.ensures.few c.in-Memory.ensures.same_held refl refl (refl, refl)
+
+pub returns-in-Head-clause-turned : goal.returns-in-Head-clause-turned
+returns-in-Head-clause-turned g c =
+    turned_with c.args.table.now c.args.store.now c.args.settings.now c.answer_head.result c.args.last c.args.bytes.now c.fill.new.bytes c.answer_head.new.bytes (filled.Head c.in-Head.len)
+    _ _ _ _ _ _ _ _ _ c.in-Head.ensures.reads c.in-Head.ensures.begins c.in-Head.ensures.few c.in-Head.ensures.same_held c.answer_head.ensures.same_left c.answer_head.ensures.same_taken
+    (c.answer_head.ensures.answered, c.answer_head.ensures.lets_go)
