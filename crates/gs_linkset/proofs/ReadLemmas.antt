@@ -5,14 +5,14 @@ use Rattle.std.specs.List.{cons_option, enumerate_from, filter_map, flat_map, li
 use Rattle.std.proofs.lemmas.List.{append-nil, map-append}
 use Rattle.gs_chars.proofs.TruthsAndLists.{and_first, and_second, nil_parts}
 use Rattle.gs_json.specs.declared.fault.JsonFault.{JsonFault}
-use Rattle.gs_json.specs.declared.fault.JsonFault.TheVariants.{Memory}
+use Rattle.gs_json.specs.declared.fault.JsonFault.TheVariants.{Kind, Memory}
 use Rattle.gs_json.specs.declared.plan.Sort.TheVariants.{Text}
 use Rattle.gs_linkset.specs.Answers.{ItemAnswer, OrMemory, first_or, member_answer, text_answer}
 use Rattle.std.specs.Str.{bytes_eq, is_utf8}
 use Rattle.serde_json.specs.Data.{Data}
 use Rattle.serde_json.specs.Find.{get}
 use Rattle.gs_linkset.specs.Attributes.{every, items_of}
-use Rattle.gs_json.specs.Answers.{count_of, names_of}
+use Rattle.gs_json.specs.Answers.{asked, count_of, names_of}
 use Rattle.gs_json.specs.Places.{item_place, member_place}
 use Rattle.gs_linkset.specs.Documents.{member_faults, text_in, attr_of, attr_with, item_faults, relation_faults, relation_of, relation_with, names_in, target_faults, target_of, targets_at}
 use Rattle.gs_linkset.proofs.Parts.{is_array, items_at, no_array}
@@ -243,12 +243,13 @@ module _ {X : Type 0} (faults : List ℕ → List JsonFault) (made : List ℕ �
   members_read read i all same so_far few =
       rw (← same) (all_read (flat_map faults names) (filter_map made names) read (none_all faults names i few so_far.none) (rw (take_all names i few) at so_far.kept))
 
--- the names of an object without members
-pub no_members : {X : Type 0} (faults : List ℕ → List JsonFault) (made : List ℕ → Option X) (shape : X → Bool) (d : Data) → None ≡ names_of d → OrMemory (Ok []) (first_or (flat_map faults (names_in d)) (filter_map made (names_in d)))
-no_members faults made shape d h = rw (← h) (inr refl)
-
-pub listed_names : (d : Data) (names : List (List ℕ)) → Some names ≡ names_of d → names ≡ names_in d
-listed_names d names h = ap (λ o. unwrap_or o []) h
+-- the names that an object answers
+pub listed_names : (place : List ℕ) (d : Data) (names : List (List ℕ)) → Ok names ≡ asked place (names_of d) → names ≡ names_in d
+listed_names place d names h = by (names_of d) h
+  where
+    by : (o : Option (List (List ℕ))) → Ok names ≡ asked place o → names ≡ unwrap_or o []
+    by None h = absurd (let g : Ok names ≡ Err (Kind place) = h in cc)
+    by (Some own) h = let g : Ok names ≡ Ok own = h in cc
 
 -- ---- the relation of a name
 

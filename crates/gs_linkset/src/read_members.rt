@@ -1,14 +1,14 @@
-ghost use Rattle.std.specs.Prelude.{◌≡◌, IfOk, IfSome, map, option_map, true};
+ghost use Rattle.std.specs.Prelude.{◌≡◌, IfOk, IfSome, map, true};
 ghost use Rattle.std.specs.List.{filter_map, flat_map, list_all};
 ghost use Rattle.serde_json.specs.View.{view};
-ghost use Rattle.gs_json.specs.Answers.{AscendByBytes, names_of};
+ghost use Rattle.gs_json.specs.Answers.{AscendByBytes};
 ghost use Rattle.gs_linkset.specs.Answers.{OrMemory, first_or};
 ghost use Rattle.gs_linkset.specs.Documents.{names_in};
 ghost use Rattle.gs_linkset.specs.LinkShapes.{ascend};
 
 use crate::adding::push_some;
 use crate::link_shapes::Named;
-use gs_chars::{List, Memory};
+use gs_chars::List;
 use gs_json::{JsonFault, Node};
 use std::alloc::Global;
 
@@ -36,20 +36,6 @@ pub(crate) trait ReadMember: Named + Drop {
         → Self.name_of read ≡ name };
 }
 
-/// The names of the members, in ascending order, where this is an object.
-fn names_of<'a>(alloc: Global, part: &Node<'a>) -> Result<Option<List<&'a str>>, Memory>
-    ensures names { IfOk result (λ names.
-        option_map (map (λ name. name.now)) names ≡ names_of (view part.now.tree)) }
-    ensures ascending { IfOk result (λ names.
-        IfSome names (λ names. AscendByBytes (map (λ name. name.now) names))) }
-{
-    match part.names(alloc) {
-        Ok(names) => Ok(Some(names)),
-        Err(JsonFault::Memory) => Err(Memory),
-        Err(_) => Ok(None),
-    }
-}
-
 /// What is read of the members of an object, in ascending order of their names.
 pub(crate) fn read_members<M: ReadMember>(
     alloc: Global,
@@ -61,9 +47,10 @@ pub(crate) fn read_members<M: ReadMember>(
     ensures shape { IfOk result (λ all. list_all M.shape all ≡ true) }
     ensures ascending { IfOk result (λ all. ascend (map M.name_of all) ≡ true) }
 {
-    match names_of(alloc, object)? {
-        Some(names) => named_members(alloc, object, names.items()),
-        None => Ok(List::from_vec(Vec::new(alloc))),
+    match object.names(alloc) {
+        Ok(names) => named_members(alloc, object, names.items()),
+        Err(JsonFault::Memory) => Err(JsonFault::Memory),
+        Err(_) => Ok(List::from_vec(Vec::new(alloc))),
     }
 }
 

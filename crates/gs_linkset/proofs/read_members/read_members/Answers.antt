@@ -5,7 +5,8 @@ use Rattle.gs_linkset.proofs.read_members.read_members.Goals as goal
 
 pub named_members-requires-clause-names : goal.named_members-requires-clause-names
 named_members-requires-clause-names g c =
-    rw c.items.ensures (listed_names (view c.args.object.now.tree) (map (λ name. name.now) c.in-Some.names) (rw c.in-Some.is at c.in_ok-names.ensures.names))
+    let object = c.args.object.now in
+    rw c.items.ensures (listed_names object.place (view object.tree) (map (λ name. name.now) c.in-Ok.names) c.in-Ok.ensures.answer)
 
 pub named_members-requires-clause-ascending : goal.named_members-requires-clause-ascending
-named_members-requires-clause-ascending g c = rw c.items.ensures (rw c.in-Some.is at c.in_ok-names.ensures.ascending)
+named_members-requires-clause-ascending g c = rw c.items.ensures c.in-Ok.ensures.ascending
