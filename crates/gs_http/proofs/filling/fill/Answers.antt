@@ -1,7 +1,22 @@
-use Rattle.std.proofs.Common.{◌∙◌, ap, sym, arith}
+use Rattle.std.proofs.Common.{◌∙◌, ap, refl, sym, arith}
 use Rattle.gs_port.specs.Counts.{counted}
-use Rattle.gs_http.proofs.Readings.{reads_further}
+use Rattle.gs_http.proofs.Readings.{reads_further, reads_none}
 use Rattle.gs_http.proofs.filling.fill.Goals as goal
+
+pub filling-init : goal.filling-init
+filling-init g c = record {
+  reads = reads_none _ _ _ _ _ _ refl refl refl;
+  few = c.requires.few;
+  count = refl;
+  same_held = refl;
+  same_writes = refl;
+  open_now = c.requires.current;
+  same_aside = refl;
+  same_ends = refl;
+}
+
+pub returns-in-Some-clause-begins : goal.returns-in-Some-clause-begins
+returns-in-Some-clause-begins g c = rw c.as_slice.ensures at (sym c.head_len.ensures.len ∙ c.in-Some.is)
 
 pub filling-preserved : goal.filling-preserved
 filling-preserved g c = record {

@@ -95,3 +95,20 @@ returns-clause-same_aside g c = c.in-Stays.ensures.same_aside
 
 pub returns-clause-same_ends : goal.returns-clause-same_ends
 returns-clause-same_ends g c = c.in-Stays.ensures.same_ends
+
+pub returns-in-Over-clause-answered : goal.returns-in-Over-clause-answered
+returns-in-Over-clause-answered g c = record {
+  reply = c.in-Ok.reply;
+  is_reply = rw c.as_slice.ensures at c.in-Ok.ensures;
+  delivers = c.in-Over.ensures.delivers;
+}
+
+pub returns-clause-answered : goal.returns-clause-answered
+returns-clause-answered g c = record {
+  reply = c.in-Ok.reply;
+  is_reply = rw c.as_slice.ensures at c.in-Ok.ensures;
+  delivers = c.in-Stays.ensures.delivers;
+}
+
+pub returns-clause-lets_go : goal.returns-clause-lets_go
+returns-clause-lets_go g c = c.let_go.ensures
