@@ -81,7 +81,12 @@ pub(crate) fn values_for(
 fn has_item(field: Field, fields: &[Option<Field>]) -> bool
     ensures { result ≡ list_any (is_field field) fields.now }
 {
-    fields.contains(&Some(field))
+    for at in fields {
+        if *at == Some(field) {
+            return true;
+        }
+    }
+    false
 }
 
 /// Whether a text is not empty, and no item stands for its field.
