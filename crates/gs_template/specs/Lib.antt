@@ -1,0 +1,3 @@
+pub mod Templates
+pub mod Errors
+pub mod Progress

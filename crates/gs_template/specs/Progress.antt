@@ -1,0 +1,27 @@
+-- How a template is judged and filled, part by part.
+use Rattle.std.specs.Prelude.{◌≡◌, ℕ, ◌+◌, Bool, true, List, ◌++◌, drop, filter}
+use Rattle.std.specs.List.{flat_map, list_all}
+use Rattle.std.specs.Str.{is_utf8}
+use Rattle.gs_ident.specs.Elements.{Elements}
+use Rattle.gs_ident.specs.Links.{percent_encoded}
+use Rattle.gs_template.specs.Errors.{errors_from}
+use Rattle.gs_template.specs.Templates.{Part, filled, is_delimiter, is_place_byte, itself, parts, parts_behind, place, stands_for, value_under}
+
+-- what stands for a place has bytes of a place alone
+abbrev pub is_inert : Elements → Part → Bool
+is_inert identity (itself c) = true
+is_inert identity (place code) = list_all is_place_byte (percent_encoded (value_under identity code))
+
+-- the errors so far are none: those of the rest, behind so many bytes, are those of the whole
+abbrev pub AreErrorsFrom : List (List ℕ) → List ℕ → ℕ → ℕ → Type 0
+AreErrorsFrom codes href i further = errors_from codes 0 (parts href) ≡ errors_from codes (i + further) (parts_behind further (drop i href))
+
+-- what is made so far, and what stands for the rest, behind so many bytes, is the whole
+abbrev pub IsFilledTo : Elements → List ℕ → List ℕ → ℕ → ℕ → Type 0
+IsFilledTo identity href out i further = filled href identity ≡ out ++ flat_map (stands_for identity) (parts_behind further (drop i href))
+
+-- what is made so far, and the rest as it is, behind so many bytes, have the delimiters of the whole, and are UTF-8 with it
+abbrev pub KeepsTo : List ℕ → List ℕ → ℕ → ℕ → Type 0
+KeepsTo href out i further =
+    (filter is_delimiter (out ++ drop further (drop i href)) ≡ filter is_delimiter href)
+    × (is_utf8 href ≡ true → is_utf8 (out ++ drop further (drop i href)) ≡ true)

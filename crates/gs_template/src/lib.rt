@@ -1,0 +1,32 @@
+//! Templates of references: a link's target with places for the values of an identity, so that one link serves all serial numbers
+//! of a trade item. A place is `{CODE}`, the simple expansion of RFC 6570 with the codes of application identifiers as names.
+//!
+//! - `places_ok` tells the first brace outside a place, or the first place whose code does not belong to the key.
+//! - `expand` fills the places. No value adds a delimiter to the reference.
+//!
+//! # Example
+//!
+//! The serial number has a slash, which is escaped, and there is no lot, so that nothing stands for its place. The gate runs this
+//! case, for which crates/vectors_texts/src/templates.rt makes the call.
+//!
+//! ```text
+//! gs_template::expand https://shop.example/p/{01}?s={21}&l={10} 01 09506000134352 21 A/B
+//! https://shop.example/p/09506000134352?s=A%2FB&l=
+//! ```
+//!
+//! # Where it differs from the standard
+//!
+//! - A name is 2 to 4 digits; a brace that belongs to no place stands for itself, where RFC 6570 has an error.
+//! - The tilde is escaped too, as in a canonical link; no value has it.
+#![tactic(auto)]
+
+mod error;
+mod expansion;
+mod laws;
+mod parts;
+mod places;
+
+pub use error::PlaceFault;
+pub use expansion::expand;
+pub use laws::{places_hold_plain_bytes, values_add_no_delimiter};
+pub use places::places_ok;
