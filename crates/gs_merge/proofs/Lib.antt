@@ -1,0 +1,9 @@
+pub mod DistinctLemmas
+pub mod SameTargets
+pub mod NameSets
+pub mod GroupLemmas
+pub mod ShapeLemmas
+pub mod TargetsAt
+pub mod KeptLinks
+pub mod MergedStores
+pub mod MergedChoices

@@ -1,0 +1,4 @@
+pub mod Distinct
+pub mod MergedDocuments
+pub mod Groups
+pub mod Stores

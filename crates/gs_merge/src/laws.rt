@@ -1,0 +1,73 @@
+ghost use Rattle.std.specs.Prelude.{◌≡◌, ◌++◌, ℕ, List, [], Ok, codes, false, true};
+ghost use Rattle.std.specs.Str.{bytes_eq};
+ghost use Rattle.gs_ident.specs.Elements.{Elements};
+ghost use Rattle.gs_linkset.specs.declared.link_types.Target.{Target};
+ghost use Rattle.gs_links.specs.Choices.{chosen_depth};
+ghost use Rattle.gs_links.specs.Loads.{keeps_names, links_of, load_answer};
+ghost use Rattle.gs_links.specs.declared.link.Link.{Link};
+ghost use Rattle.gs_links.specs.declared.link.Want.{Want};
+ghost use Rattle.gs_merge.specs.Distinct.{distinct};
+ghost use Rattle.gs_merge.specs.MergedDocuments.{is_too_many, merged};
+ghost use Rattle.gs_merge.specs.Stores.{IsOfRelation, IsStore, chosen_targets, has_target, larger_depth, targets_at, targets_in};
+
+use gs_ai::AiTable;
+
+/// At each anchor and each relation but `anchor` the merged document has the targets of the first store and then those of
+/// the second, each equal one once.
+pub fn merged_targets()
+    ensures { (a b : List Link) (text name : List ℕ) → bytes_eq name (codes "anchor") ≡ false
+        → targets_in (merged a b) text name ≡ distinct (targets_at a text name ++ targets_at b text name) }
+{}
+
+/// A store that is merged with itself gives what it gives with a store of no links.
+pub fn merged_with_itself()
+    ensures { (a : List Link) → merged a a ≡ merged a [] }
+{}
+
+/// Merged the other way round, two stores have the same targets at each anchor and relation.
+pub fn either_way_round()
+    ensures { (a b : List Link) (text name : List ℕ) (target : Target)
+        → has_target (targets_in (merged a b) text name) target
+        ≡ has_target (targets_in (merged b a) text name) target }
+{}
+
+/// The merged document of two stores of one table and one vocabulary that keeps names is not rejected where it is loaded, if
+/// it has not too many targets: the answer is its links, or out of memory.
+pub fn merged_document_loads(table: &AiTable)
+    ensures { (voc : List ℕ) (a b : List Link) → keeps_names voc ≡ true
+        → IsStore table.now voc a → IsStore table.now voc b → is_too_many (merged a b) ≡ false
+        → load_answer table.now voc (merged a b) ≡ Ok (links_of table.now voc (merged a b)) }
+{
+    // For the proof alone: the rows keep the rules.
+    let _ = table.rows();
+}
+
+/// Of three stores it is all one which two are merged first.
+pub fn merging_is_associative(table: &AiTable)
+    ensures { (voc : List ℕ) (a b c ab bc : List Link) → keeps_names voc ≡ true
+        → IsStore table.now voc a → IsStore table.now voc b → IsStore table.now voc c
+        → load_answer table.now voc (merged a b) ≡ Ok ab → load_answer table.now voc (merged b c) ≡ Ok bc
+        → merged ab c ≡ merged a bc }
+{
+    // For the proof alone: the rows keep the rules.
+    let _ = table.rows();
+}
+
+/// The store of the merged document chooses, for every identity and every relation but `anchor`, at the larger of the depths
+/// that two stores choose at: the targets of the first store at this depth, and then those of the second, each equal one
+/// once. So it chooses none where neither has any.
+pub fn merged_store_chooses(table: &AiTable)
+    ensures depth { (voc : List ℕ) (a b m : List Link) → keeps_names voc ≡ true
+        → IsStore table.now voc a → IsStore table.now voc b → load_answer table.now voc (merged a b) ≡ Ok m
+        → (identity : Elements) (want : Want) → IsOfRelation want
+        → chosen_depth m identity want ≡ larger_depth a b identity want }
+    ensures targets { (voc : List ℕ) (a b m : List Link) → keeps_names voc ≡ true
+        → IsStore table.now voc a → IsStore table.now voc b → load_answer table.now voc (merged a b) ≡ Ok m
+        → (identity : Elements) (want : Want) → IsOfRelation want
+        → chosen_targets m identity want (larger_depth a b identity want)
+        ≡ distinct (chosen_targets a identity want (larger_depth a b identity want)
+        ++ chosen_targets b identity want (larger_depth a b identity want)) }
+{
+    // For the proof alone: the rows keep the rules.
+    let _ = table.rows();
+}

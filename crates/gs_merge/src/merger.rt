@@ -1,0 +1,36 @@
+ghost use Rattle.std.specs.Prelude.{◌≡◌, IfOk, true};
+ghost use Rattle.std.specs.List.{list_all};
+ghost use Rattle.gs_linkset.specs.LinkShapes.{is_context};
+ghost use Rattle.gs_merge.specs.MergedDocuments.{OrMemory, merge_answer, merged};
+
+use crate::contexts::contexts_of;
+use crate::error::MergeFault;
+use crate::store_links::stored_links;
+use gs_chars::{List, Memory};
+use gs_links::{Store, is_over};
+use gs_linkset::{Context, LinkDoc};
+use std::alloc::Global;
+
+/// The contexts of the merged document.
+fn merged_contexts(alloc: Global, a: &Store, b: &Store) -> Result<List<Context>, Memory>
+    ensures answer { IfOk result (λ contexts. contexts ≡ merged a.now b.now) }
+    ensures shape { IfOk result (λ contexts. list_all is_context contexts ≡ true) }
+{
+    let links = stored_links(alloc, a, b)?;
+    contexts_of(alloc, links.as_slice())
+}
+
+/// The merged document of two stores. Its contexts are the canonical links of all anchors of links of both stores, each once,
+/// in ascending order; a context has each relation of its links but `anchor`, in ascending order; and a relation has the
+/// targets of the first store and then those of the second, in their stores' orders, each equal target once, at its first
+/// place. Two targets are equal where their references and all their attributes are. `TooMany`: exactly where the document
+/// has more than 65,536 targets. `Memory` may come in place of any answer. Its time grows as n log n in the number of links.
+pub fn merge(alloc: Global, a: &Store, b: &Store) -> Result<LinkDoc, MergeFault>
+    ensures { OrMemory result (merge_answer a.now b.now) }
+{
+    let contexts = merged_contexts(alloc, a, b)?;
+    if is_over(contexts.items()) {
+        return Err(MergeFault::TooMany);
+    }
+    Ok(LinkDoc::of_contexts(contexts))
+}
