@@ -1,0 +1,9 @@
+pub mod ControlLemmas
+pub mod DumpLaws
+pub mod DumpTexts
+pub mod EncodingSizes
+pub mod FilterLemmas
+pub mod HeadLemmas
+pub mod RoundTrips
+pub mod StartLemmas
+pub mod WriteLemmas

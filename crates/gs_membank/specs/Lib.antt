@@ -1,0 +1,4 @@
+pub mod Answers
+pub mod AnswersSupport
+pub mod Banks
+pub mod ShownLines

@@ -1,0 +1,12 @@
+use gs_epc::Epc;
+
+/// What the EPC memory bank of a tag says from its protocol control word on (TDS 2.0, section 9).
+#[derive(Drop)]
+pub struct Dump {
+    /// Whether user memory has contents.
+    pub user: bool,
+    /// The 8 attribute bits, as a number.
+    pub attributes: u8,
+    /// The EPC of the encoding behind the word, with its encoding and filter value.
+    pub epc: Epc,
+}

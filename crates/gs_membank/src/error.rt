@@ -1,0 +1,79 @@
+use gs_bits::HexFault;
+use gs_chars::Memory;
+use gs_epc::{EpcFault, EpcWriteFault};
+use gs_grammar::Why;
+use gs_tables::Field;
+
+/// Why a text is no dump.
+#[derive(Clone, Copy, Debug)]
+pub enum DumpFault {
+    /// The text is no hexadecimal text of at most 128 digits.
+    Hex(HexFault),
+    /// There are fewer than the 16 bits of a protocol control word.
+    NoWord,
+    /// The bit of the word that says that an extended word follows is 1.
+    Extended,
+    /// The bit of the word that says that the bank holds no EPC is 1.
+    Toggle,
+    /// The bits behind the word are not as many as the words of 16 bits that it says.
+    Words {
+        /// How many words it says, at most 31.
+        said: u8,
+        /// How many bits are behind it, at most 496.
+        bits: u16,
+    },
+    /// The bits behind the word have no derivation in the level of bits.
+    NoReading,
+    /// Out of memory.
+    Memory,
+}
+
+/// Why a dump is not written.
+#[derive(Clone, Copy, Debug)]
+pub enum DumpWriteFault {
+    /// The level has no option of the EPC's kind and prefix length and of its encoding.
+    NoOption,
+    /// No such option holds every field. The last one does not hold this field, for this reason.
+    CannotHold(Field, Why),
+    /// The encoding has more than the 31 words that a protocol control word can say.
+    TooLong,
+    /// Out of memory.
+    Memory,
+}
+
+impl From<Memory> for DumpWriteFault {
+    ghost use Rattle.std.specs.Prelude.{◌≡◌};
+    ghost use Rattle.gs_membank.specs.declared.error.DumpWriteFault.TheVariants.{Memory as OutOfMemory};
+
+    ghost from_gives = { λ _ e. e ≡ OutOfMemory };
+
+    fn from(_: Memory) -> DumpWriteFault {
+        DumpWriteFault::Memory
+    }
+}
+
+impl From<EpcWriteFault> for DumpWriteFault {
+    ghost use Rattle.std.specs.Prelude.{◌≡◌};
+    ghost use Rattle.gs_membank.specs.Answers.{of_writing};
+
+    ghost from_gives = { λ given e. e ≡ of_writing given };
+
+    fn from(given: EpcWriteFault) -> DumpWriteFault {
+        match given {
+            EpcWriteFault::NoOption => DumpWriteFault::NoOption,
+            EpcWriteFault::CannotHold(field, why) => DumpWriteFault::CannotHold(field, why),
+            EpcWriteFault::Memory => DumpWriteFault::Memory,
+        }
+    }
+}
+
+/// Why a line shows no dump.
+#[derive(Clone, Copy, Debug)]
+pub enum DumpLineFault {
+    /// The line does not begin with the user memory bit and the attribute bits.
+    Line,
+    /// What follows them has no derivation in the level of tag URIs.
+    NoReading,
+    /// Out of memory.
+    Memory,
+}

@@ -1,0 +1,47 @@
+ghost use Rattle.std.specs.Prelude.{◌≡◌, ◌<◌, ℕ, Bool, List, Err, Ok};
+ghost use Rattle.gs_bits.specs.HexText.{bits_of_hex};
+ghost use Rattle.gs_tables.specs.Judgements.{IsLoaded};
+ghost use Rattle.gs_tables.specs.Tables.{TableRows};
+ghost use Rattle.gs_epc.specs.Candidates.{HasFilter};
+ghost use Rattle.gs_epc.specs.Epcs.{IsOfSet};
+ghost use Rattle.gs_epc.specs.Readings.{IsHex};
+ghost use Rattle.gs_membank.specs.declared.dump.Dump.{Dump};
+ghost use Rattle.gs_membank.specs.declared.error.DumpFault.{DumpFault};
+ghost use Rattle.gs_membank.specs.declared.error.DumpFault.TheVariants.{Memory};
+ghost use Rattle.gs_membank.specs.Answers.{IsBank, ReadsDump, ReadsShown, ShowsDump, WritesDump};
+ghost use Rattle.gs_membank.specs.ShownLines.{IsShownStart};
+
+/// Bits are one dump at most, whatever the tables.
+pub fn bits_are_one_dump()
+    ensures { (set : TableRows) (bits : List ℕ) (one other : Dump) → IsBank set bits one
+        → IsBank set bits other → one ≡ other }
+{}
+
+/// A text that `read_dump` rejects, unless memory ran out, is hexadecimal digits of no dump, or no such digits: so it answers
+/// with a dump exactly where the text's bits are one.
+pub fn what_is_rejected_is_no_dump()
+    ensures { (set : TableRows) (text : List ℕ) (error : DumpFault) (dump : Dump)
+        → ReadsDump set text (Err error) → (error ≡ Memory → ⊥) → IsHex text
+        → IsBank set (bits_of_hex text) dump → ⊥ }
+{}
+
+/// What is written of a dump by tables that are loaded is read as that dump.
+pub fn dump_written_is_read()
+    ensures { (set : TableRows) (dump : Dump) (text : List ℕ) → IsLoaded set → IsOfSet set dump.epc
+        → HasFilter dump.epc.filter → dump.attributes < 256 → WritesDump set dump (Ok text)
+        → ReadsDump set text (Ok dump) }
+{}
+
+/// The line that shows a dump is read as that dump.
+pub fn shown_is_read()
+    ensures { (set : TableRows) (dump : Dump) (text : List ℕ) → IsLoaded set → IsOfSet set dump.epc
+        → HasFilter dump.epc.filter → dump.attributes < 256 → ShowsDump set dump (Ok text)
+        → ReadsShown set text (Ok dump) }
+{}
+
+/// A text begins as one line at most: with one user memory bit, one number of attribute bits, and one rest.
+pub fn texts_begin_as_one_line()
+    ensures { (text rest behind : List ℕ) (user other : Bool) (attributes others : ℕ)
+        → IsShownStart text user attributes rest → IsShownStart text other others behind
+        → (user ≡ other) × (attributes ≡ others) × (rest ≡ behind) }
+{}

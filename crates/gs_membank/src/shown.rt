@@ -1,0 +1,83 @@
+ghost use Rattle.std.specs.Prelude.{◌≡◌, ℕ, Bool, List, IfNone, IfOk, IfSome};
+ghost use Rattle.gs_chars.specs.Escapes.{hex_value};
+ghost use Rattle.gs_epc.specs.Candidates.{HasFilter};
+ghost use Rattle.gs_epc.specs.Epcs.{IsOfSet};
+ghost use Rattle.gs_membank.specs.Answers.{ReadsShown};
+ghost use Rattle.gs_membank.specs.ShownLines.{IsShownStart};
+
+use crate::dump::Dump;
+use crate::error::DumpLineFault;
+use gs_epc::{EpcFault, read_tag};
+use gs_tables::TableSet;
+use std::alloc::Global;
+
+/// The value of a hexadecimal digit of either case.
+fn hex_value(digit: u8) -> Option<u8>
+    ensures { result ≡ hex_value digit }
+{
+    match digit {
+        b'0'..=b'9' => Some(digit - b'0'),
+        b'A'..=b'F' => Some(digit - b'A' + 10),
+        b'a'..=b'f' => Some(digit - b'a' + 10),
+        _ => None,
+    }
+}
+
+/// What a line says before its tag URI.
+#[derive(Clone, Copy)]
+struct Start<'a> {
+    /// Whether user memory has contents.
+    user: bool,
+    /// The 8 attribute bits, as a number.
+    attributes: u8,
+    /// What follows.
+    rest: &'a [u8],
+}
+
+/// The start of a line, where it is that of one that shows a dump.
+fn read_start(line: &[u8]) -> Option<Start<'_>>
+    ensures start { IfSome result (λ start. IsShownStart line.now start.user start.attributes start.rest.now) }
+    ensures none { IfNone result ((user : Bool) (attributes : ℕ) (rest : List ℕ)
+        → IsShownStart line.now user attributes rest → ⊥) }
+{
+    let [b'u', digit, b' ', b'a', high, low, b' ', rest @ ..] = line else {
+        return None;
+    };
+    let user = match digit {
+        b'0' => false,
+        b'1' => true,
+        _ => return None,
+    };
+    let attributes = 16 * hex_value(*high)? + hex_value(*low)?;
+    Some(Start {
+        user,
+        attributes,
+        rest,
+    })
+}
+
+/// The dump that a line shows, as `show_dump` writes it, with digits of either case. `Line` comes exactly where the line does not
+/// begin with `u`, 0 or 1, a space, `a`, two hexadecimal digits and a space; else `NoReading` comes exactly where what follows
+/// has no derivation in the level of tag URIs, as from `gs_epc::read_tag`.
+pub fn read_shown(alloc: Global, set: &TableSet, text: &[u8]) -> Result<Dump, DumpLineFault>
+    ensures answer { ReadsShown set.now text.now result }
+    ensures of_set { IfOk result (λ dump. IsOfSet set.now dump.epc) }
+    ensures filter { IfOk result (λ dump. HasFilter dump.epc.filter) }
+{
+    let Some(start) = read_start(text) else {
+        return Err(DumpLineFault::Line);
+    };
+    // for the proof alone: the options keep the rules
+    let _ = set.kinds();
+    match read_tag(alloc, set, start.rest) {
+        Ok(epc) => Ok(Dump {
+            user: start.user,
+            attributes: start.attributes,
+            epc,
+        }),
+        Err(EpcFault::NoReading) => Err(DumpLineFault::NoReading),
+        Err(EpcFault::Memory) => Err(DumpLineFault::Memory),
+        // a tag URI is no hexadecimal text
+        Err(EpcFault::Hex(_)) => unreachable!(),
+    }
+}

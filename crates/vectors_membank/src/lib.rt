@@ -1,0 +1,140 @@
+//! The public calls of gs_membank, as cases of vectors name them, by the built-in tables, or by those of a document. The head of
+//! vectors_cases says how a case and an answer are written.
+//!
+//! - `read_dump TEXT`: the user memory bit, the attribute bits, and the kind, encoding, filter value, prefix length, prefix, rest
+//!   and serial of the EPC; or the error. `read_shown LINE`: the same of a line that shows a dump.
+//! - `show_dump TEXT`: the line of the dump that is read of a text; or the error. `write_dump LINE`: the text of the dump that is
+//!   read of a line.
+//! - `by DOC CALL TEXT`: the same by the tables of a document.
+#![tactic(auto)]
+
+use gs_chars::Text;
+use gs_membank::{
+    Dump, DumpFault, DumpLineFault, DumpWriteFault, read_dump, read_shown, show_dump, write_dump,
+};
+use gs_tables::{LoadFault, TableSet};
+use std::alloc::Global;
+use vectors_cases::{Answer, Done, Line, Rejection, behind, bytes_at, named};
+
+#[derive(Clone, Copy)]
+enum Call {
+    By,
+    ReadDump,
+    ReadShown,
+    ShowDump,
+    WriteDump,
+}
+
+const CALLS: [(&str, Call); 5] = [
+    ("by", Call::By),
+    ("read_dump", Call::ReadDump),
+    ("read_shown", Call::ReadShown),
+    ("show_dump", Call::ShowDump),
+    ("write_dump", Call::WriteDump),
+];
+
+fn add_error(line: &mut Line, error: DumpFault) {
+    match error {
+        DumpFault::Memory => line.want_memory(),
+        error => line.debug(error),
+    }
+}
+
+fn add_line_error(line: &mut Line, error: DumpLineFault) {
+    match error {
+        DumpLineFault::Memory => line.want_memory(),
+        error => line.debug(error),
+    }
+}
+
+fn add_written(line: &mut Line, written: Result<Text, DumpWriteFault>) {
+    match written {
+        Ok(text) => line.text(text),
+        Err(DumpWriteFault::Memory) => line.want_memory(),
+        Err(error) => line.debug(error),
+    }
+}
+
+/// Writes what a dump says.
+fn add_dump(line: &mut Line, set: &TableSet, dump: &Dump) -> Done {
+    let Some(kind) = set.kinds().get(dump.epc.kind) else {
+        return Err(Rejection::NoCase);
+    };
+    line.debug(dump.user);
+    line.debug(dump.attributes);
+    line.bytes(kind.name.as_bytes());
+    line.bytes(dump.epc.encoding.as_bytes());
+    line.debug(dump.epc.filter);
+    line.debug(dump.epc.gcp);
+    line.bytes(dump.epc.prefix.as_bytes());
+    line.bytes(dump.epc.rest.as_bytes());
+    line.bytes(dump.epc.serial.as_bytes());
+    Ok(())
+}
+
+/// Writes what a text says, or its line.
+fn of_text(alloc: Global, line: &mut Line, set: &TableSet, call: Call, text: &[u8]) -> Done {
+    match read_dump(alloc, set, text) {
+        Ok(dump) => match call {
+            Call::ShowDump => add_written(line, show_dump(alloc, set, &dump)),
+            _ => return add_dump(line, set, &dump),
+        },
+        Err(error) => add_error(line, error),
+    }
+    Ok(())
+}
+
+/// Writes what a line says, or the text of its dump.
+fn of_line(alloc: Global, line: &mut Line, set: &TableSet, call: Call, text: &[u8]) -> Done {
+    match read_shown(alloc, set, text) {
+        Ok(dump) => match call {
+            Call::WriteDump => add_written(line, write_dump(alloc, set, &dump)),
+            _ => return add_dump(line, set, &dump),
+        },
+        Err(error) => add_line_error(line, error),
+    }
+    Ok(())
+}
+
+/// Answers a call by a table set.
+fn by_set(alloc: Global, line: &mut Line, set: &TableSet, call: &[u8], text: &[u8]) -> Done {
+    match named(&CALLS, call) {
+        Some(Call::ReadDump) => of_text(alloc, line, set, Call::ReadDump, text),
+        Some(Call::ShowDump) => of_text(alloc, line, set, Call::ShowDump, text),
+        Some(Call::ReadShown) => of_line(alloc, line, set, Call::ReadShown, text),
+        Some(Call::WriteDump) => of_line(alloc, line, set, Call::WriteDump, text),
+        Some(Call::By) | None => Err(Rejection::NoCase),
+    }
+}
+
+/// The set of a document, where it is one.
+fn set_of(alloc: Global, document: &[u8]) -> Result<TableSet, Rejection> {
+    match TableSet::load(alloc, document) {
+        Ok(set) => Ok(set),
+        Err(LoadFault::Memory) => Err(Rejection::Memory),
+        Err(_) => Err(Rejection::NoCase),
+    }
+}
+
+/// Answers a call by the tables of a document.
+fn by_document(alloc: Global, line: &mut Line, document: &[u8], args: &[Text]) -> Done {
+    let set = set_of(alloc, document)?;
+    by_set(alloc, line, &set, bytes_at(args, 0), bytes_at(args, 1))
+}
+
+/// Writes the answer to a call of gs_membank.
+fn write(alloc: Global, line: &mut Line, set: &TableSet, call: &[u8], args: &[Text]) -> Done {
+    let first = bytes_at(args, 0);
+    match named(&CALLS, call) {
+        Some(Call::By) => by_document(alloc, line, first, behind(args, 1)),
+        Some(_) => by_set(alloc, line, set, call, first),
+        None => Err(Rejection::NoCase),
+    }
+}
+
+/// The answer to a call of gs_membank, over this table set.
+pub fn answer(alloc: Global, set: &TableSet, call: &str, args: &[Text]) -> Answer {
+    let mut line = Line::new(alloc);
+    let done = write(alloc, &mut line, set, call.as_bytes(), args);
+    line.finish(done)
+}
