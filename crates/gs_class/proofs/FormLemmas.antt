@@ -1,0 +1,87 @@
+-- The errors of the form of a document of classes, and what it is read as.
+use Rattle.std.proofs.Common.{◌≡◌, ℕ, ◌+◌, ◌≤◌, List, [], ◌∷◌, length, take, map, Some, slice_get, refl, inl, inr}
+use Rattle.std.specs.Prelude.{Result, Ok, Err}
+use Rattle.std.specs.Str.{IsUtf8}
+use Rattle.std.proofs.lemmas.List.{map-append}
+use Rattle.std.proofs.lemmas.Str.{is_utf8-from_IsUtf8}
+use Rattle.serde_json.specs.Data.{Data}
+use Rattle.serde_json.specs.Find.{as_object}
+use Rattle.serde_json.specs.Read.{read as read_text}
+use Rattle.gs_json.specs.Answers.{OrMemory as JsonOrMemory}
+use Rattle.gs_json.specs.Members.{document_of}
+use Rattle.gs_json.specs.Places.{item_place}
+use Rattle.gs_json.specs.Shapes.{first_error, members_errors}
+use Rattle.gs_json.specs.declared.error.JsonFault.{JsonFault}
+use Rattle.gs_json.specs.declared.error.JsonFault.TheVariants as json
+use Rattle.gs_prefix.proofs.FirstRejections.{all_rows, one_more, split_at}
+use Rattle.gs_class.specs.declared.error.ClassLoadFault.{ClassLoadFault}
+use Rattle.gs_class.specs.declared.error.ClassLoadFault.TheVariants.{Json, Memory}
+use Rattle.gs_class.specs.AnswersSupport.{IsFormFirst, of_json}
+use Rattle.gs_class.specs.Documents.{array_errors, document_plan, form_errors, row_plan, rows_errors}
+use Rattle.gs_class.proofs.FirstErrors.{first_behind, first_in_front, nothing_in_front}
+
+-- ---- errors of JSON
+
+judged_by : (errors : List JsonFault) (error : JsonFault) → Err error ≡ first_error errors → IsFormFirst errors (Err (of_json error))
+judged_by errors json.Memory h = inl refl
+judged_by [] json.Syntax h = absurd (cc)
+judged_by [] (json.Lacks p) h = absurd (cc)
+judged_by [] (json.Kind p) h = absurd (cc)
+judged_by [] (json.Unknown p) h = absurd (cc)
+judged_by (f ∷ errors) json.Syntax h = inr (let same : json.Syntax ≡ f = cc in rw same refl)
+judged_by (f ∷ errors) (json.Lacks p) h = inr (let same : json.Lacks p ≡ f = cc in rw same refl)
+judged_by (f ∷ errors) (json.Kind p) h = inr (let same : json.Kind p ≡ f = cc in rw same refl)
+judged_by (f ∷ errors) (json.Unknown p) h = inr (let same : json.Unknown p ≡ f = cc in rw same refl)
+
+pub judged : (errors : List JsonFault) (error : JsonFault) → JsonOrMemory (Err error) (first_error errors) → IsFormFirst errors (Err (of_json error))
+judged errors error (inl h) = let same : error ≡ json.Memory = cc in rw same (inl refl)
+judged errors error (inr h) = judged_by errors error h
+
+pub passed : (errors : List JsonFault) (u : Unit {0}) → JsonOrMemory (Ok u) (first_error errors) → IsFormFirst errors (Ok u)
+passed errors u (inl h) = absurd (let g : Ok u ≡ Err json.Memory = h in cc)
+passed [] u (inr h) = inr refl
+passed (f ∷ errors) u (inr h) = absurd (let g : Ok u ≡ Err f = h in cc)
+
+no_json : (errors : List JsonFault) → map Json errors ≡ [] → errors ≡ []
+no_json [] h = refl
+no_json (f ∷ errors) h = absurd (let g : Json f ∷ map Json errors ≡ [] = h in cc)
+
+-- ---- the rows of an array
+
+module _ (place : List ℕ) (items : List Data) where
+  abbrev errors_at : ℕ × Data → List JsonFault
+  errors_at row = members_errors (item_place place row.0) row_plan (as_object row.1)
+
+  pub item_rejected : (i : ℕ) (x : Data) (e : ClassLoadFault) → slice_get items i ≡ Some x → array_errors place (take i items) ≡ [] → IsFormFirst (errors_at (i, x)) (Err e) → IsFormFirst (array_errors place items) (Err e)
+  unfolding array_errors
+  item_rejected i x e at none h =
+      let split = split_at errors_at items i x at none in
+      rw (split.1, map-append) (first_in_front Memory (map Json (errors_at (i, x))) (map Json split.0) (tt {0}) (tt {0}) e h)
+
+  pub one_item_more : (i : ℕ) (x : Data) (z : Unit {0}) → slice_get items i ≡ Some x → array_errors place (take i items) ≡ [] → IsFormFirst (errors_at (i, x)) (Ok z) → array_errors place (take (i + 1) items) ≡ []
+  unfolding array_errors
+  one_item_more i x z at none h = one_more errors_at items i x at none (no_json (errors_at (i, x)) (nothing_in_front Memory (map Json (errors_at (i, x))) (tt {0}) z h))
+
+  pub all_items : (i : ℕ) → length items ≤ i → array_errors place (take i items) ≡ [] → IsFormFirst (array_errors place items) (Ok (tt {0}))
+  unfolding array_errors
+  all_items i all none = rw (all_rows errors_at items i all none) (inr refl)
+
+-- ---- the form of a document
+
+module _ (d : Data) where
+  abbrev object_errors : List JsonFault
+  object_errors = members_errors [] document_plan (as_object d)
+
+  pub object_rejected : (e : ClassLoadFault) → IsFormFirst object_errors (Err e) → IsFormFirst (form_errors d) (Err e)
+  unfolding form_errors
+  object_rejected e h = rw (map-append Json object_errors (rows_errors d)) (first_in_front Memory (map Json object_errors) (map Json (rows_errors d)) (tt {0}) (tt {0}) e h)
+
+  pub rows_judged : (answer : Result (Unit {0}) ClassLoadFault) (y : Unit {0}) → IsFormFirst object_errors (Ok y) → IsFormFirst (rows_errors d) answer → IsFormFirst (form_errors d) answer
+  unfolding form_errors
+  rows_judged answer y none h = rw (map-append Json object_errors (rows_errors d)) (first_behind Memory (map Json object_errors) (map Json (rows_errors d)) (tt {0}) y (tt {0}) answer none h)
+
+-- ---- the document that bytes are
+
+pub is_document : (bytes : List ℕ) (d : Data) → IsUtf8 bytes × (read_text bytes ≡ Some d) → document_of bytes ≡ Some d
+unfolding document_of
+is_document bytes d h = let t = is_utf8-from_IsUtf8 bytes h.0 in rw (t, h.1) refl

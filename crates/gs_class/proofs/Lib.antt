@@ -1,0 +1,16 @@
+pub mod FirstErrors
+pub mod FormLemmas
+pub mod ReadLemmas
+pub mod RowRejections
+pub mod KeptClasses
+pub mod SetParts
+pub mod ClassIdentities
+pub mod KeyDigits
+pub mod WrittenItems
+pub mod Loading
+pub mod ReadClasses
+pub mod OneName
+pub mod OneClass
+pub mod RuledSets
+pub mod WrittenLaws
+pub mod WrittenSteps

@@ -1,0 +1,10 @@
+pub mod Documents
+pub mod Rules
+pub mod Sets
+pub mod BuiltIn
+pub mod Answers
+pub mod AnswersSupport
+pub mod Meanings
+pub mod Written
+pub mod MeaningsSupport
+pub mod WrittenSupport

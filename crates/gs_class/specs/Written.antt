@@ -1,0 +1,126 @@
+-- What is written of an identity as a class URI: TDS 2.0, 'EPC Class URIs'. Which class writes, and which rejection is named, is own.
+use Rattle.std.specs.Prelude.{ℕ, ◌-◌, ◌==◌, ◌&&◌, not, Bool, if◌then◌else◌, List, [], ◌++◌, length, take, drop, map, position, Option, Some, option_and_then, is_some, slice_get, Result, Ok, Err, bytes_eq}
+use Rattle.std.specs.List.{find, list_any}
+use Rattle.std.specs.Option.{option_map_or, option_or}
+use Rattle.gs_chars.specs.Answers.{OrError}
+use Rattle.gs_ai.specs.declared.pair.Pair.{Pair}
+use Rattle.gs_ident.specs.Elements.{Elements}
+use Rattle.gs_ident.specs.Identities.{pair_with}
+use Rattle.gs_grammar.specs.declared.error.Why.{Why}
+use Rattle.gs_grammar.specs.declared.item.Item.{Item}
+use Rattle.gs_grammar.specs.Levels.{item_lists}
+use Rattle.gs_grammar.specs.WrittenWords.{why_not, written}
+use Rattle.gs_prefix.specs.declared.entry.PrefixEntry.{PrefixEntry}
+use Rattle.gs_prefix.specs.Lengths.{prefix_length}
+use Rattle.gs_tables_document.specs.declared.field.Field.{Field}
+use Rattle.gs_tables_document.specs.declared.field.Field.TheVariants.{Gcp, Rest, Serial}
+use Rattle.gs_tables.specs.Rules.{is_field}
+use Rattle.gs_epc.specs.Layout.{KeyFields}
+use Rattle.gs_class.specs.declared.class.Class.{Class}
+use Rattle.gs_class.specs.declared.error.ClassWriteFault.{ClassWriteFault}
+use Rattle.gs_class.specs.declared.error.ClassWriteFault.TheVariants.{NoClass, MissingElement, Extra, MissingGcp, NoOption, CannotHold, Memory}
+use Rattle.gs_class.specs.Sets.{ClassRows}
+
+-- ---- the class that names an identity
+
+-- trusted, own: the pairs of an identity beside its key
+abbrev pub others_of : Elements → List Pair
+others_of identity = identity.qualifiers ++ identity.attributes
+
+-- trusted, own: the class has the key of the identity
+abbrev pub has_key : Elements → Class → Bool
+has_key identity class = bytes_eq class.key identity.key.code
+
+-- trusted, own: the class has the key of the identity, and its element is a pair of it
+abbrev pub is_named_by : Elements → Class → Bool
+is_named_by identity class = has_key identity class && is_some (pair_with (others_of identity) class.element)
+
+-- trusted, own: the pair is neither that of the key nor that of the element of the class
+abbrev pub is_extra : Class → Pair → Bool
+is_extra class pair = not (bytes_eq class.key pair.code) && not (bytes_eq class.element pair.code)
+
+-- trusted, own: the value of the element of the class
+abbrev pub lot_of : Class → Elements → List ℕ
+lot_of class identity = option_map_or (λ (pair : Pair). pair.value) (pair_with (others_of identity) class.element) []
+
+-- ---- what the items of a class hold
+
+-- trusted, TDS 2.0, section 7: the digits of a key before its check digit, which is the last
+abbrev pub unchecked : List ℕ → List ℕ
+unchecked value = take (length value - 1) value
+
+-- trusted, TDS 2.0, section 7: What an identity says by a class: the company prefix behind the lead digits, the rest with these at
+-- the start, and the lot.
+abbrev pub said_of : Class → Elements → KeyFields
+said_of class identity = record {
+  prefix = take class.gcp (drop class.lead (unchecked identity.key.value));
+  rest = take class.lead (unchecked identity.key.value) ++ drop class.gcp (drop class.lead (unchecked identity.key.value));
+  serial = lot_of class identity;
+}
+
+-- trusted, own: the value that an item holds, by its field
+abbrev pub value_for : KeyFields → Option Field → List ℕ
+value_for said (Some Gcp) = said.prefix
+value_for said (Some Rest) = said.rest
+value_for said (Some Serial) = said.serial
+value_for said _ = []
+
+-- trusted, own: the value of each item
+abbrev pub values_for : KeyFields → List (Option Field) → List (List ℕ)
+values_for said fields = map (value_for said) fields
+
+-- trusted, own: why the item of the lot has no word for it, where there is such an item
+abbrev pub why_not_lot : List (Option Field) → List Item → List ℕ → Option Why
+why_not_lot fields items lot =
+    option_and_then (λ k. option_and_then (λ item. why_not item lot) (slice_get items k)) (position (is_field Serial) fields)
+
+-- ---- the answer
+
+-- trusted, own: the answer of the class that writes, by its items
+abbrev pub by_items : Class → Elements → List Item → Result (List ℕ) ClassWriteFault
+by_items class identity items =
+    option_map_or (λ why. Err (CannotHold why)) (why_not_lot class.fields items (said_of class identity).serial)
+    (Ok (written items (values_for (said_of class identity) class.fields)))
+
+-- trusted, own: the items of option i of a set
+abbrev pub items_at : ClassRows → ℕ → List Item
+items_at set i = option_map_or (λ items. items) (slice_get (item_lists set.level.options) i) []
+
+-- trusted, own: the answer of class i of a set
+abbrev pub by_class : ClassRows → Elements → ℕ → Result (List ℕ) ClassWriteFault
+by_class set identity i =
+    option_map_or (λ class. by_items class identity (items_at set i)) (slice_get set.classes i) (Err NoOption)
+
+-- trusted, own: the class has this name, and a company prefix of so many digits
+abbrev pub is_sized : List ℕ → ℕ → Class → Bool
+is_sized name n class = bytes_eq name class.name && (class.gcp == n)
+
+-- trusted, own: the answer by the length of the company prefix: the first class of the name that has it writes
+unfoldable pub by_length : ClassRows → Elements → Class → ℕ → Result (List ℕ) ClassWriteFault
+by_length set identity class n =
+    option_map_or (by_class set identity) (position (is_sized class.name n) set.classes) (Err NoOption)
+
+-- trusted, GS1 General Specifications, section 1.4.4: the length of the company prefix: the given one, or that of the list by the
+-- digits behind the lead digits
+unfoldable pub length_for : List PrefixEntry → Option ℕ → Class → Elements → Option ℕ
+length_for prefixes gcp class identity = option_or gcp (prefix_length prefixes (drop class.lead identity.key.value))
+
+-- trusted, own: the answer by the class that names the identity: it has no pair beside the key and the element of the class, and
+-- its company prefix has a length
+unfoldable pub by_name : ClassRows → List PrefixEntry → Option ℕ → Elements → Class → Result (List ℕ) ClassWriteFault
+by_name set prefixes gcp identity class =
+    option_map_or (λ (pair : Pair). Err (Extra pair.code))
+    (find (is_extra class) (others_of identity))
+    (option_map_or (by_length set identity class) (length_for prefixes gcp class identity) (Err MissingGcp))
+
+-- trusted, TDS 2.0, 'EPC Class URIs'; the order of the rejections is own: The answer of `write_class`. Some class has the key; the
+-- first that has it and whose element is a pair of the identity names it; and what follows from that.
+unfoldable pub class_answer : ClassRows → List PrefixEntry → Option ℕ → Elements → Result (List ℕ) ClassWriteFault
+class_answer set prefixes gcp identity =
+    if list_any (has_key identity) set.classes
+    then option_map_or (by_name set prefixes gcp identity) (find (is_named_by identity) set.classes) (Err MissingElement)
+    else Err NoClass
+
+-- trusted, own: the answer, or out of memory in its place
+abbrev pub OrMemory : Result (List ℕ) ClassWriteFault → Result (List ℕ) ClassWriteFault → Type 0
+OrMemory result answer = OrError Memory result answer

@@ -1,0 +1,138 @@
+ghost use Rattle.std.specs.Prelude.{◌≡◌, [], List as ListOf, IfOk, length};
+ghost use Rattle.serde_json.specs.View.{view};
+ghost use Rattle.gs_ai.specs.declared.row.AiRow.{AiRow};
+ghost use Rattle.gs_class.specs.Answers.{BuiltInAnswer, Judged, LoadAnswer, OrMemory, ruled_document, ruled_rows};
+ghost use Rattle.gs_class.specs.Sets.{IsClear, IsOfTable, set_of};
+
+use crate::builtin::built_in_rows;
+use crate::checks::{check_rows, check_version};
+use crate::class::Class;
+use crate::error::ClassLoadFault;
+use crate::form::{judge_form, of_json};
+use crate::making::{judge_level, make_parts};
+use crate::reading::read_rows;
+use crate::row::ClassRow;
+use gs_ai::AiTable;
+use gs_chars::{List, Memory};
+use gs_grammar_level::Level;
+use gs_json::{Doc, Node};
+use std::alloc::Global;
+use std::marker::Model;
+
+/// A set of classes: the options of their texts, and what is said of each beside its items, in the order of the rows. No text has two
+/// readings by it.
+pub struct ClassSet {
+    level: Level,
+    classes: List<Class>,
+}
+
+// by hand, so that a function that drops a set calls this one: a derived drop is written out at each of its exits
+impl Drop for ClassSet {
+    fn drop(self) {
+        let ClassSet {
+            level: _,
+            classes: _,
+        } = self;
+    }
+}
+
+impl Model for ClassSet {
+    ghost use Rattle.gs_class.specs.Sets.{ClassRows};
+    ghost use Rattle.gs_grammar.specs.Ambiguity.{IsUnambiguous};
+    ghost use Rattle.gs_grammar.specs.Levels.{item_lists};
+
+    ghost Value = { ClassRows };
+
+    ghost view = { λ a. record { level = a.level; classes = a.classes } };
+
+    ghost invariant = { λ a. IsUnambiguous (item_lists a.level.options) };
+}
+
+impl ClassSet {
+    /// The set that a document in JSON gives: an object with exactly `version`, the number 1, and `classes`, an array of objects with
+    /// exactly `name`, `key`, `lead`, `element`, `gcp` and `items`. Of the rejections the first in this order is the answer. `Json`:
+    /// the bytes are no JSON text, or the document or a row has not this form. `Version`: the version is not 1. `Limit`: more than
+    /// 256 classes, or 24 items of one. Then row by row `BadItem` for its first bad item, `Size`, `Mismatch` where it breaks a rule
+    /// beside the table and the earlier rows, `Duplicate` for the first earlier row of one name and length of the company prefix.
+    /// Last `Ambiguous`: the first pair of rows that shares a text, and such a text. `Ok` comes exactly where none of these does:
+    /// the rows keep the rules, and no text has two readings. `Memory` may come in place of any answer.
+    pub fn load(alloc: Global, table: &AiTable, bytes: &[u8]) -> Result<ClassSet, ClassLoadFault>
+        ensures answer { OrMemory (LoadAnswer table.now bytes.now) result }
+        ensures of_table { IfOk result (IsOfTable table.now) }
+    {
+        match Doc::parse(alloc, bytes) {
+            Ok(doc) => ClassSet::of_root(alloc, table, &doc.root(alloc)),
+            Err(error) => Err(of_json(error)),
+        }
+    }
+
+    /// The set of the built-in rows: the lot of a trade item, `urn:epc:class:lgtin`, for each length of the company prefix from 12
+    /// to 6. They go through the rules of `ClassSet::load`, and the answer is their first rejection where there is one, as over a table
+    /// without the trade item. `Memory` may come in place of any answer.
+    pub fn builtin(alloc: Global, table: &AiTable) -> Result<ClassSet, ClassLoadFault>
+        ensures answer { OrMemory (BuiltInAnswer table.now) result }
+        ensures of_table { IfOk result (IsOfTable table.now) }
+    {
+        ClassSet::of_rows(alloc, table, built_in_rows(alloc)?)
+    }
+
+    /// The set of no class, by which no text has a reading. It is of each table. The one error is out of memory.
+    pub fn none(alloc: Global) -> Result<ClassSet, Memory>
+        ensures none { IfOk result (λ set. set ≡ set_of []) }
+        ensures of_each_table { IfOk result (λ set. (ais : ListOf AiRow) → IsOfTable ais set) }
+    {
+        Ok(ClassSet {
+            level: Level::new(alloc, false, Vec::new(alloc))?,
+            classes: List::from_vec(Vec::new(alloc)),
+        })
+    }
+
+    /// The set that the document of this tree gives, or its first rejection.
+    fn of_root(alloc: Global, table: &AiTable, root: &Node<'_>) -> Result<ClassSet, ClassLoadFault>
+        requires { root.now.place ≡ [] }
+        ensures answer { OrMemory (Judged (ruled_document table.now (view root.now.tree))) result }
+        ensures of_table { IfOk result (IsOfTable table.now) }
+    {
+        judge_form(alloc, root)?;
+        check_version(root)?;
+        let rows = read_rows(alloc, root)?;
+        ClassSet::of_rows(alloc, table, rows)
+    }
+
+    /// The set of the rows, or their first rejection.
+    fn of_rows(
+        alloc: Global,
+        table: &AiTable,
+        rows: Vec<ClassRow>,
+    ) -> Result<ClassSet, ClassLoadFault>
+        ensures answer { OrMemory (Judged (ruled_rows table.now rows.items)) result }
+        ensures of_table { IfOk result (IsOfTable table.now) }
+    {
+        check_rows(table, rows.as_slice())?;
+        let (level, classes) = make_parts(alloc, table, rows)?;
+        judge_level(alloc, &level)?;
+        Ok(ClassSet { level, classes })
+    }
+
+    /// The number of classes.
+    pub fn len(&self) -> usize
+        ensures { result ≡ length self.now.classes }
+    {
+        self.classes.items().len()
+    }
+
+    /// What is said of each option beside its items, in the order of the rows.
+    pub(crate) fn classes(&self) -> &[Class]
+        ensures { result.now ≡ self.now.classes }
+    {
+        self.classes.items()
+    }
+
+    /// The options of the texts, in the order of the rows. The level is not ambiguous.
+    pub(crate) fn level(&self) -> &Level
+        ensures level { result.now ≡ self.now.level }
+        ensures clear { IsClear self.now }
+    {
+        &self.level
+    }
+}

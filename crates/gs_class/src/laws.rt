@@ -1,0 +1,42 @@
+ghost use Rattle.std.specs.Prelude.{◌≡◌, ℕ, List, Option, Ok, Result};
+ghost use Rattle.gs_ai.specs.declared.row.AiRow.{AiRow};
+ghost use Rattle.gs_ident.specs.Elements.{Elements};
+ghost use Rattle.gs_ident.specs.Identities.{IsMadeWith};
+ghost use Rattle.gs_prefix.specs.declared.entry.PrefixEntry.{PrefixEntry};
+ghost use Rattle.gs_class.specs.declared.error.ClassLoadFault.{ClassLoadFault};
+ghost use Rattle.gs_class.specs.Answers.{AreAlike, BuiltInAnswer, LoadAnswer};
+ghost use Rattle.gs_class.specs.Meanings.{IsClass};
+ghost use Rattle.gs_class.specs.Sets.{ClassRows, IsClear, IsOfTable};
+ghost use Rattle.gs_class.specs.Written.{class_answer};
+
+use gs_ai::AiTable;
+
+/// A text is a class URI of at most one identity, in a set by which no text has two readings.
+pub fn one_class()
+    ensures { (set : ClassRows) (text : List ℕ) (one other : Elements) → IsClear set
+        → IsClass set text one → IsClass set text other → one ≡ other }
+{}
+
+/// What is written of an identity is a class URI of it: the set is of the table, and the identity was made with it.
+pub fn what_is_written_is_read(table: &AiTable)
+    ensures { (set : ClassRows) (prefixes : List PrefixEntry) (gcp : Option ℕ) (identity : Elements)
+        (text : List ℕ) → IsOfTable table.now set → IsMadeWith table.now identity
+        → class_answer set prefixes gcp identity ≡ Ok text → IsClass set text identity }
+{
+    // the proof alone reads it: the rows keep the rules of application identifiers
+    let _ = table.rows();
+}
+
+/// All bytes have an answer of `ClassSet::load`, and no other but for the text of an ambiguous set; and so have the built-in rows of
+/// `ClassSet::builtin`.
+pub fn classes_have_one_answer()
+    ensures some { (ais : List AiRow) (bytes : List ℕ) →
+        (answer : Result ClassRows ClassLoadFault) × LoadAnswer ais bytes answer }
+    ensures at_most_one { (ais : List AiRow) (bytes : List ℕ)
+        (one other : Result ClassRows ClassLoadFault) → LoadAnswer ais bytes one
+        → LoadAnswer ais bytes other → AreAlike one other }
+    ensures some_built_in { (ais : List AiRow) →
+        (answer : Result ClassRows ClassLoadFault) × BuiltInAnswer ais answer }
+    ensures one_built_in { (ais : List AiRow) (one other : Result ClassRows ClassLoadFault)
+        → BuiltInAnswer ais one → BuiltInAnswer ais other → AreAlike one other }
+{}

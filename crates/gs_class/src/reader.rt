@@ -1,0 +1,104 @@
+ghost use Rattle.std.specs.Prelude.{◌≡◌, IfOk, position};
+ghost use Rattle.gs_tables.specs.Rules.{is_field};
+ghost use Rattle.gs_ident.specs.Identities.{IsMadeWith};
+ghost use Rattle.gs_epc.specs.Epcs.{value_of};
+ghost use Rattle.gs_epc.specs.Layout.{key_digits, with_check};
+ghost use Rattle.gs_class.specs.Meanings.{ReadsAs, class_identity, said_by};
+ghost use Rattle.gs_class.specs.MeaningsSupport.{FitsClass};
+ghost use Rattle.gs_class.specs.Sets.{IsOfTable};
+
+use crate::class::Class;
+use crate::class_set::ClassSet;
+use crate::error::ClassFault;
+use gs_ai::{AiTable, Pair};
+use gs_chars::{Memory, Text};
+use gs_epc::push_checked;
+use gs_grammar_level::{Reading, read_text};
+use gs_ident::Identity;
+use gs_tables::Field;
+use std::alloc::Global;
+
+/// The place of the first item that stands for a field.
+fn place_of(field: Field, fields: &[Option<Field>]) -> Option<usize>
+    ensures { result ≡ position (is_field field) fields.now }
+{
+    fields.iter().position(|named| *named == Some(field))
+}
+
+/// The value of a field, and the empty one where no item stands for it.
+fn value_of<'a>(field: Field, fields: &[Option<Field>], values: &'a [Text]) -> &'a [u8]
+    ensures { result.now ≡ value_of field fields.now values.now }
+{
+    match place_of(field, fields) {
+        Some(place) if place < values.len() => values[place].as_bytes(),
+        _ => &[],
+    }
+}
+
+/// The digits of the key that the values say, with their check digit.
+fn key_value(alloc: Global, ais: &AiTable, class: &Class, values: &[Text]) -> Result<Text, Memory>
+    requires { FitsClass ais.now class.now (said_by class.now values.now) }
+    ensures { IfOk result (λ value. value ≡ with_check (key_digits class.now.lead
+        (said_by class.now values.now).prefix (said_by class.now values.now).rest)) }
+{
+    // the proof alone reads it: the rows keep the rules of application identifiers
+    let _ = ais.rows();
+    let fields = class.fields.items();
+    let mut value = Text::new(alloc);
+    push_checked(
+        &mut value,
+        class.lead,
+        value_of(Field::Gcp, fields, values),
+        value_of(Field::Rest, fields, values),
+    )?;
+    Ok(value)
+}
+
+/// The identity that the values of the items of a class say.
+fn identity_of(
+    alloc: Global,
+    ais: &AiTable,
+    class: &Class,
+    values: &[Text],
+) -> Result<Identity, Memory>
+    requires { FitsClass ais.now class.now (said_by class.now values.now) }
+    ensures identity { IfOk result (λ identity. identity
+        ≡ class_identity class.now (said_by class.now values.now)) }
+    ensures with_table { IfOk result (IsMadeWith ais.now) }
+{
+    // the proof alone reads it: the rows keep the rules of application identifiers
+    let _ = ais.rows();
+    let key = Pair {
+        code: class.key.copy(alloc)?,
+        value: key_value(alloc, ais, class, values)?,
+    };
+    let lot = value_of(Field::Serial, class.fields.items(), values);
+    let element = Pair {
+        code: class.element.copy(alloc)?,
+        value: Text::from_bytes(alloc, lot)?,
+    };
+    Identity::of_key(alloc, ais, key, Some(element))
+}
+
+/// The identity that a text is a class URI of, by the set (TDS 2.0, 'EPC Class URIs'): the key, laid out with its check digit, and the
+/// element with the lot. `NoReading` comes exactly where the text has no derivation by a class of the set. `Memory` may come in
+/// place of any answer. The set is of the table.
+pub fn read_class(
+    alloc: Global,
+    set: &ClassSet,
+    table: &AiTable,
+    text: &[u8],
+) -> Result<Identity, ClassFault>
+    requires { IsOfTable table.now set.now }
+    ensures answer { ReadsAs set.now text.now result }
+    ensures with_table { IfOk result (IsMadeWith table.now) }
+{
+    match read_text(alloc, set.level(), text) {
+        Reading::One { option, values } => {
+            let class = &set.classes()[option];
+            Ok(identity_of(alloc, table, class, values.items())?)
+        }
+        Reading::Nothing => Err(ClassFault::NoReading),
+        Reading::Memory => Err(ClassFault::Memory),
+    }
+}

@@ -1,0 +1,19 @@
+use gs_chars::{List, Text};
+use gs_tables_document::FieldItem;
+
+/// A class as a document has it, before it is judged.
+#[derive(Drop)]
+pub struct ClassRow {
+    /// The name, as class URIs have it.
+    pub name: Text,
+    /// The code of the key.
+    pub key: Text,
+    /// How many digits of the key stand before the company prefix and go with the rest.
+    pub lead: u64,
+    /// The code of the element that tells the class among the things of one key.
+    pub element: Text,
+    /// How many digits the GS1 Company Prefix has.
+    pub gcp: u64,
+    /// The items, each absent where the document has none of a text there.
+    pub items: List<Option<FieldItem>>,
+}

@@ -1,0 +1,156 @@
+ghost use Rattle.std.specs.Prelude.{◌≡◌, position};
+ghost use Rattle.std.specs.List.{list_all};
+ghost use Rattle.gs_class.specs.Rules.{agrees, digits_alone, element_room, fits_key, fits_parts, is_bad_item, is_class, is_class_item, is_same_pair, is_same_row, keeps_items};
+
+use crate::row::ClassRow;
+use gs_ai::{AiRow, AiTable, Part};
+use gs_chars::are_visible;
+use gs_grammar::Item;
+use gs_tables::{
+    Field, KeyForm, characters_of, is_of_key, keeps_gcp, keeps_rest, keeps_serial, lists,
+};
+use gs_tables_document::FieldItem;
+
+/// Whether the item is a literal, or stands for the company prefix, the rest or the lot.
+fn is_class_item(item: &FieldItem) -> bool
+    ensures { result ≡ is_class_item item.now }
+{
+    match item {
+        (None, Item::Lit(_)) => true,
+        (Some(Field::Gcp), _) | (Some(Field::Rest), _) | (Some(Field::Serial), _) => true,
+        _ => false,
+    }
+}
+
+/// Whether an item is not there, breaks a bound of texts, or is none of a class.
+fn is_bad_item(entry: &Option<FieldItem>) -> bool
+    ensures { result ≡ is_bad_item entry.now }
+{
+    match entry {
+        None => true,
+        Some(item) => !item.1.is_in_bounds(false) || !is_class_item(item),
+    }
+}
+
+/// The index of the first bad item.
+pub(crate) fn first_bad(items: &[Option<FieldItem>]) -> Option<usize>
+    ensures { result ≡ position is_bad_item items.now }
+{
+    items.iter().position(is_bad_item)
+}
+
+/// The digits of a key beside its check digit, where its parts are these alone.
+fn digits_alone(parts: &[Part]) -> Option<u8>
+    ensures { result ≡ digits_alone parts.now }
+{
+    match parts {
+        [Part::NumCheck(k)] => Some(k.saturating_sub(1)),
+        _ => None,
+    }
+}
+
+/// The most characters of an element that is characters alone and has no text for none.
+fn element_room(ais: &AiTable, element: &[u8]) -> Option<u8>
+    ensures { result ≡ element_room ais.now element.now }
+{
+    let row = ais.row_with(element)?;
+    if row.none.as_bytes().is_empty() {
+        characters_of(row.parts.items())
+    } else {
+        None
+    }
+}
+
+/// Whether the company prefix, the rest and the lot fit a key of so many digits and an element of at most so many characters.
+#[tactic(auto, unfolding(crate::specs::Rules::keeps_items))]
+fn keeps_items(row: &ClassRow, digits: u8, most: u8) -> bool
+    ensures { result ≡ keeps_items row.now digits most }
+{
+    let form = KeyForm::Digits(digits, None);
+    let items = row.items.items();
+    keeps_gcp(form, row.lead, row.gcp, items)
+        && keeps_rest(form, row.gcp, items)
+        && keeps_serial(Some(most), items)
+}
+
+/// Whether the items fit the key and the element.
+fn fits_parts(ais: &AiTable, row: &ClassRow, parts: &[Part]) -> bool
+    ensures { result ≡ fits_parts ais.now row.now parts.now }
+{
+    match (
+        digits_alone(parts),
+        element_room(ais, row.element.as_bytes()),
+    ) {
+        (Some(digits), Some(most)) => keeps_items(row, digits, most),
+        _ => false,
+    }
+}
+
+/// Whether the row of the key is that of a key, has at most one digit before the company prefix, lists the element, and the items
+/// fit.
+#[tactic(auto, unfolding(crate::specs::Rules::fits_key))]
+fn fits_key(ais: &AiTable, row: &ClassRow, key: &AiRow) -> bool
+    ensures { result ≡ fits_key ais.now row.now key.now }
+{
+    is_of_key(key)
+        && row.lead <= 1
+        && lists(key, row.element.as_bytes())
+        && fits_parts(ais, row, key.parts.items())
+}
+
+/// Whether two rows have one key and one element.
+fn is_same_pair(row: &ClassRow, other: &ClassRow) -> bool
+    ensures { result ≡ is_same_pair row.now other.now }
+{
+    row.key == other.key && row.element == other.element
+}
+
+/// Whether rows of one name have one key, lead and element, and rows of two names differ in key or element.
+#[tactic(auto, unfolding(crate::specs::Rules::agrees))]
+fn agrees(row: &ClassRow, other: &ClassRow) -> bool
+    ensures { result ≡ agrees row.now other.now }
+{
+    let same = is_same_pair(row, other);
+    if row.name == other.name {
+        same && row.lead == other.lead
+    } else {
+        !same
+    }
+}
+
+/// Whether two rows have one name and one length of the company prefix.
+#[tactic(auto, unfolding(crate::specs::Rules::is_same_row))]
+fn is_same_row(row: &ClassRow, other: &ClassRow) -> bool
+    ensures { result ≡ is_same_row row.now other.now }
+{
+    row.name == other.name && row.gcp == other.gcp
+}
+
+/// The index of the first row that is the same.
+pub(crate) fn first_same(earlier: &[ClassRow], row: &ClassRow) -> Option<usize>
+    ensures { result ≡ position (is_same_row row.now) earlier.now }
+{
+    earlier.iter().position(|other| is_same_row(row, other))
+}
+
+/// Whether the row agrees with each earlier one.
+fn agrees_with(earlier: &[ClassRow], row: &ClassRow) -> bool
+    ensures { result ≡ list_all (agrees row.now) earlier.now }
+{
+    earlier.iter().all(|other| agrees(row, other))
+}
+
+/// Whether the row keeps the rules of classes, beside the earlier ones.
+#[tactic(auto, unfolding(crate::specs::Rules::is_class))]
+pub(crate) fn is_class(ais: &AiTable, earlier: &[ClassRow], row: &ClassRow) -> bool
+    ensures { result ≡ is_class ais.now earlier.now row.now }
+{
+    let name = row.name.as_bytes();
+    if name.is_empty() || !are_visible(name) || !agrees_with(earlier, row) {
+        return false;
+    }
+    match ais.row_with(row.key.as_bytes()) {
+        Some(key) => fits_key(ais, row, key),
+        None => false,
+    }
+}

@@ -1,0 +1,278 @@
+ghost use Rattle.std.specs.Prelude.{◌≡◌, ◌++◌, false, IfOk, Some, drop, length, map, position, take};
+ghost use Rattle.std.specs.List.{find, list_any};
+ghost use Rattle.std.specs.Option.{option_copied};
+ghost use Rattle.gs_ident.specs.Identities.{IsMadeWith, pair_with};
+ghost use Rattle.gs_class.specs.Sets.{IsOfTable};
+ghost use Rattle.gs_class.specs.Written.{OrMemory, by_items, by_length, by_name, class_answer, has_key, is_extra, is_named_by, is_sized, length_for, lot_of, others_of, said_of, unchecked, value_for, values_for};
+ghost use Rattle.gs_class.specs.WrittenSupport.{CanBeWritten, CanWrite, fields_in};
+
+use crate::class::Class;
+use crate::class_set::ClassSet;
+use crate::error::ClassWriteFault;
+use gs_ai::{AiTable, Pair};
+use gs_chars::{Memory, Text};
+use gs_grammar::{Opt, WriteFault, write_text};
+use gs_ident::Identity;
+use gs_prefix::PrefixList;
+use gs_tables::Field;
+use std::alloc::Global;
+
+/// What an identity says by a class.
+#[derive(Drop)]
+struct Said {
+    /// The company prefix.
+    prefix: Text,
+    /// What follows it in the key, with the lead digits at the start.
+    rest: Text,
+    /// The lot.
+    serial: Text,
+}
+
+/// The first pair with the code beside the key.
+fn pair_with<'a>(identity: &'a Identity, code: &[u8]) -> Option<&'a Pair>
+    ensures { option_copied result ≡ pair_with (others_of identity.now) code.now }
+{
+    let qualifiers = identity.qualifiers().iter();
+    qualifiers
+        .chain(identity.attributes().iter())
+        .find(|pair| code == pair.code.as_bytes())
+}
+
+/// Whether the class has the key of the identity.
+fn has_key(identity: &Identity, class: &Class) -> bool
+    ensures { result ≡ has_key identity.now class.now }
+{
+    class.key == identity.key().code
+}
+
+/// Whether some class has the key of the identity.
+fn some_has_key(identity: &Identity, classes: &[Class]) -> bool
+    ensures { result ≡ list_any (has_key identity.now) classes.now }
+{
+    classes.iter().any(|class| has_key(identity, class))
+}
+
+/// Whether the class has the key of the identity, and its element is a pair of it.
+fn is_named_by(identity: &Identity, class: &Class) -> bool
+    ensures { result ≡ is_named_by identity.now class.now }
+{
+    has_key(identity, class) && pair_with(identity, class.element.as_bytes()).is_some()
+}
+
+/// The first class that names the identity.
+fn naming<'a>(identity: &Identity, classes: &'a [Class]) -> Option<&'a Class>
+    ensures { option_copied result ≡ find (is_named_by identity.now) classes.now }
+{
+    classes.iter().find(|class| is_named_by(identity, class))
+}
+
+/// Whether the pair is neither that of the key nor that of the element of the class.
+fn is_extra(class: &Class, pair: &Pair) -> bool
+    ensures { result ≡ is_extra class.now pair.now }
+{
+    class.key != pair.code && class.element != pair.code
+}
+
+/// The first pair of the identity that is neither that of the key nor that of the element of the class.
+fn extra_of<'a>(class: &Class, identity: &'a Identity) -> Option<&'a Pair>
+    ensures { option_copied result ≡ find (is_extra class.now) (others_of identity.now) }
+{
+    let qualifiers = identity.qualifiers().iter();
+    qualifiers
+        .chain(identity.attributes().iter())
+        .find(|pair| is_extra(class, pair))
+}
+
+/// The value of the element of the class.
+fn lot_of<'a>(class: &Class, identity: &'a Identity) -> &'a [u8]
+    ensures { result.now ≡ lot_of class.now identity.now }
+{
+    match pair_with(identity, class.element.as_bytes()) {
+        Some(pair) => pair.value.as_bytes(),
+        None => &[],
+    }
+}
+
+/// The bytes behind so many, as far as there are any.
+fn behind(text: &[u8], count: usize) -> &[u8]
+    ensures { result.now ≡ drop count text.now }
+{
+    &text[count.min(text.len())..]
+}
+
+/// The first bytes, as many as there are.
+fn front(text: &[u8], count: usize) -> &[u8]
+    ensures { result.now ≡ take count text.now }
+{
+    &text[..count.min(text.len())]
+}
+
+/// The digits of a key before its check digit.
+fn unchecked(value: &[u8]) -> &[u8]
+    ensures { result.now ≡ unchecked value.now }
+{
+    front(value, value.len().saturating_sub(1))
+}
+
+/// What an identity says by a class.
+fn said_of(alloc: Global, class: &Class, identity: &Identity) -> Result<Said, Memory>
+    ensures { IfOk result (λ said. fields_in said ≡ said_of class.now identity.now) }
+{
+    let (lead, gcp) = (usize::from(class.lead), usize::from(class.gcp));
+    let digits = unchecked(identity.key().value.as_bytes());
+    let others = behind(digits, lead);
+    let mut rest = Text::from_bytes(alloc, front(digits, lead))?;
+    rest.extend_from_slice(behind(others, gcp))?;
+    Ok(Said {
+        prefix: Text::from_bytes(alloc, front(others, gcp))?,
+        rest,
+        serial: Text::from_bytes(alloc, lot_of(class, identity))?,
+    })
+}
+
+/// The value that an item of the field holds.
+fn value_for(alloc: Global, said: &Said, field: Option<Field>) -> Result<Text, Memory>
+    ensures { IfOk result (λ value. value ≡ value_for (fields_in said.now) field) }
+{
+    match field {
+        Some(Field::Gcp) => said.prefix.copy(alloc),
+        Some(Field::Rest) => said.rest.copy(alloc),
+        Some(Field::Serial) => said.serial.copy(alloc),
+        _ => Ok(Text::new(alloc)),
+    }
+}
+
+/// The value of each item.
+fn values_for(alloc: Global, said: &Said, fields: &[Option<Field>]) -> Result<Vec<Text>, Memory>
+    ensures { IfOk result (λ values. values.items ≡ values_for (fields_in said.now) fields.now) }
+{
+    let mut values = Vec::new(alloc);
+    for field in fields {
+        values.push(value_for(alloc, said, *field)?)?;
+    }
+    Ok(values)
+}
+
+/// What the class writes of the identity by its option.
+fn write_option(
+    alloc: Global,
+    class: &Class,
+    option: &Opt,
+    identity: &Identity,
+) -> Result<Text, ClassWriteFault>
+    requires text_level { option.now.bit_level ≡ false }
+    requires can_write { CanWrite class.now option.now.items identity.now }
+    ensures { OrMemory result (by_items class.now identity.now option.now.items) }
+{
+    let said = said_of(alloc, class, identity)?;
+    let values = values_for(alloc, &said, class.fields.items())?;
+    match write_text(alloc, option, values.as_slice()) {
+        Ok(text) => Ok(text),
+        Err(WriteFault::CannotHold { item: _, why }) => Err(ClassWriteFault::CannotHold(why)),
+        Err(WriteFault::Memory) => Err(ClassWriteFault::Memory),
+    }
+}
+
+/// The index of the first class of the name whose company prefix has so many digits.
+fn sized(classes: &[Class], name: &[u8], n: u8) -> Option<usize>
+    ensures { result ≡ position (is_sized name.now n) classes.now }
+{
+    classes
+        .iter()
+        .position(|class| name == class.name.as_bytes() && class.gcp == n)
+}
+
+/// What the first class of the name writes whose company prefix has so many digits.
+#[tactic(auto, unfolding(crate::specs::Written::by_length))]
+fn write_by_length(
+    alloc: Global,
+    set: &ClassSet,
+    class: &Class,
+    identity: &Identity,
+    n: u8,
+) -> Result<Text, ClassWriteFault>
+    requires { CanBeWritten set.now class.now.name identity.now }
+    ensures { OrMemory result (by_length set.now identity.now class.now n) }
+{
+    match sized(set.classes(), class.name.as_bytes(), n) {
+        Some(i) => write_option(
+            alloc,
+            &set.classes()[i],
+            &set.level().options()[i],
+            identity,
+        ),
+        None => Err(ClassWriteFault::NoOption),
+    }
+}
+
+/// The length of the company prefix: the given one, or that of the list.
+#[tactic(auto, unfolding(crate::specs::Written::length_for))]
+fn length_for(
+    prefixes: &PrefixList,
+    gcp: Option<u8>,
+    class: &Class,
+    identity: &Identity,
+) -> Option<u8>
+    ensures { result ≡ length_for prefixes.now gcp class.now identity.now }
+{
+    match gcp {
+        Some(n) => Some(n),
+        None => prefixes.length_of(behind(
+            identity.key().value.as_bytes(),
+            usize::from(class.lead),
+        )),
+    }
+}
+
+/// What is written by the class that names the identity.
+#[tactic(auto, unfolding(crate::specs::Written::by_name))]
+fn write_by_name(
+    alloc: Global,
+    set: &ClassSet,
+    prefixes: &PrefixList,
+    gcp: Option<u8>,
+    identity: &Identity,
+    class: &Class,
+) -> Result<Text, ClassWriteFault>
+    requires { CanBeWritten set.now class.now.name identity.now }
+    ensures { OrMemory result (by_name set.now prefixes.now gcp identity.now class.now) }
+{
+    if let Some(pair) = extra_of(class, identity) {
+        return Err(ClassWriteFault::Extra(pair.code.copy(alloc)?));
+    }
+    match length_for(prefixes, gcp, class, identity) {
+        Some(n) => write_by_length(alloc, set, class, identity, n),
+        None => Err(ClassWriteFault::MissingGcp),
+    }
+}
+
+/// The class URI of an identity (TDS 2.0, 'EPC Class URIs'). Of the rejections the first in this order is the answer. `NoClass`: no class
+/// has the identity's key. `MissingElement`: no class with that key has an element that is a pair of the identity; else the first that
+/// has gives the name. `Extra`: the first pair beside the key and that element. `MissingGcp`: no length of the company prefix is
+/// given, and the list has none for the digits behind the lead digits. `NoOption`: no class of the name has a company prefix of that
+/// length. `CannotHold`: the item of the lot does not hold it. `Memory` may come in place of any answer. The set is of the table, and
+/// the identity was made with it.
+#[tactic(auto, unfolding(crate::specs::Written::class_answer))]
+pub fn write_class(
+    alloc: Global,
+    set: &ClassSet,
+    table: &AiTable,
+    prefixes: &PrefixList,
+    gcp: Option<u8>,
+    identity: &Identity,
+) -> Result<Text, ClassWriteFault>
+    requires of_table { IsOfTable table.now set.now }
+    requires made { IsMadeWith table.now identity.now }
+    ensures { OrMemory result (class_answer set.now prefixes.now gcp identity.now) }
+{
+    // the proof alone reads it: the rows keep the rules of application identifiers
+    let _ = table.rows();
+    let classes = set.classes();
+    if !some_has_key(identity, classes) {
+        return Err(ClassWriteFault::NoClass);
+    }
+    match naming(identity, classes) {
+        Some(class) => write_by_name(alloc, set, prefixes, gcp, identity, class),
+        None => Err(ClassWriteFault::MissingElement),
+    }
+}
