@@ -1,0 +1,17 @@
+pub mod AttrLemmas
+pub mod CutLemmas
+pub mod FilterLemmas
+pub mod LanguageLemmas
+pub mod OneCut
+pub mod OneReading
+pub mod Positions
+pub mod ReadLemmas
+pub mod ShapedLemmas
+pub mod SpelledAttrs
+pub mod SpelledBytes
+pub mod SpelledGrammar
+pub mod SpelledLexemes
+pub mod SpelledLinks
+pub mod SpelledText
+pub mod TextEscapes
+pub mod Utf8Bytes

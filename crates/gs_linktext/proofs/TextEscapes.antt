@@ -1,0 +1,42 @@
+-- The escapes of `percent_encoding` at the set of this crate are those of a tagged text.
+use Rattle.std.proofs.Common.{◌≡◌, ℕ, ◌<◌, ◌/◌, ◌%◌, not, Bool, true, false, List, [], ◌∷◌, All, refl, arith, if◌then◌else◌}
+use Rattle.std.proofs.lemmas.Bool.{agree_below, agree_below_at}
+use Rattle.std.proofs.lemmas.List.Elements.{All-head, All-tail}
+use Rattle.percent_encoding.specs.AsciiSet.{should_percent_encode}
+use Rattle.percent_encoding.specs.Percent.{percent_encode, percent_encode_byte, encode_byte}
+use Rattle.gs_chars.specs.Escapes.{hex_digit}
+use Rattle.gs_linktext.specs.declared.writer.TheConstants.{ESCAPED}
+use Rattle.gs_linktext.specs.Spelling.{is_unescaped, escaped_byte, escaped}
+
+-- a percent sign and two digits
+abbrev percent_escape : ℕ → List ℕ
+percent_escape c = 37 ∷ hex_digit (c / 16) ∷ hex_digit (c % 16) ∷ []
+
+table : agree_below (should_percent_encode ESCAPED) (λ c. not (is_unescaped c)) 256 ≡ true
+unfolding should_percent_encode is_unescaped
+table = refl
+
+chosen : (c : ℕ) → c < 256 → should_percent_encode ESCAPED c ≡ not (is_unescaped c)
+chosen c h = agree_below_at (should_percent_encode ESCAPED) (λ c. not (is_unescaped c)) 256 c table h
+
+same_escape : (c : ℕ) → c < 256 → percent_encode_byte c ≡ percent_escape c
+unfolding percent_encode_byte
+same_escape c h = let e : c / 16 % 16 ≡ c / 16 = omega arith in rw e
+
+same_choice : (e p : List ℕ) (u : Bool) → (if not u then e else p) ≡ (if u then p else e)
+same_choice e p true = refl
+same_choice e p false = refl
+
+same_byte : (c : ℕ) → c < 256 → encode_byte ESCAPED c ≡ escaped_byte c
+same_byte c h = rw (chosen c h, same_escape c h) (same_choice (percent_escape c) (c ∷ []) (is_unescaped c))
+
+abbrev pub IsByte : ℕ → Type 0
+IsByte c = c < 256
+
+pub same_text : (value : List ℕ) → All IsByte value → percent_encode ESCAPED value ≡ escaped value
+unfolding percent_encode escaped
+same_text [] h = refl
+same_text (c ∷ cs) h =
+    let first = same_byte c (All-head IsByte c cs h) in
+    let rest = same_text cs (All-tail IsByte c cs h) in
+    rw (first, rest)

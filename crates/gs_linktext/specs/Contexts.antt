@@ -1,0 +1,51 @@
+-- The contexts that links are cut into. The cut is this project's own.
+use Rattle.std.specs.Prelude.{◌≡◌, ℕ, Bool, true, ◌&&◌, ◌||◌, not, List, [], ◌∷◌}
+use Rattle.std.specs.List.{list_all}
+use Rattle.std.specs.Str.{bytes_eq}
+use Rattle.gs_linkset.specs.LinkShapes.{ascend, is_below, links_of_document, relation_names}
+use Rattle.gs_linkset.specs.declared.link_types.Context.{Context}
+use Rattle.gs_linkset.specs.declared.link_types.Relation.{Relation}
+use Rattle.gs_linkset.specs.declared.link_types.Target.{Target}
+use Rattle.gs_linktext_grammar.specs.Grammar.{is_some_part}
+
+-- trusted, own: a relation has a target
+abbrev pub has_target : Relation → Bool
+has_target relation = is_some_part relation.targets
+
+-- trusted, own: a context has a relation, and each of its relations a target
+abbrev pub is_full : Context → Bool
+is_full context = is_some_part context.relations && list_all has_target context.relations
+
+-- trusted, own: the name of the first relation
+abbrev pub first_name : List Relation → List ℕ
+first_name [] = []
+first_name (relation ∷ relations) = relation.name
+
+-- trusted, own: the name of the last relation
+abbrev pub last_name : List Relation → List ℕ
+last_name [] = []
+last_name (relation ∷ []) = relation.name
+last_name (relation ∷ next ∷ relations) = last_name (next ∷ relations)
+
+-- trusted, own: a context cannot go on with the links of the next: the anchors differ, or the relation of the next one's first
+-- link is below that of its own last link
+abbrev pub is_apart : Context → Context → Bool
+is_apart context next = not (bytes_eq context.anchor next.anchor) || is_below (first_name next.relations) (last_name context.relations)
+
+-- trusted, own: no context can go on with the links of the next
+abbrev pub are_apart : List Context → Bool
+are_apart [] = true
+are_apart (context ∷ []) = true
+are_apart (context ∷ next ∷ contexts) = is_apart context next && are_apart (next ∷ contexts)
+
+-- trusted, own: the names of the relations of a context ascend
+abbrev pub ascends : Context → Bool
+ascends context = ascend (relation_names context.relations)
+
+-- trusted, own: the contexts have these links, in each the names of the relations ascend, none is without a link, and a new one
+-- begins only where it has to
+pub record IsCut (links : List (List ℕ × List ℕ × Target)) (contexts : List Context) : Type 0 where
+  pub same : links_of_document contexts ≡ links
+  pub ascending : list_all ascends contexts ≡ true
+  pub full : list_all is_full contexts ≡ true
+  pub apart : are_apart contexts ≡ true

@@ -1,0 +1,9 @@
+pub mod Contexts
+pub mod Cuts
+pub mod Groups
+pub mod Lent
+pub mod Links
+pub mod ReadAnswers
+pub mod Spelling
+pub mod Steps
+pub mod WriteAnswers

@@ -1,0 +1,120 @@
+-- How a linkset is spelled as text: RFC 9264, section 4.1; RFC 8288, section 3; RFC 8187, section 3.2.1. The order of what is
+-- spelled, and the line break behind each comma, are this project's own.
+use Rattle.std.specs.Prelude.{ℕ, Bool, ◌==◌, ◌&&◌, ◌||◌, ◌/◌, ◌%◌, nat_le, not, if◌then◌else◌, List, [], ◌∷◌, ◌++◌, codes, length}
+use Rattle.std.specs.List.{flat_map, list_any}
+use Rattle.std.specs.Str.{bytes_eq}
+use Rattle.gs_chars.specs.Escapes.{hex_digit}
+use Rattle.gs_linkset.specs.LinkShapes.{links_of_document}
+use Rattle.gs_linkset.specs.declared.link_types.Attr.{Attr}
+use Rattle.gs_linkset.specs.declared.link_types.AttrValue.{AttrValue}
+use Rattle.gs_linkset.specs.declared.link_types.AttrValue.TheVariants.{One, Many, Tagged}
+use Rattle.gs_linkset.specs.declared.link_types.Context.{Context}
+use Rattle.gs_linkset.specs.declared.link_types.Target.{Target}
+use Rattle.gs_linktext_grammar.specs.Bytes.{is_blank, is_quotable, is_target_byte, is_token}
+use Rattle.gs_linktext_grammar.specs.Lexemes.{are_some}
+use Rattle.gs_linktext.specs.Links.{is_language_byte}
+
+-- trusted, RFC 9110, section 5.6.4: a byte in a quoted string, with a backslash before a quotation mark or a backslash
+abbrev pub quoted_byte : ℕ → List ℕ
+quoted_byte c = if c == 34 || c == 92 then 92 ∷ c ∷ [] else c ∷ []
+
+-- trusted, RFC 9110, section 5.6.4: a text as a quoted string
+abbrev pub quoted : List ℕ → List ℕ
+quoted text = 34 ∷ (flat_map quoted_byte text ++ 34 ∷ [])
+
+-- trusted, RFC 8187, section 3.2.1, and own: a byte that stands for itself in a tagged text: a letter, a digit, `-`, `.` or `_`
+unfoldable pub is_unescaped : ℕ → Bool
+is_unescaped c =
+    list_any (λ x. x == c) (codes "-._0123456789ABCDEFGHIJKLMNOPQRSTUVWXYZabcdefghijklmnopqrstuvwxyz")
+
+-- trusted, RFC 3986, section 2.1: a byte of a tagged text, or a percent sign and its two upper-case digits
+abbrev pub escaped_byte : ℕ → List ℕ
+escaped_byte c = if is_unescaped c then c ∷ [] else 37 ∷ hex_digit (c / 16) ∷ hex_digit (c % 16) ∷ []
+
+-- trusted, RFC 8187, section 3.2.1: a tagged text with its escapes
+unfoldable pub escaped : List ℕ → List ℕ
+escaped text = flat_map escaped_byte text
+
+-- trusted, RFC 8288, section 3: a parameter with a quoted value
+abbrev pub spelled_text : List ℕ → List ℕ → List ℕ
+spelled_text name text = codes "; " ++ (name ++ 61 ∷ quoted text)
+
+-- trusted, RFC 8187, section 3.2.1: a parameter with a text and its language
+abbrev pub spelled_pair : List ℕ → List ℕ × List ℕ → List ℕ
+spelled_pair name pair = codes "; " ++ (name ++ (codes "=UTF-8'" ++ (pair.1 ++ 39 ∷ escaped pair.0)))
+
+-- trusted, own: the parameters of a value
+abbrev pub spelled_value : List ℕ → AttrValue → List ℕ
+spelled_value name (One text) = spelled_text name text
+spelled_value name (Many texts) = flat_map (spelled_text name) texts
+spelled_value name (Tagged pairs) = flat_map (spelled_pair name) pairs
+
+-- trusted, own: the parameters of an attribute
+abbrev pub spelled_attr : Attr → List ℕ
+spelled_attr attr = spelled_value attr.name attr.value
+
+-- trusted, RFC 8288, sections 3.2 and 3.3: the relation type and the anchor of a link
+abbrev pub spelled_types : List ℕ → List ℕ → List ℕ
+spelled_types type anchor = codes ">; rel=" ++ (quoted type ++ (codes "; anchor=" ++ quoted anchor))
+
+-- trusted, own: a link: its reference, its relation type, its anchor and its attributes
+abbrev pub spelled_link : List ℕ × List ℕ × Target → List ℕ
+spelled_link link =
+    60 ∷ (link.2.href ++ (spelled_types link.1 link.0 ++ flat_map spelled_attr link.2.attrs))
+
+-- trusted, own: a link behind another: a comma and a line break between them
+abbrev pub spelled_behind : List ℕ × List ℕ × Target → List ℕ
+spelled_behind link = 44 ∷ 10 ∷ spelled_link link
+
+-- trusted, own: links
+abbrev pub spelled_links : List (List ℕ × List ℕ × Target) → List ℕ
+spelled_links [] = []
+spelled_links (link ∷ links) = spelled_link link ++ flat_map spelled_behind links
+
+-- trusted, own: a document
+abbrev pub spelled : List Context → List ℕ
+spelled contexts = spelled_links (links_of_document contexts)
+
+-- ---- what cannot be spelled
+
+-- trusted, own: a reference is empty, or has a byte that cannot stand between `<` and `>`
+abbrev pub is_unspellable_href : List ℕ → Bool
+is_unspellable_href href = not (are_some is_target_byte href)
+
+-- trusted, own: a relation type is empty, or has a blank
+abbrev pub is_unspellable_type : List ℕ → Bool
+is_unspellable_type type = length type == 0 || list_any is_blank type
+
+-- trusted, own: a text has a byte that cannot stand in a quoted string
+abbrev pub is_unspellable_text : List ℕ → Bool
+is_unspellable_text text = list_any (λ c. not (is_quotable c)) text
+
+-- trusted, own: an upper-case letter
+abbrev pub is_upper : ℕ → Bool
+is_upper c = nat_le 65 c && nat_le c 90
+
+-- trusted, own: a name is none of the grammar, has an upper-case letter, or is `rel` or `anchor`
+abbrev pub is_unspellable_name : List ℕ → Bool
+is_unspellable_name name =
+    not (are_some is_token name) || (list_any is_upper name || (bytes_eq name (codes "rel") || bytes_eq name (codes "anchor")))
+
+-- trusted, own: a language has a byte that none has
+abbrev pub has_unspellable_language : List ℕ × List ℕ → Bool
+has_unspellable_language pair = list_any (λ c. not (is_language_byte c)) pair.1
+
+-- trusted, own: a value has a text that cannot be quoted, an empty list, or a language that cannot be spelled
+abbrev pub is_unspellable_value : AttrValue → Bool
+is_unspellable_value (One text) = is_unspellable_text text
+is_unspellable_value (Many texts) = length texts == 0 || list_any is_unspellable_text texts
+is_unspellable_value (Tagged pairs) = length pairs == 0 || list_any has_unspellable_language pairs
+
+-- trusted, own: an attribute cannot be spelled
+abbrev pub is_unspellable_attr : Attr → Bool
+is_unspellable_attr attr = is_unspellable_name attr.name || is_unspellable_value attr.value
+
+-- trusted, own: a link cannot be spelled
+abbrev pub cannot_spell : List ℕ × List ℕ × Target → Bool
+cannot_spell link =
+    is_unspellable_href link.2.href
+    || (is_unspellable_type link.1
+    || (is_unspellable_text link.1 || (is_unspellable_text link.0 || list_any is_unspellable_attr link.2.attrs)))

@@ -1,0 +1,42 @@
+//! Linksets as text (RFC 9264, section 4.1): documents of the type `application/linkset`, in the syntax of the `Link` field
+//! (RFC 8288, section 3), read and written.
+//!
+//! - `read` reads a linkset from a text, or gives its first error; `write` spells one.
+//! - What is written is read as the same links: `written_is_read`.
+//! - `one_lexing`, `one_cut`, `one_reading`, `spelled_is_read`: the other laws of reading and writing.
+//!
+//! # Example
+//!
+//! A link with two relation types, which gives two links. Their order is kept, so each has a context of its own. The gate
+//! runs this case, for which crates/vectors_web/src/linktexts.rt makes the call.
+//!
+//! ```text
+//! gs_linktext::read <https://a.example/1>;rel="b\x20a"\x20;\x20anchor="/414/0614141000012",
+//! {"linkset":[{"anchor":"/414/0614141000012","b":[{"href":"https://a.example/1"}]},{"a":[{"href":"https://a.example/1"}],"anchor":"/414/0614141000012"}]}
+//! ```
+//!
+//! # Where it differs from the standards
+//!
+//! - Each link has an `anchor`, and a relation type, which is not `anchor`: a linkset in JSON could not hold it otherwise.
+//! - Blanks, line breaks too, may stand between all tokens. A reference has no blank, and no byte but those of printable
+//!   ASCII.
+//! - Only the first `rel` and the first `anchor` of a link count (RFC 8288, sections 3.2 and 3.3), as do the first `type`,
+//!   `title` and `media`. `hreflang` and attributes of other names may come many times.
+//! - The texts are UTF-8, once the backslashes of a quoted string are taken off.
+//! - A value of a name that ends in `*` that is none of the form `UTF-8'LANG'TEXT` is ignored.
+#![tactic(auto)]
+
+mod attrs;
+mod cuts;
+mod groups;
+mod laws;
+mod lent_links;
+mod reader;
+mod spellable;
+mod types;
+mod writer;
+
+pub use gs_linktext_grammar::{LinkTextFault, one_lexing};
+pub use laws::{one_cut, one_reading, spelled_is_read, written_is_read};
+pub use reader::read;
+pub use writer::{LinkTextWriteFault, write};

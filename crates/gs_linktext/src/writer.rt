@@ -1,0 +1,211 @@
+ghost use Rattle.std.specs.Prelude.{◌≡◌, ◌++◌, IfOk, IfErr, map, position, None};
+ghost use Rattle.std.specs.List.{flat_map};
+ghost use Rattle.gs_linkset.specs.LinkShapes.{links_of_document};
+ghost use Rattle.gs_linktext.specs.Lent.{seen};
+ghost use Rattle.gs_linktext.specs.Spelling.{cannot_spell, escaped, quoted, quoted_byte, spelled, spelled_attr, spelled_behind, spelled_link, spelled_links, spelled_pair, spelled_text, spelled_types};
+ghost use Rattle.gs_linktext.specs.WriteAnswers.{IsUnspellable};
+
+use crate::lent_links::{LentLink, lent_links};
+use crate::spellable::first_unspellable;
+use gs_chars::{Memory, Text};
+use gs_linkset::{Attr, AttrValue, LinkDoc};
+use percent_encoding::{AsciiSet, NON_ALPHANUMERIC, percent_encode};
+use std::alloc::Global;
+
+/// Why a linkset cannot be spelled as text. Links are counted from 0, in the order of the document.
+#[derive(Clone, Copy, Debug)]
+pub enum LinkTextWriteFault {
+    /// The link at this index cannot be spelled.
+    CannotSpell(usize),
+    /// Out of memory.
+    Memory,
+}
+
+impl From<Memory> for LinkTextWriteFault {
+    ghost use Rattle.gs_linktext.specs.declared.writer.LinkTextWriteFault.TheVariants.{Memory as memory};
+
+    ghost from_gives = { λ _ e. e ≡ memory };
+
+    fn from(_error: Memory) -> LinkTextWriteFault {
+        LinkTextWriteFault::Memory
+    }
+}
+
+/// The ASCII bytes that a tagged text escapes: all but letters, digits, `-`, `.` and `_`.
+const ESCAPED: AsciiSet = percent_encoding::ascii_set!(
+    NON_ALPHANUMERIC.remove(b'-').remove(b'.').remove(b'_')
+);
+
+/// Appends a text with its escapes.
+fn write_escaped(out: &mut Vec<u8>, text: &[u8]) -> Result<(), Memory>
+    ensures { IfOk result (λ _. out.new.items ≡ out.old.items ++ escaped text.now) }
+{
+    for piece in percent_encode(text, ESCAPED) {
+        out.extend_from_slice(piece.as_bytes())?;
+    }
+    Ok(())
+}
+
+/// Appends a byte of a quoted string.
+fn write_quoted_byte(out: &mut Vec<u8>, c: u8) -> Result<(), Memory>
+    ensures { IfOk result (λ _. out.new.items ≡ out.old.items ++ quoted_byte c) }
+{
+    if c == b'"' || c == b'\\' {
+        out.push(b'\\')?;
+        out.push(c)?;
+        return Ok(());
+    }
+    out.push(c)?;
+    Ok(())
+}
+
+/// Appends the bytes of a quoted string.
+fn write_quoted_bytes(out: &mut Vec<u8>, text: &[u8]) -> Result<(), Memory>
+    ensures { IfOk result (λ _. out.new.items ≡ out.old.items ++ flat_map quoted_byte text.now) }
+{
+    for c in text {
+        write_quoted_byte(out, *c)?;
+    }
+    Ok(())
+}
+
+/// Appends a text as a quoted string.
+fn write_quoted(out: &mut Vec<u8>, text: &[u8]) -> Result<(), Memory>
+    ensures { IfOk result (λ _. out.new.items ≡ out.old.items ++ quoted text.now) }
+{
+    out.push(b'"')?;
+    write_quoted_bytes(out, text)?;
+    out.push(b'"')?;
+    Ok(())
+}
+
+/// Appends a parameter with a quoted value.
+fn write_text(out: &mut Vec<u8>, name: &[u8], text: &[u8]) -> Result<(), Memory>
+    ensures { IfOk result (λ _. out.new.items ≡ out.old.items ++ spelled_text name.now text.now) }
+{
+    out.extend_from_slice(b"; ")?;
+    out.extend_from_slice(name)?;
+    out.push(b'=')?;
+    write_quoted(out, text)
+}
+
+/// Appends a parameter with a text and its language.
+fn write_pair(out: &mut Vec<u8>, name: &[u8], pair: &(Text, Text)) -> Result<(), Memory>
+    ensures { IfOk result (λ _. out.new.items ≡ out.old.items ++ spelled_pair name.now pair.now) }
+{
+    out.extend_from_slice(b"; ")?;
+    out.extend_from_slice(name)?;
+    out.extend_from_slice(b"=UTF-8'")?;
+    out.extend_from_slice(pair.1.as_bytes())?;
+    out.push(b'\'')?;
+    write_escaped(out, pair.0.as_bytes())
+}
+
+/// Appends a parameter for each text.
+fn write_texts(out: &mut Vec<u8>, name: &[u8], texts: &[Text]) -> Result<(), Memory>
+    ensures { IfOk result (λ _. out.new.items
+        ≡ out.old.items ++ flat_map (spelled_text name.now) texts.now) }
+{
+    for text in texts {
+        write_text(out, name, text.as_bytes())?;
+    }
+    Ok(())
+}
+
+/// Appends a parameter for each text and its language.
+fn write_pairs(out: &mut Vec<u8>, name: &[u8], pairs: &[(Text, Text)]) -> Result<(), Memory>
+    ensures { IfOk result (λ _. out.new.items
+        ≡ out.old.items ++ flat_map (spelled_pair name.now) pairs.now) }
+{
+    for pair in pairs {
+        write_pair(out, name, pair)?;
+    }
+    Ok(())
+}
+
+/// Appends the parameters of an attribute.
+fn write_attr(out: &mut Vec<u8>, attr: &Attr) -> Result<(), Memory>
+    ensures { IfOk result (λ _. out.new.items ≡ out.old.items ++ spelled_attr attr.now) }
+{
+    let name = attr.name.as_bytes();
+    match &attr.value {
+        AttrValue::One(text) => write_text(out, name, text.as_bytes()),
+        AttrValue::Many(texts) => write_texts(out, name, texts.items()),
+        AttrValue::Tagged(pairs) => write_pairs(out, name, pairs.items()),
+    }
+}
+
+/// Appends the parameters of attributes.
+fn write_attrs(out: &mut Vec<u8>, attrs: &[Attr]) -> Result<(), Memory>
+    ensures { IfOk result (λ _. out.new.items ≡ out.old.items ++ flat_map spelled_attr attrs.now) }
+{
+    for attr in attrs {
+        write_attr(out, attr)?;
+    }
+    Ok(())
+}
+
+/// Appends the relation type and the anchor of a link.
+fn write_types(out: &mut Vec<u8>, relation: &[u8], anchor: &[u8]) -> Result<(), Memory>
+    ensures { IfOk result (λ _. out.new.items ≡ out.old.items ++ spelled_types relation.now anchor.now) }
+{
+    out.extend_from_slice(b">; rel=")?;
+    write_quoted(out, relation)?;
+    out.extend_from_slice(b"; anchor=")?;
+    write_quoted(out, anchor)
+}
+
+/// Appends a link.
+fn write_link(out: &mut Vec<u8>, link: &LentLink<'_>) -> Result<(), Memory>
+    ensures { IfOk result (λ _. out.new.items ≡ out.old.items ++ spelled_link (seen link.now)) }
+{
+    out.push(b'<')?;
+    out.extend_from_slice(link.target.href.as_bytes())?;
+    write_types(out, link.relation, link.anchor)?;
+    write_attrs(out, link.target.attrs.items())
+}
+
+/// Appends links behind another.
+fn write_behind(out: &mut Vec<u8>, links: &[LentLink<'_>]) -> Result<(), Memory>
+    ensures { IfOk result (λ _. out.new.items
+        ≡ out.old.items ++ flat_map spelled_behind (map seen links.now)) }
+{
+    for link in links {
+        out.extend_from_slice(b",\n")?;
+        write_link(out, link)?;
+    }
+    Ok(())
+}
+
+/// Appends links.
+fn write_links(out: &mut Vec<u8>, links: &[LentLink<'_>]) -> Result<(), Memory>
+    ensures { IfOk result (λ _. out.new.items ≡ out.old.items ++ spelled_links (map seen links.now)) }
+{
+    let Some((first, behind)) = links.split_first() else {
+        return Ok(());
+    };
+    write_link(out, first)?;
+    write_behind(out, behind)
+}
+
+/// The text of a linkset (RFC 9264, section 4.1): of each link its reference, its relation type, its anchor and its attributes,
+/// in the order of the document, with a comma and a line break between two links.
+///
+/// `CannotSpell` names the first link, counted from 0 in the order of the document, that text cannot hold: its reference is
+/// empty or has a byte that cannot stand between `<` and `>`; its relation type is empty or has a blank; one of its quoted
+/// texts has the byte 127, or one below 32 that is not 9; an attribute's name is no name of the grammar, has an upper-case
+/// letter, or is `rel` or `anchor`; an attribute has an empty list; or a language has another byte than letters, digits and
+/// `-`. `Memory` may come in place of any answer. The time is linear in the bytes of the text.
+pub fn write(alloc: Global, doc: &LinkDoc) -> Result<Text, LinkTextWriteFault>
+    ensures spelled { IfOk result (λ text. text ≡ spelled doc.now) }
+    ensures spellable { IfOk result (λ _. position cannot_spell (links_of_document doc.now) ≡ None) }
+    ensures rejected { IfErr result (IsUnspellable (links_of_document doc.now)) }
+{
+    let links = lent_links(alloc, doc.contexts())?;
+    if let Some(i) = first_unspellable(links.as_slice()) {
+        return Err(LinkTextWriteFault::CannotSpell(i));
+    }
+    let mut out = Vec::new(alloc);
+    write_links(&mut out, links.as_slice())?;
+    Ok(Text::from_vec(out))
+}

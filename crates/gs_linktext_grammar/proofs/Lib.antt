@@ -1,0 +1,4 @@
+pub mod ChainLemmas
+pub mod PrefixLemmas
+pub mod LexLemmas
+pub mod PartLemmas

@@ -1,0 +1,6 @@
+pub mod Answers
+pub mod Bytes
+pub mod Prefixes
+pub mod Grammar
+pub mod Lexemes
+pub mod Pieces

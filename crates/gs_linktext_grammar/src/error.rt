@@ -1,0 +1,47 @@
+ghost use Rattle.std.specs.Prelude.{◌≡◌};
+
+use gs_chars::Memory;
+use std::alloc::{AllocError, AllocFailed};
+
+/// Why a text is no linkset. Links are counted from 0, in the order of the text.
+#[derive(Clone, Copy, Debug)]
+pub enum LinkTextFault {
+    /// The bytes are no document of the grammar.
+    Syntax,
+    /// The link at this index has no parameter `anchor`.
+    Anchor(usize),
+    /// The link at this index has no relation type, or one that is `anchor`.
+    Rel(usize),
+    /// Out of memory.
+    Memory,
+}
+
+impl From<Memory> for LinkTextFault {
+    ghost use Rattle.gs_linktext_grammar.specs.declared.error.LinkTextFault.TheVariants.{Memory as memory};
+
+    ghost from_gives = { λ _ e. e ≡ memory };
+
+    fn from(_error: Memory) -> LinkTextFault {
+        LinkTextFault::Memory
+    }
+}
+
+impl From<AllocError> for LinkTextFault {
+    ghost use Rattle.gs_linktext_grammar.specs.declared.error.LinkTextFault.TheVariants.{Memory as memory};
+
+    ghost from_gives = { λ _ e. e ≡ memory };
+
+    fn from(_error: AllocError) -> LinkTextFault {
+        LinkTextFault::Memory
+    }
+}
+
+impl<T: Drop> From<AllocFailed<T>> for LinkTextFault {
+    ghost use Rattle.gs_linktext_grammar.specs.declared.error.LinkTextFault.TheVariants.{Memory as memory};
+
+    ghost from_gives = { λ _ e. e ≡ memory };
+
+    fn from(_error: AllocFailed<T>) -> LinkTextFault {
+        LinkTextFault::Memory
+    }
+}

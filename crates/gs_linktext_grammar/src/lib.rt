@@ -1,0 +1,39 @@
+//! The grammar of linksets as text (RFC 9264, section 4.1; RFC 8288, section 3): lexemes, and the links that are written with
+//! them. gs_linktext reads and writes linksets with it.
+//!
+//! - `read_links` gives the links of a text as they are written, with their parameters in order; `one_lexing` is the law that
+//!   a text has one list of lexemes.
+//!
+//! # Example
+//!
+//! A comma in a quoted string divides no links. The gate runs this case through gs_linktext.
+//!
+//! ```text
+//! gs_linktext::read <https://a.example/1>;rel=item;anchor="/414/0614141000012";title="a,b"
+//! {"linkset":[{"anchor":"/414/0614141000012","item":[{"href":"https://a.example/1","title":"a,b"}]}]}
+//! ```
+//!
+//! # Where it differs from the standards
+//!
+//! - Blanks, line breaks too, may stand between all tokens.
+//! - Names and values are UTF-8; a text with another one is no document.
+#![tactic(auto)]
+
+mod bytes;
+mod checked_text;
+mod error;
+mod laws;
+mod lexeme;
+mod lexer;
+mod links;
+mod params;
+mod pieces;
+mod written_link;
+
+pub use bytes::{is_blank, is_quotable, is_target_byte, is_token};
+pub use checked_text::{CheckedText, is_utf8};
+pub use error::LinkTextFault;
+pub use laws::one_lexing;
+pub use lexeme::Lexeme;
+pub use links::read_links;
+pub use written_link::{Param, WrittenLink};

@@ -1,0 +1,102 @@
+ghost use Rattle.std.specs.Prelude.{◌≡◌, IfOk, IfErr, List, None, Some, map};
+ghost use Rattle.std.specs.List.{slice_split};
+ghost use Rattle.gs_linktext_grammar.specs.Answers.{IsSyntax};
+ghost use Rattle.gs_linktext_grammar.specs.Grammar.{href_in, href_of, is_semicolon, link_of, written_link, IsDocument};
+ghost use Rattle.gs_linktext_grammar.specs.Pieces.{with_part};
+ghost use Rattle.gs_linktext_grammar.specs.declared.written_link.WrittenLink.{WrittenLink};
+
+use crate::checked_text::CheckedText;
+use crate::error::LinkTextFault;
+use crate::lexeme::Lexeme;
+use crate::params::params_of;
+use crate::pieces::{Piece, cut_piece};
+use crate::written_link::WrittenLink;
+use gs_chars::{List, Memory};
+use std::alloc::{AllocError, Global};
+
+/// The parts of the lexemes between the semicolons.
+fn parts_of(alloc: Global, piece: &[Lexeme]) -> Result<Vec<&[Lexeme]>, AllocError>
+    ensures { IfOk result (λ parts. map (λ part. part.now) parts.items ≡ slice_split is_semicolon piece.now) }
+{
+    piece.split(|lexeme| lexeme.is_semicolon()).collect(alloc)
+}
+
+/// The reference of a lexeme.
+fn href_in(alloc: Global, lexeme: &Lexeme) -> Result<Option<CheckedText>, Memory>
+    ensures { IfOk result (λ href. href ≡ href_in lexeme.now) }
+{
+    match lexeme {
+        Lexeme::Target(href) => Ok(CheckedText::new(href.copy(alloc)?)),
+        _ => Ok(None),
+    }
+}
+
+/// The reference of a part that is one alone.
+fn href_of(alloc: Global, part: &[Lexeme]) -> Result<Option<CheckedText>, Memory>
+    ensures { IfOk result (λ href. href ≡ href_of part.now) }
+{
+    match part {
+        [lexeme] => href_in(alloc, lexeme),
+        _ => Ok(None),
+    }
+}
+
+/// The link of the parts between semicolons. `Syntax` comes where they are none.
+fn link_of(alloc: Global, parts: &[&[Lexeme]]) -> Result<WrittenLink, LinkTextFault>
+    ensures ok { IfOk result (λ link. link_of (map (λ part. part.now) parts.now) ≡ Some link) }
+    ensures err { IfErr result (IsSyntax (link_of (map (λ part. part.now) parts.now) ≡ None)) }
+{
+    let Some((head, behind)) = parts.split_first() else {
+        return Err(LinkTextFault::Syntax);
+    };
+    let Some(href) = href_of(alloc, head)? else {
+        return Err(LinkTextFault::Syntax);
+    };
+    let params = List::from_vec(params_of(alloc, behind)?);
+    Ok(WrittenLink { href, params })
+}
+
+/// The link of the lexemes between two commas. `Syntax` comes where they are none.
+fn written_link(alloc: Global, piece: &[Lexeme]) -> Result<WrittenLink, LinkTextFault>
+    ensures ok { IfOk result (λ link. written_link piece.now ≡ Some link) }
+    ensures err { IfErr result (IsSyntax (written_link piece.now ≡ None)) }
+{
+    let parts = parts_of(alloc, piece)?;
+    link_of(alloc, parts.as_slice())
+}
+
+/// Adds the link of the lexemes between two commas, where there are any. `Syntax` comes where they are no link.
+fn push_link(
+    alloc: Global,
+    links: &mut Vec<WrittenLink>,
+    piece: &[Lexeme],
+) -> Result<(), LinkTextFault>
+    ensures ok { IfOk result (λ _. with_part written_link piece.now links.old.items ≡ Some links.new.items) }
+    ensures err { IfErr result (IsSyntax (with_part written_link piece.now links.old.items ≡ None)) }
+{
+    if piece.is_empty() {
+        return Ok(());
+    }
+    links.push(written_link(alloc, piece)?)?;
+    Ok(())
+}
+
+/// The links of a document, link by link. `Syntax` comes exactly where the bytes are none.
+pub fn read_links(alloc: Global, text: &[u8]) -> Result<Vec<WrittenLink>, LinkTextFault>
+    ensures ok { IfOk result (λ links. IsDocument text.now links.items) }
+    ensures err { IfErr result (IsSyntax ((links : List WrittenLink) → IsDocument text.now links → ⊥)) }
+{
+    let mut links = Vec::new(alloc);
+    let mut rest = text;
+    loop {
+        let Piece {
+            lexemes,
+            rest: behind,
+        } = cut_piece(alloc, rest)?;
+        push_link(alloc, &mut links, lexemes.as_slice())?;
+        let Some(behind) = behind else {
+            return Ok(links);
+        };
+        rest = behind;
+    }
+}

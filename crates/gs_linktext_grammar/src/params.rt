@@ -1,0 +1,118 @@
+ghost use Rattle.std.specs.Prelude.{◌≡◌, IfOk, IfErr, None, Some, [], map};
+ghost use Rattle.std.specs.Char.{to_ascii_lowercase};
+ghost use Rattle.std.specs.Option.{option_map};
+ghost use Rattle.gs_linktext_grammar.specs.Answers.{IsSyntax};
+ghost use Rattle.gs_linktext_grammar.specs.Grammar.{name_in, param_by, param_of, param_with, params_of, value_in};
+ghost use Rattle.gs_linktext_grammar.specs.Pieces.{with_part};
+
+use crate::checked_text::CheckedText;
+use crate::error::LinkTextFault;
+use crate::lexeme::Lexeme;
+use crate::written_link::Param;
+use gs_chars::{Memory, Text};
+use std::alloc::Global;
+
+/// The text with its letters in lower case.
+fn lower(alloc: Global, word: &[u8]) -> Result<Text, Memory>
+    ensures { IfOk result (λ text. text ≡ map to_ascii_lowercase word.now) }
+{
+    let mut name = Text::new(alloc);
+    for c in word {
+        name.push(c.to_ascii_lowercase())?;
+    }
+    Ok(name)
+}
+
+/// The bytes of a word.
+fn name_in(lexeme: &Lexeme) -> Option<&[u8]>
+    ensures { option_map (λ name. name.now) result ≡ name_in lexeme.now }
+{
+    match lexeme {
+        Lexeme::Word(word) => Some(word.as_bytes()),
+        _ => None,
+    }
+}
+
+/// The bytes of a word, or what a quoted string says.
+fn value_in(lexeme: &Lexeme) -> Option<&[u8]>
+    ensures { option_map (λ value. value.now) result ≡ value_in lexeme.now }
+{
+    match lexeme {
+        Lexeme::Word(value) | Lexeme::Quoted(value) => Some(value.as_bytes()),
+        _ => None,
+    }
+}
+
+/// The parameter of a name and a value, the letters of its name in lower case. `None` comes where one is no UTF-8.
+fn param_with(alloc: Global, name: &[u8], value: &[u8]) -> Result<Option<Param>, Memory>
+    ensures { IfOk result (λ param. param ≡ param_with name.now value.now) }
+{
+    let Some(name) = CheckedText::new(lower(alloc, name)?) else {
+        return Ok(None);
+    };
+    let Some(value) = CheckedText::new(Text::from_bytes(alloc, value)?) else {
+        return Ok(None);
+    };
+    Ok(Some(Param { name, value }))
+}
+
+/// The parameter of a name and a value, where there are both.
+fn param_by(
+    alloc: Global,
+    name: Option<&[u8]>,
+    value: Option<&[u8]>,
+) -> Result<Option<Param>, Memory>
+    ensures { IfOk result (λ param.
+        param ≡ param_by (option_map (λ n. n.now) name.entry) (option_map (λ v. v.now) value.entry)) }
+{
+    let Some(name) = name else {
+        return Ok(None);
+    };
+    let Some(value) = value else {
+        return Ok(None);
+    };
+    param_with(alloc, name, value)
+}
+
+/// The parameter of a part. `None` comes where it is none.
+fn param_of(alloc: Global, part: &[Lexeme]) -> Result<Option<Param>, Memory>
+    ensures { IfOk result (λ param. param ≡ param_of part.now) }
+{
+    match part {
+        [name] => param_by(alloc, name_in(name), Some(b"".as_slice())),
+        [name, sign, value] => {
+            if sign.is_equals() {
+                return param_by(alloc, name_in(name), value_in(value));
+            }
+            Ok(None)
+        }
+        _ => Ok(None),
+    }
+}
+
+/// Adds the parameter of a part, where it has a lexeme. `Syntax` comes where it is no parameter.
+fn push_param(alloc: Global, params: &mut Vec<Param>, part: &[Lexeme]) -> Result<(), LinkTextFault>
+    ensures ok { IfOk result (λ _. with_part param_of part.now params.old.items ≡ Some params.new.items) }
+    ensures err { IfErr result (IsSyntax (with_part param_of part.now params.old.items ≡ None)) }
+{
+    if part.is_empty() {
+        return Ok(());
+    }
+    let Some(param) = param_of(alloc, part)? else {
+        return Err(LinkTextFault::Syntax);
+    };
+    params.push(param)?;
+    Ok(())
+}
+
+/// The parameters of the parts that have a lexeme. `Syntax` comes where one is no parameter.
+pub(crate) fn params_of(alloc: Global, parts: &[&[Lexeme]]) -> Result<Vec<Param>, LinkTextFault>
+    ensures ok { IfOk result (λ params. params_of (map (λ part. part.now) parts.now) ≡ Some params.items) }
+    ensures err { IfErr result (IsSyntax (params_of (map (λ part. part.now) parts.now) ≡ None)) }
+{
+    let mut params = Vec::new(alloc);
+    for part in parts {
+        push_param(alloc, &mut params, part)?;
+    }
+    Ok(params)
+}
