@@ -1,4 +1,4 @@
-//! The tests of gs_system's objects: the standard streams, its files, and a door that listens.
+//! The tests of gs_port_system's objects: the standard streams, its files, and a door that listens.
 //!
 //! They stand in a crate of their own, since a crate with tests is proved twice.
 #![tactic(auto)]

@@ -1,4 +1,4 @@
--- What the parts say of the front of a value.
+-- What the parts say of the start of a value.
 use Rattle.std.proofs.Common.{◌≡◌, ℕ, ◌+◌, not, List, [], ◌∷◌, length, take, drop, map, position, Option, Some, None, refl, option_map}
 use Rattle.std.specs.Option.{option_or}
 use Rattle.gs_ai.specs.declared.part.Part.{Part}

@@ -10,7 +10,7 @@ drop_seam : (xs ys : List ℕ) → drop (length xs) (xs ++ ys) ≡ ys
 drop_seam [] ys = refl
 drop_seam (x ∷ xs) ys = drop_seam xs ys
 
--- a text that does not begin so has no such front
+-- a text that does not begin so has no such prefix
 pub no_front : (before number after text : List ℕ) → bytes_eq (take (length before) text) before ≡ false → before ++ number ++ after ≡ text → ⊥
 no_front before number after text h e =
     let front : take (length before) text ≡ before = rw (← e, append_assoc) (take-append_seam before (number ++ after)) in

@@ -8,7 +8,8 @@ use borrow.Author.Count.{below_more}
 use Rattle.gs_chars.specs.Characters.{is_digit, are_digits}
 use Rattle.gs_chars.proofs.TruthsAndLists.{true_or_false}
 use Rattle.gs_ai.specs.declared.row.AiRow.{AiRow}
-use Rattle.gs_ai.specs.Tables.{begins, is_code, places_at, row_at, starts_at, two_digits, AreStarts, KeepsRules}
+use Rattle.gs_ai.specs.Tables.{begins, is_code, row_at, KeepsRules}
+use Rattle.gs_ai.specs.TablesSupport.{places_at, starts_at, two_digits, AreStarts}
 use Rattle.gs_ai.specs.Values.{has_code}
 use Rattle.gs_ai.proofs.RowLemmas.{and_left, and_right, code_digits, code_long, row_code}
 use Rattle.gs_ai.proofs.Searches.{equal_bytes, false_from, passes_none, position_is, position_none, position_some, read_at, same_bytes, within}
@@ -72,7 +73,7 @@ place_there t n (y ∷ xs) (suc j) x at h =
       | inr here ↦ rw here (rest.0, found)
     ]
 
--- ---- the digits at the front of a text that begins with a code
+-- ---- the digits at the start of a text that begins with a code
 
 record SameDigits (code text : List ℕ) : Type 0 where
   number : ℕ

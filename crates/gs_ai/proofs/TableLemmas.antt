@@ -4,13 +4,13 @@ use Rattle.std.specs.List.{list_any}
 use Rattle.std.specs.Option.{option_and_then}
 use Rattle.std.proofs.lemmas.List.{take_all}
 use Rattle.gs_ai.specs.declared.row.AiRow.{AiRow}
-use Rattle.gs_ai.specs.Predefined.{predefined_length}
-use Rattle.gs_ai.specs.Values.{has_code, parts_fault, row_fault}
+use Rattle.gs_ai.specs.PredefinedLengths.{predefined_length}
+use Rattle.gs_ai.specs.Values.{has_code, parts_error, row_error}
 use Rattle.gs_ai.specs.Tables.{begins, is_key, is_key_of, is_row, KeepsRules}
 use Rattle.gs_chars.proofs.TruthsAndLists.{or_false, true_or_false}
 use Rattle.gs_ai.proofs.Searches.{find_absent, find_at_place, false_from, equal_bytes, position_is, same_bytes, read_at}
 
--- ---- fronts of a text
+-- ---- prefixes of a text
 
 take_whole : (xs : List ℕ) → take (length xs) xs ≡ xs
 take_whole xs = take_all (length xs) xs (omega arith)
@@ -57,9 +57,9 @@ row_kept rows rules i row low read = (rules.rows_in_order i row (read_at rows i 
 pub length_read : (rows : List AiRow) (i : ℕ) (row : AiRow) → i < length rows → row ≡ get_or rows i row → predefined_length row.code ≡ option_and_then (λ r. predefined_length r.code) (slice_get rows i)
 length_read rows i row low read = rw (read_at rows i row low read) refl
 
--- the first fault of a value by the parts of the row
-pub fault_by_row : (rows : List AiRow) → KeepsRules rows → (i : ℕ) (row : AiRow) (value : List ℕ) → i < length rows → row ≡ get_or rows i row → row_fault rows i value ≡ parts_fault row.parts value
-fault_by_row rows rules i row value low read =
+-- the first error of a value by the parts of the row
+pub error_by_row : (rows : List AiRow) → KeepsRules rows → (i : ℕ) (row : AiRow) (value : List ℕ) → i < length rows → row ≡ get_or rows i row → row_error rows i value ≡ parts_error row.parts value
+error_by_row rows rules i row value low read =
     let at = read_at rows i row low read in
     let own : has_code row.code row ≡ true = same_bytes row.code in
     let place = position_is (has_code row.code) rows i row at own (λ j other less there. false_from (has_code row.code other) (λ same.

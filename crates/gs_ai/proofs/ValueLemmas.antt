@@ -8,27 +8,27 @@ use Rattle.std.proofs.lemmas.List.Sums.{sum_by-cons}
 use Rattle.gs_chars.specs.Characters.{are_in_set82, is_in_set82}
 use Rattle.gs_chars.proofs.SpelledSets.{digit_in_set82}
 use Rattle.gs_chars.proofs.TruthsAndLists.{and_first, and_second, and_true, equal_bytes, true_from_not, true_or_false}
-use Rattle.gs_ai.specs.declared.faults.ValueFault.TheVariants.{Unknown, Length, Char, Check, Date}
+use Rattle.gs_ai.specs.declared.errors.ValueFault.TheVariants.{Unknown, Length, Char, Check, Date}
 use Rattle.gs_ai.specs.declared.part.Part.{Part}
 use Rattle.gs_ai.specs.declared.part.Part.TheVariants as part
 use Rattle.gs_ai.specs.declared.row.AiRow.{AiRow}
 use Rattle.gs_ai.specs.Parts.{greatest_length, is_of_part}
-use Rattle.gs_ai.specs.Predefined.{predefined_length}
+use Rattle.gs_ai.specs.PredefinedLengths.{predefined_length}
 use Rattle.gs_ai.specs.Tables.{is_code, keeps_predefined, KeepsRules}
-use Rattle.gs_ai.specs.Values.{greatest_of, least_of, has_code, has_length_of, keeps_check, keeps_date, parts_fault, pieces, value_fault, wrong_character}
+use Rattle.gs_ai.specs.Values.{greatest_of, least_of, has_code, has_length_of, keeps_check, keeps_date, parts_error, pieces, value_error, wrong_character}
 use Rattle.gs_ai.proofs.PartLemmas.{wrong-cons, wrong_in}
 use Rattle.gs_ai.proofs.RowLemmas.{row_code}
 use Rattle.gs_ai.proofs.Searches.{passes_none}
 
 -- ---- the row of the code
 
--- the row of a code, and a value without a fault by the parts of the row
+-- the row of a code, and a value without an error by the parts of the row
 pub record IsOfRow (rows : List AiRow) (code value : List ℕ) : Type 0 where
   pub row : AiRow
   pub index : ℕ
   pub at : slice_get rows index ≡ Some row
   pub code_is : row.code ≡ code
-  pub fits : parts_fault row.parts value ≡ None
+  pub fits : parts_error row.parts value ≡ None
 
 found_at : {X : Type 0} (t : X → Bool) (xs : List X) (x : X) → find t xs ≡ Some x → (i : ℕ) × (slice_get xs i ≡ Some x) × (t x ≡ true)
 found_at t [] x e = absurd (let f : None ≡ Some x = e in cc)
@@ -37,10 +37,10 @@ found_at t (y ∷ xs) x e = elim (true_or_false (t y)) [
   | inr h ↦ let f = rw h at e in let rest = found_at t xs x f in (suc rest.0, rest.1, rest.2)
 ]
 
-pub of_row : (rows : List AiRow) (code value : List ℕ) → value_fault rows code value ≡ None → IsOfRow rows code value
+pub of_row : (rows : List AiRow) (code value : List ℕ) → value_error rows code value ≡ None → IsOfRow rows code value
 of_row rows code value e = by (find (has_code code) rows) refl e
   where
-    by : (r : Option AiRow) → find (has_code code) rows ≡ r → option_map_or (λ row. parts_fault row.parts value) r (Some Unknown) ≡ None → IsOfRow rows code value
+    by : (r : Option AiRow) → find (has_code code) rows ≡ r → option_map_or (λ row. parts_error row.parts value) r (Some Unknown) ≡ None → IsOfRow rows code value
     by None f h = absurd (let g : Some Unknown ≡ None = h in cc)
     by (Some row) f h =
         let there = found_at (has_code code) rows row f in
@@ -52,7 +52,7 @@ record PartFacts (parts : List Part) (value : List ℕ) : Type 0 where
   length_kept : has_length_of parts value ≡ true
   characters_kept : wrong_character parts value ≡ None
 
-part_facts : (parts : List Part) (value : List ℕ) → parts_fault parts value ≡ None → PartFacts parts value
+part_facts : (parts : List Part) (value : List ℕ) → parts_error parts value ≡ None → PartFacts parts value
 part_facts parts value e = by (has_length_of parts value) (wrong_character parts value) refl refl e
   where
     by : (l : Bool) (w : Option ℕ) → has_length_of parts value ≡ l → wrong_character parts value ≡ w
@@ -114,7 +114,7 @@ plain (p ∷ parts) value fits e =
     subst (λ (v : List ℕ). are_in_set82 v ≡ true) (take-append-drop (greatest_length p) value) (in_set82_append (take (greatest_length p) value) (drop (greatest_length p) value) front back)
 
 -- a value in order is made of the 82 characters
-pub value_in_set82 : (rows : List AiRow) (code value : List ℕ) → value_fault rows code value ≡ None → are_in_set82 value ≡ true
+pub value_in_set82 : (rows : List AiRow) (code value : List ℕ) → value_error rows code value ≡ None → are_in_set82 value ≡ true
 value_in_set82 rows code value e =
     let of = of_row rows code value e in
     let facts = part_facts of.row.parts value of.fits in
@@ -129,7 +129,7 @@ lengths_kept row n h e =
     let f : ((least_of row.parts == greatest_of row.parts) && (length row.code + greatest_of row.parts == n)) ≡ true = rw e at h in
     (equal_test _ _ (and_first _ _ f), equal_test _ _ (and_second _ _ f))
 
-module _ (rows : List AiRow) (rules : KeepsRules rows) (code value : List ℕ) (fits : value_fault rows code value ≡ None) where
+module _ (rows : List AiRow) (rules : KeepsRules rows) (code value : List ℕ) (fits : value_error rows code value ≡ None) where
   -- code and value in order have the predefined length of the code together
   pub predefined_kept : (n : ℕ) → predefined_length code ≡ Some n → length code + length value ≡ n
   predefined_kept n e =

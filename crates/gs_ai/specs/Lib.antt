@@ -1,4 +1,5 @@
 pub mod Parts
-pub mod Predefined
+pub mod PredefinedLengths
 pub mod Tables
+pub mod TablesSupport
 pub mod Values

@@ -2,10 +2,10 @@ ghost use Rattle.std.specs.Prelude.{◌≡◌, ◌≤◌, ◌&&◌, true, not, I
 ghost use Rattle.std.specs.List.{list_all};
 ghost use Rattle.gs_ai.specs.Parts.{is_open, is_part};
 ghost use Rattle.gs_ai.specs.Tables.{is_code, are_parts, keeps_role, are_distinct, is_gtin, is_empty, is_row, keeps_predefined};
-ghost use Rattle.gs_ai.specs.Values.{parts_fault};
+ghost use Rattle.gs_ai.specs.Values.{parts_error};
 
 use crate::part::{Part, Role};
-use crate::predefined::Predefined;
+use crate::predefined_lengths::Predefined;
 use crate::row::AiRow;
 use crate::value::{greatest_length_of, least_length_of, parts_ok};
 use gs_chars::{Text, are_digits};

@@ -20,18 +20,18 @@
 //!   must stand together, and no list of values, as of countries or currencies.
 #![tactic(auto)]
 
-mod faults;
+mod errors;
 mod form;
 mod pair;
 mod part;
-mod predefined;
+mod predefined_lengths;
 mod row;
 mod rules;
 mod starts;
 mod table;
 mod value;
 
-pub use faults::{AiFault, ElementFault, ElementWhy, ValueFault};
+pub use errors::{AiFault, ElementFault, ElementWhy, ValueFault};
 pub use pair::Pair;
 pub use part::{Part, Role};
 pub use row::AiRow;

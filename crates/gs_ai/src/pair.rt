@@ -13,7 +13,7 @@ pub struct Pair {
 }
 
 impl Pair {
-    /// A pair of the same code and value. The one refusal is want of memory.
+    /// A pair of the same code and value. The one error is out of memory.
     pub fn copy(&self, alloc: Global) -> Result<Pair, Memory>
         ensures { IfOk result (λ pair. pair ≡ self.now) }
     {

@@ -1,6 +1,7 @@
 ghost use Rattle.std.specs.Prelude.{◌≡◌, ◌≢◌, ◌<◌, ◌≤◌, ◌^◌, ◌++◌, ℕ, true, IfSome, IfNone};
 ghost use Rattle.gs_ai.specs.Parts.{WritesNoRole, number_text, is_part, part_text, role_text, least_length, greatest_length, is_of_part, is_open};
-ghost use Rattle.gs_ai.specs.Tables.{is_asked, is_key};
+ghost use Rattle.gs_ai.specs.Tables.{is_key};
+ghost use Rattle.gs_ai.specs.TablesSupport.{is_asked};
 
 use gs_chars::CharSet;
 

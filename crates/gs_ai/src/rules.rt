@@ -1,12 +1,13 @@
 ghost use Rattle.std.specs.Prelude.{◌≡◌, ◌≤◌, ◌&&◌, ◌++◌, take, length, position};
 ghost use Rattle.std.specs.List.{flat_map, enumerate_from, list_all, list_any};
 ghost use Rattle.gs_ai.specs.Values.{has_code};
-ghost use Rattle.gs_ai.specs.Tables.{clash, is_asked, is_key_of, is_qualifier_of, row_faults, list_faults, table_faults, IsFirstFault};
+ghost use Rattle.gs_ai.specs.Tables.{clash, is_key_of, is_qualifier_of, row_errors, list_errors, table_errors};
+ghost use Rattle.gs_ai.specs.TablesSupport.{is_asked, IsFirstError};
 
-use crate::faults::AiFault;
+use crate::errors::AiFault;
 use crate::form::{is_row, keeps_predefined};
 use crate::part::Role;
-use crate::predefined::Predefined;
+use crate::predefined_lengths::Predefined;
 use crate::row::AiRow;
 use gs_chars::Text;
 
@@ -52,14 +53,14 @@ fn lists_qualifiers(rows: &[AiRow], codes: &[Text]) -> bool
         .all(|code| has_row(rows, code.as_bytes(), Role::Qualifier))
 }
 
-/// The first fault of row `i` by itself and beside the earlier rows.
+/// The first error of row `i` by itself and beside the earlier rows.
 fn check_row(
     predefined: &Predefined,
     i: usize,
     earlier: &[AiRow],
     row: &AiRow,
 ) -> Result<(), AiFault>
-    ensures { IsFirstFault (row_faults i earlier.now row.now) result }
+    ensures { IsFirstError (row_errors i earlier.now row.now) result }
 {
     if !is_row(row) {
         return Err(AiFault::BadAi(i));
@@ -73,10 +74,10 @@ fn check_row(
     Ok(())
 }
 
-/// The first fault of the codes that row `i` lists.
-#[tactic(auto, unfolding(crate::specs::Tables::list_faults))]
+/// The first error of the codes that row `i` lists.
+#[tactic(auto, unfolding(crate::specs::Tables::list_errors))]
 fn check_list(rows: &[AiRow], i: usize, row: &AiRow) -> Result<(), AiFault>
-    ensures { IsFirstFault (list_faults rows.now i row.now) result }
+    ensures { IsFirstError (list_errors rows.now i row.now) result }
 {
     let codes = row.qualifiers.items();
     if lists_key(rows, codes) {
@@ -88,9 +89,9 @@ fn check_list(rows: &[AiRow], i: usize, row: &AiRow) -> Result<(), AiFault>
     Ok(())
 }
 
-/// The first fault of a row by itself and beside those before it.
+/// The first error of a row by itself and beside those before it.
 fn check_each_row(predefined: &Predefined, rows: &[AiRow]) -> Result<(), AiFault>
-    ensures { IsFirstFault (flat_map (λ row. row_faults row.0 (take row.0 rows.now) row.1)
+    ensures { IsFirstError (flat_map (λ row. row_errors row.0 (take row.0 rows.now) row.1)
         (enumerate_from 0 rows.now)) result }
 {
     for (i, row) in rows.iter().enumerate() {
@@ -99,9 +100,9 @@ fn check_each_row(predefined: &Predefined, rows: &[AiRow]) -> Result<(), AiFault
     Ok(())
 }
 
-/// The first fault of a list of qualifiers.
+/// The first error of a list of qualifiers.
 fn check_each_list(rows: &[AiRow]) -> Result<(), AiFault>
-    ensures { IsFirstFault (flat_map (λ row. list_faults rows.now row.0 row.1)
+    ensures { IsFirstError (flat_map (λ row. list_errors rows.now row.0 row.1)
         (enumerate_from 0 rows.now)) result }
 {
     for (i, row) in rows.iter().enumerate() {
@@ -110,9 +111,9 @@ fn check_each_list(rows: &[AiRow]) -> Result<(), AiFault>
     Ok(())
 }
 
-/// The first fault of the rows.
+/// The first error of the rows.
 pub fn check_rows(predefined: &Predefined, rows: &[AiRow]) -> Result<(), AiFault>
-    ensures { IsFirstFault (table_faults rows.now) result }
+    ensures { IsFirstError (table_errors rows.now) result }
 {
     check_each_row(predefined, rows)?;
     check_each_list(rows)

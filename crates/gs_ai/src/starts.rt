@@ -1,12 +1,12 @@
 ghost use Rattle.std.specs.Prelude.{◌≡◌, ◌<◌, IfOk, IfSome, map, filter};
 ghost use Rattle.std.specs.List.{enumerate_from};
-ghost use Rattle.gs_ai.specs.Tables.{two_digits, starts_at, places_at, AreStarts};
+ghost use Rattle.gs_ai.specs.TablesSupport.{two_digits, starts_at, places_at, AreStarts};
 
 use crate::row::AiRow;
 use gs_chars::{List, Memory};
 use std::alloc::Global;
 
-/// The number of the two digits at the front of the text, where two digits are there.
+/// The number of the two digits at the start of the text, where two digits are there.
 pub fn two_digits(text: &[u8]) -> Option<usize>
     ensures number { result ≡ two_digits text.now }
     ensures small { IfSome result (λ n. n < 100) }

@@ -1,11 +1,11 @@
 ghost use Rattle.std.specs.Prelude.{◌≡◌, ◌≢◌, ◌<◌, ◌≤◌, ℕ, List, [], true, None, Some, OnOk, IfOk, IfErr, IfSome, IfNone, find, length, take, map, position, slice_get};
 ghost use Rattle.std.specs.Option.{option_and_then, option_copied};
-ghost use Rattle.gs_ai.specs.Predefined.{predefined_length};
-ghost use Rattle.gs_ai.specs.Tables.{table_faults, KeepsRules, begins, is_key_of, is_row, row_at};
-ghost use Rattle.gs_ai.specs.Values.{has_code, row_fault, value_fault};
+ghost use Rattle.gs_ai.specs.PredefinedLengths.{predefined_length};
+ghost use Rattle.gs_ai.specs.Tables.{table_errors, KeepsRules, begins, is_key_of, is_row, row_at};
+ghost use Rattle.gs_ai.specs.Values.{has_code, row_error, value_error};
 
-use crate::faults::{AiFault, ValueFault};
-use crate::predefined::Predefined;
+use crate::errors::{AiFault, ValueFault};
+use crate::predefined_lengths::Predefined;
 use crate::row::AiRow;
 use crate::rules::check_rows;
 use crate::starts::{starts_of, two_digits};
@@ -36,7 +36,8 @@ impl Drop for AiTable {
 impl Model for AiTable {
     ghost use Rattle.std.specs.Prelude.{List};
     ghost use Rattle.gs_ai.specs.declared.row.AiRow.{AiRow};
-    ghost use Rattle.gs_ai.specs.Tables.{KeepsRules, AreStarts};
+    ghost use Rattle.gs_ai.specs.Tables.{KeepsRules};
+    ghost use Rattle.gs_ai.specs.TablesSupport.{AreStarts};
 
     ghost Value = { List AiRow };
 
@@ -46,13 +47,13 @@ impl Model for AiTable {
 }
 
 impl AiTable {
-    /// The table of the rows, in their order. A refusal is the first of the faults of the rows: row by row `BadAi`,
+    /// The table of the rows, in their order. A rejection is the first of the errors of the rows: row by row `BadAi`,
     /// `CodePrefix`, `PredefinedLength`, then row by row `KeyIsQualifier` and `BadAi` of the qualifiers that it lists.
-    /// `Memory` is want of memory, and may come in place of any answer.
+    /// `Memory` is out of memory, and may come in place of any answer.
     pub fn new(alloc: Global, rows: Vec<AiRow>) -> Result<AiTable, AiFault>
-        ensures made { IfOk result (λ table. (table ≡ rows.items) × (table_faults rows.items ≡ [])) }
-        ensures refused { IfErr result (λ fault. fault ≢ AiFault.Memory
-            → slice_get (table_faults rows.items) 0 ≡ Some fault) }
+        ensures made { IfOk result (λ table. (table ≡ rows.items) × (table_errors rows.items ≡ [])) }
+        ensures rejected { IfErr result (λ error. error ≢ AiFault.Memory
+            → slice_get (table_errors rows.items) 0 ≡ Some error) }
     {
         let predefined = Predefined::new();
         check_rows(&predefined, rows.as_slice())?;
@@ -150,22 +151,22 @@ impl AiTable {
             .length_of(self.rows.items()[row].code.as_bytes())
     }
 
-    /// Whether the value is one of the row's application identifier, and the first fault if it is not: `Length`, `Char`,
+    /// Whether the value is one of the row's application identifier, and the first error if it is not: `Length`, `Char`,
     /// `Check`, `Date`, in this order. The row is one of the table.
     pub fn row_value_ok(&self, row: usize, value: &[u8]) -> Result<(), ValueFault>
         requires { row < length self.now }
-        ensures ok { OnOk result (row_fault self.now row value.now ≡ None) }
-        ensures fault { IfErr result (λ e. row_fault self.now row value.now ≡ Some e) }
+        ensures ok { OnOk result (row_error self.now row value.now ≡ None) }
+        ensures error { IfErr result (λ e. row_error self.now row value.now ≡ Some e) }
     {
         let row = &self.rows.items()[row];
         parts_ok(row.parts.items(), value)
     }
 
-    /// Whether the value is one of the application identifier with this code, and the first fault if it is not: `Unknown`,
+    /// Whether the value is one of the application identifier with this code, and the first error if it is not: `Unknown`,
     /// `Length`, `Char`, `Check`, `Date`, in this order.
     pub fn value_ok(&self, code: &[u8], value: &[u8]) -> Result<(), ValueFault>
-        ensures ok { OnOk result (value_fault self.now code.now value.now ≡ None) }
-        ensures fault { IfErr result (λ e. value_fault self.now code.now value.now ≡ Some e) }
+        ensures ok { OnOk result (value_error self.now code.now value.now ≡ None) }
+        ensures error { IfErr result (λ e. value_error self.now code.now value.now ≡ Some e) }
     {
         match self.row_with(code) {
             Some(row) => parts_ok(row.parts.items(), value),

@@ -2,9 +2,9 @@ ghost use Rattle.std.specs.Prelude.{◌≡◌, ◌+◌, ◌≤◌, ◌<◌, ◌^
 ghost use Rattle.std.specs.List.{list_all};
 ghost use Rattle.gs_chars.specs.Characters.{are_digits};
 ghost use Rattle.gs_ai.specs.Parts.{is_part, is_of_part, greatest_length};
-ghost use Rattle.gs_ai.specs.Values.{has_length_of, least_of, greatest_of, pieces, wrong_character, is_checked, number_at, is_date, keeps_check, keeps_date, parts_fault};
+ghost use Rattle.gs_ai.specs.Values.{has_length_of, least_of, greatest_of, pieces, wrong_character, is_checked, number_at, is_date, keeps_check, keeps_date, parts_error};
 
-use crate::faults::ValueFault;
+use crate::errors::ValueFault;
 use crate::part::Part;
 use gs_chars::{are_digits, check_digit};
 
@@ -118,12 +118,12 @@ fn keep_dates(parts: &[Part], value: &[u8]) -> bool
     kept && keep_dates(others, rest)
 }
 
-/// The value is one of these parts, or the first fault that fits. There are at most three, each one of the list.
+/// The value is one of these parts, or the first error that fits. There are at most three, each one of the list.
 pub fn parts_ok(parts: &[Part], value: &[u8]) -> Result<(), ValueFault>
     requires few { length parts.now ≤ 3 }
     requires listed { list_all is_part parts.now ≡ true }
-    ensures ok { OnOk result (parts_fault parts.now value.now ≡ None) }
-    ensures err { IfErr result (λ e. parts_fault parts.now value.now ≡ Some e) }
+    ensures ok { OnOk result (parts_error parts.now value.now ≡ None) }
+    ensures err { IfErr result (λ e. parts_error parts.now value.now ≡ Some e) }
 {
     if value.len() < least_length_of(parts) || greatest_length_of(parts) < value.len() {
         return Err(ValueFault::Length);

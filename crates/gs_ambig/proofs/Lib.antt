@@ -1,5 +1,5 @@
 pub mod SetBits
 pub mod Steps
 pub mod Pairs
-pub mod Parting
+pub mod Partings
 pub mod Doubles

@@ -1,9 +1,10 @@
 -- What the search over pairs of states finds. These definitions are the search's own.
 use Rattle.std.specs.Prelude.{◌≡◌, ℕ, ◌<◌, ◌≤◌, ◌/◌, ◌%◌, List, ◌∷◌, Option, Result, IfOk, IfSome, IfNone}
 use Rattle.std.specs.List.{Contains}
-use Rattle.gs_machine.specs.declared.edge.Edge.{Edge}
-use Rattle.gs_machine.specs.Walks.{Fits, edges_at, Walk}
-use Rattle.gs_machine.specs.Machines.{AutoForm, states_of, start_of, accept_of}
+use Rattle.gs_grammar_machine.specs.declared.edge.Edge.{Edge}
+use Rattle.gs_grammar_machine.specs.Walks.{Fits, edges_at, Walk}
+use Rattle.gs_grammar_machine.specs.Machines.{AutoForm, states_of, accept_of}
+use Rattle.gs_grammar_machine.specs.MachinesSupport.{start_of}
 
 -- the search has found something, and it is so of that
 abbrev pub IfFound : {X E : Type 0} → Result (Option X) E → (X → Type 0) → Type 0

@@ -1,6 +1,7 @@
 -- Lists of symbols that machines share, and the answer of the check.
 use Rattle.std.specs.Prelude.{◌≡◌, ℕ, ◌<◌, ◌≤◌, ◌⊎◌, List, Some, slice_get}
-use Rattle.gs_machine.specs.Machines.{AutoForm, Accepts}
+use Rattle.gs_grammar_machine.specs.Machines.{AutoForm}
+use Rattle.gs_grammar_machine.specs.MachinesSupport.{Accepts}
 use Rattle.gs_ambig.specs.declared.verdict.Verdict.{Verdict}
 use Rattle.gs_ambig.specs.declared.verdict.Verdict.TheVariants.{Clear, Double}
 

@@ -1,11 +1,11 @@
 ghost use Rattle.std.specs.Prelude.{◌≡◌, ◌*◌, ◌^◌, ◌<◌};
-ghost use Rattle.gs_machine.specs.Machines.{states_of};
+ghost use Rattle.gs_grammar_machine.specs.Machines.{states_of};
 ghost use Rattle.gs_ambig.specs.Searches.{HasNoForkAt, IfFound, IfNotFound, IsSingle, MarksDead, MarksSingle, Parts};
 
 use crate::marks::Marks;
 use crate::search::{search_behind, with_front};
 use gs_chars::Memory;
-use gs_machine::Auto;
+use gs_grammar_machine::Auto;
 use std::alloc::Global;
 
 /// A list of symbols with two walks from this state to the accepting one that part at once. `None` comes exactly where no two

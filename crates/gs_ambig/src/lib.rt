@@ -19,11 +19,11 @@
 #![tactic(auto)]
 
 mod bits;
-mod checking;
 mod forks;
 mod marks;
+mod pair_check;
 mod search;
 mod verdict;
 
-pub use checking::check;
+pub use pair_check::check;
 pub use verdict::Verdict;

@@ -1,11 +1,11 @@
 ghost use Rattle.std.specs.Prelude.{◌≡◌, ◌+◌, ◌*◌, ◌^◌, ◌<◌, ◌∷◌, IfSome, IfNone, IsTrue, ◌↔◌};
-ghost use Rattle.gs_machine.specs.Machines.{states_of, accept_of};
-ghost use Rattle.gs_machine.specs.Walks.{edges_at};
+ghost use Rattle.gs_grammar_machine.specs.Machines.{states_of, accept_of};
+ghost use Rattle.gs_grammar_machine.specs.Walks.{edges_at};
 ghost use Rattle.gs_ambig.specs.Searches.{BothHave, HaveNoneInCommon, IfFound, IfNotFound, Leads, LeadsBehind, IsDead, IsDeadBehind, MarksDead};
 
 use crate::marks::Marks;
 use gs_chars::Memory;
-use gs_machine::{Auto, Edge};
+use gs_grammar_machine::{Auto, Edge};
 use std::alloc::Global;
 
 /// The number of a pair of states, where the second machine has this many.
@@ -31,7 +31,7 @@ fn common_symbol(edge: &Edge, other: &Edge) -> Option<u8>
     }
 }
 
-/// What was found behind a symbol, with the symbol in front.
+/// What was found behind a symbol, with the symbol at the start.
 pub fn with_front(symbol: u8, mut word: Vec<u8>) -> Result<Option<Vec<u8>>, Memory>
     ensures found { IfFound result (λ whole. whole.items ≡ symbol ∷ word.items) }
     ensures some { IfNotFound result ⊥ }

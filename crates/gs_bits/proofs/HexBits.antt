@@ -16,7 +16,7 @@ use Rattle.hex.proofs.Pairs.{cons_byte, decode_pairs-ok_pair, decode_sized-pairs
 use Rattle.gs_bits.specs.Bits.{bits_of}
 use Rattle.gs_bits.specs.BitLaws.{bits_of-append, bits_of-low, number_of-bits_of}
 use Rattle.gs_bits.specs.HexText.{is_hex_digit, bits_of_digit, bits_of_hex, hex_of_bits, FirstBadDigit}
-use Rattle.gs_bits.specs.Packed.{bits_of_bytes}
+use Rattle.gs_bits.specs.PackedBits.{bits_of_bytes}
 
 same_value : (c : ℕ) → hex_digit_value c ≡ hex_value c
 same_value c = grind arith
@@ -71,7 +71,7 @@ answer_of : (r : Result (List ℕ) FromHexError) (answer : Result Unit FromHexEr
     → MatchResult r (λ bytes. (answer ≡ Ok tt) × (out ≡ bytes)) (λ e. answer ≡ Err e)
     → (answer ≡ Ok tt → r ≡ Ok out) × ((e : FromHexError) → answer ≡ Err e → r ≡ Err e)
 answer_of (Ok bytes) answer out h = (λ e. ap Ok (sym h.1), λ e f. let g : Ok tt ≡ Err e = sym h.0 ∙ f in cc)
-answer_of (Err fault) answer out h = (λ e. let g : Err fault ≡ Ok tt = sym h ∙ e in cc, λ e f. let g : Err fault ≡ Err e = sym h ∙ f in let same : fault ≡ e = cc in ap Err same)
+answer_of (Err error) answer out h = (λ e. let g : Err error ≡ Ok tt = sym h ∙ e in cc, λ e f. let g : Err error ≡ Err e = sym h ∙ f in let same : error ≡ e = cc in ap Err same)
 
 module _ (text out : List ℕ) (n : ℕ) (answer : Result Unit FromHexError) (twice : length text ≡ 2 * n)
     (given : MatchResult (decode_sized text n) (λ bytes. (answer ≡ Ok tt) × (out ≡ bytes)) (λ e. answer ≡ Err e)) where
@@ -83,8 +83,8 @@ module _ (text out : List ℕ) (n : ℕ) (answer : Result Unit FromHexError) (tw
       let r = sym pairs ∙ (answer_of (decode_sized text n) answer out given).0 e in
       (all_digits text (decode_pairs-ok 0 text out r).0, bits_of_decoded 0 text out r)
 
-  pub refused : (e : FromHexError) → answer ≡ Err e → (place : ℕ) × (e ≡ InvalidHexCharacter (slice_index text place) place) × FirstBadDigit text place
-  refused e f =
+  pub rejected : (e : FromHexError) → answer ≡ Err e → (place : ℕ) × (e ≡ InvalidHexCharacter (slice_index text place) place) × FirstBadDigit text place
+  rejected e f =
       let r = sym pairs ∙ (answer_of (decode_sized text n) answer out given).1 e f in
       let bad = decode_pairs-err 0 text e (omega arith) r in
       let place : 0 + bad.0 ≡ bad.0 = omega arith in (

@@ -8,7 +8,7 @@ use Rattle.std.proofs.lemmas.Nat.{shr-shr, shr_high, shr_below, shr_split, shl_b
 use Rattle.std.proofs.lemmas.List.Elements.{All-append, All-nil, All-take}
 use Rattle.gs_bits.specs.Bits.{AreBits, bits_of, number_of}
 use Rattle.gs_bits.specs.BitLaws.{length-bits_of, AreBits-bits_of, bits_of-append, bits_of-low, number_of-bits_of, number_of-append}
-use Rattle.gs_bits.specs.Packed.{bits_of_bytes, packed_bits}
+use Rattle.gs_bits.specs.PackedBits.{bits_of_bytes, packed_bits}
 
 pub length-bits_of_bytes : (bytes : List ℕ) → length (bits_of_bytes bytes) ≡ 8 * length bytes
 unfolding bits_of_bytes
@@ -194,7 +194,7 @@ within_packed from n len bytes h =
     ap (λ k. take n (drop from (take k bits))) split ∙ ap (take n) (drop-take from (n + (len - from - n)) bits)
     ∙ take-take n (n + (len - from - n)) (drop from bits) (omega arith)
 
--- whole bytes from the front
+-- whole bytes from the start
 pub bits_of_front : (q : ℕ) (bytes : List ℕ) → bits_of_bytes (take q bytes) ≡ take (8 * q) (bits_of_bytes bytes)
 unfolding bits_of_bytes
 bits_of_front zero bytes = refl
@@ -239,7 +239,7 @@ pub spread_none : [] ≡ bits_of_bytes []
 unfolding bits_of_bytes
 spread_none = refl
 
--- the bits of a buffer stand in front of those of its bytes
+-- the bits of a buffer stand before those of its bytes
 pub front_spread : (len q : ℕ) (bytes symbols : List ℕ) → len ≤ 8 * length bytes → len ≤ 8 * q → take (8 * length (take q bytes)) symbols ≡ bits_of_bytes (take q bytes)
     → take len symbols ≡ packed_bits len bytes
 front_spread len q bytes symbols l m e =

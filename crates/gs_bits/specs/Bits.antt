@@ -2,16 +2,16 @@
 use Rattle.std.specs.Prelude.{ℕ, ◌+◌, ◌*◌, ◌^◌, ◌<◌, List, [], ◌∷◌, length, zero, suc, All}
 use Rattle.std.specs.Int.{bit_at}
 
--- each item is 0 or 1
+-- trusted, TDS 2.0, section 14.2: each item is 0 or 1
 abbrev pub AreBits : List ℕ → Type 0
 AreBits bits = All (λ b. b < 2) bits
 
--- the number that the bits write: each counts 2 to the number of bits behind it
+-- trusted, TDS 2.0, section 14.2: the number that the bits write: each counts 2 to the number of bits behind it
 abbrev pub number_of : List ℕ → ℕ
 number_of [] = 0
 number_of (b ∷ bits) = b * 2 ^ length bits + number_of bits
 
--- the n lowest bits of a number, the highest first
+-- trusted, TDS 2.0, section 14.2: the n lowest bits of a number, the highest first
 unfoldable pub bits_of : ℕ → ℕ → List ℕ
 bits_of zero number = []
 bits_of (suc n) number = bit_at number n ∷ bits_of n number

@@ -4,34 +4,35 @@ use Rattle.std.specs.List.{AllPass}
 use Rattle.gs_chars.specs.Escapes.{hex_value, hex_digit}
 use Rattle.gs_bits.specs.Bits.{bits_of, number_of}
 
--- a byte is a hexadecimal digit of either case
+-- trusted, own: a byte is a hexadecimal digit of either case
 abbrev pub is_hex_digit : ℕ → Bool
 is_hex_digit c = is_some (hex_value c)
 
--- the four bits of a digit
+-- trusted, own: the four bits of a digit
 abbrev pub bits_of_digit : ℕ → List ℕ
 bits_of_digit c = bits_of 4 (unwrap_or (hex_value c) 0)
 
--- the bits of a text of digits
+-- trusted, own: the bits of a text of digits
 abbrev pub bits_of_hex : List ℕ → List ℕ
 bits_of_hex [] = []
 bits_of_hex (c ∷ text) = bits_of_digit c ++ bits_of_hex text
 
--- the upper-case digits of a list of bits, whose length is a multiple of four
+-- trusted, own: the upper-case digits of a list of bits, whose length is a multiple of four
 abbrev pub hex_of_bits : List ℕ → List ℕ
 hex_of_bits (a ∷ b ∷ c ∷ d ∷ bits) = hex_digit (number_of (a ∷ b ∷ c ∷ d ∷ [])) ∷ hex_of_bits bits
 hex_of_bits _ = []
 
--- the first byte that is no digit stands at this place
+-- trusted, own: the first byte that is no digit stands at this place
 pub record FirstBadDigit (text : List ℕ) (place : ℕ) : Type 0 where
   pub within : place < length text
   pub bad : hex_value (slice_index text place) ≡ None
   pub digits_before : AllPass is_hex_digit (take place text)
 
--- the text is as long as that of whole bytes, of which there are more than so many
+-- trusted, own: the text is as long as that of whole bytes, of which there are more than so many
 abbrev pub NeedsMoreThan : ℕ → List ℕ → Type 0
 NeedsMoreThan most text = (length text % 2 ≡ 0) × (2 * most < length text)
 
--- the text is as long as that of at most so many whole bytes, and its first byte that is no digit stands at this place
+-- trusted, own: the text is as long as that of at most so many whole bytes, and its first byte that is no digit stands at
+-- this place
 abbrev pub HasBadDigitWithin : ℕ → List ℕ → ℕ → Type 0
 HasBadDigitWithin most text place = (length text % 2 ≡ 0) × (length text ≤ 2 * most) × FirstBadDigit text place

@@ -2,4 +2,4 @@ pub mod BitLaws
 pub mod Bits
 pub mod Digits
 pub mod HexText
-pub mod Packed
+pub mod PackedBits

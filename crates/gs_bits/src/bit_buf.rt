@@ -4,9 +4,9 @@ ghost use Rattle.gs_bits.specs.Bits.{AreBits, bits_of, number_of};
 ghost use Rattle.gs_bits.specs.HexText.{HasBadDigitWithin, NeedsMoreThan, bits_of_hex, hex_of_bits, is_hex_digit};
 
 use crate::cursor::Cursor;
-use crate::faults::{Full, HexFault};
+use crate::errors::{Full, HexFault};
 use crate::hex_text::{decode, encode};
-use crate::packed::{number_in, write_behind};
+use crate::packed_bits::{number_in, write_behind};
 use crate::spread::spread;
 use gs_chars::{Memory, Text};
 use std::alloc::Global;
@@ -21,7 +21,7 @@ pub struct BitBuf<const N: usize> {
 
 impl<const N: usize> Model for BitBuf<N> {
     ghost use Rattle.std.specs.Prelude.{List, ℕ, ◌*◌, ◌≤◌};
-    ghost use Rattle.gs_bits.specs.Packed.{packed_bits};
+    ghost use Rattle.gs_bits.specs.PackedBits.{packed_bits};
 
     ghost Value = { List ℕ };
 
@@ -60,7 +60,7 @@ impl<const N: usize> BitBuf<N> {
         self.number_at(i, 1) == 1
     }
 
-    /// Writes the bits to the front of the symbols, one to a symbol, and gives their number.
+    /// Writes the bits to the start of the symbols, one to a symbol, and gives their number.
     pub fn unpack(&self, symbols: &mut [u8]) -> usize
         requires { 8 * N ≤ length symbols.old }
         ensures count { result ≡ length self.now }
@@ -104,7 +104,7 @@ impl<const N: usize> BitBuf<N> {
         Cursor::at_start(&self.bytes, self.len)
     }
 
-    /// The bits of a text of hexadecimal digits of either case, four to a digit. The faults are tried in this order: an odd
+    /// The bits of a text of hexadecimal digits of either case, four to a digit. The errors are tried in this order: an odd
     /// number of bytes, more than 2N bytes, the first byte that is no digit. N is at most 64.
     pub fn from_hex(text: &[u8]) -> Result<BitBuf<N>, HexFault>
         requires { N ≤ 64 }
@@ -130,7 +130,7 @@ impl<const N: usize> BitBuf<N> {
         })
     }
 
-    /// The upper-case hexadecimal digits of the bits, four to a digit. The one refusal is want of memory. The bits make whole
+    /// The upper-case hexadecimal digits of the bits, four to a digit. The one error is out of memory. The bits make whole
     /// bytes.
     pub fn to_hex(&self, alloc: Global) -> Result<Text, Memory>
         requires { length self.now % 8 ≡ 0 }

@@ -1,9 +1,9 @@
 ghost use Rattle.std.specs.Prelude.{◌≡◌, ◌+◌, ◌*◌, ◌≤◌, ◌<◌, ◌↔◌, length, take, drop, IsErr, IfOk, OnOk, OnErr};
 ghost use Rattle.gs_bits.specs.Bits.{AreBits, number_of};
-ghost use Rattle.gs_bits.specs.Packed.{packed_bits};
+ghost use Rattle.gs_bits.specs.PackedBits.{packed_bits};
 
-use crate::faults::Short;
-use crate::packed::number_in;
+use crate::errors::Short;
+use crate::packed_bits::number_in;
 use std::marker::Model;
 
 /// A place in the bits of a buffer. Contracts see the bits that are left.
@@ -16,7 +16,7 @@ pub struct Cursor<'a, const N: usize> {
 
 impl<'a, const N: usize> Model for Cursor<'a, N> {
     ghost use Rattle.std.specs.Prelude.{List, ℕ, ◌*◌, ◌≤◌, length, drop};
-    ghost use Rattle.gs_bits.specs.Packed.{packed_bits};
+    ghost use Rattle.gs_bits.specs.PackedBits.{packed_bits};
 
     ghost Value = { List ℕ };
 

@@ -1,13 +1,13 @@
 ghost use Rattle.std.specs.Prelude.{◌≡◌, ◌*◌, ℕ, ◌↔◌, length, IsOk, IfOk, OnOk, Ok, Err};
 ghost use Rattle.std.specs.List.{AllPass};
 ghost use Rattle.gs_bits.specs.HexText.{FirstBadDigit, bits_of_hex, hex_of_bits, is_hex_digit};
-ghost use Rattle.gs_bits.specs.Packed.{bits_of_bytes};
+ghost use Rattle.gs_bits.specs.PackedBits.{bits_of_bytes};
 
 use gs_chars::{Memory, Text};
 use hex::FromHexError;
 use std::alloc::Global;
 
-/// Writes the bytes of a text of hexadecimal digits, two to a byte. The fault is the place of the first that is none.
+/// Writes the bytes of a text of hexadecimal digits, two to a byte. The error is the place of the first that is none.
 pub(crate) fn decode(text: &[u8], out: &mut [u8]) -> Result<(), usize>
     requires { length text.now ≡ 2 * length out.old }
     ensures bad { (place : ℕ) → (result ≡ Err place) ↔ FirstBadDigit text.now place }
@@ -16,7 +16,7 @@ pub(crate) fn decode(text: &[u8], out: &mut [u8]) -> Result<(), usize>
 {
     match hex::decode_to_slice(text, out) {
         Ok(()) => Ok(()),
-        Err(fault) => match fault {
+        Err(error) => match error {
             FromHexError::InvalidHexCharacter { index, .. } => Err(index),
             _ => unreachable!(),
         },

@@ -1,7 +1,7 @@
 //! Lists of bits in a fixed array, read by a cursor, and their hexadecimal texts.
 //!
 //! - `BitBuf` takes bits at its end, and is made of and written as hexadecimal digits, the highest bit first.
-//! - `Cursor` takes numbers of so many bits from the front.
+//! - `Cursor` takes numbers of so many bits from the start.
 //! - `are_bit_digits` says whether a text writes bits, as the digits 0 and 1.
 //!
 //! # Example
@@ -23,14 +23,14 @@
 mod bit_buf;
 mod cursor;
 mod digits;
-mod faults;
+mod errors;
 mod hex_text;
 mod laws;
-mod packed;
+mod packed_bits;
 mod spread;
 
 pub use bit_buf::BitBuf;
 pub use cursor::Cursor;
 pub use digits::are_bit_digits;
-pub use faults::{Full, HexFault, Short};
+pub use errors::{Full, HexFault, Short};
 pub use laws::{bits_of_their_number, number_of_its_bits};

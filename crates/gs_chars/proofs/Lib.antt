@@ -1,5 +1,6 @@
-pub mod Ascending
+pub mod AscentLemmas
 pub mod Sets
 pub mod SpelledSets
 pub mod Spellings
 pub mod TruthsAndLists
+pub mod ErrorAnswers

@@ -62,7 +62,7 @@ spelled_front text c len b =
       | inr q ↦ escape_front text (drop len text) (take len text) c whole q.1 q.0
     ]
 
--- what leaves no spelling at the front
+-- what leaves no spelling at the start
 pub unspelled : (text : List ℕ) → (is_plain (get_or text 0 0) ≡ false) → ((c : ℕ) → 2 < length text → get_or text 0 0 ≡ 37 → hex_value (get_or text 1 0) ≡ Some (c / 16) → hex_value (get_or text 2 0) ≡ Some (c % 16) → is_escaped c ≡ true → ⊥) → (c len : ℕ) → BeginsWithSpelling text c len → ⊥
 unspelled text plain escape c len b =
     elim (spelled_front text c len b) as (λ _. ⊥) [

@@ -1,3 +1,4 @@
+pub mod Answers
 pub mod Characters
 pub mod CharSets
 pub mod CheckDigits

@@ -31,8 +31,8 @@ fn hex_digit_value(digit: u8) -> Option<u8>
     }
 }
 
-/// The character that the front of the text spells in an EPC URI, and the number of bytes of that spelling. `None` comes
-/// exactly where no front of the text spells a character (TDS 2.0, sections 6.3.1 and 7.1).
+/// The character that the start of the text spells in an EPC URI, and the number of bytes of that spelling. `None` comes
+/// exactly where no prefix of the text spells a character (TDS 2.0, sections 6.3.1 and 7.1).
 pub fn read_escape(text: &[u8]) -> Option<(u8, usize)>
     ensures found { IfSome result (λ r. BeginsWithSpelling text.now r.0 r.1) }
     ensures none { IfNone result ((c len : ℕ) → BeginsWithSpelling text.now c len → ⊥) }

@@ -1,7 +1,7 @@
 //! Characters, texts, check digits and escapes: what every other crate stands on.
 //!
-//! - `CharSet` is the digits, or the 82 characters of GS1 General Specifications, figure 7.11-1; `are_digits` tells whether all
-//!   bytes of a text are digits.
+//! - `CharSet` is the digits, or the 82 characters of GS1 General Specifications, figure 7.11-1; `are_digits` and `are_visible`
+//!   tell whether all bytes of a text are digits, or visible characters; `count_digits` with how many digits it begins.
 //! - `check_digit` gives the check digit of digits; `read_escape` and `write_escape` the escape of a character in a URI.
 //! - `Text` holds bytes, `List` holds values, and `Memory` says that memory ran out.
 //!
@@ -28,7 +28,7 @@ mod memory;
 mod rows;
 mod text;
 
-pub use char_set::{CharSet, are_digits};
+pub use char_set::{CharSet, are_digits, are_visible, count_digits};
 pub use check_digits::{check_digit, check_digit_completes_the_sum};
 pub use escapes::{
     no_spelling_begins_another, read_escape, write_escape, written_spelling_is_read,

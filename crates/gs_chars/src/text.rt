@@ -1,4 +1,4 @@
-ghost use Rattle.std.specs.Prelude.{◌≡◌, ◌++◌, ◌∷◌, [], IfOk};
+ghost use Rattle.std.specs.Prelude.{◌≡◌, ◌++◌, ◌∷◌, [], IfOk, OnErr};
 ghost use Rattle.std.specs.Prelude.{Some, bytes_eq, refl};
 ghost use Rattle.std.specs.Cmp.{partial_equiv_from_equiv};
 ghost use Rattle.std.specs.Cmp.Lexicographic.{slice_cmp, nat_list_eq_equiv, nat_list_cmp_total, texts_ties, texts_po};
@@ -41,7 +41,7 @@ impl Text {
         }
     }
 
-    /// A copy of the bytes. The one refusal is want of memory.
+    /// A copy of the bytes. The one error is out of memory.
     pub fn from_bytes(alloc: Global, bytes: &[u8]) -> Result<Text, Memory>
         ensures { IfOk result (λ text. text ≡ bytes.now) }
     {
@@ -58,21 +58,23 @@ impl Text {
         }
     }
 
-    /// Appends the byte. The one refusal is want of memory.
+    /// Appends the byte. The one error is out of memory, and then the text is as it was.
     pub fn push(&mut self, byte: u8) -> Result<(), Memory>
-        ensures { IfOk result (λ _. self.new ≡ self.old ++ byte ∷ []) }
+        ensures appended { IfOk result (λ _. self.new ≡ self.old ++ byte ∷ []) }
+        ensures unchanged { OnErr result (self.new ≡ self.old) }
     {
         Ok(self.bytes.push(byte)?)
     }
 
-    /// Appends the bytes. The one refusal is want of memory.
+    /// Appends the bytes. The one error is out of memory, and then the text is as it was.
     pub fn extend_from_slice(&mut self, bytes: &[u8]) -> Result<(), Memory>
-        ensures { IfOk result (λ _. self.new ≡ self.old ++ bytes.now) }
+        ensures appended { IfOk result (λ _. self.new ≡ self.old ++ bytes.now) }
+        ensures unchanged { OnErr result (self.new ≡ self.old) }
     {
         Ok(self.bytes.extend_from_slice(bytes)?)
     }
 
-    /// A text of the same bytes. The one refusal is want of memory.
+    /// A text of the same bytes. The one error is out of memory.
     pub fn copy(&self, alloc: Global) -> Result<Text, Memory>
         ensures { IfOk result (λ text. text ≡ self.now) }
     {

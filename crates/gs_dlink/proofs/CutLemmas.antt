@@ -8,7 +8,8 @@ use Rattle.std.proofs.lemmas.List.{get_or-drop}
 use Rattle.std.proofs.lemmas.List.Sums.{position_or_len_is}
 use Rattle.memchr.specs.Find.{IsFirstByte, IsLastByte, NoneAfter, Nowhere, Passes}
 use Rattle.gs_chars.proofs.TruthsAndLists.{false_from, or_second, true_or_false}
-use Rattle.gs_dlink.specs.Uris.{LastSlash, NoSlash, authority_end, authority_from, ends_authority, is_slash, scheme_end, part_pairs, pieces_behind, query_pairs, query_parts, segments, separates_parts, Written}
+use Rattle.gs_dlink.specs.Uris.{authority_end, authority_from, ends_authority, is_slash, scheme_end, part_pairs, pieces_behind, query_pairs, query_parts, segments, separates_parts, Written}
+use Rattle.gs_dlink.specs.UrisSupport.{LastSlash, NoSlash}
 
 -- ---- what the searches of `memchr` give
 
@@ -148,7 +149,7 @@ few_taken zero xs = omega arith
 few_taken (suc n) [] = omega arith
 few_taken (suc n) (x ∷ xs) = omega (arith, few_taken n xs)
 
--- ---- the parts of a query, from the front on
+-- ---- the parts of a query, from the start
 
 abbrev first_place : List ℕ → ℕ
 first_place query = position_or_len separates_parts query

@@ -7,7 +7,8 @@ use Rattle.gs_ai.specs.declared.row.AiRow.{AiRow}
 use Rattle.gs_ai.specs.Tables.{KeepsRules, is_key_of}
 use Rattle.gs_ai.specs.Values.{has_code}
 use Rattle.gs_dlink.specs.Paths.{IsKeyPath, codes_of, is_in_order, is_key_path, key_path, listed_of, paired, path_or}
-use Rattle.gs_dlink.specs.Uris.{LastSlash, NoSlash, Piece, Written, segments}
+use Rattle.gs_dlink.specs.Uris.{Piece, Written, segments}
+use Rattle.gs_dlink.specs.UrisSupport.{LastSlash, NoSlash}
 use Rattle.gs_dlink.proofs.CutLemmas.{few_taken, length_take, no_segments, rest_taken, segments_last}
 
 -- ---- segments in pairs
@@ -18,12 +19,12 @@ first_pair code value = record { at = code.at; code = code.text; value = value.t
 same_some : {X : Type 0} (a b : X) → Some a ≡ Some b → a ≡ b
 same_some a b h = cc
 
--- what a pair in front of others leaves
+-- what a pair before others leaves
 tail_of : (w : Written) (o : Option (List Written)) (pairs : List Written) → option_map (λ rest. w ∷ rest) o ≡ Some pairs → (rest : List Written) × (o ≡ Some rest) × (pairs ≡ w ∷ rest)
 tail_of w None pairs h = absurd (let g : None ≡ Some pairs = h in cc)
 tail_of w (Some rest) pairs h = (rest, refl, sym (same_some (w ∷ rest) pairs h))
 
--- one segment more in front of pairs
+-- one segment more before pairs
 pub odd : (x : Piece) (u : List Piece) (d : List Written) → paired u ≡ Some d → paired (x ∷ u) ≡ None
 odd x [] d h = refl
 odd x (y ∷ []) d h = absurd (let g : None ≡ Some d = h in cc)
@@ -31,7 +32,7 @@ odd x (y ∷ z ∷ u) d h =
     let rest = tail_of (first_pair y z) (paired u) d h in
     rw (odd z u rest.0 rest.1) refl
 
--- segments in front of pairs are none, or pairs in front of them
+-- segments before pairs are none, or pairs before them
 pub in_front : (f u : List Piece) (d : List Written) → paired u ≡ Some d → (paired (f ++ u) ≡ None) ⊎ ((front : List Written) × (paired (f ++ u) ≡ Some (front ++ d)))
 in_front [] u d h = inr ([], h)
 in_front (x ∷ []) u d h = inl (odd x u d h)
@@ -81,7 +82,7 @@ module _ (table : List AiRow) (rules : KeepsRules table) where
       by None h = refl
       by (Some row) h = let place = h row refl in (rules.lists_qualifiers place.0 row place.1).1
 
-  -- a pair whose code is a key's stands in no key path but in front
+  -- a pair whose code is a key's stands in no key path but at the start
   pub only_in_front : (w : Written) (front d : List Written) (s : Written) → is_key s.code ≡ true → is_key_path table (w ∷ (front ++ s ∷ d)) ≡ false
   only_in_front w front d s key = elim (true_or_false (is_key_path table (w ∷ (front ++ s ∷ d)))) [
     | inr other ↦ other
@@ -169,7 +170,7 @@ found_is_path table (x ∷ segments) pairs h = by (λ g. found_is_path table seg
 
 -- ---- the walk from the end
 
--- The segments of the path are those of its front and then those of the pairs, none of which has the code of a key.
+-- The segments of the path are those of its start and then those of the pairs, none of which has the code of a key.
 pub record Walked (table : List AiRow) (at : ℕ) (path front : List ℕ) (pairs : List Written) : Type 0 where
   pub within : length front ≤ length path
   pub behind : List Piece
@@ -201,7 +202,7 @@ module _ (table : List AiRow) (rules : KeepsRules table) (at : ℕ) (path front 
         rw (walked.in_pairs, low) refl,
       )
 
-  -- the pair of a key in front of the others
+  -- the pair of a key before the others
   pub key_found : (value code : ℕ) → LastSlash front value → LastSlash (take value front) code → is_key_of table (last_pair value code).code ≡ true → key_path table (segments at path) ≡ path_if table rules (last_pair value code ∷ pairs)
   key_found value code last before key =
       let u = two_behind value code last before in
@@ -218,14 +219,14 @@ module _ (table : List AiRow) (rules : KeepsRules table) (at : ℕ) (path front 
         no_key = rw other walked.no_key;
       }
 
--- one pair more, in front of those so far
+-- one pair more, before those so far
 turned : {X : Type 0} (old new : List X) (x : X) → new ≡ old ++ x ∷ [] → reverse new ≡ x ∷ reverse old
 turned old new x e = rw (e, reverse-append old (x ∷ [])) refl
 
 pub pushed : {X : Type 0} (f : X → Written) (old new : List X) (x : X) → new ≡ old ++ x ∷ [] → map f (reverse new) ≡ f x ∷ map f (reverse old)
 pushed f old new x e = rw (turned old new x e) refl
 
--- the pairs behind the one that was pushed last, and stands in front now
+-- the pairs behind the one that was pushed last, and stands at the start now
 pub behind_last : {X : Type 0} (old new all : List X) (x : X) → new ≡ old ++ x ∷ [] → all ≡ reverse new → take (length all - 1) (drop 1 all) ≡ reverse old
 behind_last old new all x e t = let whole : all ≡ x ∷ reverse old = t ∙ turned old new x e in rw whole (rest_taken 1 (x ∷ reverse old))
 

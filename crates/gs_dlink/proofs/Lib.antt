@@ -1,9 +1,9 @@
 pub mod CutLemmas
 pub mod FreeBytes
-pub mod Judged
+pub mod JudgementLemmas
 pub mod KeyPaths
 pub mod OrderLemmas
-pub mod Placed
+pub mod PlaceLemmas
 pub mod PlainValues
 pub mod SpelledPairs
 pub mod Targets

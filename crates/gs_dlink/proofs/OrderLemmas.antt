@@ -4,9 +4,10 @@ use Rattle.std.proofs.lemmas.Bool.Decides.{nat_tests}
 use Rattle.std.proofs.lemmas.Option.{slice_get-map, slice_get_past}
 use Rattle.gs_chars.proofs.TruthsAndLists.{read_at}
 use Rattle.gs_dlink.specs.declared.written.WrittenPair.{WrittenPair}
-use Rattle.gs_dlink.specs.Paths.{codes_of, is_code_at, is_in_order}
+use Rattle.gs_dlink.specs.Paths.{codes_of, is_in_order}
+use Rattle.gs_dlink.specs.PathsSupport.{is_code_at}
 use Rattle.gs_dlink.specs.Uris.{Written}
-use Rattle.gs_dlink.specs.Values.{written_of}
+use Rattle.gs_dlink.specs.ValuesSupport.{written_of}
 
 -- ---- codes
 

@@ -4,7 +4,8 @@ use Rattle.std.specs.List.{position_or_len}
 use Rattle.percent_encoding.specs.Percent.{percent_decode}
 use Rattle.gs_chars.proofs.TruthsAndLists.{true_or_false}
 use Rattle.gs_dlink.specs.Uris.{is_byte}
-use Rattle.gs_dlink.specs.Values.{are_escapes, unescaped}
+use Rattle.gs_dlink.specs.Values.{are_escapes}
+use Rattle.gs_dlink.specs.ValuesSupport.{unescaped}
 
 first_plain : (c : ℕ) (text : List ℕ) → position_or_len (is_byte 37) (c ∷ text) ≡ length (c ∷ text) → ((c == 37) ≡ false) × (position_or_len (is_byte 37) text ≡ length text)
 first_plain c text h = elim (true_or_false (c == 37)) [

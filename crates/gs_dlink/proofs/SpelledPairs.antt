@@ -6,13 +6,13 @@ use Rattle.std.proofs.lemmas.Bool.Decides.{nat_tests}
 use Rattle.percent_encoding.specs.Percent.{percent_decode}
 use Rattle.gs_chars.specs.Characters.{are_digits}
 use Rattle.gs_chars.proofs.TruthsAndLists.{and_first, and_second, equal_bytes, true_or_false}
-use Rattle.gs_ai.specs.declared.faults.ValueFault.TheVariants.{Unknown, Length}
+use Rattle.gs_ai.specs.declared.errors.ValueFault.TheVariants.{Unknown, Length}
 use Rattle.gs_ai.specs.declared.pair.Pair.{Pair}
 use Rattle.gs_ai.specs.declared.part.Part.{Part}
 use Rattle.gs_ai.specs.declared.part.Part.TheVariants.{NumCheck}
 use Rattle.gs_ai.specs.declared.row.AiRow.{AiRow}
 use Rattle.gs_ai.specs.Tables.{KeepsRules, is_code, is_empty, is_gtin, is_row}
-use Rattle.gs_ai.specs.Values.{has_code, has_length_of, parts_fault, value_fault}
+use Rattle.gs_ai.specs.Values.{has_code, has_length_of, parts_error, value_error}
 use Rattle.gs_ai.proofs.RowLemmas.{code_digits, code_long, row_code}
 use Rattle.gs_ai.proofs.ValueLemmas.{value_in_set82}
 use Rattle.gs_ident.specs.Identities.{IsInOrder}
@@ -25,7 +25,7 @@ use Rattle.gs_dlink.specs.Uris.{Written, is_byte, is_slash, part_pairs, pieces_b
 use Rattle.gs_dlink.specs.Values.{is_short_gtin, padded, pair_answer}
 use Rattle.gs_dlink.proofs.CutLemmas.{after_seam, any_append, before_none, before_seam, no_pieces, pieces_seam}
 use Rattle.gs_dlink.proofs.FreeBytes.{are_free, decoded_again, digits_free, encoded_escapes, encoded_free, equal_number, is_free, no_byte, none_in, set82_bytes}
-use Rattle.gs_dlink.proofs.Judged.{valued}
+use Rattle.gs_dlink.proofs.JudgementLemmas.{valued}
 
 -- ---- what is written of a pair
 
@@ -46,7 +46,7 @@ spelled_append (w ∷ ws) vs (p ∷ ps) qs f g = (f.0, spelled_append ws vs ps q
 
 -- ---- a value in order is no short GTIN
 
-has_length : (parts : List Part) (value : List ℕ) → parts_fault parts value ≡ None → has_length_of parts value ≡ true
+has_length : (parts : List Part) (value : List ℕ) → parts_error parts value ≡ None → has_length_of parts value ≡ true
 has_length parts value h = elim (true_or_false (has_length_of parts value)) [
   | inl t ↦ t
   | inr t ↦ absurd (let g = rw t at h in let bad : Some Length ≡ None = g in cc)
@@ -68,7 +68,7 @@ short_is_gtin row h short =
     let last : (not row.short || is_gtin row.parts) ≡ true = and_second _ _ front in
     rw short at last
 
-not_short : (row : AiRow) (value : List ℕ) → is_row row ≡ true → parts_fault row.parts value ≡ None → (row.short && is_short_gtin value) ≡ false
+not_short : (row : AiRow) (value : List ℕ) → is_row row ≡ true → parts_error row.parts value ≡ None → (row.short && is_short_gtin value) ≡ false
 not_short row value ok fits = elim (true_or_false row.short) [
   | inr t ↦ rw t refl
   | inl t ↦
@@ -83,8 +83,8 @@ pub record IsOfTable (table : List AiRow) (pair : Pair) : Type 0 where
   pub row : AiRow
   pub found : find (has_code pair.code) table ≡ Some row
   pub row_ok : is_row row ≡ true
-  pub fits : parts_fault row.parts pair.value ≡ None
-  pub in_order : value_fault table pair.code pair.value ≡ None
+  pub fits : parts_error row.parts pair.value ≡ None
+  pub in_order : value_error table pair.code pair.value ≡ None
 
 pub of_table : (table : List AiRow) → KeepsRules table → (pair : Pair) → IsInOrder table pair → IsOfTable table pair
 of_table table rules pair h = elim (find_by_cases (has_code pair.code) table) [

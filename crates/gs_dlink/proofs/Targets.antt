@@ -6,13 +6,14 @@ use Rattle.gs_chars.proofs.TruthsAndLists.{true_or_false}
 use Rattle.gs_ai.specs.declared.pair.Pair.{Pair}
 use Rattle.gs_ai.specs.declared.row.AiRow.{AiRow}
 use Rattle.gs_ident.specs.Identities.{IsInOrder}
-use Rattle.gs_dlink.specs.declared.fault.LinkFault.{LinkFault}
-use Rattle.gs_dlink.specs.declared.fault.LinkFault.TheVariants.{NotHttp, NoKeyPath}
-use Rattle.gs_dlink.specs.Answers.{OrMemory, by_key_path, is_rooted, link_answer, target_answer, written_answer}
+use Rattle.gs_dlink.specs.declared.error.LinkFault.{LinkFault}
+use Rattle.gs_dlink.specs.declared.error.LinkFault.TheVariants.{NotHttp, NoKeyPath}
+use Rattle.gs_dlink.specs.Answers.{by_key_path, is_rooted, link_answer, target_answer, written_answer}
+use Rattle.gs_dlink.specs.AnswersSupport.{OrMemory}
 use Rattle.gs_dlink.specs.Paths.{key_path}
 use Rattle.gs_dlink.specs.Uris.{authority_end, is_byte, path_of, query_of, query_pairs, segments, Written}
 use Rattle.gs_dlink.proofs.CutLemmas.{length_take}
-use Rattle.gs_dlink.proofs.Judged.{written_in_order}
+use Rattle.gs_dlink.proofs.JudgementLemmas.{written_in_order}
 
 module _ (table : List AiRow) (at : ℕ) (text : List ℕ) (hash end : ℕ) (h : hash ≡ position_or_len (is_byte 35) text) (e : end ≡ position_or_len (is_byte 63) (take hash text)) where
   abbrev path : List ℕ

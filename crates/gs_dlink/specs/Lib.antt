@@ -1,5 +1,9 @@
 pub mod Uris
+pub mod UrisSupport
 pub mod Paths
+pub mod PathsSupport
 pub mod Values
+pub mod ValuesSupport
 pub mod Answers
+pub mod AnswersSupport
 pub mod Stems

@@ -2,6 +2,7 @@
 //!
 //! - `read_link` reads a whole link; `read_target` the target of a request, without a host.
 //! - `stem_ok` says whether links may be written under an address, and `write_link` writes one.
+//! - `place_of` and `part_len` cut the target of a request and its query.
 //!
 //! # Example
 //!
@@ -17,12 +18,12 @@
 //!
 //! - Of GS1 Digital Link: URI Syntax it has uncompressed links with numeric codes; the names of codes, as `gtin`, and
 //!   compressed links are not read.
-//! - A GTIN may have 8, 12 or 13 digits, which are filled up with zeros in front; it is written with 14.
+//! - A GTIN may have 8, 12 or 13 digits, which are filled up with leading zeros; it is written with 14.
 #![tactic(auto)]
 
 mod cuts;
+mod error;
 mod escapes;
-mod fault;
 mod laws;
 mod one_answer;
 mod path;
@@ -32,7 +33,8 @@ mod stem;
 mod value;
 mod written;
 
-pub use fault::LinkFault;
+pub use cuts::{part_len, place_of};
+pub use error::LinkFault;
 pub use laws::{one_key_path, written_link_is_read};
 pub use one_answer::one_answer_each;
 pub use read::{read_link, read_target};

@@ -1,8 +1,11 @@
 ghost use Rattle.std.specs.Prelude.{◌≡◌, ◌+◌, ◌<◌, ◌^◌, ◌∷◌, true, All, IfOk, IfSome, MatchOption, None, Some, map, option_map, length, reverse};
 ghost use Rattle.gs_ai.specs.Tables.{is_key_of};
-ghost use Rattle.gs_dlink.specs.Paths.{codes_of, is_code_at, is_in_order, key_path, listed_of, path_or};
-ghost use Rattle.gs_dlink.specs.Uris.{LastSlash, NoSlash, segments};
-ghost use Rattle.gs_dlink.specs.Values.{IsPlaced, written_of};
+ghost use Rattle.gs_dlink.specs.Paths.{codes_of, is_in_order, key_path, listed_of, path_or};
+ghost use Rattle.gs_dlink.specs.PathsSupport.{is_code_at};
+ghost use Rattle.gs_dlink.specs.Uris.{segments};
+ghost use Rattle.gs_dlink.specs.UrisSupport.{LastSlash, NoSlash};
+ghost use Rattle.gs_dlink.specs.Values.{IsPlaced};
+ghost use Rattle.gs_dlink.specs.ValuesSupport.{written_of};
 
 use crate::written::WrittenPair;
 use gs_ai::AiTable;

@@ -1,6 +1,7 @@
 ghost use Rattle.std.specs.Prelude.{◌≡◌, ◌+◌, ◌^◌, ◌++◌, ◌≤◌, All, OnOk, drop, map, length};
 ghost use Rattle.gs_dlink.specs.Uris.{part_pairs, query_pairs};
-ghost use Rattle.gs_dlink.specs.Values.{IsPlaced, written_of};
+ghost use Rattle.gs_dlink.specs.Values.{IsPlaced};
+ghost use Rattle.gs_dlink.specs.ValuesSupport.{written_of};
 
 use crate::cuts::{part_len, place_of};
 use crate::written::WrittenPair;

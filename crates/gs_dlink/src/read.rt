@@ -1,12 +1,14 @@
 ghost use Rattle.std.specs.Prelude.{◌≡◌, ◌≢◌, All, ◌+◌, ◌<◌, ◌≤◌, ◌^◌, IfOk, IfErr, IfSome, IsTrue, Some, map, length};
 ghost use Rattle.std.specs.Char.{to_ascii_lowercase};
 ghost use Rattle.gs_ident.specs.Identities.{IsInOrder};
-ghost use Rattle.gs_dlink.specs.Answers.{IsLink, IsTarget, OrMemory, is_rooted, link_fault, target_answer, target_fault, written_answer};
+ghost use Rattle.gs_dlink.specs.Answers.{IsLink, IsTarget, is_rooted, link_error, target_answer, target_error, written_answer};
+ghost use Rattle.gs_dlink.specs.AnswersSupport.{OrMemory};
 ghost use Rattle.gs_dlink.specs.Uris.{authority_end, has_scheme, scheme_end};
-ghost use Rattle.gs_dlink.specs.Values.{IsPlaced, written_of};
+ghost use Rattle.gs_dlink.specs.Values.{IsPlaced};
+ghost use Rattle.gs_dlink.specs.ValuesSupport.{written_of};
 
 use crate::cuts::{authority_len, place_of};
-use crate::fault::LinkFault;
+use crate::error::LinkFault;
 use crate::path::key_path;
 use crate::query::{behind, push_query};
 use crate::value::read_pair;
@@ -16,12 +18,12 @@ use gs_chars::List;
 use std::alloc::Global;
 
 /// The pairs that a link names: those of its key path, then those of its query (GS1 Digital Link URI Syntax, section 3). The
-/// first fault is the answer: `NotHttp`, `NoKeyPath`, then pair by pair `Unknown`, `Escape` and the faults of the value, at
+/// first error is the answer: `NotHttp`, `NoKeyPath`, then pair by pair `Unknown`, `Escape` and the errors of the value, at
 /// the place of the pair's code in the text. `Memory` may come in place of any answer.
 pub fn read_link(alloc: Global, table: &AiTable, uri: &[u8]) -> Result<Vec<Pair>, LinkFault>
     ensures pairs { IfOk result (λ pairs. IsLink table.now uri.now pairs.items) }
     ensures in_order { IfOk result (λ pairs. All (IsInOrder table.now) pairs.items) }
-    ensures fault { IfErr result (λ e. e ≢ LinkFault.Memory → link_fault table.now uri.now ≡ Some e) }
+    ensures error { IfErr result (λ e. e ≢ LinkFault.Memory → link_error table.now uri.now ≡ Some e) }
 {
     let Some(at) = authority_end(uri) else {
         return Err(LinkFault::NotHttp);
@@ -34,8 +36,8 @@ pub fn read_link(alloc: Global, table: &AiTable, uri: &[u8]) -> Result<Vec<Pair>
 pub fn read_target(alloc: Global, table: &AiTable, target: &[u8]) -> Result<Vec<Pair>, LinkFault>
     ensures pairs { IfOk result (λ pairs. IsTarget table.now target.now pairs.items) }
     ensures in_order { IfOk result (λ pairs. All (IsInOrder table.now) pairs.items) }
-    ensures fault { IfErr result (λ e. e ≢ LinkFault.Memory
-        → target_fault table.now target.now ≡ Some e) }
+    ensures error { IfErr result (λ e. e ≢ LinkFault.Memory
+        → target_error table.now target.now ≡ Some e) }
 {
     let pairs = read_at(alloc, table, 0, target)?;
     Ok(pairs.into_vec())
@@ -84,7 +86,7 @@ fn is_rooted(path: &[u8]) -> bool
     }
 }
 
-/// The pairs of a path with its query that stand at a place in the whole text, or the first fault.
+/// The pairs of a path with its query that stand at a place in the whole text, or the first error.
 #[tactic(auto, unfolding(crate::specs::Answers::target_answer))]
 fn read_at(alloc: Global, table: &AiTable, at: usize, text: &[u8]) -> Result<List<Pair>, LinkFault>
     requires { at + length text.now < 2 ^ 63 }
@@ -103,7 +105,7 @@ fn read_at(alloc: Global, table: &AiTable, at: usize, text: &[u8]) -> Result<Lis
     read_pairs(alloc, table, written.as_slice())
 }
 
-/// The pairs that are written so, or the first fault of one.
+/// The pairs that are written so, or the first error of one.
 fn read_pairs(
     alloc: Global,
     table: &AiTable,

@@ -41,7 +41,7 @@ pub fn stem_ok(stem: &[u8]) -> bool
     stem.len() <= 1024 && are_stem_bytes(stem) && begins_authority(stem) && !ends_in_slash(stem)
 }
 
-/// The link of the identity under the stem (GS1 Digital Link URI Syntax, section 4). The one refusal is want of memory. The
+/// The link of the identity under the stem (GS1 Digital Link URI Syntax, section 4). The one error is out of memory. The
 /// stem is one that `stem_ok` allows.
 pub fn write_link(alloc: Global, stem: &[u8], identity: &Identity) -> Result<Text, Memory>
     requires { stem_ok stem.now ≡ true }

@@ -1,11 +1,12 @@
 ghost use Rattle.std.specs.Prelude.{◌≡◌, IfOk};
-ghost use Rattle.gs_dlink.specs.Answers.{OrMemory};
+ghost use Rattle.gs_dlink.specs.AnswersSupport.{OrMemory};
 ghost use Rattle.percent_encoding.specs.Percent.{percent_decode};
-ghost use Rattle.gs_dlink.specs.Values.{IsPlaced, is_short_gtin, padded, pair_answer, unescaped, written_of};
+ghost use Rattle.gs_dlink.specs.Values.{IsPlaced, is_short_gtin, padded, pair_answer};
+ghost use Rattle.gs_dlink.specs.ValuesSupport.{unescaped, written_of};
 
 use crate::cuts::place_of;
+use crate::error::LinkFault;
 use crate::escapes::are_escapes;
-use crate::fault::LinkFault;
 use crate::written::WrittenPair;
 use gs_ai::{AiTable, ElementFault, ElementWhy, Pair, ValueFault};
 use gs_chars::{Memory, Text, are_digits};
@@ -44,7 +45,7 @@ fn unescaped(alloc: Global, text: &[u8]) -> Result<Option<Text>, Memory>
     Ok(Some(decoded(alloc, text)?))
 }
 
-/// The value with zeros in front up to 14 digits, where it is a short GTIN and its row allows one.
+/// The value with leading zeros up to 14 digits, where it is a short GTIN and its row allows one.
 fn padded(alloc: Global, short: bool, value: Text) -> Result<Text, Memory>
     ensures { IfOk result (λ out. out ≡ padded short value) }
 {
@@ -56,8 +57,8 @@ fn padded(alloc: Global, short: bool, value: Text) -> Result<Text, Memory>
     Ok(out)
 }
 
-/// The fault of a pair at the place of its code.
-fn fault_of(written: &WrittenPair<'_>, why: ElementWhy) -> LinkFault
+/// The error of a pair at the place of its code.
+fn error_of(written: &WrittenPair<'_>, why: ElementWhy) -> LinkFault
     ensures { result ≡ LinkFault.Element (record { at = written.now.at; why = why }) }
 {
     LinkFault::Element(ElementFault {
@@ -66,7 +67,7 @@ fn fault_of(written: &WrittenPair<'_>, why: ElementWhy) -> LinkFault
     })
 }
 
-/// The pair that is written so, or its first fault: `Unknown`, `Escape`, a fault of the value.
+/// The pair that is written so, or its first error: `Unknown`, `Escape`, an error of the value.
 pub(crate) fn read_pair(
     alloc: Global,
     table: &AiTable,
@@ -76,11 +77,11 @@ pub(crate) fn read_pair(
     ensures { OrMemory result (pair_answer table.now (written_of written.now)) }
 {
     let Some(place) = written.row else {
-        return Err(fault_of(written, ElementWhy::Value(ValueFault::Unknown)));
+        return Err(error_of(written, ElementWhy::Value(ValueFault::Unknown)));
     };
     let row = &table.rows()[place];
     let Some(value) = unescaped(alloc, written.value)? else {
-        return Err(fault_of(written, ElementWhy::Escape));
+        return Err(error_of(written, ElementWhy::Escape));
     };
     let value = padded(alloc, row.short, value)?;
     match table.row_value_ok(place, value.as_bytes()) {
@@ -88,6 +89,6 @@ pub(crate) fn read_pair(
             code: Text::from_bytes(alloc, written.code)?,
             value,
         }),
-        Err(fault) => Err(fault_of(written, ElementWhy::Value(fault))),
+        Err(error) => Err(error_of(written, ElementWhy::Value(error))),
     }
 }

@@ -1,4 +1,4 @@
--- Elements with their codes in brackets: each is told by the text that it stands in front of.
+-- Elements with their codes in brackets: each is given by the text that it stands before.
 use Rattle.std.proofs.Common.{◌≡◌, ℕ, ◌<◌, ◌≤◌, ◌==◌, ◌&&◌, not, true, false, List, [], ◌∷◌, ◌++◌, length, drop, Option, Some, None, refl, sym, ap, ◌∙◌, append_assoc, arith, ◌⊎◌, inl, inr, true≢false}
 use Rattle.std.specs.List.{take_while}
 use Rattle.std.proofs.lemmas.Bool.Decides.{nat_tests}
@@ -7,17 +7,18 @@ use Rattle.std.proofs.lemmas.List.{append_cancel_left}
 use Rattle.std.proofs.lemmas.List.Sums.{take_while-cons}
 use Rattle.gs_chars.specs.Characters.{are_digits, are_in_set82, is_digit, is_in_set82}
 use Rattle.gs_chars.proofs.TruthsAndLists.{and_first, and_second, false_from, true_or_false}
-use Rattle.gs_ai.specs.declared.faults.ElementFault.{ElementFault}
-use Rattle.gs_ai.specs.declared.faults.ElementWhy.TheVariants.{Value, Bracket}
-use Rattle.gs_ai.specs.declared.faults.ValueFault.{ValueFault}
+use Rattle.gs_ai.specs.declared.errors.ElementFault.{ElementFault}
+use Rattle.gs_ai.specs.declared.errors.ElementWhy.TheVariants.{Value, Bracket}
+use Rattle.gs_ai.specs.declared.errors.ValueFault.{ValueFault}
 use Rattle.gs_ai.specs.declared.pair.Pair.{Pair}
 use Rattle.gs_ai.specs.declared.row.AiRow.{AiRow}
 use Rattle.gs_ai.specs.Tables.{is_code, is_empty, KeepsRules}
-use Rattle.gs_ai.specs.Values.{value_fault}
+use Rattle.gs_ai.specs.Values.{value_error}
 use Rattle.gs_ai.proofs.RowLemmas.{code_digits, code_long}
 use Rattle.gs_ai.proofs.ValueLemmas.{code_of_row, value_in_set82}
-use Rattle.gs_element.specs.Bracketed.{bracketed_element, bracketed_fault, closed_code, code_front, front_fault, is_cut, is_escape, value_before, written_character, written_value, IsBracketedElement}
-use Rattle.gs_element.proofs.JoinLemmas.{IsBlocked, IsGreedy, IsTold}
+use Rattle.gs_element.specs.BracketedTexts.{bracketed_element, bracketed_error, closed_code, code_front, front_error, is_cut, value_before, written_character, written_value, IsBracketedElement}
+use Rattle.gs_element.specs.BracketedSupport.{is_escape}
+use Rattle.gs_element.proofs.JoinLemmas.{IsBlocked, IsGreedy, IsKnown}
 
 -- ---- codes
 
@@ -38,14 +39,14 @@ some_code code ok = by code (code_long code ok)
     by [] long = absurd (omega arith)
     by (c ∷ code) long = refl
 
-closed_told : (code text : List ℕ) → is_empty code ≡ false → closed_code code (41 ∷ text) ≡ Some (code, text)
-closed_told code text some = rw some refl
+closed_known : (code text : List ℕ) → is_empty code ≡ false → closed_code code (41 ∷ text) ≡ Some (code, text)
+closed_known code text some = rw some refl
 
--- the code is what the text has in front
-pub code_told : (code text : List ℕ) → is_code code ≡ true → code_front (40 ∷ (code ++ 41 ∷ text)) ≡ Some (code, text)
-code_told code text ok =
+-- the code is what the text has at the start
+pub code_known : (code text : List ℕ) → is_code code ≡ true → code_front (40 ∷ (code ++ 41 ∷ text)) ≡ Some (code, text)
+code_known code text ok =
     let front = digits_before code 41 text (code_digits code ok) no_end in
-    rw (front, drop-append_seam code (41 ∷ text)) (closed_told code text (some_code code ok))
+    rw (front, drop-append_seam code (41 ∷ text)) (closed_known code text (some_code code ok))
 
 -- ---- values
 
@@ -102,10 +103,10 @@ plain_next text c [] e other plain = let o = other_number c 40 other in rw e (rw
 plain_next text c (d ∷ rest) e other plain = let o = other_number c 40 other in rw e (rw (o, plain) (refl, refl))
 
 -- what is written of a value is read as the value
-pub value_told : (value after : List ℕ) → are_in_set82 value ≡ true → is_cut after ≡ true → value_before (written_value value ++ after) ≡ value
-value_told [] after plain cut = value_none after cut
-value_told (c ∷ value) after plain cut =
-    let rest = value_told value after (and_second _ _ plain) cut in
+pub value_known : (value after : List ℕ) → are_in_set82 value ≡ true → is_cut after ≡ true → value_before (written_value value ++ after) ≡ value
+value_known [] after plain cut = value_none after cut
+value_known (c ∷ value) after plain cut =
+    let rest = value_known value after (and_second _ _ plain) cut in
     elim (true_or_false (c == 40)) [
       | inl is ↦
           let same : c ≡ 40 = grind (arith, nat_tests) in
@@ -113,7 +114,7 @@ value_told (c ∷ value) after plain cut =
       | inr other ↦ rw other (value_one c (written_value value ++ after) other (no_backslash c (and_first _ _ plain)) ∙ ap (λ (x : List ℕ). c ∷ x) rest)
     ]
 
--- a text is what is written of the value at its front, and then a cut
+-- a text is what is written of the value at its start, and then a cut
 pub record IsValueFront (text : List ℕ) : Type 0 where
   pub after : List ℕ
   pub text_is : text ≡ written_value (value_before text) ++ after
@@ -157,10 +158,10 @@ module _ (rows : List AiRow) (rules : KeepsRules rows) where
   in_shape pair text after h = h.text_is ∙ ap (λ (x : List ℕ). 40 ∷ x) (append_assoc pair.code (41 ∷ written_value pair.value) after)
 
   code_is : (pair : Pair) (text after : List ℕ) → Element pair text after → code_front text ≡ Some (pair.code, written_value pair.value ++ after)
-  code_is pair text after h = ap code_front (in_shape pair text after h) ∙ code_told pair.code (written_value pair.value ++ after) (code_of_row rows rules pair.code pair.value h.in_order.fits)
+  code_is pair text after h = ap code_front (in_shape pair text after h) ∙ code_known pair.code (written_value pair.value ++ after) (code_of_row rows rules pair.code pair.value h.in_order.fits)
 
   value_is : (pair : Pair) (text after : List ℕ) → Element pair text after → value_before (written_value pair.value ++ after) ≡ pair.value
-  value_is pair text after h = value_told pair.value after (value_in_set82 rows pair.code pair.value h.in_order.fits) h.cut
+  value_is pair text after h = value_known pair.value after (value_in_set82 rows pair.code pair.value h.in_order.fits) h.cut
 
   ends : (pair : Pair) (text after : List ℕ) → Element pair text after → (before : List ℕ) × (text ≡ before ++ after) × (0 < length before)
   ends pair text after h = (bracketed_element pair, h.text_is, omega arith)
@@ -173,43 +174,43 @@ module _ (rows : List AiRow) (rules : KeepsRules rows) where
   same_parts : (x y : List ℕ × List ℕ) → Some x ≡ Some y → (x.0 ≡ y.0) × (x.1 ≡ y.1)
   same_parts x y e = let f : x ≡ y = cc in (ap (λ (z : List ℕ × List ℕ). z.0) f, ap (λ (z : List ℕ × List ℕ). z.1) f)
 
-  same_told : (text : List ℕ) (p q : Pair) (a b : List ℕ) → Element p text a → Element q text b → SameFront p q a b
-  same_told text p q a b h k =
+  same_known : (text : List ℕ) (p q : Pair) (a b : List ℕ) → Element p text a → Element q text b → SameFront p q a b
+  same_known text p q a b h k =
       let both = same_parts (p.code, written_value p.value ++ a) (q.code, written_value q.value ++ b) (sym (code_is p text a h) ∙ code_is q text b k) in
       record { codes = both.0; texts = both.1 }
 
   same_value : (text : List ℕ) (p q : Pair) (a b : List ℕ) → Element p text a → Element q text b → p.value ≡ q.value
-  same_value text p q a b h k = sym (value_is p text a h) ∙ ap value_before (same_told text p q a b h k).texts ∙ value_is q text b k
+  same_value text p q a b h k = sym (value_is p text a h) ∙ ap value_before (same_known text p q a b h k).texts ∙ value_is q text b k
 
   same_pair : (text : List ℕ) (p q : Pair) (a b : List ℕ) → Element p text a → Element q text b → p ≡ q
   same_pair text p q a b h k =
-      let codes = (same_told text p q a b h k).codes in
+      let codes = (same_known text p q a b h k).codes in
       let values = same_value text p q a b h k in
       λ i. record { code = codes i; value = values i }
 
   same_rest : (text : List ℕ) (p q : Pair) (a b : List ℕ) → Element p text a → Element q text b → b ≡ a
   same_rest text p q a b h k =
-      let texts = (same_told text p q a b h k).texts in
+      let texts = (same_known text p q a b h k).texts in
       let values = same_value text p q a b h k in
       sym (append_cancel_left (written_value p.value) a b (texts ∙ ap (λ (v : List ℕ). written_value v ++ b) (sym values)))
 
-  pub greedy_told : (p : Pair) (text a : List ℕ) → Element p text a → IsGreedy Element text a
-  greedy_told p text a h q b k = inl (same_rest text p q a b h k)
+  pub greedy_known : (p : Pair) (text a : List ℕ) → Element p text a → IsGreedy Element text a
+  greedy_known p text a h q b k = inl (same_rest text p q a b h k)
 
-  -- ---- faults
+  -- ---- errors
 
   empty_blocked : IsBlocked Element []
   empty_blocked pair after h = absurd (let e : [] ≡ 40 ∷ (pair.code ++ 41 ∷ (written_value pair.value ++ after)) = in_shape pair [] after h in cc)
 
-  fault_told : (pair : Pair) (c : ℕ) (text after : List ℕ) → Element pair (c ∷ text) after → bracketed_fault rows (c ∷ text) ≡ None
-  fault_told pair c text after h =
-      let front = ap (front_fault rows) (code_is pair (c ∷ text) after h) in
+  error_known : (pair : Pair) (c : ℕ) (text after : List ℕ) → Element pair (c ∷ text) after → bracketed_error rows (c ∷ text) ≡ None
+  error_known pair c text after h =
+      let front = ap (front_error rows) (code_is pair (c ∷ text) after h) in
       let value = value_is pair (c ∷ text) after h in
       front ∙ (rw (value, h.in_order.fits) refl)
 
-  pub blocked : (text : List ℕ) (fault : ElementFault) → bracketed_fault rows text ≡ Some fault → IsBlocked Element text
-  blocked [] fault e = empty_blocked
-  blocked (c ∷ text) fault e = λ pair after h. absurd (let f : None ≡ Some fault = sym (fault_told pair c text after h) ∙ e in cc)
+  pub blocked : (text : List ℕ) (error : ElementFault) → bracketed_error rows text ≡ Some error → IsBlocked Element text
+  blocked [] error e = empty_blocked
+  blocked (c ∷ text) error e = λ pair after h. absurd (let f : None ≡ Some error = sym (error_known pair c text after h) ∙ e in cc)
 
   -- ---- an element is cut
 
@@ -225,7 +226,7 @@ module _ (rows : List AiRow) (rules : KeepsRules rows) where
     | inr h ↦ absurd (let f = rw h at e in let g : None ≡ Some (code, after) = f in cc)
   ]
 
-  -- a code at the front is written so
+  -- a code at the start is written so
   pub code_shape : (text code after : List ℕ) → code_front text ≡ Some (code, after) → text ≡ 40 ∷ (code ++ 41 ∷ after)
   code_shape [] code after e = absurd (let f : None ≡ Some (code, after) = e in cc)
   code_shape (c ∷ text) code after e = elim (true_or_false (c == 40)) [
@@ -246,7 +247,7 @@ module _ (rows : List AiRow) (rules : KeepsRules rows) where
         | inr h ↦ rw (take_while-cons is_digit x xs, h) refl
       ]
 
-  pub cut_is : (text code value behind after : List ℕ) → code_front text ≡ Some (code, behind) → value_fault rows code value ≡ None → behind ≡ written_value value ++ after → is_cut after ≡ true → Element (record { code = code; value = value }) text after
+  pub cut_is : (text code value behind after : List ℕ) → code_front text ≡ Some (code, behind) → value_error rows code value ≡ None → behind ≡ written_value value ++ after → is_cut after ≡ true → Element (record { code = code; value = value }) text after
   cut_is text code value behind after front fits value_text cut = record {
     text_is = code_shape text code behind front ∙ ap (λ (x : List ℕ). 40 ∷ (code ++ 41 ∷ x)) value_text ∙ sym (ap (λ (x : List ℕ). 40 ∷ x) (append_assoc code (41 ∷ written_value value) after));
     in_order = record { fits = fits };
@@ -254,31 +255,31 @@ module _ (rows : List AiRow) (rules : KeepsRules rows) where
   }
 
   abbrev GoesOn : List ℕ → Type 0
-  GoesOn text = ((fault : ElementFault) × (bracketed_fault rows text ≡ Some fault)) ⊎ ((pair : Pair) × ((next : List ℕ) × (Element pair text next × IsGreedy Element text next)))
+  GoesOn text = ((error : ElementFault) × (bracketed_error rows text ≡ Some error)) ⊎ ((pair : Pair) × ((next : List ℕ) × (Element pair text next × IsGreedy Element text next)))
 
-  goes_by_value : (c : ℕ) (text code behind : List ℕ) → code_front (c ∷ text) ≡ Some (code, behind) → (f : Option ValueFault) → value_fault rows code (value_before behind) ≡ f → GoesOn (c ∷ text)
-  goes_by_value c text code behind e (Some f) h = inl (record { at = 1; why = Value f }, ap (front_fault rows) e ∙ (rw h refl))
+  goes_by_value : (c : ℕ) (text code behind : List ℕ) → code_front (c ∷ text) ≡ Some (code, behind) → (f : Option ValueFault) → value_error rows code (value_before behind) ≡ f → GoesOn (c ∷ text)
+  goes_by_value c text code behind e (Some f) h = inl (record { at = 1; why = Value f }, ap (front_error rows) e ∙ (rw h refl))
   goes_by_value c text code behind e None h =
       let value = value_front behind in
       let element = cut_is (c ∷ text) code (value_before behind) behind value.after e h value.text_is value.cut in
-      inr (record { code = code; value = value_before behind }, (value.after, (element, greedy_told (record { code = code; value = value_before behind }) (c ∷ text) value.after element)))
+      inr (record { code = code; value = value_before behind }, (value.after, (element, greedy_known (record { code = code; value = value_before behind }) (c ∷ text) value.after element)))
 
   goes_by_code : (c : ℕ) (text : List ℕ) (r : Option (List ℕ × List ℕ)) → code_front (c ∷ text) ≡ r → GoesOn (c ∷ text)
-  goes_by_code c text None e = inl (record { at = 0; why = Bracket }, ap (front_fault rows) e)
-  goes_by_code c text (Some front) e = goes_by_value c text front.0 front.1 e (value_fault rows front.0 (value_before front.1)) refl
+  goes_by_code c text None e = inl (record { at = 0; why = Bracket }, ap (front_error rows) e)
+  goes_by_code c text (Some front) e = goes_by_value c text front.0 front.1 e (value_error rows front.0 (value_before front.1)) refl
 
   goes_on : (c : ℕ) (text : List ℕ) → GoesOn (c ∷ text)
   goes_on c text = goes_by_code c text (code_front (c ∷ text)) refl
 
-  pub bracketed_told : IsTold Element (bracketed_fault rows)
-  bracketed_told = record { ends = ends; same_pair = same_pair; blocked = blocked; goes_on = goes_on; greedy = λ p text a h. inl (greedy_told p text a h); none_at_end = refl }
+  pub bracketed_known : IsKnown Element (bracketed_error rows)
+  bracketed_known = record { ends = ends; same_pair = same_pair; blocked = blocked; goes_on = goes_on; greedy = λ p text a h. inl (greedy_known p text a h); none_at_end = refl }
 
--- no code at the front
-pub no_code : (rows : List AiRow) (text : List ℕ) → 0 < length text → None ≡ code_front text → bracketed_fault rows text ≡ Some (record { at = 0; why = Bracket })
+-- no code at the start
+pub no_code : (rows : List AiRow) (text : List ℕ) → 0 < length text → None ≡ code_front text → bracketed_error rows text ≡ Some (record { at = 0; why = Bracket })
 no_code rows [] some e = absurd (omega arith)
-no_code rows (c ∷ text) some e = ap (front_fault rows) (sym e)
+no_code rows (c ∷ text) some e = ap (front_error rows) (sym e)
 
--- a fault of the value behind the code at the front
-pub no_value : (rows : List AiRow) (text code behind value : List ℕ) (fault : ValueFault) → 0 < length text → Some (code, behind) ≡ code_front text → value ≡ value_before behind → value_fault rows code value ≡ Some fault → bracketed_fault rows text ≡ Some (record { at = 1; why = Value fault })
-no_value rows [] code behind value fault some e v f = absurd (omega arith)
-no_value rows (c ∷ text) code behind value fault some e v f = ap (front_fault rows) (sym e) ∙ (rw (← v, f) refl)
+-- an error of the value behind the code at the start
+pub no_value : (rows : List AiRow) (text code behind value : List ℕ) (error : ValueFault) → 0 < length text → Some (code, behind) ≡ code_front text → value ≡ value_before behind → value_error rows code value ≡ Some error → bracketed_error rows text ≡ Some (record { at = 1; why = Value error })
+no_value rows [] code behind value error some e v f = absurd (omega arith)
+no_value rows (c ∷ text) code behind value error some e v f = ap (front_error rows) (sym e) ∙ (rw (← v, f) refl)

@@ -1,31 +1,31 @@
 -- Joins of elements, whatever an element is.
 use Rattle.std.proofs.Common.{◌≡◌, ℕ, zero, suc, ◌+◌, ◌-◌, ◌<◌, ◌≤◌, List, [], ◌∷◌, ◌++◌, length, Option, Some, None, All, refl, sym, ap, subst, ◌∙◌, append_assoc, arith, ◌⊎◌, inl, inr, length-append}
 use Rattle.std.proofs.lemmas.List.Elements.{All-cons, All-nil}
-use Rattle.gs_ai.specs.declared.faults.ElementFault.{ElementFault}
+use Rattle.gs_ai.specs.declared.errors.ElementFault.{ElementFault}
 use Rattle.gs_ai.specs.declared.pair.Pair.{Pair}
-use Rattle.gs_element.specs.Joins.{Form, Joined, IsFirstFault}
+use Rattle.gs_element.specs.Joins.{Form, Joined, IsFirstError}
 
--- no element stands at the front of the text
+-- no element stands at the start of the text
 abbrev pub IsBlocked : Form → List ℕ → Type 0
 IsBlocked Element text = (pair : Pair) (after : List ℕ) → Element pair text after → ⊥
 
--- each element at the front of the text leaves this, or more with no element at its front
+-- each element at the start of the text leaves this, or more with no element at its start
 abbrev pub IsGreedy : Form → List ℕ → List ℕ → Type 0
 IsGreedy Element text next = (pair : Pair) (after : List ℕ) → Element pair text after → (after ≡ next) ⊎ (IsBlocked Element after × (length next < length after))
 
--- What makes joins and faults of a form unique.
-pub record IsTold (Element : Form) (fault_of : List ℕ → Option ElementFault) : Type 0 where
+-- What makes joins and errors of a form unique.
+pub record IsKnown (Element : Form) (error_of : List ℕ → Option ElementFault) : Type 0 where
   -- an element is a part of the text that is not empty
   pub ends : (pair : Pair) (text after : List ℕ) → Element pair text after → (before : List ℕ) × (text ≡ before ++ after) × (0 < length before)
   pub same_pair : (text : List ℕ) (p q : Pair) (a b : List ℕ) → Element p text a → Element q text b → p ≡ q
-  -- a fault at the front, or an element
-  pub blocked : (text : List ℕ) (fault : ElementFault) → fault_of text ≡ Some fault → IsBlocked Element text
-  pub goes_on : (c : ℕ) (text : List ℕ) → ((fault : ElementFault) × (fault_of (c ∷ text) ≡ Some fault)) ⊎ ((pair : Pair) × ((next : List ℕ) × (Element pair (c ∷ text) next × IsGreedy Element (c ∷ text) next)))
+  -- an error at the start, or an element
+  pub blocked : (text : List ℕ) (error : ElementFault) → error_of text ≡ Some error → IsBlocked Element text
+  pub goes_on : (c : ℕ) (text : List ℕ) → ((error : ElementFault) × (error_of (c ∷ text) ≡ Some error)) ⊎ ((pair : Pair) × ((next : List ℕ) × (Element pair (c ∷ text) next × IsGreedy Element (c ∷ text) next)))
   pub greedy : (pair : Pair) (text after : List ℕ) → Element pair text after → IsGreedy Element text after ⊎ IsBlocked Element after
-  pub none_at_end : fault_of [] ≡ None
+  pub none_at_end : error_of [] ≡ None
 
 module _ (Element : Form) where
-  -- the initial parts that are joins are no longer than that which ends before the rest, or they go on from there
+  -- the prefixes that are joins are no longer than that which ends before the rest, or they go on from there
   abbrev pub Reaches : List ℕ → List ℕ → Type 0
   Reaches text rest = (others : List Pair) (after : List ℕ) → Joined Element others text after → (length rest ≤ length after) ⊎ ((later : List Pair) × Joined Element later rest after)
 
@@ -73,13 +73,13 @@ same_ends [] (d ∷ b) x y e l = absurd (let f : length x ≡ length ((d ∷ b) 
 same_ends (c ∷ a) [] x y e l = absurd (let f : length ((c ∷ a) ++ x) ≡ length y = ap length e in omega (arith, length-append (c ∷ a) x))
 same_ends (c ∷ a) (d ∷ b) x y e l = same_ends a b x y (let f : c ∷ (a ++ x) ≡ d ∷ (b ++ y) = e in cc) l
 
-fault_same : (f g : ElementFault) → f.at ≡ g.at → f.why ≡ g.why → f ≡ g
-fault_same f g e h = λ i. record { at = e i; why = h i }
+error_same : (f g : ElementFault) → f.at ≡ g.at → f.why ≡ g.why → f ≡ g
+error_same f g e h = λ i. record { at = e i; why = h i }
 
-module _ (Element : Form) (fault_of : List ℕ → Option ElementFault) (told : IsTold Element fault_of) where
+module _ (Element : Form) (error_of : List ℕ → Option ElementFault) (known : IsKnown Element error_of) where
   pub shorter : (pair : Pair) (text after : List ℕ) → Element pair text after → length after < length text
   shorter pair text after h =
-      let part = told.ends pair text after h in
+      let part = known.ends pair text after h in
       let size = ap length part.1 in
       let some = part.2 in
       omega (arith, length-append part.0 after)
@@ -87,7 +87,7 @@ module _ (Element : Form) (fault_of : List ℕ → Option ElementFault) (told : 
   pub joined_ends : (pairs : List Pair) (text rest : List ℕ) → Joined Element pairs text rest → (before : List ℕ) × (text ≡ before ++ rest)
   joined_ends [] text rest e = ([], e)
   joined_ends (p ∷ pairs) text rest j =
-      let part = told.ends p text j.0 j.1 in
+      let part = known.ends p text j.0 j.1 in
       let others = joined_ends pairs j.0 rest j.2 in
       (part.0 ++ others.0, part.1 ∙ ap (λ (x : List ℕ). part.0 ++ x) others.1 ∙ sym (append_assoc part.0 others.0 rest))
 
@@ -99,7 +99,7 @@ module _ (Element : Form) (fault_of : List ℕ → Option ElementFault) (told : 
 
   -- ---- one list of pairs
 
-  -- an end that elements are read to is no end of text with no element at its front
+  -- an end that elements are read to is no end of text with no element at its start
   no_more : (pairs : List Pair) (after : List ℕ) → IsBlocked Element after → 0 < length after → Joined Element pairs after [] → ⊥
   no_more [] after blocked some e = let f = ap length e in absurd (omega arith)
   no_more (p ∷ pairs) after blocked some j = blocked p j.0 j.1
@@ -109,12 +109,12 @@ module _ (Element : Form) (fault_of : List ℕ → Option ElementFault) (told : 
   blocked_end (p ∷ pairs) after blocked j = absurd (blocked p j.0 j.1)
 
   ends_alike : (text : List ℕ) (p q : Pair) (a b : List ℕ) (ps qs : List Pair) → Element p text a → Element q text b → Joined Element ps a [] → Joined Element qs b [] → a ≡ b
-  ends_alike text p q a b ps qs e f j k = elim (told.greedy p text a e) [
+  ends_alike text p q a b ps qs e f j k = elim (known.greedy p text a e) [
     | inl g ↦ elim (g q b f) [
       | inl same ↦ sym same
       | inr more ↦ let low = more.1 in absurd (no_more qs b more.0 (omega arith) k)
     ]
-    | inr at_end ↦ elim (told.greedy q text b f) [
+    | inr at_end ↦ elim (known.greedy q text b f) [
       | inl g ↦ elim (g p a e) [
         | inl same ↦ same
         | inr more ↦ let low = more.1 in absurd (no_more ps a more.0 (omega arith) j)
@@ -128,35 +128,35 @@ module _ (Element : Form) (fault_of : List ℕ → Option ElementFault) (told : 
   one_list [] (q ∷ qs) text j k = absurd (let low = shorter q text k.0 k.1 in let e = ap length j in omega arith)
   one_list (p ∷ ps) [] text j k = absurd (let low = shorter p text j.0 j.1 in let e = ap length k in omega arith)
   one_list (p ∷ ps) (q ∷ qs) text j k =
-      let same : p ≡ q = told.same_pair text p q j.0 k.0 j.1 k.1 in
+      let same : p ≡ q = known.same_pair text p q j.0 k.0 j.1 k.1 in
       let rest : j.0 ≡ k.0 = ends_alike text p q j.0 k.0 ps qs j.1 k.1 j.2 k.2 in
       let others = one_list ps qs k.0 (subst (λ (x : List ℕ). Joined Element ps x []) rest j.2) k.2 in
       λ i. same i ∷ others i
 
-  -- ---- one fault
+  -- ---- one error
 
-  pub one_fault : (whole text : List ℕ) (f g : ElementFault) → IsFirstFault Element fault_of whole text f → IsFirstFault Element fault_of whole text g → f ≡ g
-  one_fault whole text f g a b =
+  pub one_error : (whole text : List ℕ) (f g : ElementFault) → IsFirstError Element error_of whole text f → IsFirstError Element error_of whole text g → f ≡ g
+  one_error whole text f g a b =
       let less = a.longest b.pairs b.rest b.joined in
       let more = b.longest a.pairs a.rest a.joined in
       let size : length a.rest ≡ length b.rest = omega arith in
       let front = joined_ends a.pairs text a.rest a.joined in
       let other = joined_ends b.pairs text b.rest b.joined in
       let rest = same_ends front.0 other.0 a.rest b.rest (sym front.1 ∙ other.1) size in
-      let own : Some a.own ≡ Some b.own = sym a.at_front ∙ ap fault_of rest ∙ b.at_front in
+      let own : Some a.own ≡ Some b.own = sym a.at_front ∙ ap error_of rest ∙ b.at_front in
       let same : a.own ≡ b.own = cc in
       let place : a.own.at ≡ b.own.at = ap (λ (x : ElementFault). x.at) same in
       let at : f.at ≡ g.at = omega (arith, a.place, b.place) in
-      fault_same f g at (a.why ∙ ap (λ (x : ElementFault). x.why) same ∙ sym b.why)
+      error_same f g at (a.why ∙ ap (λ (x : ElementFault). x.why) same ∙ sym b.why)
 
-  pub no_fault : (pairs : List Pair) (whole text : List ℕ) (f : ElementFault) → Joined Element pairs text [] → IsFirstFault Element fault_of whole text f → ⊥
-  no_fault pairs whole text f j a = by a.rest (a.longest pairs [] j) a.at_front
+  pub no_error : (pairs : List Pair) (whole text : List ℕ) (f : ElementFault) → Joined Element pairs text [] → IsFirstError Element error_of whole text f → ⊥
+  no_error pairs whole text f j a = by a.rest (a.longest pairs [] j) a.at_front
     where
-      by : (rest : List ℕ) → length rest ≤ 0 → fault_of rest ≡ Some a.own → ⊥
-      by [] h e = let g : None ≡ Some a.own = sym told.none_at_end ∙ e in absurd (cc)
+      by : (rest : List ℕ) → length rest ≤ 0 → error_of rest ≡ Some a.own → ⊥
+      by [] h e = let g : None ≡ Some a.own = sym known.none_at_end ∙ e in absurd (cc)
       by (c ∷ rest) h e = absurd (omega arith)
 
-  -- ---- one element more, and a fault
+  -- ---- one element more, and an error
 
   -- one element is read
   pub record IsRead (text : List ℕ) (pairs : List Pair) (rest : List ℕ) : Type 0 where
@@ -168,12 +168,12 @@ module _ (Element : Form) (fault_of : List ℕ → Option ElementFault) (told : 
       let less = shorter pair rest next element in
       record { joined = joined_more Element pairs pair text rest next joined element; reaches = reaches_next Element text rest next (omega arith) greedy reaches }
 
-  pub first_fault : (whole text : List ℕ) (pairs : List Pair) (rest : List ℕ) (own fault : ElementFault) → length text ≤ length whole → fault_of rest ≡ Some own → fault.at ≡ (length whole - length rest) + own.at → fault.why ≡ own.why → Joined Element pairs text rest → Reaches Element text rest → IsFirstFault Element fault_of whole text fault
-  first_fault whole text pairs rest own fault fits e place why joined reaches = record {
+  pub first_error : (whole text : List ℕ) (pairs : List Pair) (rest : List ℕ) (own error : ElementFault) → length text ≤ length whole → error_of rest ≡ Some own → error.at ≡ (length whole - length rest) + own.at → error.why ≡ own.why → Joined Element pairs text rest → Reaches Element text rest → IsFirstError Element error_of whole text error
+  first_error whole text pairs rest own error fits e place why joined reaches = record {
     pairs = pairs;
     rest = rest;
     joined = joined;
-    longest = reaches_stop Element text rest (told.blocked rest own e) reaches;
+    longest = reaches_stop Element text rest (known.blocked rest own e) reaches;
     own = own;
     at_front = e;
     place = let less = joined_shorter pairs text rest joined in omega arith;
@@ -183,13 +183,13 @@ module _ (Element : Form) (fault_of : List ℕ → Option ElementFault) (told : 
   -- ---- some answer
 
   abbrev pub Answered : List ℕ → List ℕ → Type 0
-  Answered whole text = ((pairs : List Pair) × Joined Element pairs text []) ⊎ ((fault : ElementFault) × IsFirstFault Element fault_of whole text fault)
+  Answered whole text = ((pairs : List Pair) × Joined Element pairs text []) ⊎ ((error : ElementFault) × IsFirstError Element error_of whole text error)
 
   answered_from : (whole text : List ℕ) → length text ≤ length whole → (n : ℕ) (done : List Pair) (rest : List ℕ) → length rest ≤ n → Joined Element done text rest → Reaches Element text rest → Answered whole text
   answered_from whole text fits n done [] h j reaches = inl (done, j)
   answered_from whole text fits zero done (c ∷ rest) h j reaches = absurd (omega arith)
-  answered_from whole text fits (suc n) done (c ∷ rest) h j reaches = elim (told.goes_on c rest) [
-    | inl fault ↦ inr (record { at = (length whole - length (c ∷ rest)) + fault.0.at; why = fault.0.why }, first_fault whole text done (c ∷ rest) fault.0 (record { at = (length whole - length (c ∷ rest)) + fault.0.at; why = fault.0.why }) fits fault.1 refl refl j reaches)
+  answered_from whole text fits (suc n) done (c ∷ rest) h j reaches = elim (known.goes_on c rest) [
+    | inl error ↦ inr (record { at = (length whole - length (c ∷ rest)) + error.0.at; why = error.0.why }, first_error whole text done (c ∷ rest) error.0 (record { at = (length whole - length (c ∷ rest)) + error.0.at; why = error.0.why }) fits error.1 refl refl j reaches)
     | inr step ↦
         let less = shorter step.0 (c ∷ rest) step.1.0 step.1.1.0 in
         let read = next_read text done step.0 (c ∷ rest) step.1.0 step.1.1.0 step.1.1.1 j reaches in

@@ -1,4 +1,4 @@
--- Elements as they stand in a symbol: each is told by the text that it stands in front of.
+-- Elements as they stand in a symbol: each is given by the text that it stands before.
 use Rattle.std.proofs.Common.{◌≡◌, ℕ, zero, suc, ◌+◌, ◌-◌, ◌<◌, ◌≤◌, ◌==◌, not, Bool, true, false, List, [], ◌∷◌, ◌++◌, length, take, drop, position, find, Option, Some, None, IsSome, get_or, slice_get, refl, sym, ap, subst, ◌∙◌, append_assoc, arith, ◌⊎◌, inl, inr, true≢false, length-append}
 use Rattle.std.specs.List.{before_first}
 use Rattle.std.specs.Option.{option_and_then, option_map_or}
@@ -8,22 +8,23 @@ use Rattle.std.proofs.lemmas.List.{length-take, take-append-drop}
 use Rattle.std.proofs.lemmas.List.Sums.{take_while-cons}
 use Rattle.gs_chars.specs.Characters.{are_digits, are_in_set82, is_digit, is_in_set82}
 use Rattle.gs_chars.proofs.TruthsAndLists.{and_first, and_second, equal_bytes, false_from, read_at, same_bytes, true_or_false}
-use Rattle.gs_ai.specs.declared.faults.ElementFault.{ElementFault}
-use Rattle.gs_ai.specs.declared.faults.ElementWhy.TheVariants.{Value}
-use Rattle.gs_ai.specs.declared.faults.ValueFault.{ValueFault}
-use Rattle.gs_ai.specs.declared.faults.ValueFault.TheVariants.{Unknown}
+use Rattle.gs_ai.specs.declared.errors.ElementFault.{ElementFault}
+use Rattle.gs_ai.specs.declared.errors.ElementWhy.TheVariants.{Value}
+use Rattle.gs_ai.specs.declared.errors.ValueFault.{ValueFault}
+use Rattle.gs_ai.specs.declared.errors.ValueFault.TheVariants.{Unknown}
 use Rattle.gs_ai.specs.declared.pair.Pair.{Pair}
 use Rattle.gs_ai.specs.declared.row.AiRow.{AiRow}
-use Rattle.gs_ai.specs.Predefined.{predefined_length}
+use Rattle.gs_ai.specs.PredefinedLengths.{predefined_length}
 use Rattle.gs_ai.specs.Tables.{begins, is_code, row_at, KeepsRules}
-use Rattle.gs_ai.specs.Values.{has_code, row_fault, value_fault}
+use Rattle.gs_ai.specs.Values.{has_code, row_error, value_error}
 use Rattle.gs_ai.proofs.RowLemmas.{code_digits, code_long}
 use Rattle.gs_ai.proofs.Searches.{find_at_place, find_none, find_read, position_is, position_some, position_within}
 use Rattle.gs_ai.proofs.TableLemmas.{begun, one_begins}
 use Rattle.gs_ai.proofs.ValueLemmas.{code_of_row, of_row, predefined_kept, value_in_set82}
 use Rattle.gs_ident.proofs.PairLemmas.{found_passes}
-use Rattle.gs_element.specs.Raw.{raw_fault, raw_value, raw_value_fault, without_separator, IsCutFrom, IsRawElement}
-use Rattle.gs_element.proofs.JoinLemmas.{IsBlocked, IsGreedy, IsTold}
+use Rattle.gs_element.specs.Raw.{raw_error, raw_value, raw_value_error, IsRawElement}
+use Rattle.gs_element.specs.RawSupport.{without_separator, IsCutFrom}
+use Rattle.gs_element.proofs.JoinLemmas.{IsBlocked, IsGreedy, IsKnown}
 
 -- ---- codes and values
 
@@ -68,7 +69,7 @@ module _ (rows : List AiRow) (rules : KeepsRules rows) where
   abbrev Element : Pair → List ℕ → List ℕ → Type 0
   Element = IsRawElement rows
 
-  -- ---- what is told of an element by the text
+  -- ---- what is known of an element by the text
 
   -- the row whose code begins the text has the code
   record IsOfFront (pair : Pair) (text : List ℕ) : Type 0 where
@@ -156,7 +157,7 @@ module _ (rows : List AiRow) (rules : KeepsRules rows) where
 
   -- ---- what is left behind code and value
 
-  -- behind each element at the front of the text stand these bytes
+  -- behind each element at the start of the text stand these bytes
   abbrev Leaves : List ℕ → List ℕ → Type 0
   Leaves text left = (pair : Pair) (after : List ℕ) → Element pair text after → (closing : List ℕ) × (left ≡ closing ++ after) × ((closing ≡ 29 ∷ []) ⊎ (closing ≡ []))
 
@@ -223,11 +224,11 @@ module _ (rows : List AiRow) (rules : KeepsRules rows) where
       let size = ap length front ∙ length-take (length row.code) text in
       record { at = read_at rows index row within read; found = found; front = front; fits = omega arith }
 
-  pub judged : (text : List ℕ) (index : ℕ) (row : AiRow) (code after value : List ℕ) → IsFrontRow text index row → code ≡ row.code → after ≡ drop (length row.code) text → value ≡ raw_value code after → raw_value_fault rows text ≡ row_fault rows index value
+  pub judged : (text : List ℕ) (index : ℕ) (row : AiRow) (code after value : List ℕ) → IsFrontRow text index row → code ≡ row.code → after ≡ drop (length row.code) text → value ≡ raw_value code after → raw_value_error rows text ≡ row_error rows index value
   judged text index row code after value is c a v = rw (is.found, is.at, v, c, a) refl
 
   -- what is cut at that row
-  pub cut_at : (text : List ℕ) (index : ℕ) (row : AiRow) (code after value rest : List ℕ) → IsFrontRow text index row → code ≡ row.code → after ≡ drop (length row.code) text → value ≡ raw_value code after → row_fault rows index value ≡ None → rest ≡ without_separator (drop (length value) after) → IsCutFrom rows text code value rest
+  pub cut_at : (text : List ℕ) (index : ℕ) (row : AiRow) (code after value rest : List ℕ) → IsFrontRow text index row → code ≡ row.code → after ≡ drop (length row.code) text → value ≡ raw_value code after → row_error rows index value ≡ None → rest ≡ without_separator (drop (length value) after) → IsCutFrom rows text code value rest
   cut_at text index row code after value rest is c a v fits r =
       let behind : after ≡ drop (length code) text = a ∙ ap (λ (x : List ℕ). drop (length x) text) (sym c) in
       record {
@@ -239,21 +240,21 @@ module _ (rows : List AiRow) (rules : KeepsRules rows) where
         rest_is = r ∙ ap (λ (x : List ℕ). without_separator (drop (length value) x)) behind;
       }
 
-  -- ---- faults
+  -- ---- errors
 
-  fault_told : (pair : Pair) (text after : List ℕ) → Element pair text after → raw_value_fault rows text ≡ None
-  fault_told pair text after h =
+  error_known : (pair : Pair) (text after : List ℕ) → Element pair text after → raw_value_error rows text ≡ None
+  error_known pair text after h =
       let front = of_front pair text after h in
       let value = value_cut pair text after h in
       rw (front.found, front.code_is, ← value) h.in_order.fits
 
-  blocked : (text : List ℕ) (fault : ElementFault) → raw_fault rows text ≡ Some fault → IsBlocked Element text
-  blocked [] fault e = empty_blocked
-  blocked (c ∷ text) fault e = λ pair after h. absurd (let f = rw (fault_told pair (c ∷ text) after h) at e in let g : None ≡ Some fault = f in cc)
+  blocked : (text : List ℕ) (error : ElementFault) → raw_error rows text ≡ Some error → IsBlocked Element text
+  blocked [] error e = empty_blocked
+  blocked (c ∷ text) error e = λ pair after h. absurd (let f = rw (error_known pair (c ∷ text) after h) at e in let g : None ≡ Some error = f in cc)
 
   -- ---- an element is cut
 
-  -- the value is a front of what stands behind the code
+  -- the value is a prefix of what stands behind the code
   value_front : (code after : List ℕ) → raw_value code after ≡ take (length (raw_value code after)) after
   value_front code after = by (predefined_length code)
     where
@@ -342,11 +343,11 @@ module _ (rows : List AiRow) (rules : KeepsRules rows) where
         let left_is : own.closing ++ rest ≡ left = sym (behind_value (record { code = code; value = value }) text rest own) in
         subst (λ (x : List ℕ). IsGreedy Element text x) (sym cut.rest_is) (greedy_left text left (subst (λ (x : List ℕ). Leaves text x) left_is (leaves (record { code = code; value = value }) text rest own)))
 
-  -- a fault at the front of the text, or an element
+  -- an error at the start of the text, or an element
   abbrev GoesOn : List ℕ → Type 0
-  GoesOn text = ((fault : ElementFault) × (raw_fault rows text ≡ Some fault)) ⊎ ((pair : Pair) × ((next : List ℕ) × (Element pair text next × IsGreedy Element text next)))
+  GoesOn text = ((error : ElementFault) × (raw_error rows text ≡ Some error)) ⊎ ((pair : Pair) × ((next : List ℕ) × (Element pair text next × IsGreedy Element text next)))
 
-  goes_by_value : (c : ℕ) (text : List ℕ) (row : AiRow) → find (λ r. begins r.code (c ∷ text)) rows ≡ Some row → (f : Option ValueFault) → value_fault rows row.code (raw_value row.code (drop (length row.code) (c ∷ text))) ≡ f → GoesOn (c ∷ text)
+  goes_by_value : (c : ℕ) (text : List ℕ) (row : AiRow) → find (λ r. begins r.code (c ∷ text)) rows ≡ Some row → (f : Option ValueFault) → value_error rows row.code (raw_value row.code (drop (length row.code) (c ∷ text))) ≡ f → GoesOn (c ∷ text)
   goes_by_value c text row e (Some f) h = inl (record { at = 0; why = Value f }, rw (e, h) refl)
   goes_by_value c text row e None h =
       let value = raw_value row.code (drop (length row.code) (c ∷ text)) in
@@ -356,18 +357,18 @@ module _ (rows : List AiRow) (rules : KeepsRules rows) where
 
   goes_by_row : (c : ℕ) (text : List ℕ) (r : Option AiRow) → find (λ r. begins r.code (c ∷ text)) rows ≡ r → GoesOn (c ∷ text)
   goes_by_row c text None e = inl (record { at = 0; why = Value Unknown }, rw e refl)
-  goes_by_row c text (Some row) e = goes_by_value c text row e (value_fault rows row.code (raw_value row.code (drop (length row.code) (c ∷ text)))) refl
+  goes_by_row c text (Some row) e = goes_by_value c text row e (value_error rows row.code (raw_value row.code (drop (length row.code) (c ∷ text)))) refl
 
   goes_on : (c : ℕ) (text : List ℕ) → GoesOn (c ∷ text)
   goes_on c text = goes_by_row c text (find (λ r. begins r.code (c ∷ text)) rows) refl
 
-  pub raw_told : IsTold Element (raw_fault rows)
-  raw_told = record { ends = ends; same_pair = same_pair; blocked = blocked; goes_on = goes_on; greedy = greedy; none_at_end = refl }
+  pub raw_known : IsKnown Element (raw_error rows)
+  raw_known = record { ends = ends; same_pair = same_pair; blocked = blocked; goes_on = goes_on; greedy = greedy; none_at_end = refl }
 
--- a fault of the value at the front
-pub front_fault : (rows : List AiRow) (text : List ℕ) (fault : ValueFault) → 0 < length text → raw_value_fault rows text ≡ Some fault → raw_fault rows text ≡ Some (record { at = 0; why = Value fault })
-front_fault rows [] fault some e = absurd (omega arith)
-front_fault rows (c ∷ text) fault some e = rw e refl
+-- an error of the value at the start
+pub front_error : (rows : List AiRow) (text : List ℕ) (error : ValueFault) → 0 < length text → raw_value_error rows text ≡ Some error → raw_error rows text ≡ Some (record { at = 0; why = Value error })
+front_error rows [] error some e = absurd (omega arith)
+front_error rows (c ∷ text) error some e = rw e refl
 
 -- the value that is cut is a part of what is behind the code
 pub value_within : (code after value : List ℕ) → value ≡ raw_value code after → length value ≤ length after
@@ -390,5 +391,5 @@ length_by_row rows code index e =
     let same : code ≡ place.0.code = equal_bytes code place.0.code place.2 in
     rw (place.1, ← same) refl
 
-pub some_row : (rows : List AiRow) (code value : List ℕ) → None ≡ position (has_code code) rows → value_fault rows code value ≡ None → ⊥
+pub some_row : (rows : List AiRow) (code value : List ℕ) → None ≡ position (has_code code) rows → value_error rows code value ≡ None → ⊥
 some_row rows code value e fits = let f = rw (find_none (has_code code) rows (sym e)) at fits in absurd (let g : Some Unknown ≡ None = f in cc)

@@ -5,15 +5,15 @@ use Rattle.std.proofs.lemmas.List.{take_all, take_more}
 use Rattle.std.proofs.lemmas.List.Elements.{All-cons, All-head, All-nil, All-tail}
 use Rattle.gs_ai.specs.declared.pair.Pair.{Pair}
 use Rattle.gs_ai.specs.declared.row.AiRow.{AiRow}
-use Rattle.gs_ai.specs.Predefined.{predefined_length}
+use Rattle.gs_ai.specs.PredefinedLengths.{predefined_length}
 use Rattle.gs_ai.specs.Tables.{KeepsRules}
 use Rattle.gs_ai.proofs.ValueLemmas.{code_of_row, predefined_kept}
 use Rattle.gs_ident.specs.Elements.{Elements, pairs_of}
 use Rattle.gs_ident.specs.Identities.{IsInOrder, IsMadeWith}
-use Rattle.gs_element.specs.Bracketed.{bracketed_text, is_cut, written_character, written_value, IsBracketed, IsBracketedElement}
+use Rattle.gs_element.specs.BracketedTexts.{bracketed_text, is_cut, written_character, written_value, IsBracketed, IsBracketedElement}
 use Rattle.gs_element.specs.Joins.{Joined}
 use Rattle.gs_element.specs.Raw.{body_of, raw_text, separator, IsRaw, IsRawElement}
-use Rattle.gs_element.specs.Writing.{last_open, raw_behind, separator_of}
+use Rattle.gs_element.specs.WrittenTexts.{last_open, raw_behind, separator_of}
 use Rattle.gs_element.proofs.BodyLemmas.{digit_body}
 use Rattle.gs_element.proofs.RawLemmas.{digit_front}
 

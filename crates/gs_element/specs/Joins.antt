@@ -1,31 +1,31 @@
 -- Texts that are joins of elements: GS1 General Specifications, section 7.8 (concatenation of element strings).
 use Rattle.std.specs.Prelude.{◌≡◌, ℕ, ◌+◌, ◌≤◌, List, [], ◌∷◌, length, Option, Some}
-use Rattle.gs_ai.specs.declared.faults.ElementFault.{ElementFault}
+use Rattle.gs_ai.specs.declared.errors.ElementFault.{ElementFault}
 use Rattle.gs_ai.specs.declared.pair.Pair.{Pair}
 
--- what an element is, by a text, its pair and the text that follows it
+-- trusted, own: what an element is, by a text, its pair and the text that follows it
 abbrev pub Form : Type 1
 Form = Pair → List ℕ → List ℕ → Type 0
 
--- the text is an element of each pair in turn, and then the rest
+-- trusted, GS1 General Specifications, section 7.8: the text is an element of each pair in turn, and then the rest
 abbrev pub Joined : Form → List Pair → List ℕ → List ℕ → Type 0
 Joined Element [] text rest = text ≡ rest
 Joined Element (pair ∷ pairs) text rest =
     (after : List ℕ) × Element pair text after × Joined Element pairs after rest
 
--- The fault of a text that is no join of elements stands after the longest initial part that is one: it is the fault that
--- the rest has at its front. `whole` is the text as it was given, of which the text is the end.
-pub record IsFirstFault (Element : Form) (fault_of : List ℕ → Option ElementFault) (whole text : List ℕ)
-    (fault : ElementFault) : Type 0 where
-  -- an initial part that is a join, and what is left
+-- trusted, own: The error of a text that is no join of elements stands after the longest prefix that is one: it is
+-- the error that the rest has at its start. `whole` is the text as it was given, of which the text is the end.
+pub record IsFirstError (Element : Form) (error_of : List ℕ → Option ElementFault) (whole text : List ℕ)
+    (error : ElementFault) : Type 0 where
+  -- a prefix that is a join, and what is left
   pub pairs : List Pair
   pub rest : List ℕ
   pub joined : Joined Element pairs text rest
-  -- no initial part that is a join is longer
+  -- no prefix that is a join is longer
   pub longest : (others : List Pair) (after : List ℕ) → Joined Element others text after
       → length rest ≤ length after
-  -- the fault of the rest, whose place counts from the front of the rest
+  -- the error of the rest, whose place counts from the start of the rest
   pub own : ElementFault
-  pub at_front : fault_of rest ≡ Some own
-  pub place : fault.at + length rest ≡ length whole + own.at
-  pub why : fault.why ≡ own.why
+  pub at_front : error_of rest ≡ Some own
+  pub place : error.at + length rest ≡ length whole + own.at
+  pub why : error.why ≡ own.why

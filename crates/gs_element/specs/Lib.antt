@@ -1,5 +1,7 @@
 pub mod Answers
-pub mod Bracketed
+pub mod BracketedTexts
+pub mod BracketedSupport
 pub mod Joins
 pub mod Raw
-pub mod Writing
+pub mod RawSupport
+pub mod WrittenTexts

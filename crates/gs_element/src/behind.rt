@@ -1,10 +1,9 @@
-ghost use Rattle.std.specs.Prelude.{◌≡◌, ◌≤◌, length, ◌∷◌, ◌++◌, [], true, IfOk, IfSome, IfNone};
-ghost use Rattle.std.specs.List.{prefix_len};
+ghost use Rattle.std.specs.Prelude.{◌≡◌, ◌∷◌, ◌++◌, [], true, IfOk, IfSome, IfNone};
 ghost use Rattle.std.specs.Option.{option_map};
-ghost use Rattle.gs_chars.specs.Characters.{is_digit};
-ghost use Rattle.gs_element.specs.Bracketed.{closed_code, code_front, is_cut, is_escape, value_before, written_character, written_value};
+ghost use Rattle.gs_element.specs.BracketedTexts.{closed_code, code_front, is_cut, value_before, written_character, written_value};
+ghost use Rattle.gs_element.specs.BracketedSupport.{is_escape};
 
-use gs_chars::{Memory, Text};
+use gs_chars::{Memory, Text, count_digits};
 
 /// The code and what follows its closing bracket, which is the first character of what is behind the code.
 fn closed_code<'a>(code: &'a [u8], behind: &'a [u8]) -> Option<(&'a [u8], &'a [u8])>
@@ -16,16 +15,8 @@ fn closed_code<'a>(code: &'a [u8], behind: &'a [u8]) -> Option<(&'a [u8], &'a [u
     }
 }
 
-/// The number of digits at the front of the text.
-fn count_digits(text: &[u8]) -> usize
-    ensures number { result ≡ prefix_len is_digit text.now }
-    ensures within { result ≤ length text.now }
-{
-    text.iter().take_while(|c| c.is_ascii_digit()).count()
-}
-
-/// The code in brackets at the front of the text, one or more digits, and what follows it. `None` comes exactly where no such
-/// code is in front.
+/// The code in brackets at the start of the text, one or more digits, and what follows it. `None` comes exactly where no such
+/// code is at the start.
 pub fn code_front(text: &[u8]) -> Option<(&[u8], &[u8])>
     ensures { option_map (λ front. (front.0.now, front.1.now)) result ≡ code_front text.now }
 {

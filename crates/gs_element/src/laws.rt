@@ -1,10 +1,10 @@
 ghost use Rattle.std.specs.Prelude.{◌≡◌, ℕ, List, ◌⊎◌};
-ghost use Rattle.gs_ai.specs.declared.faults.ElementFault.{ElementFault};
+ghost use Rattle.gs_ai.specs.declared.errors.ElementFault.{ElementFault};
 ghost use Rattle.gs_ai.specs.declared.pair.Pair.{Pair};
 ghost use Rattle.gs_ident.specs.Elements.{Elements, pairs_of};
 ghost use Rattle.gs_ident.specs.Identities.{IsMadeWith};
-ghost use Rattle.gs_element.specs.Bracketed.{bracketed_text, IsBracketed, IsBracketedFault};
-ghost use Rattle.gs_element.specs.Raw.{raw_text, IsRaw, IsRawFault};
+ghost use Rattle.gs_element.specs.BracketedTexts.{bracketed_text, IsBracketed, IsBracketedError};
+ghost use Rattle.gs_element.specs.Raw.{raw_text, IsRaw, IsRawError};
 
 use gs_ai::AiTable;
 
@@ -19,28 +19,28 @@ pub fn one_list_each(table: &AiTable)
     let _ = table.rows();
 }
 
-/// A text has at most one fault, and none where it gives pairs, in either form.
-pub fn one_fault_each(table: &AiTable)
+/// A text has at most one error, and none where it gives pairs, in either form.
+pub fn one_error_each(table: &AiTable)
     ensures raw { (text : List ℕ) (a b : ElementFault)
-        → IsRawFault table.now text a → IsRawFault table.now text b → a ≡ b }
-    ensures raw_alone { (text : List ℕ) (pairs : List Pair) (fault : ElementFault)
-        → IsRaw table.now text pairs → IsRawFault table.now text fault → ⊥ }
+        → IsRawError table.now text a → IsRawError table.now text b → a ≡ b }
+    ensures raw_alone { (text : List ℕ) (pairs : List Pair) (error : ElementFault)
+        → IsRaw table.now text pairs → IsRawError table.now text error → ⊥ }
     ensures bracketed { (text : List ℕ) (a b : ElementFault)
-        → IsBracketedFault table.now text a → IsBracketedFault table.now text b → a ≡ b }
-    ensures bracketed_alone { (text : List ℕ) (pairs : List Pair) (fault : ElementFault)
-        → IsBracketed table.now text pairs → IsBracketedFault table.now text fault → ⊥ }
+        → IsBracketedError table.now text a → IsBracketedError table.now text b → a ≡ b }
+    ensures bracketed_alone { (text : List ℕ) (pairs : List Pair) (error : ElementFault)
+        → IsBracketed table.now text pairs → IsBracketedError table.now text error → ⊥ }
 {
     // For the proof alone: the rows of the table keep its rules.
     let _ = table.rows();
 }
 
-/// A text gives pairs or has a fault, in either form: where no pairs are joined to it, there is a longest initial part that
-/// is a join, and a fault behind it.
+/// A text gives pairs or has an error, in either form: where no pairs are joined to it, there is a longest prefix that
+/// is a join, and an error behind it.
 pub fn some_answer(table: &AiTable)
     ensures raw { (text : List ℕ) → ((pairs : List Pair) × IsRaw table.now text pairs)
-        ⊎ ((fault : ElementFault) × IsRawFault table.now text fault) }
+        ⊎ ((error : ElementFault) × IsRawError table.now text error) }
     ensures bracketed { (text : List ℕ) → ((pairs : List Pair) × IsBracketed table.now text pairs)
-        ⊎ ((fault : ElementFault) × IsBracketedFault table.now text fault) }
+        ⊎ ((error : ElementFault) × IsBracketedError table.now text error) }
 {
     // For the proof alone: the rows of the table keep its rules.
     let _ = table.rows();

@@ -22,15 +22,15 @@
 #![tactic(auto)]
 
 mod behind;
-mod bracketed;
-mod faults;
+mod bracketed_text;
+mod errors;
 mod laws;
 mod pairs;
 mod raw;
-mod writing;
+mod writer;
 
-pub use bracketed::read_bracketed;
-pub use faults::ElementsFault;
-pub use laws::{one_fault_each, one_list_each, some_answer, written_is_read};
+pub use bracketed_text::read_bracketed;
+pub use errors::ElementsFault;
+pub use laws::{one_error_each, one_list_each, some_answer, written_is_read};
 pub use raw::read_raw;
-pub use writing::{write_bracketed, write_raw};
+pub use writer::{write_bracketed, write_raw};

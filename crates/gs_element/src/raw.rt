@@ -1,11 +1,12 @@
 ghost use Rattle.std.specs.Prelude.{◌≡◌, ◌≤◌, ◌==◌, not, length, None, Some, All, IfOk, IfErr};
 ghost use Rattle.std.specs.List.{prefix_len};
-ghost use Rattle.gs_ai.specs.Predefined.{predefined_length};
+ghost use Rattle.gs_ai.specs.PredefinedLengths.{predefined_length};
 ghost use Rattle.gs_ident.specs.Identities.{IsInOrder};
-ghost use Rattle.gs_element.specs.Answers.{IsRawRefusal};
-ghost use Rattle.gs_element.specs.Raw.{body_of, raw_value, raw_value_fault, without_separator, IsCutFrom, IsRaw};
+ghost use Rattle.gs_element.specs.Answers.{IsRawRejection};
+ghost use Rattle.gs_element.specs.Raw.{body_of, raw_value, raw_value_error, IsRaw};
+ghost use Rattle.gs_element.specs.RawSupport.{without_separator, IsCutFrom};
 
-use crate::faults::{ElementsFault, fault_at};
+use crate::errors::{ElementsFault, error_at};
 use crate::pairs::push_pair;
 use gs_ai::{AiTable, ElementWhy, Pair, ValueFault};
 use gs_chars::Text;
@@ -14,7 +15,7 @@ use std::alloc::Global;
 /// The FNC1, as readers transmit it.
 const FNC1: u8 = 29;
 
-/// The text without a symbology identifier or an FNC1 in front.
+/// The text without a symbology identifier or an FNC1 at the start.
 #[tactic(auto, unfolding(crate::specs::Raw::body_of))]
 fn body_of(text: &[u8]) -> &[u8]
     ensures { result.now ≡ body_of text.now }
@@ -30,7 +31,7 @@ fn body_of(text: &[u8]) -> &[u8]
     }
 }
 
-/// The text without one FNC1 in front.
+/// The text without one FNC1 at the start.
 fn without_separator(text: &[u8]) -> &[u8]
     ensures { result.now ≡ without_separator text.now }
 {
@@ -62,7 +63,7 @@ fn cut_value<'a>(predefined: Option<usize>, code: &[u8], after: &'a [u8]) -> &'a
     }
 }
 
-/// The front of a text.
+/// The start of a text.
 #[derive(Clone, Copy)]
 struct Cut<'a> {
     code: &'a [u8],
@@ -70,34 +71,34 @@ struct Cut<'a> {
     rest: &'a [u8],
 }
 
-/// Cuts the element at the front of the text: its code is the one that begins the text.
+/// Cuts the element at the start of the text: its code is the one that begins the text.
 fn cut_element<'a>(table: &AiTable, text: &'a [u8]) -> Result<Cut<'a>, ValueFault>
     ensures cut { IfOk result (λ cut. IsCutFrom table.now text.now cut.code.now cut.value.now cut.rest.now) }
-    ensures fault { IfErr result (λ fault. raw_value_fault table.now text.now ≡ Some fault) }
+    ensures error { IfErr result (λ error. raw_value_error table.now text.now ≡ Some error) }
 {
     let Some(row) = table.begins(text) else {
         return Err(ValueFault::Unknown);
     };
     let (code, after) = text.split_at(table.rows()[row].code.as_bytes().len());
     let value = cut_value(table.predefined(row), code, after);
-    if let Err(fault) = table.row_value_ok(row, value) {
-        return Err(fault);
+    if let Err(error) = table.row_value_ok(row, value) {
+        return Err(error);
     }
     let rest = without_separator(after.split_at(value.len()).1);
     Ok(Cut { code, value, rest })
 }
 
 /// The pairs of an element string as a reader gives it: one of the symbology identifiers `]C1`, `]e0`, `]d2`, `]Q3` or one
-/// FNC1 (the byte 29) may stand in front; behind an element without predefined length stands an FNC1 unless the text ends,
+/// FNC1 (the byte 29) may stand at the start; behind an element without predefined length stands an FNC1 unless the text ends,
 /// and one may stand behind any other (GS1 General Specifications, section 7.8). An empty text has no pairs.
 ///
-/// The fault is the first from the left, at the place of the code: `Unknown` where no code begins what is left, else that
-/// of the value. `Memory` is want of memory, and may come in place of any answer. The text is scanned once, from left to
+/// The error is the first from the left, at the place of the code: `Unknown` where no code begins what is left, else that
+/// of the value. `Memory` is out of memory, and may come in place of any answer. The text is scanned once, from left to
 /// right, and memory is taken for the pairs alone.
 pub fn read_raw(alloc: Global, table: &AiTable, text: &[u8]) -> Result<Vec<Pair>, ElementsFault>
     ensures read { IfOk result (λ pairs. IsRaw table.now text.now pairs.items) }
     ensures in_order { IfOk result (λ pairs. All (IsInOrder table.now) pairs.items) }
-    ensures refused { IfErr result (IsRawRefusal table.now text.now) }
+    ensures rejected { IfErr result (IsRawRejection table.now text.now) }
 {
     let mut pairs = Vec::new(alloc);
     // For the proof alone: the rows of the table keep its rules.
@@ -110,9 +111,9 @@ pub fn read_raw(alloc: Global, table: &AiTable, text: &[u8]) -> Result<Vec<Pair>
                 push_pair(alloc, &mut pairs, cut.code, value)?;
                 rest = cut.rest;
             }
-            Err(fault) => {
+            Err(error) => {
                 let at = text.len() - rest.len();
-                return Err(fault_at(at, ElementWhy::Value(fault)));
+                return Err(error_at(at, ElementWhy::Value(error)));
             }
         }
     }

@@ -5,11 +5,12 @@ use Rattle.std.specs.List.{find}
 use Rattle.std.specs.Option.{option_and_then, option_map_or}
 use Rattle.std.proofs.lemmas.Option.{slice_get_past}
 use Rattle.gs_grammar.specs.Words.{decimal_value}
-use Rattle.gs_document.specs.declared.field.Field.{Field}
-use Rattle.gs_document.specs.declared.field.Field.TheVariants.{Filter, Gcp, Rest, Serial}
+use Rattle.gs_tables_document.specs.declared.field.Field.{Field}
+use Rattle.gs_tables_document.specs.declared.field.Field.TheVariants.{Filter, Gcp, Rest, Serial}
 use Rattle.gs_tables.specs.Rules.{is_field}
-use Rattle.gs_document.specs.declared.opt_info.OptInfo.{OptInfo}
-use Rattle.gs_epc.specs.Epcs.{KeepsOthers, epc_of, filter_of, value_at, value_of}
+use Rattle.gs_tables_document.specs.declared.opt_info.OptInfo.{OptInfo}
+use Rattle.gs_epc.specs.Epcs.{epc_of, filter_of, value_at, value_of}
+use Rattle.gs_epc.specs.EpcsSupport.{KeepsOthers}
 use Rattle.gs_epc.specs.Filters.{IsFilter}
 use Rattle.gs_ai.proofs.Searches.{position-cons, position_some, read_at}
 

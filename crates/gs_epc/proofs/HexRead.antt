@@ -9,11 +9,11 @@ use Rattle.gs_bits.specs.Bits.{AreBits, bits_of, number_of}
 use Rattle.gs_bits.specs.BitLaws.{AreBits-bits_of, bits_of-number_of, number_of-below}
 use Rattle.gs_bits.specs.HexText.{bits_of_digit, bits_of_hex, hex_of_bits, is_hex_digit}
 use Rattle.gs_grammar.specs.declared.item.Item.{Item}
-use Rattle.gs_grammar.specs.declared.item.Item.TheVariants.{Lit, Pad, Int, Esc, NumPad, Num, Ascii7, Fill}
+use Rattle.gs_grammar.specs.declared.item.Item.TheVariants.{Lit, Pad, Digits, Int, Esc, NumPad, Num, NumStr, Ascii7, Fill}
 use Rattle.gs_grammar.specs.Items.{is_bad, is_in_bounds}
 use Rattle.gs_grammar.specs.Words.{decimal_value, written_word}
-use Rattle.gs_grammar.specs.Writing.{written}
-use Rattle.gs_grammar.proofs.Written.{lit_bits}
+use Rattle.gs_grammar.specs.WrittenWords.{written}
+use Rattle.gs_grammar.proofs.WritingLemmas.{lit_bits}
 use Rattle.gs_epc.proofs.WrittenSizes.{in_bounds}
 
 -- ---- what is written of an option of bits is bits
@@ -28,10 +28,12 @@ packed_bits (c ∷ value) = All-append (λ b. b < 2) (bits_of 7 c) (flat_map (bi
 word_bits : (item : Item) (value : List ℕ) → is_in_bounds true item ≡ true → AreBits (written_word item value)
 word_bits (Lit literal) value bounds = lit_bits (Lit literal) literal refl bounds
 word_bits (Pad n) value bounds = absurd (let e : false ≡ true = bounds in cc)
+word_bits (Digits lo hi) value bounds = absurd (let e : false ≡ true = bounds in cc)
 word_bits (Int greatest) value bounds = absurd (let e : false ≡ true = bounds in cc)
 word_bits (Esc lo hi) value bounds = absurd (let e : false ≡ true = bounds in cc)
 word_bits (NumPad bits n) value bounds = AreBits-bits_of bits (decimal_value value)
 word_bits (Num bits greatest) value bounds = AreBits-bits_of bits (decimal_value value)
+word_bits (NumStr bits hi) value bounds = AreBits-bits_of bits (decimal_value (49 ∷ value))
 word_bits (Ascii7 lo hi bits) value bounds = All-append (λ b. b < 2) (flat_map (bits_of 7) value) _ (packed_bits value) (zero_bits _)
 word_bits (Fill a b) value bounds = zero_bits b
 

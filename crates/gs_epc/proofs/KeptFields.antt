@@ -9,11 +9,11 @@ use Rattle.gs_grammar.specs.Derivations.{EachWord, one_item}
 use Rattle.gs_grammar.specs.Items.{IsItem, is_bad}
 use Rattle.gs_grammar.specs.Words.{Word}
 use Rattle.gs_grammar.proofs.WordLaws.{all_items}
-use Rattle.gs_document.specs.declared.field.Field.{Field}
-use Rattle.gs_document.specs.Items.{FieldItem, alone, fields_of}
+use Rattle.gs_tables_document.specs.declared.field.Field.{Field}
+use Rattle.gs_tables_document.specs.Items.{FieldItem, alone, fields_of}
 use Rattle.gs_tables.specs.Rules.{has_room, is_digits, is_field, is_one, items_of_field}
 use Rattle.gs_epc.specs.Epcs.{value_at, value_of}
-use Rattle.gs_epc.specs.Kept.{AreCharacters}
+use Rattle.gs_epc.specs.KeptFields.{AreCharacters}
 use Rattle.gs_epc.proofs.KeptItems.{characters_of_word, digits_of_word}
 
 -- the values are held by items of which none is bad
@@ -49,7 +49,7 @@ one_value bits field (i ∷ items) values words item (one_item x value w others 
       record { value = r.value; w = r.w; at = rw e r.at; word = r.word; good = r.good }
 ]
 
-the_one : (test : Item → Bool) (items : List Item) → is_one test items ≡ true → (item : Item) × (items ≡ item ∷ []) × (test item ≡ true)
+pub the_one : (test : Item → Bool) (items : List Item) → is_one test items ≡ true → (item : Item) × (items ≡ item ∷ []) × (test item ≡ true)
 the_one test [] h = absurd (let f : false ≡ true = h in cc)
 the_one test (item ∷ []) h = (item, refl, h)
 the_one test (item ∷ other ∷ items) h = absurd (let f : false ≡ true = h in cc)

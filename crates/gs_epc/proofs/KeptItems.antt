@@ -5,15 +5,15 @@ use Rattle.std.proofs.lemmas.Fmt.{decimal_nonempty}
 use Rattle.gs_chars.specs.Characters.{are_digits, are_in_set82, is_digit, is_in_set82}
 use Rattle.gs_chars.proofs.Sets.{ranges_of_set82}
 use Rattle.gs_grammar.specs.declared.item.Item.{Item}
-use Rattle.gs_grammar.specs.declared.item.Item.TheVariants.{Lit, Pad, Int, Esc, NumPad, Num, Ascii7, Fill}
+use Rattle.gs_grammar.specs.declared.item.Item.TheVariants.{Lit, Pad, Digits, Int, Esc, NumPad, Num, NumStr, Ascii7, Fill}
 use Rattle.gs_grammar.specs.Items.{is_between, IsItem}
 use Rattle.gs_grammar.specs.Words.{IsNumeral, HasLength, Word}
-use Rattle.gs_grammar.proofs.Held.{spelled_set}
+use Rattle.gs_grammar.proofs.HoldLemmas.{spelled_set}
 use Rattle.gs_grammar.proofs.ItemTests.{between_is}
 use Rattle.gs_grammar.proofs.Numbers.{count_order, digits_of_decimal}
-use Rattle.gs_grammar.proofs.WordLaws.{greatest_small}
+use Rattle.gs_grammar.proofs.WordLaws.{digits_bounds, greatest_small}
 use Rattle.gs_tables.specs.Rules.{has_room, is_digits}
-use Rattle.gs_epc.specs.Kept.{AreCharacters}
+use Rattle.gs_epc.specs.KeptFields.{AreCharacters}
 
 -- ---- digits
 
@@ -34,10 +34,12 @@ digits_in_set (c ∷ text) h =
 pub digits_of_word : (n : ℕ) (item : Item) (value w : List ℕ) → is_digits n item ≡ true → Word item value w → (length value ≡ n) × (are_digits value ≡ true)
 digits_of_word n (Lit _) value w h word = absurd (let f : false ≡ true = h in cc)
 digits_of_word n (Pad k) value w h word = let l = word.0 in (let same : k ≡ n = grind (arith, nat_tests) in omega arith, word.1)
+digits_of_word n (Digits _ _) value w h word = absurd (let f : false ≡ true = h in cc)
 digits_of_word n (Int _) value w h word = absurd (let f : false ≡ true = h in cc)
 digits_of_word n (Esc _ _) value w h word = absurd (let f : false ≡ true = h in cc)
 digits_of_word n (NumPad _ k) value w h word = let l = word.0 in (let same : k ≡ n = grind (arith, nat_tests) in omega arith, word.1)
 digits_of_word n (Num _ _) value w h word = absurd (let f : false ≡ true = h in cc)
+digits_of_word n (NumStr _ _) value w h word = absurd (let f : false ≡ true = h in cc)
 digits_of_word n (Ascii7 _ _ _) value w h word = absurd (let f : false ≡ true = h in cc)
 digits_of_word n (Fill _ _) value w h word = absurd (let f : false ≡ true = h in cc)
 
@@ -83,6 +85,8 @@ padded_characters n most value room count digits =
 pub characters_of_word : (most : ℕ) (item : Item) (value w : List ℕ) → IsItem item → has_room most item ≡ true → Word item value w → AreCharacters most value
 characters_of_word most (Lit _) value w i room word = absurd (no_room most room)
 characters_of_word most (Pad n) value w i room word = padded_characters n most value room word.0 word.1
+characters_of_word most (Digits lo hi) value w i room word =
+    characters_between lo hi most value (digits_bounds lo hi i).0 (between_is 1 most hi room).1 word.0 (digits_in_set value word.1)
 characters_of_word most (Int greatest) value w i room word =
     numeral_characters most greatest word.0.0 value (greatest_small (Int greatest) i) (between_is 1 most (length (decimal greatest)) room).1 word.0.1
 characters_of_word most (Esc lo hi) value w i room word =
@@ -90,6 +94,7 @@ characters_of_word most (Esc lo hi) value w i room word =
 characters_of_word most (NumPad _ n) value w i room word = padded_characters n most value room word.0 word.1
 characters_of_word most (Num bits greatest) value w i room word =
     numeral_characters most greatest word.0 value (greatest_small (Num bits greatest) i) (between_is 1 most (length (decimal greatest)) room).1 word.1.0
+characters_of_word most (NumStr bits hi) value w i room word = characters_between 1 hi most value (omega arith) (between_is 1 most hi room).1 word.0 (digits_in_set value word.1)
 characters_of_word most (Ascii7 lo hi bits) value w i room word =
     characters_between lo hi most value (ascii7_least lo hi bits i) (between_is 1 most hi room).1 word.0 word.1.characters
 characters_of_word most (Fill _ _) value w i room word = absurd (no_room most room)

@@ -2,11 +2,11 @@
 use Rattle.std.proofs.Common.{◌≡◌, ℕ, List, length, Some, slice_get, get_or, ◌<◌, sym, ◌∙◌}
 use Rattle.std.proofs.lemmas.Option.{slice_get_within}
 use Rattle.gs_chars.proofs.TruthsAndLists.{read_at}
-use Rattle.gs_document.specs.declared.field.Field.TheVariants.{Gcp, Rest, Serial}
-use Rattle.gs_document.specs.declared.kind.Kind.{Kind}
-use Rattle.gs_document.specs.declared.level_name.LevelName.{LevelName}
-use Rattle.gs_document.specs.declared.opt_info.OptInfo.{OptInfo}
-use Rattle.gs_document.specs.Documents.{is_bits}
+use Rattle.gs_tables_document.specs.declared.field.Field.TheVariants.{Gcp, Rest, Serial}
+use Rattle.gs_tables_document.specs.declared.kind.Kind.{Kind}
+use Rattle.gs_tables_document.specs.declared.level_name.LevelName.{LevelName}
+use Rattle.gs_tables_document.specs.declared.opt_info.OptInfo.{OptInfo}
+use Rattle.gs_tables_document.specs.Documents.{is_bits}
 use Rattle.gs_grammar.specs.declared.item.Item.{Item}
 use Rattle.gs_grammar.specs.Derivations.{EachWord}
 use Rattle.gs_tables.specs.Forms.{serial_room}
@@ -15,13 +15,14 @@ use Rattle.gs_tables.specs.Tables.{IsShaped, TableRows}
 use Rattle.gs_tables.proofs.KeptSets.{options_kept}
 use Rattle.gs_epc.specs.declared.epc.Epc.{Epc}
 use Rattle.gs_epc.specs.Epcs.{IsOfSet, value_of}
-use Rattle.gs_epc.specs.Kept.{FitKind}
+use Rattle.gs_epc.specs.KeptFields.{FitKind}
 use Rattle.gs_epc.proofs.KeptFields.{AreHeld}
 use Rattle.gs_epc.proofs.KeptRules.{fits_prefix, fits_room}
+use Rattle.gs_epc.specs.Layout.{fields_in}
 
 -- what values of an option's items say fits the kind of the option
 fits_values : (set : TableRows) (level : LevelName) (items : List Item) (info : OptInfo) (values words : List (List ℕ)) (kept : KeptOption set level items info) → EachWord items values words
-    → FitKind set.ais kept.kind (value_of Gcp info.fields values) (value_of Rest info.fields values) (value_of Serial info.fields values)
+    → FitKind set.ais kept.kind (record { prefix = value_of Gcp info.fields values; rest = value_of Rest info.fields values; serial = value_of Serial info.fields values })
 fits_values set level items info values words kept held =
     let are_held : AreHeld (is_bits level) kept.parts values words = record { each = rw kept.items_are at held; good = rw kept.items_are at kept.bounds.none_bad } in
     let fit = fits_prefix kept.of_kind.form kept.kind.lead info.gcp (is_bits level) kept.parts values words are_held kept.gcp kept.rest in
@@ -29,7 +30,7 @@ fits_values set level items info values words kept held =
     rw kept.fields_are (record { of_kind = kept.of_kind; prefix_least = fit.prefix_least; prefix_most = fit.prefix_most; fits = fit.fits; room = room })
 
 -- what the rules of tables keep of an EPC of the set fits its kind
-pub fit_kind : (set : TableRows) (epc : Epc) → IsShaped set → IsOfSet set epc → (kind : Kind) × (slice_get set.kinds epc.kind ≡ Some kind) × FitKind set.ais kind epc.prefix epc.rest epc.serial
+pub fit_kind : (set : TableRows) (epc : Epc) → IsShaped set → IsOfSet set epc → (kind : Kind) × (slice_get set.kinds epc.kind ≡ Some kind) × FitKind set.ais kind (fields_in epc)
 fit_kind set epc shaped of_set =
     let kept = options_kept set of_set.level shaped of_set.option of_set.items of_set.info of_set.of_level of_set.said in
     rw of_set.fields (kept.kind, kept.named, fits_values set of_set.level of_set.items of_set.info of_set.values of_set.words kept of_set.held)
@@ -41,7 +42,7 @@ kind_within set epc kinds same shaped of_set =
     rw same (slice_get_within set.kinds epc.kind fit.0 fit.1)
 
 -- the kind that is read at its place
-pub kind_read : (set : TableRows) (epc : Epc) (kinds : List Kind) (kind : Kind) → kinds ≡ set.kinds → IsShaped set → IsOfSet set epc → kind ≡ get_or kinds epc.kind kind → (slice_get set.kinds epc.kind ≡ Some kind) × FitKind set.ais kind epc.prefix epc.rest epc.serial
+pub kind_read : (set : TableRows) (epc : Epc) (kinds : List Kind) (kind : Kind) → kinds ≡ set.kinds → IsShaped set → IsOfSet set epc → kind ≡ get_or kinds epc.kind kind → (slice_get set.kinds epc.kind ≡ Some kind) × FitKind set.ais kind (fields_in epc)
 kind_read set epc kinds kind same shaped of_set read =
     let fit = fit_kind set epc shaped of_set in
     let at = read_at kinds epc.kind kind (kind_within set epc kinds same shaped of_set) read in

@@ -7,13 +7,13 @@ use Rattle.gs_grammar.specs.declared.item.Item.{Item}
 use Rattle.gs_grammar.specs.Items.{is_between}
 use Rattle.gs_chars.proofs.TruthsAndLists.{and_parts}
 use Rattle.gs_grammar.proofs.ItemTests.{between_is}
-use Rattle.gs_document.specs.declared.field.Field.TheVariants.{Gcp, Rest, Serial}
-use Rattle.gs_rows.specs.declared.form.KeyForm.{KeyForm}
-use Rattle.gs_rows.specs.declared.form.KeyForm.TheVariants.{Digits, Characters}
-use Rattle.gs_document.specs.Items.{FieldItem, fields_of}
+use Rattle.gs_tables_document.specs.declared.field.Field.TheVariants.{Gcp, Rest, Serial}
+use Rattle.gs_tables.specs.declared.form.KeyForm.{KeyForm}
+use Rattle.gs_tables.specs.declared.form.KeyForm.TheVariants.{Digits, Characters}
+use Rattle.gs_tables_document.specs.Items.{FieldItem, fields_of}
 use Rattle.gs_tables.specs.Rules.{has_room, is_digits, is_free, is_gcp, is_one, is_padded, items_of_field, keeps_gcp, keeps_rest, keeps_serial}
 use Rattle.gs_epc.specs.Epcs.{value_of}
-use Rattle.gs_epc.specs.Kept.{FitForm, FitsRoom}
+use Rattle.gs_epc.specs.KeptFields.{FitForm, FitsRoom}
 use Rattle.gs_epc.proofs.KeptFields.{AreHeld, characters_of, digits_of, nothing_of}
 
 -- ---- the prefix

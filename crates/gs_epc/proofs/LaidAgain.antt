@@ -11,18 +11,18 @@ use Rattle.gs_chars.specs.CheckDigits.{check_digit_of}
 use Rattle.gs_chars.proofs.TruthsAndLists.{and_parts}
 use Rattle.gs_ai.specs.declared.part.Part.{Part}
 use Rattle.gs_ai.specs.declared.part.Part.TheVariants.{Zero, NumCheck, Set, SetOpt}
-use Rattle.gs_ai.specs.declared.faults.ValueFault.TheVariants.{Length, Char, Check, Date}
+use Rattle.gs_ai.specs.declared.errors.ValueFault.TheVariants.{Length, Char, Check, Date}
 use Rattle.gs_ai.specs.Parts.{greatest_length, is_of_part, is_part, least_length}
-use Rattle.gs_ai.specs.Values.{greatest_of, has_length_of, is_checked, keeps_check, keeps_date, least_of, parts_fault, pieces, wrong_character}
+use Rattle.gs_ai.specs.Values.{greatest_of, has_length_of, is_checked, keeps_check, keeps_date, least_of, parts_error, pieces, wrong_character}
 use Rattle.gs_ai.proofs.PartLemmas.{wrong-cons}
 use Rattle.gs_ai.proofs.Searches.{cons_none, equal_bytes}
-use Rattle.gs_document.specs.declared.kind.Kind.{Kind}
-use Rattle.gs_rows.specs.declared.form.KeyForm.{KeyForm}
-use Rattle.gs_rows.specs.declared.form.KeyForm.TheVariants.{Digits}
+use Rattle.gs_tables_document.specs.declared.kind.Kind.{Kind}
+use Rattle.gs_tables.specs.declared.form.KeyForm.{KeyForm}
+use Rattle.gs_tables.specs.declared.form.KeyForm.TheVariants.{Digits}
 use Rattle.gs_tables.specs.Forms.{key_form, tail_of}
 use Rattle.gs_tables.specs.Rules.{is_lead}
 use Rattle.gs_epc.specs.Layout.{key_digits, key_value, tail_of_key, with_check}
-use Rattle.gs_epc.specs.Taking.{prefix_in, rest_in, tail_in}
+use Rattle.gs_epc.specs.KeyParts.{prefix_in, rest_in, tail_in, fields_at}
 
 -- ---- a value in order
 
@@ -37,7 +37,7 @@ bounds parts value h =
     let both = and_parts (nat_le (least_of parts) (length value)) (nat_le (length value) (greatest_of parts)) h in
     (leb-true (least_of parts) (length value) both.0, leb-true (length value) (greatest_of parts) both.1)
 
-pub parts_kept : (parts : List Part) (value : List ℕ) → parts_fault parts value ≡ None → PartsKept parts value
+pub parts_kept : (parts : List Part) (value : List ℕ) → parts_error parts value ≡ None → PartsKept parts value
 parts_kept parts value e = by (has_length_of parts value) (wrong_character parts value) (list_all keeps_check (pieces parts value)) refl refl refl e
   where
     by : (l : Bool) (w : Option ℕ) (k : Bool) → has_length_of parts value ≡ l → wrong_character parts value ≡ w → list_all keeps_check (pieces parts value) ≡ k
@@ -87,7 +87,7 @@ checked_value k parts lead n value tail checks low long is =
     let checked = (and_parts (is_checked k (take k value)) (list_all keeps_check (pieces parts (drop k value))) checks).0 in
     rw (again, is) (checked_again k value checked)
 
--- the zero in front
+-- the leading zero
 record IsBehindZero (parts : List Part) (value : List ℕ) : Type 0 where
   others : List ℕ
   front : value ≡ 48 ∷ others
@@ -138,7 +138,7 @@ none_behind_check k value short =
     drop_all k value (omega arith)
 
 pub key_again : (parts : List Part) (form : KeyForm) (kind : Kind) (n : ℕ) (value serial : List ℕ) → key_form parts ≡ Some form → is_lead form kind.lead ≡ true → list_all is_part parts ≡ true → PartsKept parts value
-    → IsTail form (tail_of_key kind.serial serial) (tail_in parts value) → key_value parts kind (prefix_in parts kind.lead n value) (rest_in parts kind.lead n value) serial ≡ value
+    → IsTail form (tail_of_key kind.serial serial) (tail_in parts value) → key_value parts kind (fields_at parts kind.lead n value serial) ≡ value
 key_again (Zero ∷ NumCheck k ∷ []) form kind n value serial formed lead are kept tail =
     let same : Digits (k - 1) None ≡ form = cc in
     let zero = zero_first (NumCheck k ∷ []) value kept in

@@ -7,37 +7,37 @@ use Rattle.std.proofs.lemmas.Option.{slice_get-map}
 use Rattle.gs_chars.proofs.TruthsAndLists.{none_behind, none_in_front}
 use Rattle.gs_ai.specs.declared.pair.Pair.{Pair}
 use Rattle.gs_ai.specs.declared.row.AiRow.{AiRow}
-use Rattle.gs_ai.specs.Tables.{KeepsRules, are_distinct, is_row, table_faults}
-use Rattle.gs_ai.specs.Values.{has_code, parts_fault, value_fault}
+use Rattle.gs_ai.specs.Tables.{KeepsRules, are_distinct, is_row, table_errors}
+use Rattle.gs_ai.specs.Values.{has_code, parts_error, value_error}
 use Rattle.gs_ai.proofs.RowLemmas.{listed, row_parts}
 use Rattle.gs_ident.specs.Elements.{Elements, pairs_of}
 use Rattle.gs_ident.specs.Identities.{IsInOrder, IsMadeWith, counted, elements_of, pair_with}
 use Rattle.gs_ident.proofs.IdentityLemmas.{made_facts}
-use Rattle.gs_document.specs.declared.document.Document.{Document}
-use Rattle.gs_document.specs.declared.fault.LoadFault.TheVariants.{Ai as AiFault}
-use Rattle.gs_document.specs.declared.kind.Kind.{Kind}
-use Rattle.gs_document.specs.declared.kind.SerialAt.{SerialAt}
-use Rattle.gs_document.specs.declared.kind.SerialAt.TheVariants.{Nowhere, Tail, Ai}
-use Rattle.gs_document.specs.declared.level_name.LevelName.TheVariants.{Binary, Tag, Pure}
+use Rattle.gs_tables_document.specs.declared.document.Document.{Document}
+use Rattle.gs_tables_document.specs.declared.error.LoadFault.TheVariants.{Ai as AiFault}
+use Rattle.gs_tables_document.specs.declared.kind.Kind.{Kind}
+use Rattle.gs_tables_document.specs.declared.kind.SerialAt.{SerialAt}
+use Rattle.gs_tables_document.specs.declared.kind.SerialAt.TheVariants.{Nowhere, Tail, Ai}
+use Rattle.gs_tables_document.specs.declared.level_name.LevelName.TheVariants.{Binary, Tag, Pure}
 use Rattle.gs_tables.specs.KeptRules.{KeptKind}
-use Rattle.gs_tables.specs.Tables.{IsShaped, TableRows, kind_of, kinds_refusals, level_refusals, limit_refusals, row_refusals}
-use Rattle.gs_rows.proofs.KeptRows.{kind_at}
+use Rattle.gs_tables.specs.Tables.{IsShaped, TableRows, kind_of, kinds_rejections, level_rejections, limit_rejections, row_rejections}
+use Rattle.gs_tables.proofs.KeptRows.{kind_at}
 use Rattle.gs_epc.specs.declared.epc.Epc.{Epc}
 use Rattle.gs_epc.specs.Layout.{IsLaidOut, lay, parts_at, serial_elements}
-use Rattle.gs_epc.specs.Taking.{IsOfKind, epc_at, epc_of_key, prefix_in, rest_in, serial_in, take_apart}
+use Rattle.gs_epc.specs.KeyParts.{IsOfKind, epc_at, epc_of_key, prefix_in, rest_in, serial_in, take_apart, fields_at}
 use Rattle.gs_epc.proofs.LaidAgain.{key_again, parts_kept}
 use Rattle.gs_epc.proofs.LaidSets.{AllOf, are_one, is_tail, no_pairs, own_element}
-use Rattle.gs_epc.proofs.LayoutElements.{found_place}
+use Rattle.gs_ident.proofs.KeyPairs.{found_place}
 use Rattle.gs_ident.proofs.MovedPairs.{row_distinct}
 
 -- ---- the kinds of a set keep the rules
 
-no_kinds : (document : Document) → row_refusals document ≡ [] → kinds_refusals document.ais document.kinds ≡ []
-unfolding row_refusals
+no_kinds : (document : Document) → row_rejections document ≡ [] → kinds_rejections document.ais document.kinds ≡ []
+unfolding row_rejections
 no_kinds document none =
-    let levels = level_refusals document.ais document.kinds Binary document.binary ++ (level_refusals document.ais document.kinds Tag document.tag ++ level_refusals document.ais document.kinds Pure document.pure) in
-    let behind = none_behind (limit_refusals document) (map AiFault (table_faults document.ais) ++ (kinds_refusals document.ais document.kinds ++ levels)) none in
-    none_in_front (kinds_refusals document.ais document.kinds) levels (none_behind (map AiFault (table_faults document.ais)) (kinds_refusals document.ais document.kinds ++ levels) behind)
+    let levels = level_rejections document.ais document.kinds Binary document.binary ++ (level_rejections document.ais document.kinds Tag document.tag ++ level_rejections document.ais document.kinds Pure document.pure) in
+    let behind = none_behind (limit_rejections document) (map AiFault (table_errors document.ais) ++ (kinds_rejections document.ais document.kinds ++ levels)) none in
+    none_in_front (kinds_rejections document.ais document.kinds) levels (none_behind (map AiFault (table_errors document.ais)) (kinds_rejections document.ais document.kinds ++ levels) behind)
 
 mapped : {X Y : Type 0} (f : X → Y) (o : Option X) (y : Y) → option_map f o ≡ Some y → (x : X) × (o ≡ Some x) × (f x ≡ y)
 mapped f None y e = absurd (let g : None ≡ Some y = e in cc)
@@ -79,8 +79,8 @@ equal_elements identity key qualifiers a b c = rw (← a, ← b, ← c) refl
 equal_pair : (pair : Pair) (code value : List ℕ) → pair.code ≡ code → pair.value ≡ value → pair ≡ record { code = code; value = value }
 equal_pair pair code value a b = rw (← a, ← b) refl
 
-again : (ais : List AiRow) (kind : Kind) (n : ℕ) (serial : List ℕ) (identity : Elements) → KeepsRules ais → KeptKind ais kind → IsOfKind kind identity → IsMadeWith ais identity → serial_in ais (parts_at ais kind.key) kind.serial identity ≡ Some serial
-    → identity ≡ lay ais kind (prefix_in (parts_at ais kind.key) kind.lead n identity.key.value) (rest_in (parts_at ais kind.key) kind.lead n identity.key.value) serial
+pub again : (ais : List AiRow) (kind : Kind) (n : ℕ) (serial : List ℕ) (identity : Elements) → KeepsRules ais → KeptKind ais kind → IsOfKind kind identity → IsMadeWith ais identity → serial_in ais (parts_at ais kind.key) kind.serial identity ≡ Some serial
+    → identity ≡ lay ais kind (fields_at (parts_at ais kind.key) kind.lead n identity.key.value serial)
 again ais kind n serial identity rules kept of made e =
     let row = kept.row in
     let parts : parts_at ais kind.key ≡ row.parts = rw kept.found refl in
@@ -88,10 +88,10 @@ again ais kind n serial identity rules kept of made e =
     let place = found_place (has_code kind.key) ais row kept.found in
     let in_order : is_row row ≡ true = (rules.rows_in_order place.0 row place.1).0 in
     let fits = (All-head (IsInOrder ais) identity.key _ made.in_order).fits in
-    let key_fits : value_fault ais kind.key identity.key.value ≡ None = rw of.key at fits in
-    let no_fault : parts_fault row.parts identity.key.value ≡ None = rw kept.found at key_fits in
+    let key_fits : value_error ais kind.key identity.key.value ≡ None = rw of.key at fits in
+    let no_error : parts_error row.parts identity.key.value ≡ None = rw kept.found at key_fits in
     let tail = is_tail ais row kept.form row.parts kind.serial serial identity kept.serial serial_is in
-    let value = key_again row.parts kept.form kind n identity.key.value serial kept.formed kept.lead (listed row.parts (row_parts row in_order)) (parts_kept row.parts identity.key.value no_fault) tail in
+    let value = key_again row.parts kept.form kind n identity.key.value serial kept.formed kept.lead (listed row.parts (row_parts row in_order)) (parts_kept row.parts identity.key.value no_error) tail in
     let found : find (has_code identity.key.code) ais ≡ Some row = rw of.key kept.found in
     let qualifiers = qualifiers_are ais row kind.serial serial identity (found_by_codes ais identity row made found) (row_distinct row in_order) of.qualifiers serial_is in
     rw parts (equal_elements identity _ _ (equal_pair identity.key _ _ of.key (sym value)) qualifiers of.attributes)

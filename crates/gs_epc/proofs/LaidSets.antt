@@ -13,13 +13,13 @@ use Rattle.gs_ai.proofs.Searches.{equal_bytes, same_bytes}
 use Rattle.gs_ident.specs.Elements.{Elements}
 use Rattle.gs_ident.specs.Identities.{counted, pair_with, stands_for_none}
 use Rattle.gs_ident.proofs.PairLemmas.{find_by_cases, found_passes}
-use Rattle.gs_document.specs.declared.kind.SerialAt.{SerialAt}
-use Rattle.gs_document.specs.declared.kind.SerialAt.TheVariants.{Nowhere, Tail, Ai}
-use Rattle.gs_rows.specs.declared.form.KeyForm.{KeyForm}
+use Rattle.gs_tables_document.specs.declared.kind.SerialAt.{SerialAt}
+use Rattle.gs_tables_document.specs.declared.kind.SerialAt.TheVariants.{Nowhere, Tail, Ai}
+use Rattle.gs_tables.specs.declared.form.KeyForm.{KeyForm}
 use Rattle.gs_tables.specs.Forms.{tail_of}
 use Rattle.gs_tables.specs.Rules.{is_characters, is_serial_of}
 use Rattle.gs_epc.specs.Layout.{serial_elements, tail_of_key}
-use Rattle.gs_epc.specs.Taking.{none_text, serial_in, tail_in, unless_empty}
+use Rattle.gs_epc.specs.KeyParts.{none_text, serial_in, tail_in, unless_empty}
 use Rattle.gs_epc.proofs.LaidAgain.{IsTail}
 
 -- ---- the qualifiers

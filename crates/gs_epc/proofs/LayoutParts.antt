@@ -12,11 +12,11 @@ use Rattle.gs_chars.specs.CheckDigits.{check_digit_of, weighted_sum}
 use Rattle.gs_ai.specs.declared.part.Part.{Part}
 use Rattle.gs_ai.specs.declared.part.Part.TheVariants.{Zero, NumCheck, Set, SetOpt}
 use Rattle.gs_ai.specs.Parts.{least_length, greatest_length, is_of_part}
-use Rattle.gs_ai.specs.Values.{greatest_of, keeps_check, keeps_date, least_of, parts_fault, pieces, wrong_character}
+use Rattle.gs_ai.specs.Values.{greatest_of, keeps_check, keeps_date, least_of, parts_error, pieces, wrong_character}
 use Rattle.gs_ai.proofs.PartLemmas.{wrong_nowhere}
 use Rattle.gs_ai.proofs.RowLemmas.{and_left, and_right}
 use Rattle.gs_ai.proofs.Searches.{position-cons, same_bytes}
-use Rattle.gs_epc.specs.Kept.{AreCharacters}
+use Rattle.gs_epc.specs.KeptFields.{AreCharacters}
 use Rattle.gs_epc.specs.Layout.{with_check}
 
 -- ---- tests of each element
@@ -49,8 +49,8 @@ pub record KeepsParts (parts : List Part) (value : List ℕ) : Type 0 where
   pub checks : list_all keeps_check (pieces parts value) ≡ true
   pub dates : list_all keeps_date (pieces parts value) ≡ true
 
-pub no_fault : (parts : List Part) (value : List ℕ) → KeepsParts parts value → parts_fault parts value ≡ None
-no_fault parts value kept =
+pub no_error : (parts : List Part) (value : List ℕ) → KeepsParts parts value → parts_error parts value ≡ None
+no_error parts value kept =
     let least : nat_le (least_of parts) (length value) ≡ true = grind (arith, nat_tests, kept.least) in
     let greatest : nat_le (length value) (greatest_of parts) ≡ true = grind (arith, nat_tests, kept.greatest) in
     rw (least, greatest, kept.characters, kept.checks, kept.dates) refl
@@ -58,7 +58,7 @@ no_fault parts value kept =
 pub nothing : KeepsParts [] []
 nothing = record { least = omega arith; greatest = omega arith; characters = refl; checks = refl; dates = refl }
 
--- a piece of its greatest length in front of the value of further parts
+-- a piece of its greatest length before the value of further parts
 front : (part : Part) (parts : List Part) (piece value rest : List ℕ) → take (greatest_length part) value ≡ piece → drop (greatest_length part) value ≡ rest → length value ≡ length piece + length rest → IsPiece part piece → KeepsParts parts rest → KeepsParts (part ∷ parts) value
 front part parts piece value rest t d long is kept =
     let wrong : position (λ c. not (is_of_part part c)) piece ≡ None = none_fails (is_of_part part) piece is.characters in

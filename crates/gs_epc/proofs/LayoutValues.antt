@@ -13,23 +13,24 @@ use Rattle.gs_chars.specs.CheckDigits.{check_digit_of}
 use Rattle.gs_chars.proofs.Sets.{in_ranges, ranges_of_set82}
 use Rattle.gs_ai.specs.declared.part.Part.{Part}
 use Rattle.gs_ai.specs.declared.part.Part.TheVariants.{Zero, NumCheck, Set, SetOpt}
-use Rattle.gs_ai.specs.declared.faults.ValueFault.TheVariants.{Unknown}
+use Rattle.gs_ai.specs.declared.errors.ValueFault.TheVariants.{Unknown}
 use Rattle.gs_ai.specs.declared.row.AiRow.{AiRow}
 use Rattle.gs_ai.specs.Parts.{is_part}
 use Rattle.gs_ai.specs.Tables.{is_row}
-use Rattle.gs_ai.specs.Values.{has_code, parts_fault, value_fault}
+use Rattle.gs_ai.specs.Values.{has_code, parts_error, value_error}
 use Rattle.gs_ai.proofs.RowLemmas.{and_left, and_right, listed, row_parts}
 use Rattle.gs_ident.specs.Identities.{IsInOrder}
-use Rattle.gs_rows.specs.declared.form.KeyForm.{KeyForm}
-use Rattle.gs_rows.specs.declared.form.KeyForm.TheVariants.{Digits, Characters}
-use Rattle.gs_document.specs.declared.kind.Kind.{Kind}
-use Rattle.gs_document.specs.declared.kind.SerialAt.{SerialAt}
-use Rattle.gs_document.specs.declared.kind.SerialAt.TheVariants.{Nowhere, Tail, Ai}
+use Rattle.gs_tables.specs.declared.form.KeyForm.{KeyForm}
+use Rattle.gs_tables.specs.declared.form.KeyForm.TheVariants.{Digits, Characters}
+use Rattle.gs_tables_document.specs.declared.kind.Kind.{Kind}
+use Rattle.gs_tables_document.specs.declared.kind.SerialAt.{SerialAt}
+use Rattle.gs_tables_document.specs.declared.kind.SerialAt.TheVariants.{Nowhere, Tail, Ai}
 use Rattle.gs_tables.specs.Forms.{characters_of, digits_form, key_form, serial_room, tail_of}
 use Rattle.gs_tables.specs.Rules.{is_characters, is_serial_of}
-use Rattle.gs_epc.specs.Kept.{AreCharacters, FitForm, FitKind, FitsRoom}
-use Rattle.gs_epc.specs.Layout.{AreKeyDigits, key_digits, key_pair, key_value, parts_at, serial_pairs, tail_of_key, with_check}
-use Rattle.gs_epc.proofs.LayoutParts.{KeepsParts, at_end, both_pass, checked_piece, in_front, no_fault, nothing, optional_piece, set_piece, zero_piece}
+use Rattle.gs_epc.specs.KeptFields.{AreCharacters, FitForm, FitKind, FitsRoom}
+use Rattle.gs_epc.specs.Layout.{AreKeyDigits, key_digits, key_pair, key_value, parts_at, tail_of_key, with_check, KeyFields}
+use Rattle.gs_epc.specs.LayoutSupport.{serial_pairs}
+use Rattle.gs_epc.proofs.LayoutParts.{KeepsParts, at_end, both_pass, checked_piece, in_front, no_error, nothing, optional_piece, set_piece, zero_piece}
 
 -- ---- digits as characters
 
@@ -110,16 +111,16 @@ behind_digits most lead prefix rest some fits =
       characters = both_pass is_in_set82 prefix rest (digits_in_set prefix fits.0) are.characters;
     }
 
-key_kept : (parts : List Part) (form : KeyForm) (kind : Kind) (prefix rest serial : List ℕ) → key_form parts ≡ Some form → list_all is_part parts ≡ true → 1 ≤ length prefix
-    → FitForm form kind.lead prefix rest → FitsRoom (tail_of form) (tail_of_key kind.serial serial) → KeepsParts parts (key_value parts kind prefix rest serial)
-key_kept (Zero ∷ parts) form kind prefix rest serial formed are some fits room =
-    in_front Zero parts (48 ∷ []) (with_check (key_digits kind.lead prefix rest) ++ tail_of_key kind.serial serial) refl zero_piece
-    (digits_kept parts form kind.lead prefix rest (tail_of_key kind.serial serial) formed (and_right (is_part Zero) (list_all is_part parts) are) some fits room)
-key_kept (Set most ∷ []) form kind prefix rest serial formed are some fits room =
+key_kept : (parts : List Part) (form : KeyForm) (kind : Kind) (fields : KeyFields) → key_form parts ≡ Some form → list_all is_part parts ≡ true → 1 ≤ length fields.prefix
+    → FitForm form kind.lead fields.prefix fields.rest → FitsRoom (tail_of form) (tail_of_key kind.serial fields.serial) → KeepsParts parts (key_value parts kind fields)
+key_kept (Zero ∷ parts) form kind fields formed are some fits room =
+    in_front Zero parts (48 ∷ []) (with_check (key_digits kind.lead fields.prefix fields.rest) ++ tail_of_key kind.serial fields.serial) refl zero_piece
+    (digits_kept parts form kind.lead fields.prefix fields.rest (tail_of_key kind.serial fields.serial) formed (and_right (is_part Zero) (list_all is_part parts) are) some fits room)
+key_kept (Set most ∷ []) form kind fields formed are some fits room =
     let same : Characters most ≡ form = cc in
-    at_end (Set most) (prefix ++ rest) (set_piece most (prefix ++ rest) (behind_digits most kind.lead prefix rest some (subst (λ f. FitForm f kind.lead prefix rest) (sym same) fits)))
-key_kept parts form kind prefix rest serial formed are some fits room =
-    digits_kept parts form kind.lead prefix rest (tail_of_key kind.serial serial) formed are some fits room
+    at_end (Set most) (fields.prefix ++ fields.rest) (set_piece most (fields.prefix ++ fields.rest) (behind_digits most kind.lead fields.prefix fields.rest some (subst (λ f. FitForm f kind.lead fields.prefix fields.rest) (sym same) fits)))
+key_kept parts form kind fields formed are some fits room =
+    digits_kept parts form kind.lead fields.prefix fields.rest (tail_of_key kind.serial fields.serial) formed are some fits room
 
 -- ---- the tail of a key
 
@@ -139,9 +140,9 @@ characters_kept (Set most ∷ []) serial some room = at_end (Set most) serial (s
 characters_kept parts serial some room = absurd (let e : false ≡ true = some in cc)
 
 serial_by_row : (found : Option AiRow) (serial : List ℕ) → option_map_or (λ (row : AiRow). is_some (characters_of row.parts)) found false ≡ true
-    → FitsRoom (option_and_then (λ (row : AiRow). characters_of row.parts) found) serial → option_map_or (λ (row : AiRow). parts_fault row.parts serial) found (Some Unknown) ≡ None
+    → FitsRoom (option_and_then (λ (row : AiRow). characters_of row.parts) found) serial → option_map_or (λ (row : AiRow). parts_error row.parts serial) found (Some Unknown) ≡ None
 serial_by_row None serial are room = absurd (let e : false ≡ true = are in cc)
-serial_by_row (Some row) serial are room = no_fault row.parts serial (characters_kept row.parts serial are room)
+serial_by_row (Some row) serial are room = no_error row.parts serial (characters_kept row.parts serial are room)
 
 pub serial_in_order : (ais : List AiRow) (row : AiRow) (form : KeyForm) (at : SerialAt) (serial : List ℕ) → is_serial_of ais row form at ≡ true → FitsRoom (serial_room ais form at) serial → All (IsInOrder ais) (serial_pairs at serial)
 serial_in_order ais row form Nowhere serial rule room = All-nil (IsInOrder ais)
@@ -153,19 +154,19 @@ serial_in_order ais row form (Ai code) serial rule room =
 -- ---- what fits a kind
 
 -- the value of the key is one of its row's
-pub value_in_order : (ais : List AiRow) (kind : Kind) (prefix rest serial : List ℕ) (fit : FitKind ais kind prefix rest serial) → is_row fit.of_kind.row ≡ true
-    → value_fault ais kind.key (key_value (parts_at ais kind.key) kind prefix rest serial) ≡ None
-value_in_order ais kind prefix rest serial fit in_order =
+pub value_in_order : (ais : List AiRow) (kind : Kind) (fields : KeyFields) (fit : FitKind ais kind fields) → is_row fit.of_kind.row ≡ true
+    → value_error ais kind.key (key_value (parts_at ais kind.key) kind fields) ≡ None
+value_in_order ais kind fields fit in_order =
     let parts = fit.of_kind.row.parts in
-    let tail = tail_fits ais fit.of_kind.row fit.of_kind.form kind.serial serial fit.of_kind.serial fit.room in
-    let kept = key_kept parts fit.of_kind.form kind prefix rest serial fit.of_kind.formed (listed parts (row_parts fit.of_kind.row in_order)) fit.prefix_least fit.fits tail in
-    rw fit.of_kind.found (no_fault parts (key_value parts kind prefix rest serial) kept)
+    let tail = tail_fits ais fit.of_kind.row fit.of_kind.form kind.serial fields.serial fit.of_kind.serial fit.room in
+    let kept = key_kept parts fit.of_kind.form kind fields fit.of_kind.formed (listed parts (row_parts fit.of_kind.row in_order)) fit.prefix_least fit.fits tail in
+    rw fit.of_kind.found (no_error parts (key_value parts kind fields) kept)
 
 -- the key with its value, and the serial where it has an element of its own
-pub pairs_in_order : (ais : List AiRow) (kind : Kind) (prefix rest serial : List ℕ) (fit : FitKind ais kind prefix rest serial) → is_row fit.of_kind.row ≡ true → All (IsInOrder ais) (key_pair ais kind prefix rest serial ∷ serial_pairs kind.serial serial)
-pairs_in_order ais kind prefix rest serial fit in_order =
-    All-cons (IsInOrder ais) (key_pair ais kind prefix rest serial) (serial_pairs kind.serial serial) (record { fits = value_in_order ais kind prefix rest serial fit in_order })
-    (serial_in_order ais fit.of_kind.row fit.of_kind.form kind.serial serial fit.of_kind.serial fit.room)
+pub pairs_in_order : (ais : List AiRow) (kind : Kind) (fields : KeyFields) (fit : FitKind ais kind fields) → is_row fit.of_kind.row ≡ true → All (IsInOrder ais) (key_pair ais kind fields ∷ serial_pairs kind.serial fields.serial)
+pairs_in_order ais kind fields fit in_order =
+    All-cons (IsInOrder ais) (key_pair ais kind fields) (serial_pairs kind.serial fields.serial) (record { fits = value_in_order ais kind fields fit in_order })
+    (serial_in_order ais fit.of_kind.row fit.of_kind.form kind.serial fields.serial fit.of_kind.serial fit.room)
 
 -- ---- digits that a check digit can follow
 
@@ -195,10 +196,10 @@ by_parts (Set most ∷ []) form lead prefix rest formed digits are some fits = a
 by_parts parts form lead prefix rest formed digits are some fits = by_digits parts form lead prefix rest formed are some fits
 
 -- the digits of a key that is no characters, by the row that is found
-pub are_key_digits : (ais : List AiRow) (kind : Kind) (prefix rest serial : List ℕ) (fit : FitKind ais kind prefix rest serial) (row : AiRow) → Some row ≡ find (has_code kind.key) ais → is_row row ≡ true
-    → is_some (characters_of row.parts) ≡ false → AreKeyDigits kind.lead prefix rest
-are_key_digits ais kind prefix rest serial fit row found in_order digits =
+pub are_key_digits : (ais : List AiRow) (kind : Kind) (fields : KeyFields) (fit : FitKind ais kind fields) (row : AiRow) → Some row ≡ find (has_code kind.key) ais → is_row row ≡ true
+    → is_some (characters_of row.parts) ≡ false → AreKeyDigits kind.lead fields.prefix fields.rest
+are_key_digits ais kind fields fit row found in_order digits =
     let both : Some row ≡ Some fit.of_kind.row = found ∙ fit.of_kind.found in
     let same : row ≡ fit.of_kind.row = cc in
     let formed : key_form row.parts ≡ Some fit.of_kind.form = rw same fit.of_kind.formed in
-    by_parts row.parts fit.of_kind.form kind.lead prefix rest formed digits (listed row.parts (row_parts row in_order)) fit.prefix_least fit.fits
+    by_parts row.parts fit.of_kind.form kind.lead fields.prefix fields.rest formed digits (listed row.parts (row_parts row in_order)) fit.prefix_least fit.fits

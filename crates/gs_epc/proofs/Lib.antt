@@ -4,7 +4,6 @@ pub mod KeptFields
 pub mod KeptItems
 pub mod KeptLaws
 pub mod KeptRules
-pub mod LayoutElements
 pub mod LayoutLaws
 pub mod LayoutParts
 pub mod LayoutValues
@@ -13,7 +12,7 @@ pub mod TakenKeys
 pub mod TakenSets
 pub mod WrittenSizes
 pub mod Tries
-pub mod Refusals
+pub mod Rejections
 pub mod HexRead
 pub mod ReadBack
 pub mod ReadLaws

@@ -3,16 +3,16 @@ use Rattle.std.proofs.Common.{◌≡◌, ℕ, zero, suc, ◌+◌, ◌-◌, ◌<�
 use Rattle.std.proofs.lemmas.List.{drop-drop, drop_all, drop_more}
 use Rattle.std.proofs.lemmas.Option.{slice_get_within}
 use Rattle.gs_chars.proofs.TruthsAndLists.{and_parts, read_at, true_or_false}
-use Rattle.gs_document.specs.declared.level_name.LevelName.{LevelName}
-use Rattle.gs_document.specs.declared.opt_info.OptInfo.{OptInfo}
+use Rattle.gs_tables_document.specs.declared.level_name.LevelName.{LevelName}
+use Rattle.gs_tables_document.specs.declared.opt_info.OptInfo.{OptInfo}
 use Rattle.gs_tables.specs.Numbers.{is_of, numbers_from, numbers_of}
 use Rattle.gs_tables.specs.Tables.{IsShaped, TableRows, level_rows}
 use Rattle.gs_epc.specs.declared.epc.Epc.{Epc}
-use Rattle.gs_epc.specs.declared.write_fault.EpcWriteFault.{EpcWriteFault}
-use Rattle.gs_epc.specs.declared.write_fault.EpcWriteFault.TheVariants.{NoOption}
+use Rattle.gs_epc.specs.declared.write_error.EpcWriteFault.{EpcWriteFault}
+use Rattle.gs_epc.specs.declared.write_error.EpcWriteFault.TheVariants.{NoOption}
 use Rattle.gs_epc.specs.Candidates.{Candidate, is_asked, is_candidate}
 use Rattle.gs_epc.specs.Writes.{WritesAs}
-use Rattle.gs_epc.proofs.Refusals.{RefusedBefore, candidate_at, no_candidate, refused_all, skipped}
+use Rattle.gs_epc.proofs.Rejections.{RejectedBefore, candidate_at, no_candidate, rejected_all, skipped}
 
 -- ---- the first number
 
@@ -83,30 +83,30 @@ module _ (set : TableRows) (level : LevelName) (epc : Epc) where
       cc
 
   -- the options between two places are no candidates
-  jump : (n m : ℕ) (refusal : EpcWriteFault) → RefusedBefore set level epc n refusal → ((j : ℕ) → j < m → Candidate set level epc (n + j) → ⊥) → RefusedBefore set level epc (n + m) refusal
-  jump n zero refusal before fails = let e : n + 0 ≡ n = omega arith in rw e before
-  jump n (suc m) refusal before fails =
+  jump : (n m : ℕ) (rejection : EpcWriteFault) → RejectedBefore set level epc n rejection → ((j : ℕ) → j < m → Candidate set level epc (n + j) → ⊥) → RejectedBefore set level epc (n + m) rejection
+  jump n zero rejection before fails = let e : n + 0 ≡ n = omega arith in rw e before
+  jump n (suc m) rejection before fails =
       let e : n + suc m ≡ n + m + 1 = omega arith in
-      rw e (skipped set level epc (n + m) refusal (jump n m refusal before (λ j low candidate. fails j (omega arith) candidate)) (fails m (omega arith)))
+      rw e (skipped set level epc (n + m) rejection (jump n m rejection before (λ j low candidate. fails j (omega arith) candidate)) (fails m (omega arith)))
 
-  -- the options before n are refused, and the numbers behind the first k are those of the options from n on
-  pub record TriedFirst (infos : List OptInfo) (numbers : List ℕ) (k : ℕ) (refusal : EpcWriteFault) : Type 0 where
+  -- the options before n are rejected, and the numbers behind the first k are those of the options from n on
+  pub record TriedFirst (infos : List OptInfo) (numbers : List ℕ) (k : ℕ) (rejection : EpcWriteFault) : Type 0 where
     pub n : ℕ
-    pub refused : RefusedBefore set level epc n refusal
+    pub rejected : RejectedBefore set level epc n rejection
     pub left : drop k numbers ≡ numbers_from n epc.kind epc.gcp (drop n infos)
 
   pub none_tried : (infos : List OptInfo) (numbers : List ℕ) → numbers ≡ numbers_of epc.kind epc.gcp infos → TriedFirst infos numbers 0 NoOption
-  none_tried infos numbers is = record { n = 0; refused = λ i low candidate. absurd (omega arith); left = is }
+  none_tried infos numbers is = record { n = 0; rejected = λ i low candidate. absurd (omega arith); left = is }
 
   -- number k, option i of the level
-  pub record IsTurn (infos : List OptInfo) (numbers : List ℕ) (k i : ℕ) (refusal : EpcWriteFault) : Type 0 where
+  pub record IsTurn (infos : List OptInfo) (numbers : List ℕ) (k i : ℕ) (rejection : EpcWriteFault) : Type 0 where
     pub low : i < length infos
     pub of : (info : OptInfo) → info ≡ get_or infos i info → is_of epc.kind epc.gcp info ≡ true
-    pub refused : RefusedBefore set level epc i refusal
+    pub rejected : RejectedBefore set level epc i rejection
     pub left : drop (k + 1) numbers ≡ numbers_from (i + 1) epc.kind epc.gcp (drop (i + 1) infos)
 
-  pub turn : (infos : List OptInfo) (numbers : List ℕ) (k i : ℕ) (refusal : EpcWriteFault) → infos ≡ (level_rows level set).info → TriedFirst infos numbers k refusal → k < length numbers → i ≡ get_or numbers k 0 → IsTurn infos numbers k i refusal
-  turn infos numbers k i refusal rows tried within read =
+  pub turn : (infos : List OptInfo) (numbers : List ℕ) (k i : ℕ) (rejection : EpcWriteFault) → infos ≡ (level_rows level set).info → TriedFirst infos numbers k rejection → k < length numbers → i ≡ get_or numbers k 0 → IsTurn infos numbers k i rejection
+  turn infos numbers k i rejection rows tried within read =
       let cut : drop k numbers ≡ i ∷ drop (k + 1) numbers = drop_more numbers k 0 within ∙ ap (λ (x : ℕ). x ∷ drop (k + 1) numbers) (sym read) in
       let step = next tried.n epc.kind epc.gcp (drop tried.n infos) i (drop (k + 1) numbers) (sym tried.left ∙ cut) in
       let said : slice_get infos i ≡ Some step.info = ap (slice_get infos) step.place ∙ sym (at_drop infos tried.n step.m) ∙ step.said in
@@ -114,7 +114,7 @@ module _ (set : TableRows) (level : LevelName) (epc : Epc) where
       record {
         low = low;
         of = λ info at. passes info step.info (read_at infos i info low at) said step.is;
-        refused = subst (λ (j : ℕ). RefusedBefore set level epc j refusal) (sym step.place) (jump tried.n step.m refusal tried.refused (λ j small candidate. other_option infos (tried.n + j) rows (λ other at. step.before j other small (at_drop infos tried.n j ∙ at)) candidate));
+        rejected = subst (λ (j : ℕ). RejectedBefore set level epc j rejection) (sym step.place) (jump tried.n step.m rejection tried.rejected (λ j small candidate. other_option infos (tried.n + j) rows (λ other at. step.before j other small (at_drop infos tried.n j ∙ at)) candidate));
         left = step.follow ∙ ap (numbers_from (i + 1) epc.kind epc.gcp) (dropped step.m tried.n step.place);
       }
     where
@@ -124,7 +124,7 @@ module _ (set : TableRows) (level : LevelName) (epc : Epc) where
       dropped : (m n : ℕ) → i ≡ n + m → drop (m + 1) (drop n infos) ≡ drop (i + 1) infos
       dropped m n place = drop-drop (m + 1) n infos ∙ ap (λ (j : ℕ). drop j infos) (let e : n + (m + 1) ≡ i + 1 = omega arith in e)
 
-  module _ (infos : List OptInfo) (numbers : List ℕ) (k i : ℕ) (refusal : EpcWriteFault) (is : IsTurn infos numbers k i refusal) (info : OptInfo) (rows : infos ≡ (level_rows level set).info) (read : info ≡ get_or infos i info) where
+  module _ (infos : List OptInfo) (numbers : List ℕ) (k i : ℕ) (rejection : EpcWriteFault) (is : IsTurn infos numbers k i rejection) (info : OptInfo) (rows : infos ≡ (level_rows level set).info) (read : info ≡ get_or infos i info) where
     of_it : is_asked level epc.encoding (get_or infos i info).encoding ≡ is_asked level epc.encoding info.encoding
     of_it = ap (λ (x : OptInfo). is_asked level epc.encoding x.encoding) (sym read)
 
@@ -137,17 +137,17 @@ module _ (set : TableRows) (level : LevelName) (epc : Epc) where
     pub turn_candidate : IsShaped set → true ≡ is_asked level epc.encoding (get_or infos i info).encoding → Candidate set level epc i
     turn_candidate shaped asked = candidate_at set level epc infos i info shaped rows is.low read (passes_as true asked)
 
-    pub turn_skipped : false ≡ is_asked level epc.encoding (get_or infos i info).encoding → TriedFirst infos numbers (k + 1) refusal
-    turn_skipped asked = record { n = i + 1; refused = skipped set level epc i refusal is.refused (no_candidate set level epc infos i info rows is.low read (passes_as false asked)); left = is.left }
+    pub turn_skipped : false ≡ is_asked level epc.encoding (get_or infos i info).encoding → TriedFirst infos numbers (k + 1) rejection
+    turn_skipped asked = record { n = i + 1; rejected = skipped set level epc i rejection is.rejected (no_candidate set level epc infos i info rows is.low read (passes_as false asked)); left = is.left }
 
-  pub turn_refused : (infos : List OptInfo) (numbers : List ℕ) (k i : ℕ) (before refusal : EpcWriteFault) → IsTurn infos numbers k i before → RefusedBefore set level epc (i + 1) refusal → TriedFirst infos numbers (k + 1) refusal
-  turn_refused infos numbers k i before refusal is refused = record { n = i + 1; refused = refused; left = is.left }
+  pub turn_rejected : (infos : List OptInfo) (numbers : List ℕ) (k i : ℕ) (before rejection : EpcWriteFault) → IsTurn infos numbers k i before → RejectedBefore set level epc (i + 1) rejection → TriedFirst infos numbers (k + 1) rejection
+  turn_rejected infos numbers k i before rejection is rejected = record { n = i + 1; rejected = rejected; left = is.left }
 
   -- all numbers are tried
-  pub all_tried : (infos : List OptInfo) (numbers : List ℕ) (k : ℕ) (refusal : EpcWriteFault) → infos ≡ (level_rows level set).info → length numbers ≤ k → TriedFirst infos numbers k refusal → WritesAs set level epc (Err refusal)
-  all_tried infos numbers k refusal rows past tried =
+  pub all_tried : (infos : List OptInfo) (numbers : List ℕ) (k : ℕ) (rejection : EpcWriteFault) → infos ≡ (level_rows level set).info → length numbers ≤ k → TriedFirst infos numbers k rejection → WritesAs set level epc (Err rejection)
+  all_tried infos numbers k rejection rows past tried =
       let none : drop k numbers ≡ [] = drop_all k numbers past in
       let others = none_next tried.n epc.kind epc.gcp (drop tried.n infos) (sym tried.left ∙ none) in
       let m = length infos - tried.n in
-      refused_all set level epc infos (tried.n + m) refusal rows (omega arith)
-      (jump tried.n m refusal tried.refused (λ j small candidate. other_option infos (tried.n + j) rows (λ other at. others j other (at_drop infos tried.n j ∙ at)) candidate))
+      rejected_all set level epc infos (tried.n + m) rejection rows (omega arith)
+      (jump tried.n m rejection tried.rejected (λ j small candidate. other_option infos (tried.n + j) rows (λ other at. others j other (at_drop infos tried.n j ∙ at)) candidate))

@@ -5,12 +5,12 @@ use Rattle.std.specs.Option.{option_map_or}
 use Rattle.std.proofs.lemmas.Bool.Decides.{nat_tests}
 use Rattle.gs_ai.specs.Tables.{is_empty}
 use Rattle.gs_chars.proofs.TruthsAndLists.{and_parts, true_or_false}
-use Rattle.gs_document.specs.declared.field.Field.{Field}
-use Rattle.gs_document.specs.declared.field.Field.TheVariants.{Filter, Gcp, Rest, Serial}
-use Rattle.gs_document.specs.declared.level_name.LevelName.{LevelName}
-use Rattle.gs_document.specs.declared.level_name.LevelName.TheVariants.{Binary, Tag, Pure}
-use Rattle.gs_document.specs.declared.opt_info.OptInfo.{OptInfo}
-use Rattle.gs_document.specs.Items.{FieldItem, alone, fields_of}
+use Rattle.gs_tables_document.specs.declared.field.Field.{Field}
+use Rattle.gs_tables_document.specs.declared.field.Field.TheVariants.{Filter, Gcp, Rest, Serial}
+use Rattle.gs_tables_document.specs.declared.level_name.LevelName.{LevelName}
+use Rattle.gs_tables_document.specs.declared.level_name.LevelName.TheVariants.{Binary, Tag, Pure}
+use Rattle.gs_tables_document.specs.declared.opt_info.OptInfo.{OptInfo}
+use Rattle.gs_tables_document.specs.Items.{FieldItem, alone, fields_of}
 use Rattle.gs_grammar.specs.declared.item.Item.{Item}
 use Rattle.gs_grammar.specs.Items.{size_of_all}
 use Rattle.gs_grammar.specs.Words.{decimal_value}
@@ -27,7 +27,7 @@ use Rattle.gs_epc.proofs.FieldPlaces.{named}
 -- ---- the values of fields
 
 -- the value of a field is its own, where an item stands for it
-value_where : (field : Field) (fields : List (Option Field)) (v : Option Field → List ℕ) → value_at field fields (map v fields) ≡ (if list_any (is_field field) fields then Some (v (Some field)) else None)
+pub value_where : (field : Field) (fields : List (Option Field)) (v : Option Field → List ℕ) → value_at field fields (map v fields) ≡ (if list_any (is_field field) fields then Some (v (Some field)) else None)
 value_where field [] v = refl
 value_where field (name ∷ fields) v = elim (true_or_false (is_field field name)) [
   | inl e ↦ let same : name ≡ Some field = named field name e in rw (e, same) refl
@@ -35,7 +35,7 @@ value_where field (name ∷ fields) v = elim (true_or_false (is_field field name
 ]
 
 -- a field has one item, so an item stands for it
-one_stands : (field : Field) (test : Item → Bool) (items : List FieldItem) → is_one test (items_of_field field items) ≡ true → list_any (is_field field) (fields_of items) ≡ true
+pub one_stands : (field : Field) (test : Item → Bool) (items : List FieldItem) → is_one test (items_of_field field items) ≡ true → list_any (is_field field) (fields_of items) ≡ true
 one_stands field test [] h = absurd (let e : false ≡ true = h in cc)
 one_stands field test (i ∷ items) h = elim (true_or_false (is_field field i.0)) [
   | inl e ↦ rw e refl
@@ -43,7 +43,7 @@ one_stands field test (i ∷ items) h = elim (true_or_false (is_field field i.0)
 ]
 
 -- a field has no item
-none_stands : (field : Field) (items : List FieldItem) → is_empty (items_of_field field items) ≡ true → list_any (is_field field) (fields_of items) ≡ false
+pub none_stands : (field : Field) (items : List FieldItem) → is_empty (items_of_field field items) ≡ true → list_any (is_field field) (fields_of items) ≡ false
 none_stands field [] h = refl
 none_stands field (i ∷ items) h = elim (true_or_false (is_field field i.0)) [
   | inl e ↦ absurd (let f : false ≡ true = rw e at h in cc)

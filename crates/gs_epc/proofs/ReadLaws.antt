@@ -2,14 +2,14 @@
 use Rattle.std.proofs.Common.{◌≡◌, ℕ, ◌%◌, List, length, Ok, sym, ◌∙◌, arith}
 use Rattle.std.proofs.lemmas.List.{length-map}
 use Rattle.gs_bits.specs.HexText.{bits_of_hex, hex_of_bits}
-use Rattle.gs_document.specs.Documents.{is_bits}
-use Rattle.gs_document.specs.declared.level_name.LevelName.{LevelName}
-use Rattle.gs_document.specs.declared.level_name.LevelName.TheVariants.{Binary, Tag, Pure}
+use Rattle.gs_tables_document.specs.Documents.{is_bits}
+use Rattle.gs_tables_document.specs.declared.level_name.LevelName.{LevelName}
+use Rattle.gs_tables_document.specs.declared.level_name.LevelName.TheVariants.{Binary, Tag, Pure}
 use Rattle.gs_grammar.specs.Items.{size_of_all}
-use Rattle.gs_grammar.specs.Writing.{written}
+use Rattle.gs_grammar.specs.WrittenWords.{written}
 use Rattle.gs_grammar.proofs.WordLaws.{all_items}
-use Rattle.gs_grammar.proofs.Written.{written_read}
-use Rattle.gs_tables.specs.Judged.{IsLoaded}
+use Rattle.gs_grammar.proofs.WritingLemmas.{written_read}
+use Rattle.gs_tables.specs.Judgements.{IsLoaded}
 use Rattle.gs_tables.specs.Tables.{TableRows}
 use Rattle.gs_epc.specs.declared.epc.Epc.{Epc}
 use Rattle.gs_epc.specs.Candidates.{Candidate, HasFilterOn, value_for, values_for}

@@ -6,20 +6,20 @@ use Rattle.std.specs.List.{AllPass}
 use Rattle.std.proofs.lemmas.Option.{slice_get_within}
 use Rattle.gs_chars.proofs.TruthsAndLists.{read_at}
 use Rattle.gs_bits.specs.HexText.{bits_of_hex, is_hex_digit}
-use Rattle.gs_bits.specs.declared.faults.HexFault.{HexFault}
-use Rattle.gs_bits.specs.declared.faults.HexFault.TheVariants.{OddDigits, Full}
+use Rattle.gs_bits.specs.declared.errors.HexFault.{HexFault}
+use Rattle.gs_bits.specs.declared.errors.HexFault.TheVariants.{OddDigits, Full}
 use Rattle.gs_grammar.specs.declared.item.Item.{Item}
 use Rattle.gs_grammar.specs.Derivations.{EachWord, OneDerivation}
 use Rattle.gs_grammar.specs.Levels.{OptionForm}
-use Rattle.gs_document.specs.declared.field.Field.TheVariants.{Filter}
-use Rattle.gs_document.specs.declared.level_name.LevelName.{LevelName}
-use Rattle.gs_document.specs.declared.level_name.LevelName.TheVariants.{Binary}
-use Rattle.gs_document.specs.declared.opt_info.OptInfo.{OptInfo}
+use Rattle.gs_tables_document.specs.declared.field.Field.TheVariants.{Filter}
+use Rattle.gs_tables_document.specs.declared.level_name.LevelName.{LevelName}
+use Rattle.gs_tables_document.specs.declared.level_name.LevelName.TheVariants.{Binary}
+use Rattle.gs_tables_document.specs.declared.opt_info.OptInfo.{OptInfo}
 use Rattle.gs_tables.specs.Tables.{IsShaped, TableRows, level_rows}
 use Rattle.gs_tables.proofs.KeptSets.{as_many_said, options_kept}
 use Rattle.gs_epc.specs.declared.epc.Epc.{Epc}
-use Rattle.gs_epc.specs.declared.fault.EpcFault.{EpcFault}
-use Rattle.gs_epc.specs.declared.fault.EpcFault.TheVariants.{Hex, NoReading, Memory}
+use Rattle.gs_epc.specs.declared.error.EpcFault.{EpcFault}
+use Rattle.gs_epc.specs.declared.error.EpcFault.TheVariants.{Hex, NoReading, Memory}
 use Rattle.gs_epc.specs.Epcs.{IsOfSet, epc_of, options_of, value_at}
 use Rattle.gs_epc.specs.Filters.{IsFilter}
 use Rattle.gs_epc.specs.Readings.{IsHex, ReadsAs, ReadsHex, Says}
@@ -88,4 +88,4 @@ pub hex_answer : (set : TableRows) (text bits : List ℕ) (answer : Result Epc E
 hex_answer set text bits (Ok epc) hex e h = (hex, rw e at h)
 hex_answer set text bits (Err NoReading) hex e h = (hex, rw e at h)
 hex_answer set text bits (Err Memory) hex e h = tt
-hex_answer set text bits (Err (Hex fault)) hex e h = absurd h
+hex_answer set text bits (Err (Hex error)) hex e h = absurd h

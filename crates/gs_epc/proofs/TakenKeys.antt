@@ -11,17 +11,17 @@ use Rattle.gs_ai.specs.Values.{has_code}
 use Rattle.gs_ai.proofs.Searches.{equal_bytes, same_bytes}
 use Rattle.gs_chars.proofs.TruthsAndLists.{and_parts, true_or_false}
 use Rattle.gs_chars.specs.CheckDigits.{check_digit_of}
-use Rattle.gs_document.specs.declared.kind.Kind.{Kind}
-use Rattle.gs_document.specs.declared.kind.SerialAt.{SerialAt}
-use Rattle.gs_document.specs.declared.kind.SerialAt.TheVariants.{Nowhere, Tail, Ai}
+use Rattle.gs_tables_document.specs.declared.kind.Kind.{Kind}
+use Rattle.gs_tables_document.specs.declared.kind.SerialAt.{SerialAt}
+use Rattle.gs_tables_document.specs.declared.kind.SerialAt.TheVariants.{Nowhere, Tail, Ai}
 use Rattle.gs_ident.specs.Identities.{stands_for_none}
-use Rattle.gs_rows.specs.declared.form.KeyForm.{KeyForm}
-use Rattle.gs_rows.specs.declared.form.KeyForm.TheVariants.{Digits, Characters}
+use Rattle.gs_tables.specs.declared.form.KeyForm.{KeyForm}
+use Rattle.gs_tables.specs.declared.form.KeyForm.TheVariants.{Digits, Characters}
 use Rattle.gs_tables.specs.Forms.{key_form, serial_room, tail_of}
 use Rattle.gs_tables.specs.Rules.{is_serial_of}
-use Rattle.gs_epc.specs.Kept.{FitForm, FitKind, FitsRoom}
-use Rattle.gs_epc.specs.Layout.{key_digits, key_value, lay, parts_at, serial_elements, tail_of_key, with_check}
-use Rattle.gs_epc.specs.Taking.{prefix_in, rest_in, serial_in, tail_in, take_apart, unless_empty}
+use Rattle.gs_epc.specs.KeptFields.{FitForm, FitKind, FitsRoom}
+use Rattle.gs_epc.specs.Layout.{key_digits, key_value, lay, parts_at, serial_elements, tail_of_key, with_check, KeyFields}
+use Rattle.gs_epc.specs.KeyParts.{prefix_in, rest_in, serial_in, tail_in, take_apart, unless_empty}
 use Rattle.gs_epc.proofs.LayoutValues.{have_digits}
 
 -- ---- prefix and rest from the digits of a key
@@ -46,7 +46,7 @@ from_digits lead n prefix rest digits are within count =
       rest_back = rw (front, behind, left) whole;
     }
 
--- the digits in front of their check digit, and what follows it
+-- the digits before their check digit, and what follows it
 checked_front : (k : ℕ) (digits tail : List ℕ) → length digits ≡ k - 1 → take (k - 1) (with_check digits ++ tail) ≡ digits
 checked_front k digits tail long =
     let check = check_digit_of digits ∷ [] in
@@ -60,9 +60,9 @@ checked_behind k digits tail one long =
 -- ---- the value of a key
 
 -- prefix and rest are back, and so is the tail where the key has one
-pub record IsTakenBack (parts : List Part) (form : KeyForm) (kind : Kind) (n : ℕ) (prefix rest serial : List ℕ) : Type 0 where
-  pub back : AreBack prefix rest (prefix_in parts kind.lead n (key_value parts kind prefix rest serial)) (rest_in parts kind.lead n (key_value parts kind prefix rest serial))
-  pub tail : is_some (tail_of form) ≡ true → tail_in parts (key_value parts kind prefix rest serial) ≡ tail_of_key kind.serial serial
+pub record IsTakenBack (parts : List Part) (form : KeyForm) (kind : Kind) (n : ℕ) (fields : KeyFields) : Type 0 where
+  pub back : AreBack fields.prefix fields.rest (prefix_in parts kind.lead n (key_value parts kind fields)) (rest_in parts kind.lead n (key_value parts kind fields))
+  pub tail : is_some (tail_of form) ≡ true → tail_in parts (key_value parts kind fields) ≡ tail_of_key kind.serial fields.serial
 
 -- the digits of a key with k of them, its check digit among them
 record FitDigits (k lead : ℕ) (prefix rest : List ℕ) : Type 0 where
@@ -76,7 +76,7 @@ fit_digits k tail form lead prefix rest same some fits =
     let one = are.some_digit in
     record { count = are.together; some = omega arith; within = are.lead_within }
 
--- what parts with a check digit say of digits that fit, with a zero in front or without
+-- what parts with a check digit say of digits that fit, with a leading zero or without
 module _ (k : ℕ) (lead n : ℕ) (prefix rest tail : List ℕ) (fit : FitDigits k lead prefix rest) (count : length prefix ≡ n) where
   abbrev front : List ℕ
   front = take (k - 1) (with_check (key_digits lead prefix rest) ++ tail)
@@ -87,26 +87,26 @@ module _ (k : ℕ) (lead n : ℕ) (prefix rest tail : List ℕ) (fit : FitDigits
   tail_back : drop k (with_check (key_digits lead prefix rest) ++ tail) ≡ tail
   tail_back = checked_behind k (key_digits lead prefix rest) tail fit.some fit.count
 
-key_back : (parts : List Part) (form : KeyForm) (kind : Kind) (n : ℕ) (prefix rest serial : List ℕ) → key_form parts ≡ Some form → 1 ≤ length prefix → length prefix ≡ n → FitForm form kind.lead prefix rest → IsTakenBack parts form kind n prefix rest serial
-key_back (Zero ∷ NumCheck k ∷ []) form kind n prefix rest serial formed some count fits =
-    let fit = fit_digits k None form kind.lead prefix rest (let same : Digits (k - 1) None ≡ form = cc in same) some fits in
-    record { back = digits_back k kind.lead n prefix rest (tail_of_key kind.serial serial) fit count; tail = λ _. tail_back k kind.lead n prefix rest (tail_of_key kind.serial serial) fit count }
-key_back (Zero ∷ NumCheck k ∷ SetOpt most ∷ []) form kind n prefix rest serial formed some count fits =
-    let fit = fit_digits k (Some most) form kind.lead prefix rest (let same : Digits (k - 1) (Some most) ≡ form = cc in same) some fits in
-    record { back = digits_back k kind.lead n prefix rest (tail_of_key kind.serial serial) fit count; tail = λ _. tail_back k kind.lead n prefix rest (tail_of_key kind.serial serial) fit count }
-key_back (NumCheck k ∷ []) form kind n prefix rest serial formed some count fits =
-    let fit = fit_digits k None form kind.lead prefix rest (let same : Digits (k - 1) None ≡ form = cc in same) some fits in
-    record { back = digits_back k kind.lead n prefix rest (tail_of_key kind.serial serial) fit count; tail = λ _. tail_back k kind.lead n prefix rest (tail_of_key kind.serial serial) fit count }
-key_back (NumCheck k ∷ SetOpt most ∷ []) form kind n prefix rest serial formed some count fits =
-    let fit = fit_digits k (Some most) form kind.lead prefix rest (let same : Digits (k - 1) (Some most) ≡ form = cc in same) some fits in
-    record { back = digits_back k kind.lead n prefix rest (tail_of_key kind.serial serial) fit count; tail = λ _. tail_back k kind.lead n prefix rest (tail_of_key kind.serial serial) fit count }
-key_back (Set most ∷ []) form kind n prefix rest serial formed some count fits =
+key_back : (parts : List Part) (form : KeyForm) (kind : Kind) (n : ℕ) (fields : KeyFields) → key_form parts ≡ Some form → 1 ≤ length fields.prefix → length fields.prefix ≡ n → FitForm form kind.lead fields.prefix fields.rest → IsTakenBack parts form kind n fields
+key_back (Zero ∷ NumCheck k ∷ []) form kind n fields formed some count fits =
+    let fit = fit_digits k None form kind.lead fields.prefix fields.rest (let same : Digits (k - 1) None ≡ form = cc in same) some fits in
+    record { back = digits_back k kind.lead n fields.prefix fields.rest (tail_of_key kind.serial fields.serial) fit count; tail = λ _. tail_back k kind.lead n fields.prefix fields.rest (tail_of_key kind.serial fields.serial) fit count }
+key_back (Zero ∷ NumCheck k ∷ SetOpt most ∷ []) form kind n fields formed some count fits =
+    let fit = fit_digits k (Some most) form kind.lead fields.prefix fields.rest (let same : Digits (k - 1) (Some most) ≡ form = cc in same) some fits in
+    record { back = digits_back k kind.lead n fields.prefix fields.rest (tail_of_key kind.serial fields.serial) fit count; tail = λ _. tail_back k kind.lead n fields.prefix fields.rest (tail_of_key kind.serial fields.serial) fit count }
+key_back (NumCheck k ∷ []) form kind n fields formed some count fits =
+    let fit = fit_digits k None form kind.lead fields.prefix fields.rest (let same : Digits (k - 1) None ≡ form = cc in same) some fits in
+    record { back = digits_back k kind.lead n fields.prefix fields.rest (tail_of_key kind.serial fields.serial) fit count; tail = λ _. tail_back k kind.lead n fields.prefix fields.rest (tail_of_key kind.serial fields.serial) fit count }
+key_back (NumCheck k ∷ SetOpt most ∷ []) form kind n fields formed some count fits =
+    let fit = fit_digits k (Some most) form kind.lead fields.prefix fields.rest (let same : Digits (k - 1) (Some most) ≡ form = cc in same) some fits in
+    record { back = digits_back k kind.lead n fields.prefix fields.rest (tail_of_key kind.serial fields.serial) fit count; tail = λ _. tail_back k kind.lead n fields.prefix fields.rest (tail_of_key kind.serial fields.serial) fit count }
+key_back (Set most ∷ []) form kind n fields formed some count fits =
     let same : form ≡ Characters most = cc in
     record {
-      back = record { prefix_back = take_at prefix rest n count; rest_back = drop_at prefix rest n count };
+      back = record { prefix_back = take_at fields.prefix fields.rest n count; rest_back = drop_at fields.prefix fields.rest n count };
       tail = λ h. absurd (let e : false ≡ true = rw same at h in cc);
     }
-key_back parts form kind n prefix rest serial formed some count fits = absurd (let e : None ≡ Some form = formed in cc)
+key_back parts form kind n fields formed some count fits = absurd (let e : None ≡ Some form = formed in cc)
 
 -- ---- the serial
 
@@ -140,11 +140,11 @@ serial_back ais row parts form (Ai code) key serial rule room tail = elim (true_
 
 -- ---- the fields
 
-pub taken_back : (ais : List AiRow) (kind : Kind) (n : ℕ) (prefix rest serial : List ℕ) → FitKind ais kind prefix rest serial → length prefix ≡ n → take_apart ais kind (lay ais kind prefix rest serial) n ≡ Some (record { prefix = prefix; rest = rest; serial = serial })
-taken_back ais kind n prefix rest serial fit count =
+pub taken_back : (ais : List AiRow) (kind : Kind) (n : ℕ) (fields : KeyFields) → FitKind ais kind fields → length fields.prefix ≡ n → take_apart ais kind (lay ais kind fields) n ≡ Some fields
+taken_back ais kind n fields fit count =
     let of_kind = fit.of_kind in
     let row = of_kind.row in
     let parts : parts_at ais kind.key ≡ row.parts = rw of_kind.found refl in
-    let back = key_back row.parts of_kind.form kind n prefix rest serial of_kind.formed fit.prefix_least count fit.fits in
-    let its = serial_back ais row row.parts of_kind.form kind.serial (record { code = kind.key; value = key_value row.parts kind prefix rest serial }) serial of_kind.serial fit.room back.tail in
+    let back = key_back row.parts of_kind.form kind n fields of_kind.formed fit.prefix_least count fit.fits in
+    let its = serial_back ais row row.parts of_kind.form kind.serial (record { code = kind.key; value = key_value row.parts kind fields }) fields.serial of_kind.serial fit.room back.tail in
     rw (parts, its, back.back.prefix_back, back.back.rest_back) refl

@@ -1,16 +1,16 @@
 -- Taking apart undoes laying out, for an EPC of the set.
 use Rattle.std.proofs.Common.{◌≡◌, [], length, Some, None, refl, sym, ◌∙◌}
 use Rattle.gs_chars.proofs.TruthsAndLists.{and_parts}
-use Rattle.gs_document.specs.declared.field.Field.TheVariants.{Gcp}
-use Rattle.gs_document.specs.Documents.{is_bits}
+use Rattle.gs_tables_document.specs.declared.field.Field.TheVariants.{Gcp}
+use Rattle.gs_tables_document.specs.Documents.{is_bits}
 use Rattle.gs_ident.specs.Elements.{Elements}
 use Rattle.gs_tables.specs.Rules.{is_digits, is_gcp, is_one, items_of_field, keeps_gcp}
 use Rattle.gs_tables.specs.Tables.{IsShaped, TableRows}
 use Rattle.gs_tables.proofs.KeptSets.{options_kept}
 use Rattle.gs_epc.specs.declared.epc.Epc.{Epc}
 use Rattle.gs_epc.specs.Epcs.{IsOfSet}
-use Rattle.gs_epc.specs.Layout.{IsLaidOut}
-use Rattle.gs_epc.specs.Taking.{epc_at}
+use Rattle.gs_epc.specs.Layout.{IsLaidOut, fields_in}
+use Rattle.gs_epc.specs.KeyParts.{epc_at}
 use Rattle.gs_epc.proofs.KeptFields.{AreHeld, digits_of}
 use Rattle.gs_epc.proofs.KeptLaws.{fit_kind}
 use Rattle.gs_epc.proofs.TakenKeys.{taken_back}
@@ -31,5 +31,5 @@ apart set epc identity shaped of_set laid =
     let fit = fit_kind set epc shaped of_set in
     let both : Some fit.0 ≡ Some laid.kind = sym fit.1 ∙ laid.named in
     let one : fit.0 ≡ laid.kind = cc in
-    let back = taken_back set.ais laid.kind epc.gcp epc.prefix epc.rest epc.serial (rw one at fit.2) (prefix_count set epc shaped of_set) in
+    let back = taken_back set.ais laid.kind epc.gcp (fields_in epc) (rw one at fit.2) (prefix_count set epc shaped of_set) in
     rw (laid.named, laid.laid, back) refl

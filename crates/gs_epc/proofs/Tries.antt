@@ -6,26 +6,26 @@ use Rattle.std.proofs.lemmas.List.{length-map}
 use Rattle.std.proofs.lemmas.Option.{slice_get-map, slice_get_within}
 use Rattle.gs_ai.specs.Tables.{is_empty}
 use Rattle.gs_chars.proofs.TruthsAndLists.{and_parts, read_at}
-use Rattle.gs_document.specs.declared.field.Field.{Field}
-use Rattle.gs_document.specs.declared.field.Field.TheVariants.{Filter}
-use Rattle.gs_document.specs.declared.level_name.LevelName.{LevelName}
-use Rattle.gs_document.specs.declared.level_name.LevelName.TheVariants.{Binary, Tag, Pure}
-use Rattle.gs_document.specs.declared.opt_info.OptInfo.{OptInfo}
-use Rattle.gs_document.specs.Documents.{is_bits}
-use Rattle.gs_document.specs.Items.{FieldItem, alone}
+use Rattle.gs_tables_document.specs.declared.field.Field.{Field}
+use Rattle.gs_tables_document.specs.declared.field.Field.TheVariants.{Filter}
+use Rattle.gs_tables_document.specs.declared.level_name.LevelName.{LevelName}
+use Rattle.gs_tables_document.specs.declared.level_name.LevelName.TheVariants.{Binary, Tag, Pure}
+use Rattle.gs_tables_document.specs.declared.opt_info.OptInfo.{OptInfo}
+use Rattle.gs_tables_document.specs.Documents.{is_bits}
+use Rattle.gs_tables_document.specs.Items.{FieldItem, alone}
 use Rattle.gs_grammar.specs.declared.item.Item.{Item}
-use Rattle.gs_grammar.specs.declared.fault.Why.{Why}
-use Rattle.gs_grammar.specs.declared.fault.Why.TheVariants.{Length}
+use Rattle.gs_grammar.specs.declared.error.Why.{Why}
+use Rattle.gs_grammar.specs.declared.error.Why.TheVariants.{Length}
 use Rattle.gs_grammar.specs.Items.{size_of_all}
 use Rattle.gs_grammar.specs.Levels.{AreOfKind, LevelForm, OptionForm}
-use Rattle.gs_grammar.specs.Writing.{AreHeld, IsFirstRefusal, written}
+use Rattle.gs_grammar.specs.WrittenWords.{AreHeld, IsFirstRejection, written}
 use Rattle.gs_tables.specs.KeptRules.{KeptOption}
 use Rattle.gs_tables.specs.Rules.{is_filter, is_one, items_of_field, keeps_level}
 use Rattle.gs_tables.specs.Tables.{IsShaped, TableRows, level_rows}
 use Rattle.gs_tables.proofs.KeptSets.{options_kept}
 use Rattle.gs_epc.specs.declared.epc.Epc.{Epc}
 use Rattle.gs_epc.specs.Candidates.{Candidate, left_out, value_for, values_for}
-use Rattle.gs_epc.specs.Writes.{field_at, HoldsAll, Refuses, text_on}
+use Rattle.gs_epc.specs.Writes.{field_at, HoldsAll, Rejects, text_on}
 
 -- ---- what the rules keep of a candidate
 
@@ -128,7 +128,7 @@ module _ (set : TableRows) (level : LevelName) (epc : Epc) (i : ℕ) (candidate 
   held_here : AreHeld option.items values → AreHeld candidate.items (values_for level epc candidate.info)
   held_here held = rw (is.items_are, is.values_are) at held
 
-  pub leaves_out : (field : Field) → AreHeld option.items values → Some field ≡ left_out fields epc → Refuses set level epc candidate field Length
+  pub leaves_out : (field : Field) → AreHeld option.items values → Some field ≡ left_out fields epc → Rejects set level epc candidate field Length
   leaves_out field held left = inr (record { held = held_here held; left = sym (rw is.fields_are at left); size = refl })
 
   pub holds_all : (text : List ℕ) → AreHeld option.items values → None ≡ left_out fields epc → text ≡ text_on level (written option.items values)
@@ -136,6 +136,6 @@ module _ (set : TableRows) (level : LevelName) (epc : Epc) (i : ℕ) (candidate 
   holds_all text held none wrote =
       (record { held = held_here held; whole = sym (rw is.fields_are at none) }, rw (is.items_are, is.values_are) at wrote)
 
-  pub refuses_at : (field : Field) (k : ℕ) (why : Why) → IsFirstRefusal option.items values k why → field ≡ field_at fields k → Refuses set level epc candidate field why
-  refuses_at field k why first named =
+  pub rejects_at : (field : Field) (k : ℕ) (why : Why) → IsFirstRejection option.items values k why → field ≡ field_at fields k → Rejects set level epc candidate field why
+  rejects_at field k why first named =
       inl (record { k = k; first = rw (is.items_are, is.values_are) at first; stands_for = rw is.fields_are at named })

@@ -6,12 +6,12 @@ use Rattle.gs_ai.proofs.Searches.{cons_none}
 use Rattle.gs_bits.specs.Bits.{bits_of}
 use Rattle.gs_bits.specs.BitLaws.{length-bits_of}
 use Rattle.gs_grammar.specs.declared.item.Item.{Item}
-use Rattle.gs_grammar.specs.declared.item.Item.TheVariants.{Lit, Pad, Int, Esc, NumPad, Num, Ascii7, Fill}
+use Rattle.gs_grammar.specs.declared.item.Item.TheVariants.{Lit, Pad, Digits, Int, Esc, NumPad, Num, NumStr, Ascii7, Fill}
 use Rattle.gs_grammar.specs.Items.{is_bad, is_in_bounds, size_of, size_of_all}
 use Rattle.gs_grammar.specs.Words.{decimal_value, written_word}
-use Rattle.gs_grammar.specs.Writing.{AreHeld, why_not, written}
-use Rattle.gs_grammar.proofs.Held.{packed_length}
-use Rattle.gs_grammar.proofs.Written.{ascii_held}
+use Rattle.gs_grammar.specs.WrittenWords.{AreHeld, why_not, written}
+use Rattle.gs_grammar.proofs.HoldLemmas.{packed_length}
+use Rattle.gs_grammar.proofs.WritingLemmas.{ascii_held}
 
 zeros_count : (n : ℕ) → length (replicate {A = ℕ} n 0) ≡ n
 zeros_count n = length-replicate {A = ℕ} n 0
@@ -26,10 +26,12 @@ packed_count bits value room =
 word_size : (item : Item) (value : List ℕ) → is_in_bounds true item ≡ true → why_not item value ≡ None → length (written_word item value) ≡ size_of item
 word_size (Lit literal) value bounds held = refl
 word_size (Pad n) value bounds held = absurd (let e : false ≡ true = bounds in cc)
+word_size (Digits lo hi) value bounds held = absurd (let e : false ≡ true = bounds in cc)
 word_size (Int greatest) value bounds held = absurd (let e : false ≡ true = bounds in cc)
 word_size (Esc lo hi) value bounds held = absurd (let e : false ≡ true = bounds in cc)
 word_size (NumPad bits n) value bounds held = length-bits_of bits (decimal_value value)
 word_size (Num bits greatest) value bounds held = length-bits_of bits (decimal_value value)
+word_size (NumStr bits hi) value bounds held = length-bits_of bits (decimal_value (49 ∷ value))
 word_size (Ascii7 lo hi bits) value bounds held = packed_count bits value (ascii_held (Ascii7 lo hi bits) lo hi bits value refl bounds held).1
 word_size (Fill a b) value bounds held = zeros_count b
 

@@ -5,11 +5,11 @@ use Rattle.std.specs.Option.{option_map_or}
 use Rattle.std.specs.Str.{bytes_eq}
 use Rattle.gs_ai.specs.Tables.{is_empty}
 use Rattle.gs_grammar.specs.declared.item.Item.{Item}
-use Rattle.gs_document.specs.declared.field.Field.{Field}
-use Rattle.gs_document.specs.declared.field.Field.TheVariants.{Filter, Gcp, Rest, Serial}
-use Rattle.gs_document.specs.declared.level_name.LevelName.{LevelName}
-use Rattle.gs_document.specs.declared.level_name.LevelName.TheVariants.{Binary, Tag, Pure}
-use Rattle.gs_document.specs.declared.opt_info.OptInfo.{OptInfo}
+use Rattle.gs_tables_document.specs.declared.field.Field.{Field}
+use Rattle.gs_tables_document.specs.declared.field.Field.TheVariants.{Filter, Gcp, Rest, Serial}
+use Rattle.gs_tables_document.specs.declared.level_name.LevelName.{LevelName}
+use Rattle.gs_tables_document.specs.declared.level_name.LevelName.TheVariants.{Binary, Tag, Pure}
+use Rattle.gs_tables_document.specs.declared.opt_info.OptInfo.{OptInfo}
 use Rattle.gs_tables.specs.Rules.{is_field}
 use Rattle.gs_tables.specs.Tables.{TableRows, level_rows}
 use Rattle.gs_epc.specs.declared.epc.Epc.{Epc}
@@ -17,18 +17,18 @@ use Rattle.gs_epc.specs.Epcs.{options_of}
 
 -- ---- candidates
 
--- a name of an encoding is the one that is asked for: any where none is, and on the level of pure identities
+-- trusted, own: a name of an encoding is the one that is asked for: any where none is, and on the level of pure identities
 abbrev pub is_asked : LevelName → List ℕ → List ℕ → Bool
 is_asked Pure asked name = true
 is_asked Tag asked name = is_empty asked || bytes_eq asked name
 is_asked Binary asked name = is_empty asked || bytes_eq asked name
 
--- an option is of the EPC's kind and prefix length, and of the encoding that is asked for
+-- trusted, own: an option is of the EPC's kind and prefix length, and of the encoding that is asked for
 abbrev pub is_candidate : LevelName → Epc → OptInfo → Bool
 is_candidate level epc info =
     (info.kind == epc.kind) && (info.gcp == epc.gcp) && is_asked level epc.encoding info.encoding
 
--- option i of the level is a candidate
+-- trusted, TDT 2.0, section 3: option i of the level is a candidate
 pub record Candidate (set : TableRows) (level : LevelName) (epc : Epc) (i : ℕ) : Type 0 where
   pub items : List Item
   pub info : OptInfo
@@ -38,28 +38,28 @@ pub record Candidate (set : TableRows) (level : LevelName) (epc : Epc) (i : ℕ)
 
 -- ---- the values of their items
 
--- the filter value of a tag; a pure identity has none
+-- trusted, own: the filter value of a tag; a pure identity has none
 abbrev pub filter_on : LevelName → Option ℕ → Option ℕ
 filter_on Pure filter = None
 filter_on Tag filter = filter
 filter_on Binary filter = filter
 
--- a tag has a filter value, of 0 to 7
+-- trusted, own: a tag has a filter value, of 0 to 7
 abbrev pub HasFilter : Option ℕ → Type 0
 HasFilter None = ⊥
 HasFilter (Some filter) = filter ≤ 7
 
--- a filter value is there on the levels of tags
+-- trusted, own: a filter value is there on the levels of tags
 abbrev pub HasFilterOn : LevelName → Option ℕ → Type 0
 HasFilterOn Pure filter = Unit {0}
 HasFilterOn Tag filter = HasFilter filter
 HasFilterOn Binary filter = HasFilter filter
 
--- the text of a filter value
+-- trusted, own: the text of a filter value
 abbrev pub filter_text : LevelName → Option ℕ → List ℕ
 filter_text level filter = option_map_or decimal (filter_on level filter) []
 
--- the value of the items that stand for a field; one that stands for none has the empty value
+-- trusted, own: the value of the items that stand for a field; one that stands for none has the empty value
 abbrev pub value_for : LevelName → Epc → Option Field → List ℕ
 value_for level epc None = []
 value_for level epc (Some Filter) = filter_text level epc.filter
@@ -67,15 +67,15 @@ value_for level epc (Some Gcp) = epc.prefix
 value_for level epc (Some Rest) = epc.rest
 value_for level epc (Some Serial) = epc.serial
 
--- the values of the items of an option
+-- trusted, TDT 2.0, section 3: the values of the items of an option
 abbrev pub values_for : LevelName → Epc → OptInfo → List (List ℕ)
 values_for level epc info = map (value_for level epc) info.fields
 
--- a text is left out: it is not empty, and no item stands for its field
+-- trusted, own: a text is left out: it is not empty, and no item stands for its field
 abbrev pub is_left_out : Field → List (Option Field) → List ℕ → Bool
 is_left_out field fields text = not (list_any (is_field field) fields) && not (is_empty text)
 
--- the first of the rest and the serial that an option leaves out
+-- trusted, own: the first of the rest and the serial that an option leaves out
 abbrev pub left_out : List (Option Field) → Epc → Option Field
 left_out fields epc =
     if is_left_out Rest fields epc.rest then Some Rest

@@ -1,38 +1,34 @@
 -- What tags and EPC URIs say: the values of the fields of an option. TDT 2.0, section 3 (options and fields), and TDS 2.0,
 -- section 6.3 (the schemes).
-use Rattle.std.specs.Prelude.{◌≡◌, ℕ, false, List, [], Option, Some, option_map, slice_get, zip}
+use Rattle.std.specs.Prelude.{◌≡◌, ℕ, List, [], Option, Some, option_map, slice_get, zip}
 use Rattle.std.specs.List.{find}
 use Rattle.std.specs.Option.{option_map_or}
 use Rattle.gs_grammar.specs.declared.item.Item.{Item}
 use Rattle.gs_grammar.specs.Derivations.{EachWord}
 use Rattle.gs_grammar.specs.Levels.{item_lists}
 use Rattle.gs_grammar.specs.Words.{decimal_value}
-use Rattle.gs_document.specs.declared.field.Field.{Field}
-use Rattle.gs_document.specs.declared.field.Field.TheVariants.{Filter, Gcp, Rest, Serial}
-use Rattle.gs_document.specs.declared.level_name.LevelName.{LevelName}
-use Rattle.gs_document.specs.declared.opt_info.OptInfo.{OptInfo}
+use Rattle.gs_tables_document.specs.declared.field.Field.{Field}
+use Rattle.gs_tables_document.specs.declared.field.Field.TheVariants.{Filter, Gcp, Rest, Serial}
+use Rattle.gs_tables_document.specs.declared.level_name.LevelName.{LevelName}
+use Rattle.gs_tables_document.specs.declared.opt_info.OptInfo.{OptInfo}
 use Rattle.gs_tables.specs.Rules.{is_field}
 use Rattle.gs_tables.specs.Tables.{TableRows, level_rows}
 use Rattle.gs_epc.specs.declared.epc.Epc.{Epc}
 
--- the value of the first item that stands for a field, where there is one
+-- trusted, own: the value of the first item that stands for a field, where there is one
 abbrev pub value_at : Field → List (Option Field) → List (List ℕ) → Option (List ℕ)
 value_at field fields values =
     option_map (λ (pair : Option Field × List ℕ). pair.1) (find (λ (pair : Option Field × List ℕ). is_field field pair.0) (zip fields values))
 
--- the value of a field, and the empty one where no item stands for it
+-- trusted, own: the value of a field, and the empty one where no item stands for it
 abbrev pub value_of : Field → List (Option Field) → List (List ℕ) → List ℕ
 value_of field fields values = option_map_or (λ value. value) (value_at field fields values) []
 
--- between two moments the values of the fields other than one stayed as they were
-abbrev pub KeepsOthers : Field → List (Option Field) → List (List ℕ) → List (List ℕ) → Type 0
-KeepsOthers field fields before now = (other : Field) → is_field other (Some field) ≡ false → value_at other fields now ≡ value_at other fields before
-
--- the filter value, where an item stands for it
+-- trusted, own: the filter value, where an item stands for it
 abbrev pub filter_of : List (Option Field) → List (List ℕ) → Option ℕ
 filter_of fields values = option_map decimal_value (value_at Filter fields values)
 
--- what an option says by the values of its items
+-- trusted, TDT 2.0, section 3; TDS 2.0, section 6.3: what an option says by the values of its items
 abbrev pub epc_of : OptInfo → List (List ℕ) → Epc
 epc_of info values = record {
   kind = info.kind;
@@ -44,11 +40,11 @@ epc_of info values = record {
   serial = value_of Serial info.fields values;
 }
 
--- the items of each option of a level
+-- trusted, own: the items of each option of a level
 abbrev pub options_of : LevelName → TableRows → List (List Item)
 options_of level set = item_lists (level_rows level set).level.options
 
--- The EPC is of the set: an option of a level says it by values that its items hold.
+-- trusted, TDT 2.0, section 3: The EPC is of the set: an option of a level says it by values that its items hold.
 pub record IsOfSet (set : TableRows) (epc : Epc) : Type 0 where
   pub level : LevelName
   pub option : ℕ

@@ -1,5 +1,5 @@
 -- How a key is laid out: TDS 2.0, section 7 (correspondence between EPCs and GS1 keys).
-use Rattle.std.specs.Prelude.{◌≡◌, ◌≤◌, ℕ, if◌then◌else◌, List, [], ◌∷◌, ◌++◌, codes, length, take, drop, IsTrue, Some, slice_get}
+use Rattle.std.specs.Prelude.{◌≡◌, ◌≤◌, ℕ, if◌then◌else◌, List, [], ◌∷◌, ◌++◌, IsTrue, codes, length, take, drop, Some, slice_get}
 use Rattle.std.specs.List.{find}
 use Rattle.std.specs.Option.{option_map_or}
 use Rattle.gs_chars.specs.Characters.{are_digits}
@@ -11,78 +11,84 @@ use Rattle.gs_ai.specs.declared.row.AiRow.{AiRow}
 use Rattle.gs_ai.specs.Values.{has_code}
 use Rattle.gs_ident.specs.Elements.{Elements}
 use Rattle.gs_ident.specs.Identities.{stands_for_none}
-use Rattle.gs_document.specs.declared.kind.Kind.{Kind}
-use Rattle.gs_document.specs.declared.kind.SerialAt.{SerialAt}
-use Rattle.gs_document.specs.declared.kind.SerialAt.TheVariants.{Nowhere, Tail, Ai}
+use Rattle.gs_tables_document.specs.declared.kind.Kind.{Kind}
+use Rattle.gs_tables_document.specs.declared.kind.SerialAt.{SerialAt}
+use Rattle.gs_tables_document.specs.declared.kind.SerialAt.TheVariants.{Nowhere, Tail, Ai}
 use Rattle.gs_tables.specs.Tables.{TableRows}
 use Rattle.gs_epc.specs.declared.epc.Epc.{Epc}
 
--- the parts of the key of a code
+-- trusted, own: what a key says by its kind: the company prefix, the rest and the serial
+pub record KeyFields : Type 0 where
+  pub prefix : List ℕ
+  pub rest : List ℕ
+  pub serial : List ℕ
+
+-- trusted, own: what an EPC says of its key
+abbrev pub fields_in : Epc → KeyFields
+fields_in epc = record { prefix = epc.prefix; rest = epc.rest; serial = epc.serial }
+
+-- trusted, own: the parts of the key of a code
 abbrev pub parts_at : List AiRow → List ℕ → List Part
 parts_at ais code = option_map_or (λ (row : AiRow). row.parts) (find (has_code code) ais) []
 
--- the zero in front of the key, where its parts begin with one
+-- trusted, own: the leading zero of the key, where its parts begin with one
 abbrev pub zero_in_front : List Part → List ℕ
 zero_in_front (Zero ∷ _) = codes "0"
 zero_in_front _ = []
 
--- The digits of the key without its check digit: the lead digits of the rest (the indicator digit of a GTIN, the extension
--- digit of an SSCC), the company prefix, and the other digits of the rest.
+-- trusted, own: The digits of the key without its check digit: the lead digits of the rest (the indicator digit of a GTIN,
+-- the extension digit of an SSCC), the company prefix, and the other digits of the rest.
 abbrev pub key_digits : ℕ → List ℕ → List ℕ → List ℕ
 key_digits lead prefix rest = take lead rest ++ prefix ++ drop lead rest
 
--- 1 to 18 digits, of which the lead digits stand in the rest
+-- trusted, own: digits and their check digit
+abbrev pub with_check : List ℕ → List ℕ
+with_check digits = digits ++ check_digit_of digits ∷ []
+
+-- trusted, own: the digits of a key are 1 to 18, and the lead digits stand in the rest
 pub record AreKeyDigits (lead : ℕ) (prefix rest : List ℕ) : Type 0 where
   pub lead_within : lead ≤ length rest
   pub least : 1 ≤ length (key_digits lead prefix rest)
   pub most : length (key_digits lead prefix rest) ≤ 18
   pub digits : IsTrue (are_digits (key_digits lead prefix rest))
 
--- digits and their check digit
-abbrev pub with_check : List ℕ → List ℕ
-with_check digits = digits ++ check_digit_of digits ∷ []
-
--- the serial behind the key, where it stands in the key's own value
+-- trusted, own: the serial behind the key, where it stands in the key's own value
 abbrev pub tail_of_key : SerialAt → List ℕ → List ℕ
 tail_of_key Tail serial = serial
 tail_of_key Nowhere serial = []
 tail_of_key (Ai code) serial = []
 
--- the value of the key: characters as they are, digits with a zero in front, the check digit and the tail
-abbrev pub key_value : List Part → Kind → List ℕ → List ℕ → List ℕ → List ℕ
-key_value (Set _ ∷ []) kind prefix rest serial = prefix ++ rest
-key_value parts kind prefix rest serial = zero_in_front parts ++ with_check (key_digits kind.lead prefix rest) ++ tail_of_key kind.serial serial
+-- trusted, TDS 2.0, section 7; GS1 General Specifications, section 3: the value of the key: characters as they are, digits
+-- with a leading zero, the check digit and the tail
+abbrev pub key_value : List Part → Kind → KeyFields → List ℕ
+key_value (Set _ ∷ []) kind fields = fields.prefix ++ fields.rest
+key_value parts kind fields =
+    zero_in_front parts ++ with_check (key_digits kind.lead fields.prefix fields.rest) ++ tail_of_key kind.serial fields.serial
 
--- the pair of the key
-abbrev pub key_pair : List AiRow → Kind → List ℕ → List ℕ → List ℕ → Pair
-key_pair ais kind prefix rest serial = record { code = kind.key; value = key_value (parts_at ais kind.key) kind prefix rest serial }
+-- trusted, own: the pair of the key
+abbrev pub key_pair : List AiRow → Kind → KeyFields → Pair
+key_pair ais kind fields = record { code = kind.key; value = key_value (parts_at ais kind.key) kind fields }
 
--- the pair of a serial that has an element of its own
-abbrev pub serial_pairs : SerialAt → List ℕ → List Pair
-serial_pairs (Ai code) serial = record { code = code; value = serial } ∷ []
-serial_pairs Tail serial = []
-serial_pairs Nowhere serial = []
-
--- the element of a serial, which is absent where the serial is the text that stands for none
+-- trusted, own: the element of a serial, which is absent where the serial is the text that stands for none
 abbrev pub unless_none : List AiRow → Pair → List Pair
 unless_none ais pair = if stands_for_none ais pair then [] else pair ∷ []
 
--- the element in which a serial stands; none where it stands in the tail of the key, or nowhere
+-- trusted, own: the element in which a serial stands; none where it stands in the tail of the key, or nowhere
 abbrev pub serial_elements : List AiRow → SerialAt → List ℕ → List Pair
 serial_elements ais (Ai code) serial = unless_none ais (record { code = code; value = serial })
 serial_elements ais Tail serial = []
 serial_elements ais Nowhere serial = []
 
--- the identity of the key of a kind, with its serial
-abbrev pub lay : List AiRow → Kind → List ℕ → List ℕ → List ℕ → Elements
-lay ais kind prefix rest serial = record {
-  key = key_pair ais kind prefix rest serial;
-  qualifiers = serial_elements ais kind.serial serial;
+-- trusted, TDS 2.0, section 7: the identity of the key of a kind, with its serial
+abbrev pub lay : List AiRow → Kind → KeyFields → Elements
+lay ais kind fields = record {
+  key = key_pair ais kind fields;
+  qualifiers = serial_elements ais kind.serial fields.serial;
   attributes = [];
 }
 
--- the identity is the layout of what an EPC says, by the kind that it names
+-- trusted, TDS 2.0, section 7: the identity is the layout of what an EPC says, by the kind that it names
 pub record IsLaidOut (set : TableRows) (epc : Epc) (identity : Elements) : Type 0 where
   pub kind : Kind
   pub named : slice_get set.kinds epc.kind ≡ Some kind
-  pub laid : identity ≡ lay set.ais kind epc.prefix epc.rest epc.serial
+  pub laid : identity ≡ lay set.ais kind (fields_in epc)

@@ -1,8 +1,11 @@
 pub mod Candidates
 pub mod Epcs
+pub mod EpcsSupport
 pub mod Filters
-pub mod Kept
+pub mod KeptFields
 pub mod Layout
+pub mod LayoutSupport
 pub mod Readings
-pub mod Taking
+pub mod ReadingsSupport
+pub mod KeyParts
 pub mod Writes

@@ -1,73 +1,75 @@
 -- What is written of an EPC: TDS 2.0, sections 6 (pure identity URIs), 12 (tag URIs) and 14 (bits), by the options of TDT
--- 2.0, section 3. That the first option which holds every field writes, and which refusal is named, is this project's own.
+-- 2.0, section 3. That the first option which holds every field writes, and which rejection is named, is this project's own.
 use Rattle.std.specs.Prelude.{◌≡◌, ◌<◌, ◌⊎◌, ℕ, List, Option, Some, None, option_and_then, slice_get, unwrap_or, Result, Ok, Err}
 use Rattle.gs_bits.specs.HexText.{hex_of_bits}
-use Rattle.gs_grammar.specs.declared.fault.Why.{Why}
-use Rattle.gs_grammar.specs.declared.fault.Why.TheVariants.{Length}
-use Rattle.gs_grammar.specs.Writing.{AreHeld, IsFirstRefusal, written}
-use Rattle.gs_document.specs.declared.field.Field.{Field}
-use Rattle.gs_document.specs.declared.field.Field.TheVariants.{Rest}
-use Rattle.gs_document.specs.declared.level_name.LevelName.{LevelName}
-use Rattle.gs_document.specs.declared.level_name.LevelName.TheVariants.{Binary, Tag, Pure}
-use Rattle.gs_document.specs.declared.opt_info.OptInfo.{OptInfo}
+use Rattle.gs_grammar.specs.declared.error.Why.{Why}
+use Rattle.gs_grammar.specs.declared.error.Why.TheVariants.{Length}
+use Rattle.gs_grammar.specs.WrittenWords.{AreHeld, IsFirstRejection, written}
+use Rattle.gs_tables_document.specs.declared.field.Field.{Field}
+use Rattle.gs_tables_document.specs.declared.field.Field.TheVariants.{Rest}
+use Rattle.gs_tables_document.specs.declared.level_name.LevelName.{LevelName}
+use Rattle.gs_tables_document.specs.declared.level_name.LevelName.TheVariants.{Binary, Tag, Pure}
+use Rattle.gs_tables_document.specs.declared.opt_info.OptInfo.{OptInfo}
 use Rattle.gs_tables.specs.Tables.{TableRows}
 use Rattle.gs_epc.specs.declared.epc.Epc.{Epc}
-use Rattle.gs_epc.specs.declared.fault.EpcFault.{EpcFault}
-use Rattle.gs_epc.specs.declared.write_fault.EpcWriteFault.{EpcWriteFault}
-use Rattle.gs_epc.specs.declared.write_fault.EpcWriteFault.TheVariants.{NoOption, CannotHold, Memory}
+use Rattle.gs_epc.specs.declared.error.EpcFault.{EpcFault}
+use Rattle.gs_epc.specs.declared.write_error.EpcWriteFault.{EpcWriteFault}
+use Rattle.gs_epc.specs.declared.write_error.EpcWriteFault.TheVariants.{NoOption, CannotHold, Memory}
 use Rattle.gs_epc.specs.Candidates.{Candidate, filter_on, left_out, values_for}
 use Rattle.gs_epc.specs.Readings.{ReadsAs, ReadsHex}
 
--- the text of symbols: bits are written as upper-case hexadecimal digits
+-- trusted, own: the text of symbols: bits are written as upper-case hexadecimal digits
 abbrev pub text_on : LevelName → List ℕ → List ℕ
 text_on Binary symbols = hex_of_bits symbols
 text_on Tag symbols = symbols
 text_on Pure symbols = symbols
 
--- the field that item k stands for; an item that stands for none counts as the rest
+-- trusted, own: the field that item k stands for; an item that stands for none counts as the rest
 abbrev pub field_at : List (Option Field) → ℕ → Field
 field_at fields k = unwrap_or (option_and_then (λ (named : Option Field). named) (slice_get fields k)) Rest
 
 module _ (set : TableRows) (level : LevelName) (epc : Epc) where
-  -- a candidate holds every field: each item holds its value, and nothing is left out
+  -- trusted, own: a candidate holds every field: each item holds its value, and nothing is left out
   pub record HoldsAll {i : ℕ} (candidate : Candidate set level epc i) : Type 0 where
     pub held : AreHeld candidate.items (values_for level epc candidate.info)
     pub whole : left_out candidate.info.fields epc ≡ None
 
-  -- item k of a candidate is the first that does not hold its value, and this is why; it stands for this field
-  pub record RefusesAt {i : ℕ} (candidate : Candidate set level epc i) (field : Field) (why : Why)
+  -- trusted, own: item k of a candidate is the first that does not hold its value, and this is why; it stands for this
+  -- field
+  pub record RejectsAt {i : ℕ} (candidate : Candidate set level epc i) (field : Field) (why : Why)
       : Type 0 where
     pub k : ℕ
-    pub first : IsFirstRefusal candidate.items (values_for level epc candidate.info) k why
+    pub first : IsFirstRejection candidate.items (values_for level epc candidate.info) k why
     pub stands_for : field ≡ field_at candidate.info.fields k
 
-  -- Each item of a candidate holds its value, and this field is left out: what has no item holds the empty text alone.
+  -- trusted, own: Each item of a candidate holds its value, and this field is left out: what has no item holds the empty
+  -- text alone.
   pub record LeavesOut {i : ℕ} (candidate : Candidate set level epc i) (field : Field) (why : Why)
       : Type 0 where
     pub held : AreHeld candidate.items (values_for level epc candidate.info)
     pub left : left_out candidate.info.fields epc ≡ Some field
     pub size : why ≡ Length
 
-  -- a candidate does not hold this field
-  abbrev pub Refuses : {i : ℕ} → Candidate set level epc i → Field → Why → Type 0
-  Refuses candidate field why = RefusesAt candidate field why ⊎ LeavesOut candidate field why
+  -- trusted, own: a candidate does not hold this field
+  abbrev pub Rejects : {i : ℕ} → Candidate set level epc i → Field → Why → Type 0
+  Rejects candidate field why = RejectsAt candidate field why ⊎ LeavesOut candidate field why
 
-  -- the text of a candidate
+  -- trusted, own: the text of a candidate
   abbrev pub text_by : {i : ℕ} → Candidate set level epc i → List ℕ
   text_by candidate = text_on level (written candidate.items (values_for level epc candidate.info))
 
-  -- the answer of one candidate: its text where it holds every field, else what it does not hold
+  -- trusted, own: the answer of one candidate: its text where it holds every field, else what it does not hold
   abbrev pub IsTried : {i : ℕ} → Candidate set level epc i → Result (List ℕ) EpcWriteFault → Type 0
   IsTried candidate (Ok text) = HoldsAll candidate × (text ≡ text_by candidate)
   IsTried candidate (Err NoOption) = ⊥
-  IsTried candidate (Err (CannotHold field why)) = Refuses candidate field why
+  IsTried candidate (Err (CannotHold field why)) = Rejects candidate field why
   IsTried candidate (Err Memory) = Unit {0}
 
-  -- no candidate among the first n options holds every field
+  -- trusted, own: no candidate among the first n options holds every field
   abbrev pub NoneHoldsBefore : ℕ → Type 0
   NoneHoldsBefore n = (i : ℕ) (candidate : Candidate set level epc i) → i < n → HoldsAll candidate → ⊥
 
-  -- the first candidate that holds every field writes the text
+  -- trusted, own: the first candidate that holds every field writes the text
   pub record Writes (text : List ℕ) : Type 0 where
     pub option : ℕ
     pub candidate : Candidate set level epc option
@@ -75,30 +77,30 @@ module _ (set : TableRows) (level : LevelName) (epc : Epc) where
     pub first : NoneHoldsBefore option
     pub text_is : text ≡ text_by candidate
 
-  -- no candidate holds every field, and the last one does not hold this field
-  pub record LastRefuses (field : Field) (why : Why) : Type 0 where
+  -- trusted, own: no candidate holds every field, and the last one does not hold this field
+  pub record LastRejects (field : Field) (why : Why) : Type 0 where
     pub option : ℕ
     pub candidate : Candidate set level epc option
-    pub refuses : Refuses candidate field why
+    pub rejects : Rejects candidate field why
     pub last : (i : ℕ) → option < i → Candidate set level epc i → ⊥
     pub none : (n : ℕ) → NoneHoldsBefore n
 
-  -- The answer to an EPC that is to be written in a level: the text of the first candidate that holds every field; that
-  -- there is no candidate; that none holds every field, and what the last does not hold. Want of memory may come in place
-  -- of each.
+  -- trusted, own: The answer to an EPC that is to be written in a level: the text of the first candidate that holds every
+  -- field; that there is no candidate; that none holds every field, and what the last does not hold. Out of memory may
+  -- come in place of each.
   abbrev pub WritesAs : Result (List ℕ) EpcWriteFault → Type 0
   WritesAs (Ok text) = Writes text
   WritesAs (Err NoOption) = (i : ℕ) → Candidate set level epc i → ⊥
-  WritesAs (Err (CannotHold field why)) = LastRefuses field why
+  WritesAs (Err (CannotHold field why)) = LastRejects field why
   WritesAs (Err Memory) = Unit {0}
 
--- what is read of a text that was written: of bits their hexadecimal text
+-- trusted, own: what is read of a text that was written: of bits their hexadecimal text
 abbrev pub ReadsText : TableRows → LevelName → List ℕ → Result Epc EpcFault → Type 0
 ReadsText set Binary text answer = ReadsHex set text answer
 ReadsText set Tag text answer = ReadsAs set Tag text answer
 ReadsText set Pure text answer = ReadsAs set Pure text answer
 
--- the same fields, by an option that is said to be this
+-- trusted, own: the same fields, by an option that is said to be this
 abbrev pub same_fields : LevelName → OptInfo → Epc → Epc
 same_fields level info epc = record {
   kind = epc.kind;

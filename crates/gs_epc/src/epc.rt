@@ -13,7 +13,7 @@ pub struct Epc {
     pub gcp: u8,
     /// The GS1 Company Prefix.
     pub prefix: Text,
-    /// What follows the prefix in the key, with the lead digit in front, empty where the prefix leaves nothing.
+    /// What follows the prefix in the key, with the lead digit at the start, empty where the prefix leaves nothing.
     pub rest: Text,
     /// The serial, empty for a kind without one.
     pub serial: Text,

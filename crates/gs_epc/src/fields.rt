@@ -1,8 +1,9 @@
 ghost use Rattle.std.specs.Prelude.{◌≡◌, IfOk, IfSome, position};
 ghost use Rattle.gs_grammar.specs.Words.{decimal_value};
-ghost use Rattle.gs_document.specs.declared.field.Field.{Field};
+ghost use Rattle.gs_tables_document.specs.declared.field.Field.{Field};
 ghost use Rattle.gs_tables.specs.Rules.{is_field};
-ghost use Rattle.gs_epc.specs.Epcs.{KeepsOthers, epc_of, filter_of, value_at, value_of};
+ghost use Rattle.gs_epc.specs.Epcs.{epc_of, filter_of, value_at, value_of};
+ghost use Rattle.gs_epc.specs.EpcsSupport.{KeepsOthers};
 ghost use Rattle.gs_epc.specs.Filters.{IsFilter};
 
 use crate::epc::Epc;
@@ -65,7 +66,7 @@ fn taken(alloc: Global, info: &OptInfo, encoding: Text, values: &mut [Text]) -> 
     }
 }
 
-/// What an option says by the values of its items. The one refusal is want of memory.
+/// What an option says by the values of its items. The one error is out of memory.
 pub(crate) fn epc_of(alloc: Global, info: &OptInfo, values: List<Text>) -> Result<Epc, Memory>
     requires { IfSome (value_at Field.Filter info.now.fields values) IsFilter }
     ensures { IfOk result (λ epc. epc ≡ epc_of info.now values) }

@@ -1,6 +1,7 @@
 ghost use Rattle.std.specs.Prelude.{◌≡◌, Some, slice_get};
 ghost use Rattle.gs_epc.specs.Epcs.{IsOfSet};
-ghost use Rattle.gs_epc.specs.Kept.{FitKind};
+ghost use Rattle.gs_epc.specs.KeptFields.{FitKind};
+ghost use Rattle.gs_epc.specs.Layout.{fields_in};
 
 use crate::epc::Epc;
 use gs_tables::{Kind, TableSet};
@@ -9,7 +10,7 @@ use gs_tables::{Kind, TableSet};
 pub(crate) fn kind_of<'a>(set: &'a TableSet, epc: &Epc) -> &'a Kind
     requires { IsOfSet set.now epc.now }
     ensures named { slice_get set.now.kinds epc.now.kind ≡ Some result.now }
-    ensures fit { FitKind set.now.ais result.now epc.now.prefix epc.now.rest epc.now.serial }
+    ensures fit { FitKind set.now.ais result.now (fields_in epc.now) }
 {
     &set.kinds()[epc.kind]
 }

@@ -1,15 +1,15 @@
 ghost use Rattle.std.specs.Prelude.{◌≡◌, [], List, None, Ok, Some, slice_get, ℕ};
 ghost use Rattle.gs_ident.specs.Elements.{Elements};
 ghost use Rattle.gs_ident.specs.Identities.{IsMadeWith};
-ghost use Rattle.gs_document.specs.declared.kind.Kind.{Kind};
-ghost use Rattle.gs_document.specs.declared.level_name.LevelName.{LevelName};
-ghost use Rattle.gs_tables.specs.Judged.{IsLoaded};
+ghost use Rattle.gs_tables_document.specs.declared.kind.Kind.{Kind};
+ghost use Rattle.gs_tables_document.specs.declared.level_name.LevelName.{LevelName};
+ghost use Rattle.gs_tables.specs.Judgements.{IsLoaded};
 ghost use Rattle.gs_tables.specs.Tables.{IsShaped, TableRows};
 ghost use Rattle.gs_epc.specs.declared.epc.Epc.{Epc};
 ghost use Rattle.gs_epc.specs.Candidates.{HasFilterOn};
 ghost use Rattle.gs_epc.specs.Epcs.{IsOfSet};
 ghost use Rattle.gs_epc.specs.Layout.{IsLaidOut};
-ghost use Rattle.gs_epc.specs.Taking.{IsOfKind, epc_at};
+ghost use Rattle.gs_epc.specs.KeyParts.{IsOfKind, epc_at};
 ghost use Rattle.gs_epc.specs.Writes.{ReadsText, Writes, same_fields};
 
 use gs_tables::TableSet;

@@ -1,19 +1,21 @@
-ghost use Rattle.std.specs.Prelude.{◌≡◌, ◌≤◌, ◌∷◌, ◌++◌, IfOk, length};
+ghost use Rattle.std.specs.Prelude.{◌≡◌, ◌≤◌, ◌++◌, IfOk, length};
 ghost use Rattle.gs_ident.specs.Identities.{IsMadeWith};
+ghost use Rattle.gs_ident.specs.QualifiedKeys.{pairs_in};
 ghost use Rattle.gs_epc.specs.Epcs.{IsOfSet};
-ghost use Rattle.gs_epc.specs.Kept.{FitKind};
-ghost use Rattle.gs_epc.specs.Layout.{AreKeyDigits, IsLaidOut, key_digits, key_value, lay, parts_at, serial_pairs, tail_of_key, with_check, zero_in_front};
+ghost use Rattle.gs_epc.specs.KeptFields.{FitKind};
+ghost use Rattle.gs_epc.specs.Layout.{AreKeyDigits, IsLaidOut, fields_in, key_digits, key_value, lay, parts_at, tail_of_key, with_check, zero_in_front};
+ghost use Rattle.gs_epc.specs.LayoutSupport.{serial_pairs};
 
 use crate::epc::Epc;
 use crate::kept::kind_of;
-use crate::taking::joined;
+use crate::key_parts::joined;
 use gs_ai::{AiTable, Pair, Part};
 use gs_chars::{Memory, Text, check_digit};
-use gs_ident::{IdentFault, Identity, make};
+use gs_ident::Identity;
 use gs_tables::{Kind, SerialAt, TableSet, are_characters};
 use std::alloc::Global;
 
-/// The zero in front of the key, where its parts begin with one.
+/// The leading zero of the key, where its parts begin with one.
 fn zero_in_front(parts: &[Part]) -> &'static [u8]
     ensures { result.now ≡ zero_in_front parts.now }
 {
@@ -45,8 +47,9 @@ fn push_digits(value: &mut Text, lead: u8, prefix: &[u8], rest: &[u8]) -> Result
     Ok(())
 }
 
-/// Appends the digits of the key and their check digit.
-fn push_checked(value: &mut Text, lead: u8, prefix: &[u8], rest: &[u8]) -> Result<(), Memory>
+/// Appends the digits of a key and their check digit (TDS 2.0, section 7): the lead digits of the rest, the company prefix, and the
+/// other digits of the rest. The one error is out of memory. The digits are 1 to 18, and the lead digits stand in the rest.
+pub fn push_checked(value: &mut Text, lead: u8, prefix: &[u8], rest: &[u8]) -> Result<(), Memory>
     requires { AreKeyDigits lead prefix.now rest.now }
     ensures { IfOk result (λ _. value.new ≡ value.old ++ with_check (key_digits lead prefix.now rest.now)) }
 {
@@ -57,7 +60,7 @@ fn push_checked(value: &mut Text, lead: u8, prefix: &[u8], rest: &[u8]) -> Resul
     Ok(())
 }
 
-/// The value of a key of digits: a zero in front, the digits with their check digit, and the tail.
+/// The value of a key of digits: a leading zero, the digits with their check digit, and the tail.
 fn digits_value(alloc: Global, parts: &[Part], kind: &Kind, epc: &Epc) -> Result<Text, Memory>
     requires { AreKeyDigits kind.now.lead epc.now.prefix epc.now.rest }
     ensures { IfOk result (λ value. value ≡ zero_in_front parts.now
@@ -78,9 +81,9 @@ fn digits_value(alloc: Global, parts: &[Part], kind: &Kind, epc: &Epc) -> Result
 
 /// The value of the key, by the parts of its row.
 fn key_value(alloc: Global, ais: &AiTable, kind: &Kind, epc: &Epc) -> Result<Text, Memory>
-    requires { FitKind ais.now kind.now epc.now.prefix epc.now.rest epc.now.serial }
+    requires { FitKind ais.now kind.now (fields_in epc.now) }
     ensures { IfOk result (λ value. value ≡ key_value (parts_at ais.now kind.now.key) kind.now
-        epc.now.prefix epc.now.rest epc.now.serial) }
+        (fields_in epc.now)) }
 {
     let Some(row) = ais.row_with(kind.key.as_bytes()) else {
         unreachable!()
@@ -92,31 +95,16 @@ fn key_value(alloc: Global, ais: &AiTable, kind: &Kind, epc: &Epc) -> Result<Tex
     digits_value(alloc, parts, kind, epc)
 }
 
-/// The pair of the key, and that of a serial that has an element of its own.
-fn pairs_of(alloc: Global, key: Pair, at: &SerialAt, serial: &Text) -> Result<Vec<Pair>, Memory>
-    ensures { IfOk result (λ pairs. pairs.items ≡ key ∷ serial_pairs at.now serial.now) }
+/// The pair of a serial that has an element of its own.
+fn serial_pair(alloc: Global, at: &SerialAt, serial: &Text) -> Result<Option<Pair>, Memory>
+    ensures { IfOk result (λ pair. pairs_in pair ≡ serial_pairs at.now serial.now) }
 {
-    let mut pairs = Vec::with_capacity(alloc, 2)?;
-    pairs.push(key)?;
     match at {
-        SerialAt::Ai(code) => {
-            pairs.push(Pair {
-                code: code.copy(alloc)?,
-                value: serial.copy(alloc)?,
-            })?;
-            Ok(pairs)
-        }
-        SerialAt::Nowhere | SerialAt::Tail => Ok(pairs),
-    }
-}
-
-/// Want of memory, which is the one refusal that can come.
-fn want_of_memory(refusal: IdentFault) -> Memory
-    requires { refusal ≡ IdentFault.Memory }
-{
-    match refusal {
-        IdentFault::Memory => Memory,
-        _ => unreachable!(),
+        SerialAt::Ai(code) => Ok(Some(Pair {
+            code: code.copy(alloc)?,
+            value: serial.copy(alloc)?,
+        })),
+        SerialAt::Nowhere | SerialAt::Tail => Ok(None),
     }
 }
 
@@ -127,9 +115,8 @@ pub(crate) fn lay_out(
     kind: &Kind,
     epc: &Epc,
 ) -> Result<Identity, Memory>
-    requires fit { FitKind ais.now kind.now epc.now.prefix epc.now.rest epc.now.serial }
-    ensures laid { IfOk result (λ identity. identity ≡ lay ais.now kind.now
-        epc.now.prefix epc.now.rest epc.now.serial) }
+    requires fit { FitKind ais.now kind.now (fields_in epc.now) }
+    ensures laid { IfOk result (λ identity. identity ≡ lay ais.now kind.now (fields_in epc.now)) }
     ensures with_table { IfOk result (IsMadeWith ais.now) }
 {
     // the proof alone reads it: the rows keep the rules of application identifiers
@@ -138,15 +125,12 @@ pub(crate) fn lay_out(
         code: kind.key.copy(alloc)?,
         value: key_value(alloc, ais, kind, epc)?,
     };
-    let pairs = pairs_of(alloc, key, &kind.serial, &epc.serial)?;
-    match make(alloc, ais, pairs) {
-        Ok(identity) => Ok(identity),
-        Err(refusal) => Err(want_of_memory(refusal)),
-    }
+    let serial = serial_pair(alloc, &kind.serial, &epc.serial)?;
+    Identity::of_key(alloc, ais, key, serial)
 }
 
 /// The identity that an EPC of the set names (TDS 2.0, section 7): the key of its kind, laid out with its check digit, and its
-/// serial. The one refusal is want of memory. The EPC is one that a reading by the set gave.
+/// serial. The one error is out of memory. The EPC is one that a reading by the set gave.
 pub fn identity_of(alloc: Global, set: &TableSet, epc: &Epc) -> Result<Identity, Memory>
     requires { IsOfSet set.now epc.now }
     ensures laid { IfOk result (IsLaidOut set.now epc.now) }

@@ -1,7 +1,8 @@
 //! EPCs: what tag bits and EPC URIs say by the tables, the identities that they name, and what is written of an identity.
 //!
 //! - `read_hex`, `read_tag` and `read_pure` give the fields of an EPC; `write_hex`, `write_tag` and `write_pure` its text.
-//! - `identity_of` lays the fields out as a key and its serial number; `fields_of` takes an identity apart.
+//! - `identity_of` lays the fields out as a key and its serial number; `fields_of` takes an identity apart. `push_checked` writes
+//!   the digits of a key, for gs_class too.
 //!
 //! # Example
 //!
@@ -23,23 +24,23 @@
 
 mod candidates;
 mod epc;
-mod fault;
+mod error;
 mod fields;
 mod kept;
+mod key_parts;
 mod laws;
 mod layout;
 mod read;
-mod taking;
-mod write_fault;
-mod writing;
+mod write_error;
+mod writer;
 
 pub use epc::Epc;
-pub use fault::EpcFault;
+pub use error::EpcFault;
+pub use key_parts::{fields_of, value_from_prefix};
 pub use laws::{
     laying_out_undoes_taking_apart, taking_apart_undoes_laying_out, what_is_written_is_read,
 };
-pub use layout::identity_of;
+pub use layout::{identity_of, push_checked};
 pub use read::{read_hex, read_pure, read_tag};
-pub use taking::{fields_of, value_from_prefix};
-pub use write_fault::{EpcWriteFault, FieldsFault};
-pub use writing::{write_hex, write_pure, write_tag};
+pub use write_error::{EpcWriteFault, FieldsFault};
+pub use writer::{write_hex, write_level, write_pure, write_tag};

@@ -1,13 +1,14 @@
 ghost use Rattle.std.specs.Prelude.{IfOk, List, ℕ};
-ghost use Rattle.gs_level.specs.Readings.{Reads};
+ghost use Rattle.gs_grammar_level.specs.Readings.{Reads};
 ghost use Rattle.gs_epc.specs.Epcs.{IsOfSet, options_of};
-ghost use Rattle.gs_epc.specs.Readings.{AnswersReading, ReadsAs, ReadsHex};
+ghost use Rattle.gs_epc.specs.Readings.{ReadsAs, ReadsHex};
+ghost use Rattle.gs_epc.specs.ReadingsSupport.{AnswersReading};
 
 use crate::epc::Epc;
-use crate::fault::EpcFault;
+use crate::error::EpcFault;
 use crate::fields::epc_of;
 use gs_bits::BitBuf;
-use gs_level::{Reading, read_bits, read_text};
+use gs_grammar_level::{Reading, read_bits, read_text};
 use gs_tables::{LevelName, TableSet};
 use std::alloc::Global;
 
@@ -29,7 +30,7 @@ fn answer(
     }
 }
 
-/// What the bits of a tag say, in a text of at most 128 hexadecimal digits of either case (TDS 2.0, section 14). The faults
+/// What the bits of a tag say, in a text of at most 128 hexadecimal digits of either case (TDS 2.0, section 14). The errors
 /// are tried in this order: the text is no such hexadecimal text; the bits have no derivation in the level of bits.
 pub fn read_hex(alloc: Global, set: &TableSet, text: &[u8]) -> Result<Epc, EpcFault>
     ensures answer { ReadsHex set.now text.now result }
@@ -38,7 +39,7 @@ pub fn read_hex(alloc: Global, set: &TableSet, text: &[u8]) -> Result<Epc, EpcFa
     let level = LevelName::Binary;
     match BitBuf::<64>::from_hex(text) {
         Ok(bits) => answer(alloc, set, level, read_bits(alloc, set.level(level), &bits)),
-        Err(fault) => Err(EpcFault::Hex(fault)),
+        Err(error) => Err(EpcFault::Hex(error)),
     }
 }
 

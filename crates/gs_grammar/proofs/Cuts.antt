@@ -9,11 +9,12 @@ use Rattle.gs_grammar.specs.declared.item.Item.{Item}
 use Rattle.gs_grammar.specs.Items.{IsItem, size_of, shortest_of}
 use Rattle.gs_grammar.specs.Words.{Word, IsWord, number_of_word}
 use Rattle.gs_grammar.proofs.WordLaws.{word_length}
-use Rattle.gs_grammar.specs.Derivations.{EachWord, no_item, one_item, Derives, IsDerived, HasNumbers, numbers_of_words, OneWay, TwoWays}
+use Rattle.gs_grammar.specs.Derivations.{EachWord, no_item, one_item, Derives, IsDerived, HasNumbers, numbers_of_words}
+use Rattle.gs_grammar.specs.DerivationsSupport.{OneWay, TwoWays}
 use Rattle.gs_grammar.specs.Searches.{AtCut}
 use Rattle.gs_grammar.proofs.Ways.{Found, Never, Once, Twice, Finds, OneCut, TwoCuts, FindsBefore, joined_found}
 
--- one word more in front
+-- one word more at the start
 pub derives_cons : (item : Item) (items : List Item) (value first rest : List ℕ) (values words : List (List ℕ)) → Word item value first → Derives items rest values words → Derives (item ∷ items) (first ++ rest) (value ∷ values) (first ∷ words)
 derives_cons item items value first rest values words h d =
     record { each = one_item item value first items values words h d.each; joined = ap (λ r. first ++ r) d.joined }

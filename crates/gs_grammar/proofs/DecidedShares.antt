@@ -1,4 +1,4 @@
--- It can be told of a level whether it is ambiguous, and which pair of its options is the first that shares a list: a search
+-- It is decidable of a level whether it is ambiguous, and which pair of its options is the first that shares a list: a search
 -- over all lists of symbols that are as short as the options are.
 use Rattle.std.proofs.Common.{◌≡◌, ℕ, ◌<◌, ◌≤◌, ◌+◌, ◌^◌, ◌⊎◌, ◌||◌, Bool, true, false, All, IsTrue, List, [], ◌∷◌, length, replicate, Option, Some, None, zero, suc, decimal, refl, sym, ◌∙◌, subst, inl, inr, arith}
 use Rattle.std.specs.List.{concat, flat_map, list_all, slice_get}
@@ -13,7 +13,7 @@ use Rattle.gs_chars.proofs.TruthsAndLists.{and_first, and_parts, and_second, sam
 use Rattle.gs_bits.specs.Bits.{AreBits, bits_of}
 use Rattle.gs_bits.specs.BitLaws.{AreBits-bits_of}
 use Rattle.gs_grammar.specs.declared.item.Item.{Item}
-use Rattle.gs_grammar.specs.declared.item.Item.TheVariants.{Lit, Pad, Int, Esc, NumPad, Num, Ascii7, Fill}
+use Rattle.gs_grammar.specs.declared.item.Item.TheVariants.{Lit, Pad, Digits, Int, Esc, NumPad, Num, NumStr, Ascii7, Fill}
 use Rattle.gs_grammar.specs.Items.{IsItem, is_between, is_in_bounds, is_symbol, size_of_all}
 use Rattle.gs_grammar.specs.Words.{Word, SpellsEach, no_more, one_more}
 use Rattle.gs_grammar.specs.Derivations.{EachWord, no_item, one_item, Derives, IsDerived, Derivation}
@@ -22,7 +22,7 @@ use Rattle.gs_grammar.proofs.Numbers.{digits_of_decimal}
 use Rattle.gs_grammar.proofs.Packs.{set82_bounds}
 use Rattle.gs_grammar.proofs.WordLaws.{int_bounds, word_length}
 use Rattle.gs_grammar.proofs.Ways.{Found, Never, Once, Twice, Finds}
-use Rattle.gs_grammar.proofs.Counting.{count_ways}
+use Rattle.gs_grammar.proofs.CountLemmas.{count_ways}
 use Rattle.gs_grammar.proofs.DecidedWords.{each_decided}
 
 -- ---- symbols of words are small numbers
@@ -90,6 +90,7 @@ small_literal literal i = elim (either (is_in_bounds true (Lit literal)) (is_in_
 small_word : (item : Item) (value w : List ℕ) → IsItem item → Word item value w → AreSmall w
 small_word (Lit literal) value w i h = rw h.1 (small_literal literal i)
 small_word (Pad n) value w i h = rw h.2 (small_digits value h.1)
+small_word (Digits lo hi) value w i h = rw h.2 (small_digits value h.1)
 small_word (Int greatest) value w i h =
     let bound = int_bounds greatest i in
     let least = h.0.1.small in
@@ -99,6 +100,7 @@ small_word (Int greatest) value w i h =
 small_word (Esc lo hi) value w i h = small_spelled value w h.1
 small_word (NumPad bits n) value w i h = rw h.2.written (small_bits _ (AreBits-bits_of bits _))
 small_word (Num bits greatest) value w i h = rw h.1.1.written (small_bits _ (AreBits-bits_of bits _))
+small_word (NumStr bits hi) value w i h = rw h.2.written (small_bits _ (AreBits-bits_of bits _))
 small_word (Ascii7 lo hi bits) value w i h = rw h.1.packed (All-append (λ s. s < 128) _ _ (small_packed value) (small_zeros h.1.padding))
 small_word (Fill a b) value w i h = elim h.1 as (λ _. AreSmall w) [ inl e ↦ rw e (small_zeros a) | inr e ↦ rw e (small_zeros b) ]
 
@@ -139,8 +141,8 @@ within level w items d =
 
 -- ---- the search over lists
 
-abbrev Told : Type 0 → Type 0
-Told fact = fact ⊎ (fact → ⊥)
+abbrev Known : Type 0 → Type 0
+Known fact = fact ⊎ (fact → ⊥)
 
 abbrev SomeList : (List ℕ → Type 0) → Type 0
 SomeList P = (w : List ℕ) × P w
@@ -166,7 +168,7 @@ none_longer : (P : List ℕ → Type 0) (n : ℕ) → (P [] → ⊥) → ((s : �
 none_longer P n none more [] l small p = none p
 none_longer P n none more (s ∷ w) l small p = more s (All-head (λ s. s < 128) s w small) w (omega arith) (All-tail (λ s. s < 128) s w small) p
 
-search : (n : ℕ) (P : List ℕ → Type 0) → ((w : List ℕ) → Told (P w)) → SomeList P ⊎ NoneWithin n P
+search : (n : ℕ) (P : List ℕ → Type 0) → ((w : List ℕ) → Known (P w)) → SomeList P ⊎ NoneWithin n P
 search zero P decide = elim (decide []) as (λ _. SomeList P ⊎ NoneWithin 0 P) [
   | inl p ↦ inl ([], p)
   | inr none ↦ inr (λ w l small p. none (subst P (nil_from_length w (omega arith)) p))
@@ -188,7 +190,7 @@ derivation_by level w k items at values words d = record { option = k; items = i
 derived_by : (level : List (List Item)) (w : List ℕ) (k : ℕ) (items : List Item) → slice_get level k ≡ Some items → (d : Derivation level w) → d.option ≡ k → Derives items w d.values d.words
 derived_by level w k items at d e = let its = same_at level d.option k d.items items d.of_level at e in rw its at d.derives
 
-share_self : (level : List (List Item)) (w : List ℕ) (k : ℕ) (items : List Item) → slice_get level k ≡ Some items → (found : Found) → Finds items w found → Told (ShareList level k k w)
+share_self : (level : List (List Item)) (w : List ℕ) (k : ℕ) (items : List Item) → slice_get level k ≡ Some items → (found : Found) → Finds items w found → Known (ShareList level k k w)
 share_self level w k items at Never none = inr (λ s. none (record { values = s.one.values; words = s.one.words; derives = derived_by level w k items at s.one s.by_one }))
 share_self level w k items at Once way = inr (λ s.
     let a = way.only s.one.values s.one.words (derived_by level w k items at s.one s.by_one) in
@@ -202,15 +204,15 @@ share_self level w k items at Twice ways = inl (record {
   differ = λ s. ways.differ s.words;
 })
 
-derived_or_not : (items : List Item) (w : List ℕ) (found : Found) → Finds items w found → Told (IsDerived items w)
+derived_or_not : (items : List Item) (w : List ℕ) (found : Found) → Finds items w found → Known (IsDerived items w)
 derived_or_not items w Never none = inr none
 derived_or_not items w Once way = inl (record { values = way.values; words = way.words; derives = way.derives })
 derived_or_not items w Twice ways = inl (record { values = ways.values; words = ways.words; derives = ways.derives })
 
-told_derived : (items : List Item) (w : List ℕ) → Told (IsDerived items w)
-told_derived items w = let ways = count_ways each_decided items w in derived_or_not items w ways.found ways.finds
+known_derived : (items : List Item) (w : List ℕ) → Known (IsDerived items w)
+known_derived items w = let ways = count_ways each_decided items w in derived_or_not items w ways.found ways.finds
 
-share_two : (level : List (List Item)) (w : List ℕ) (i j : ℕ) (items items' : List Item) → (i ≡ j → ⊥) → slice_get level i ≡ Some items → slice_get level j ≡ Some items' → Told (IsDerived items w) → Told (IsDerived items' w) → Told (ShareList level i j w)
+share_two : (level : List (List Item)) (w : List ℕ) (i j : ℕ) (items items' : List Item) → (i ≡ j → ⊥) → slice_get level i ≡ Some items → slice_get level j ≡ Some items' → Known (IsDerived items w) → Known (IsDerived items' w) → Known (ShareList level i j w)
 share_two level w i j items items' apart at at' (inl a) (inl b) = inl (record {
   one = derivation_by level w i items at a.values a.words a.derives;
   other = derivation_by level w j items' at' b.values b.words b.derives;
@@ -221,13 +223,13 @@ share_two level w i j items items' apart at at' (inl a) (inl b) = inl (record {
 share_two level w i j items items' apart at at' (inr none) b = inr (λ s. none (record { values = s.one.values; words = s.one.words; derives = derived_by level w i items at s.one s.by_one }))
 share_two level w i j items items' apart at at' (inl a) (inr none) = inr (λ s. none (record { values = s.other.values; words = s.other.words; derives = derived_by level w j items' at' s.other s.by_other }))
 
-share_at : (level : List (List Item)) (w : List ℕ) (i j : ℕ) (items items' : List Item) → slice_get level i ≡ Some items → slice_get level j ≡ Some items' → Told (ShareList level i j w)
-share_at level w i j items items' at at' = elim (cases_eq i j) as (λ _. Told (ShareList level i j w)) [
-  | inl e ↦ let ways = count_ways each_decided items w in subst (λ (k : ℕ). Told (ShareList level i k w)) e (share_self level w i items at ways.found ways.finds)
-  | inr apart ↦ share_two level w i j items items' apart at at' (told_derived items w) (told_derived items' w)
+share_at : (level : List (List Item)) (w : List ℕ) (i j : ℕ) (items items' : List Item) → slice_get level i ≡ Some items → slice_get level j ≡ Some items' → Known (ShareList level i j w)
+share_at level w i j items items' at at' = elim (cases_eq i j) as (λ _. Known (ShareList level i j w)) [
+  | inl e ↦ let ways = count_ways each_decided items w in subst (λ (k : ℕ). Known (ShareList level i k w)) e (share_self level w i items at ways.found ways.finds)
+  | inr apart ↦ share_two level w i j items items' apart at at' (known_derived items w) (known_derived items' w)
 ]
 
-share_of : (level : List (List Item)) (w : List ℕ) (i j : ℕ) (o p : Option (List Item)) → slice_get level i ≡ o → slice_get level j ≡ p → Told (ShareList level i j w)
+share_of : (level : List (List Item)) (w : List ℕ) (i j : ℕ) (o p : Option (List Item)) → slice_get level i ≡ o → slice_get level j ≡ p → Known (ShareList level i j w)
 share_of level w i j (Some items) (Some items') at at' = share_at level w i j items items' at at'
 share_of level w i j None p at at' = inr (λ s.
     let here : slice_get level i ≡ Some s.one.items = rw s.by_one at s.one.of_level in
@@ -240,8 +242,8 @@ share_of level w i j (Some items) None at at' = inr (λ s.
 abbrev Share : List (List Item) → ℕ → ℕ → Type 0
 Share level i j = (w : List ℕ) × ShareList level i j w
 
-share_told : (level : List (List Item)) → AreItems level → (i j : ℕ) → Told (Share level i j)
-share_told level items i j = elim (search (sizes level) (ShareList level i j) (λ w. share_of level w i j (slice_get level i) (slice_get level j) refl refl)) as (λ _. Told (Share level i j)) [
+share_known : (level : List (List Item)) → AreItems level → (i j : ℕ) → Known (Share level i j)
+share_known level items i j = elim (search (sizes level) (ShareList level i j) (λ w. share_of level w i j (slice_get level i) (slice_get level j) refl refl)) as (λ _. Known (Share level i j)) [
   | inl found ↦ inl found
   | inr none ↦ inr (λ s. let in_bounds = within level s.0 items s.1.one in none s.0 in_bounds.short in_bounds.small s.1)
 ]
@@ -254,7 +256,7 @@ record Least (n : ℕ) (P : ℕ → Type 0) : Type 0 where
   holds : P k
   before : (l : ℕ) → l < k → P l → ⊥
 
-least : (n : ℕ) (P : ℕ → Type 0) → ((k : ℕ) → Told (P k)) → Least n P ⊎ ((k : ℕ) → k < n → P k → ⊥)
+least : (n : ℕ) (P : ℕ → Type 0) → ((k : ℕ) → Known (P k)) → Least n P ⊎ ((k : ℕ) → k < n → P k → ⊥)
 least zero P decide = inr (λ k h p. absurd (omega arith))
 least (suc n) P decide = elim (least n P decide) as (λ _. Least (suc n) P ⊎ ((k : ℕ) → k < suc n → P k → ⊥)) [
   | inl found ↦ inl (record { k = found.k; holds = found.holds; before = found.before })
@@ -268,10 +270,10 @@ least (suc n) P decide = elim (least n P decide) as (λ _. Least (suc n) P ⊎ (
 abbrev SharesBehind : List (List Item) → ℕ → ℕ → Type 0
 SharesBehind level i j = (i ≤ j) × Share level i j
 
-behind_told : (level : List (List Item)) → AreItems level → (i j : ℕ) → Told (SharesBehind level i j)
-behind_told level items i j = elim (cases_lt j i) as (λ _. Told (SharesBehind level i j)) [
+behind_known : (level : List (List Item)) → AreItems level → (i j : ℕ) → Known (SharesBehind level i j)
+behind_known level items i j = elim (cases_lt j i) as (λ _. Known (SharesBehind level i j)) [
   | inl low ↦ inr (λ s. let o = s.0 in absurd (omega arith))
-  | inr order ↦ elim (share_told level items i j) as (λ _. Told (SharesBehind level i j)) [
+  | inr order ↦ elim (share_known level items i j) as (λ _. Known (SharesBehind level i j)) [
     | inl s ↦ inl (order, s)
     | inr none ↦ inr (λ s. none s.1)
   ]
@@ -287,14 +289,14 @@ first_low level i j w s = let low = slice_get_within level s.one.option s.one.it
 abbrev Row : List (List Item) → ℕ → Type 0
 Row level i = Least (length level) (SharesBehind level i)
 
-row_told : (level : List (List Item)) → AreItems level → (i : ℕ) → Told (Row level i)
-row_told level items i = elim (least (length level) (SharesBehind level i) (behind_told level items i)) as (λ _. Told (Row level i)) [
+row_known : (level : List (List Item)) → AreItems level → (i : ℕ) → Known (Row level i)
+row_known level items i = elim (least (length level) (SharesBehind level i) (behind_known level items i)) as (λ _. Known (Row level i)) [
   | inl row ↦ inl row
   | inr none ↦ inr (λ row. let s = row.holds in none row.k (second_low level i row.k s.1.0 s.1.1) s)
 ]
 
 row_of : (level : List (List Item)) → AreItems level → (i j : ℕ) (w : List ℕ) → i ≤ j → ShareList level i j w → Row level i
-row_of level items i j w order s = elim (least (length level) (SharesBehind level i) (behind_told level items i)) as (λ _. Row level i) [
+row_of level items i j w order s = elim (least (length level) (SharesBehind level i) (behind_known level items i)) as (λ _. Row level i) [
   | inl row ↦ row
   | inr none ↦ absurd (none j (second_low level i j w s) (order, (w, s)))
 ]
@@ -330,9 +332,9 @@ unambiguous level items none a =
       | inr order ↦ none i (first_low level i j a.w s) (row_of level items i j a.w order s)
     ]
 
--- it can be told of each level of items in their bounds whether it is ambiguous
+-- it is decidable of each level of items in their bounds whether it is ambiguous
 pub share_decided : (level : List (List Item)) → AreItems level → IsUnambiguous level ⊎ HasFirstShare level
-share_decided level items = elim (least (length level) (Row level) (row_told level items)) as (λ _. IsUnambiguous level ⊎ HasFirstShare level) [
+share_decided level items = elim (least (length level) (Row level) (row_known level items)) as (λ _. IsUnambiguous level ⊎ HasFirstShare level) [
   | inl rows ↦ inr (first_share level items rows)
   | inr none ↦ inl (unambiguous level items none)
 ]

@@ -1,4 +1,4 @@
--- It can be told of each list whether it spells a value.
+-- It is decidable of each list whether it spells a value.
 use Rattle.std.proofs.Common.{◌≡◌, ℕ, ◌<◌, ◌≤◌, ◌+◌, ◌*◌, ◌/◌, ◌%◌, ◌⊎◌, Bool, true, false, List, [], ◌∷◌, length, take, drop, zero, suc, Option, Some, None, Decides, bytes_eq, refl, sym, ◌∙◌, ap, subst, inl, inr, arith}
 use Rattle.std.proofs.lemmas.Bool.{cases_eq}
 use Rattle.std.proofs.lemmas.Bool.Decides.{nat_tests}
@@ -8,17 +8,17 @@ use Rattle.gs_chars.specs.Escapes.{is_plain, is_escaped, hex_value, BeginsWithSp
 use Rattle.gs_chars.proofs.TruthsAndLists.{true_or_not}
 use Rattle.gs_chars.proofs.Spellings.{unspelled, character_of}
 use Rattle.gs_grammar.specs.Words.{SpellsEach, SpellsMany}
-use Rattle.gs_grammar.proofs.Spelled.{spelling_bounds, Counts, counts_start, counts_step, counts_end, counts_none}
+use Rattle.gs_grammar.proofs.SpellingLemmas.{spelling_bounds, Counts, counts_start, counts_step, counts_end, counts_none}
 
 -- a test decides a fact
-pub told : (b : Bool) (fact : Type 0) → Decides b fact → fact ⊎ (fact → ⊥)
-told true fact d = inl (d.0 refl)
-told false fact d = inr (λ h. let f : false ≡ true = d.1 h in cc)
+pub known : (b : Bool) (fact : Type 0) → Decides b fact → fact ⊎ (fact → ⊥)
+known true fact d = inl (d.0 refl)
+known false fact d = inr (λ h. let f : false ≡ true = d.1 h in cc)
 
 pub same_list : (w v : List ℕ) → (w ≡ v) ⊎ (w ≡ v → ⊥)
-same_list w v = told (bytes_eq w v) (w ≡ v) (bytes_eq-Decides w v)
+same_list w v = known (bytes_eq w v) (w ≡ v) (bytes_eq-Decides w v)
 
--- the spelling at the front of a list, where it has one
+-- the spelling at the start of a list, where it has one
 record Front (w : List ℕ) : Type 0 where
   c : ℕ
   len : ℕ

@@ -1,19 +1,23 @@
 -- What the reader tests of a list of symbols tells whether it is a word of an item, and which value the word has.
-use Rattle.std.proofs.Common.{◌≡◌, ◌↔◌, ℕ, ◌<◌, ◌≤◌, ◌^◌, ◌&&◌, ◌⊎◌, Bool, true, false, IsTrue, nat_eq, List, length, refl, sym, ◌∙◌, ap, arith, leb, decimal, inl, inr}
+use Rattle.std.proofs.Common.{◌≡◌, ◌↔◌, ℕ, ◌<◌, ◌≤◌, ◌-◌, ◌^◌, ◌∷◌, ◌&&◌, ◌⊎◌, Bool, true, false, IsTrue, nat_eq, Option, Some, None, IfSome, IfNone, List, length, take, refl, sym, ◌∙◌, ap, arith, leb, decimal, inl, inr}
 use Rattle.std.proofs.lemmas.Bool.{leb-true, le-leb}
+use Rattle.std.proofs.lemmas.List.{length-take-le}
 use Rattle.std.proofs.lemmas.Bool.Decides.{nat_tests}
 use Rattle.std.proofs.lemmas.Fmt.{decimal_injective}
+use Rattle.std.specs.Option.{is_some}
 use Rattle.std.specs.Cmp.Derive.{both_true}
 use Rattle.gs_chars.specs.Characters.{are_digits}
+use Rattle.gs_chars.proofs.TruthsAndLists.{and_parts}
 use Rattle.gs_grammar.specs.declared.item.Item.{Item}
-use Rattle.gs_grammar.specs.declared.item.Item.TheVariants.{Pad, Int, Esc, NumPad, Num, Ascii7}
+use Rattle.gs_grammar.specs.declared.item.Item.TheVariants.{Pad, Digits, Int, Esc, NumPad, Num, NumStr, Ascii7}
 use Rattle.gs_grammar.specs.Items.{is_between, IsItem}
-use Rattle.gs_grammar.specs.Numerals.{IsPadded}
+use Rattle.gs_grammar.specs.NumeralsSupport.{IsPadded}
 use Rattle.gs_grammar.specs.Words.{Word, IsWord, SpellsEach, SpellsMany, WritesNumber, IsPacked, PacksMany, decimal_value, number_of_word}
-use Rattle.gs_grammar.specs.Languages.{Language}
-use Rattle.gs_grammar.proofs.Spelled.{spelled_fixes}
+use Rattle.gs_grammar.specs.Languages.{Language, IsOneBehind}
+use Rattle.gs_grammar.proofs.Ones.{padded_behind}
+use Rattle.gs_grammar.proofs.SpellingLemmas.{spelled_fixes}
 use Rattle.gs_grammar.proofs.Packs.{writes_one, writes_number, packed_fixes}
-use Rattle.gs_grammar.proofs.WordLaws.{int_bounds, numpad_bounds, num_bounds}
+use Rattle.gs_grammar.proofs.WordLaws.{int_bounds, numpad_bounds, num_bounds, numstr_bounds}
 use Rattle.gs_grammar.proofs.ItemWords.{language_is}
 
 pub between_is : (low high n : ℕ) → is_between low high n ≡ true → (low ≤ n) × (n ≤ high)
@@ -39,6 +43,37 @@ pad_test item n w answer i e =
     ) in
     rw i (of_language (Pad n) w answer both)
 
+pub digits_test : (lo hi : ℕ) (w : List ℕ) (answer : Bool) → answer ≡ (is_between lo hi (length w) && are_digits w) → IsTrue answer ↔ IsWord (Digits lo hi) w
+digits_test lo hi w answer e =
+    let both : IsTrue answer ↔ Language (Digits lo hi) w = (
+      λ h. let t : (is_between lo hi (length w) && are_digits w) ≡ true = sym e ∙ h in
+          let p = and_parts (is_between lo hi (length w)) (are_digits w) t in
+          let b = between_is lo hi (length w) p.0 in
+          (record { least = b.0; most = b.1 }, p.1),
+      λ h. e ∙ both_true (is_between_of lo hi (length w) h.0.least h.0.most) h.1,
+    ) in
+    of_language (Digits lo hi) w answer both
+
+-- digits behind a 1
+
+pub numstr_some : (bits hi count number : ℕ) (w : List ℕ) → 1 ≤ count → count ≤ hi → IsOneBehind count number → WritesNumber bits number w → IsWord (NumStr bits hi) w
+numstr_some bits hi count number w l m d e = (language_is (NumStr bits hi) w).1 (record { count = count; number = number; least = l; most = m; digits = d; written = e })
+
+pub numstr_none : (bits hi number : ℕ) (w : List ℕ) → WritesNumber bits number w → ((count : ℕ) → 1 ≤ count → count ≤ hi → IsOneBehind count number → ⊥) → IsWord (NumStr bits hi) w → ⊥
+numstr_none bits hi number w e none h =
+    let k = (language_is (NumStr bits hi) w).0 h in
+    let same = writes_one bits k.number number w k.written e in
+    none k.count k.least k.most (rw same at k.digits)
+
+pub numstr_no_bits : (bits hi : ℕ) (w : List ℕ) → ((number : ℕ) → WritesNumber bits number w → ⊥) → IsWord (NumStr bits hi) w → ⊥
+numstr_no_bits bits hi w none h = none (decimal_value (49 ∷ h.0)) h.1.2
+
+pub numstr_value : (bits hi count number : ℕ) (w out : List ℕ) → 1 ≤ count → count ≤ hi → IsOneBehind count number → WritesNumber bits number w → IsPadded count (number - 10 ^ count) out → Word (NumStr bits hi) out w
+numstr_value bits hi count number w out l m d e p =
+    let same = padded_behind count number out d p in
+    let c = p.count in
+    (record { least = omega arith; most = omega arith }, p.all_digits, rw same e)
+
 -- spelled characters
 
 -- two counts of what a list spells are one
@@ -60,13 +95,21 @@ esc_test item lo hi count w answer i s e =
     ) in
     rw i (of_language (Esc lo hi) w answer both)
 
-pub esc_value : (item : Item) (lo hi : ℕ) (w out : List ℕ) → item ≡ Esc lo hi → IsWord item w → SpellsEach out w → Word item out w
-esc_value item lo hi w out e h s =
-    let k : IsWord (Esc lo hi) w = rw e at h in
-    let same = spelled_fixes k.0 out w w k.1.1 s refl in
-    let l = ap length same in
-    let whole : Word (Esc lo hi) out w = (record { least = let b = k.1.0.least in omega arith; most = let b = k.1.0.most in omega arith }, s) in
-    rw e whole
+pub esc_some : (lo hi count : ℕ) (w out : List ℕ) → SpellsEach (take count out) w → count ≤ length out → (answer : Bool) → answer ≡ is_between lo hi count → answer ≡ true → Word (Esc lo hi) (take count out) w
+esc_some lo hi count w out s l answer e t =
+    let b = between_is lo hi count (sym e ∙ t) in
+    let long = length-take-le count out l in
+    (record { least = let x = b.0 in omega arith; most = let x = b.1 in omega arith }, s)
+
+pub esc_none : (lo hi count : ℕ) (w out : List ℕ) → SpellsEach (take count out) w → count ≤ length out → (answer : Bool) → answer ≡ is_between lo hi count → answer ≡ false → IsWord (Esc lo hi) w → ⊥
+esc_none lo hi count w out s l answer e t h =
+    let long = length-take-le count out l in
+    let many : SpellsMany count w = record { value = take count out; spelled = s; count = omega arith } in
+    let both : false ≡ true = sym t ∙ (esc_test (Esc lo hi) lo hi count w answer refl many e).1 h in
+    cc
+
+pub esc_no_value : (lo hi : ℕ) (w : List ℕ) → hi ≤ 64 → ((value : List ℕ) → length value ≤ 64 → SpellsEach value w → ⊥) → IsWord (Esc lo hi) w → ⊥
+esc_no_value lo hi w few none h = none h.0 (let m = h.1.0.most in omega arith) h.1.1
 
 -- decimal texts
 
@@ -101,6 +144,16 @@ num_test item bits greatest number w i h =
     ) in
     rw i (of_language (Num bits greatest) w (leb number greatest) both)
 
+pub numpad_none : (bits n number : ℕ) (w : List ℕ) → WritesNumber bits number w → (answer : Bool) → (IsTrue answer ↔ (number < 10 ^ n)) → answer ≡ false → IsWord (NumPad bits n) w → ⊥
+numpad_none bits n number w h answer e t i =
+    let both : false ≡ true = sym t ∙ (numpad_test (NumPad bits n) bits n number w answer refl h e).1 i in
+    cc
+
+pub num_none : (bits greatest number : ℕ) (w : List ℕ) → WritesNumber bits number w → greatest < number → IsWord (Num bits greatest) w → ⊥
+num_none bits greatest number w h high i =
+    let low = leb-true number greatest ((num_test (Num bits greatest) bits greatest number w refl h).1 i) in
+    omega arith
+
 pub numpad_writes : (item : Item) (bits n : ℕ) (w : List ℕ) → item ≡ NumPad bits n → IsWord item w → (number : ℕ) × WritesNumber bits number w
 numpad_writes item bits n w i h = let k : IsWord (NumPad bits n) w = rw i at h in (decimal_value k.0, k.1.2)
 
@@ -132,21 +185,33 @@ num_value item bits greatest number w out i h e t =
 abbrev pub IsBits : Item → ℕ → Type 0
 IsBits item bits = ((n : ℕ) × (item ≡ NumPad bits n)) ⊎ ((greatest : ℕ) × (item ≡ Num bits greatest))
 
-pub bits_number : (item : Item) (bits number : ℕ) (w : List ℕ) → IsBits item bits → WritesNumber bits number w → number ≡ number_of_word item w
+-- or of digits behind a 1
+abbrev pub IsNumber : Item → ℕ → Type 0
+IsNumber item bits = ((n : ℕ) × (item ≡ NumPad bits n)) ⊎ (((greatest : ℕ) × (item ≡ Num bits greatest)) ⊎ ((hi : ℕ) × (item ≡ NumStr bits hi)))
+
+pub bits_number : (item : Item) (bits number : ℕ) (w : List ℕ) → IsNumber item bits → WritesNumber bits number w → number ≡ number_of_word item w
 bits_number item bits number w (inl i) e =
     let number_is : number ≡ number_of_word (NumPad bits i.0) w = sym (writes_number bits number w e) in
     rw i.1 number_is
-bits_number item bits number w (inr i) e =
+bits_number item bits number w (inr (inl i)) e =
     let number_is : number ≡ number_of_word (Num bits i.0) w = sym (writes_number bits number w e) in
     rw i.1 number_is
+bits_number item bits number w (inr (inr i)) e =
+    let number_is : number ≡ number_of_word (NumStr bits i.0) w = sym (writes_number bits number w e) in
+    rw i.1 number_is
 
-pub bits_width : (item : Item) (bits : ℕ) → IsBits item bits → IsItem item → bits ≤ 64
+pub bits_width : (item : Item) (bits : ℕ) → IsNumber item bits → IsItem item → bits ≤ 64
 bits_width item bits (inl i) g = (numpad_bounds bits i.0 (rw i.1 at g)).1
-bits_width item bits (inr i) g = (num_bounds bits i.0 (rw i.1 at g)).1
+bits_width item bits (inr (inl i)) g = (num_bounds bits i.0 (rw i.1 at g)).1
+bits_width item bits (inr (inr i)) g = (numstr_bounds bits i.0 (rw i.1 at g)).2
 
-pub bits_writes : (item : Item) (bits : ℕ) (w : List ℕ) → IsBits item bits → IsWord item w → (number : ℕ) × WritesNumber bits number w
+numstr_writes : (item : Item) (bits hi : ℕ) (w : List ℕ) → item ≡ NumStr bits hi → IsWord item w → (number : ℕ) × WritesNumber bits number w
+numstr_writes item bits hi w i h = let k : IsWord (NumStr bits hi) w = rw i at h in (decimal_value (49 ∷ k.0), k.1.2)
+
+pub bits_writes : (item : Item) (bits : ℕ) (w : List ℕ) → IsNumber item bits → IsWord item w → (number : ℕ) × WritesNumber bits number w
 bits_writes item bits w (inl i) h = numpad_writes item bits i.0 w i.1 h
-bits_writes item bits w (inr i) h = num_writes item bits i.0 w i.1 h
+bits_writes item bits w (inr (inl i)) h = num_writes item bits i.0 w i.1 h
+bits_writes item bits w (inr (inr i)) h = numstr_writes item bits i.0 w i.1 h
 
 -- packed characters
 
@@ -179,3 +244,27 @@ ascii_value item lo hi bits w out i h p =
     let l = ap length same in
     let whole : Word (Ascii7 lo hi bits) out w = (record { least = let b = k.1.0.least in omega arith; most = let b = k.1.0.most in omega arith }, p, k.1.2) in
     rw i whole
+
+pub ascii_unpacked : (lo hi bits : ℕ) (w out : List ℕ) (answer : Bool) → (IsTrue answer ↔ IsWord (Ascii7 lo hi bits) w) → answer ≡ true → IsPacked out w → Word (Ascii7 lo hi bits) out w
+ascii_unpacked lo hi bits w out answer e t p = ascii_value (Ascii7 lo hi bits) lo hi bits w out refl (e.0 t) p
+
+-- a list is a word exactly where a reader finds what the word is
+
+known_none : (item : Item) (w : List ℕ) (answer : Bool) → answer ≡ false → (IsWord item w → ⊥) → IsTrue answer ↔ IsWord item w
+known_none item w answer e none = (λ t. absurd (let f : false ≡ true = sym e ∙ t in cc), λ i. absurd (none i))
+
+pub esc_known : (lo hi : ℕ) (w out : List ℕ) (found : Option ℕ) (answer : Bool) → answer ≡ is_some found → IfSome found (λ count. Word (Esc lo hi) (take count out) w) → IfNone found (IsWord (Esc lo hi) w → ⊥) → IsTrue answer ↔ IsWord (Esc lo hi) w
+esc_known lo hi w out (Some count) answer e some none = (λ t. (take count out, some), λ i. e)
+esc_known lo hi w out None answer e some none = known_none (Esc lo hi) w answer e none
+
+pub numpad_known : (bits n : ℕ) (w : List ℕ) (found : Option ℕ) (answer : Bool) → answer ≡ is_some found → IfSome found (λ number. number < 10 ^ n) → IfSome found (λ number. WritesNumber bits number w) → IfNone found (IsWord (NumPad bits n) w → ⊥) → IsTrue answer ↔ IsWord (NumPad bits n) w
+numpad_known bits n w (Some number) answer e small written none = (λ t. (language_is (NumPad bits n) w).1 (record { number = number; small = small; written = written }), λ i. e)
+numpad_known bits n w None answer e small written none = known_none (NumPad bits n) w answer e none
+
+pub num_known : (bits greatest : ℕ) (w : List ℕ) (found : Option ℕ) (answer : Bool) → answer ≡ is_some found → IfSome found (λ number. number ≤ greatest) → IfSome found (λ number. WritesNumber bits number w) → IfNone found (IsWord (Num bits greatest) w → ⊥) → IsTrue answer ↔ IsWord (Num bits greatest) w
+num_known bits greatest w (Some number) answer e small written none = (λ t. (language_is (Num bits greatest) w).1 (record { number = number; small = small; written = written }), λ i. e)
+num_known bits greatest w None answer e small written none = known_none (Num bits greatest) w answer e none
+
+pub numstr_known : (bits hi : ℕ) (w : List ℕ) (found : Option (ℕ × ℕ)) (answer : Bool) → answer ≡ is_some found → IfSome found (λ r. 1 ≤ r.1) → IfSome found (λ r. r.1 ≤ hi) → IfSome found (λ r. IsOneBehind r.1 r.0) → IfSome found (λ r. WritesNumber bits r.0 w) → IfNone found (IsWord (NumStr bits hi) w → ⊥) → IsTrue answer ↔ IsWord (NumStr bits hi) w
+numstr_known bits hi w (Some r) answer e least most digits written none = (λ t. numstr_some bits hi r.1 r.0 w least most digits written, λ i. e)
+numstr_known bits hi w None answer e least most digits written none = known_none (NumStr bits hi) w answer e none

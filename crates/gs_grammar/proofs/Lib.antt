@@ -1,5 +1,6 @@
-pub mod Spelled
+pub mod SpellingLemmas
 pub mod Numbers
+pub mod Ones
 pub mod WordLaws
 pub mod ItemWords
 pub mod ItemTests
@@ -7,11 +8,11 @@ pub mod Ways
 pub mod Cuts
 pub mod Packs
 pub mod Rooms
-pub mod Held
+pub mod HoldLemmas
 pub mod DecidedSpellings
 pub mod OneReading
-pub mod Written
+pub mod WritingLemmas
 pub mod Options
-pub mod Counting
+pub mod CountLemmas
 pub mod DecidedWords
 pub mod DecidedShares

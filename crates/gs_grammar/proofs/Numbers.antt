@@ -9,7 +9,8 @@ use Rattle.std.proofs.lemmas.Str.Parse.{IsNumeralModel, numerals_by_weight, digi
 use Rattle.std.proofs.lemmas.Fmt.{digits_value-decimal, digits_decimal, decimal-digits_value, length-decimal-le, decimal_nonempty, first_decimal, decimal_digit}
 use Rattle.gs_chars.specs.Characters.{are_digits, is_digit}
 use Rattle.gs_grammar.specs.Words.{decimal_value}
-use Rattle.gs_grammar.specs.Numerals.{IsPadded, WritesSmall}
+use Rattle.gs_grammar.specs.Numerals.{WritesSmall}
+use Rattle.gs_grammar.specs.NumeralsSupport.{IsPadded}
 
 pub own : IsNumeralModel (λ ds. are_digits ds ≡ true) decimal_value
 own = numerals_by_weight _ (search rules) decimal_value (search rules)
@@ -20,7 +21,7 @@ value_after number [] = number
 value_after number (digit ∷ digits) = value_after (10 * number + (digit - 48)) digits
 
 -- digits behind a number count as much as they do alone
-after_is : (number : ℕ) (digits : List ℕ) → value_after number digits ≡ number * 10 ^ length digits + decimal_value digits
+pub after_is : (number : ℕ) (digits : List ℕ) → value_after number digits ≡ number * 10 ^ length digits + decimal_value digits
 after_is number [] = omega arith
 after_is number (digit ∷ digits) =
     let r = after_is (10 * number + (digit - 48)) digits in
@@ -83,12 +84,12 @@ pub value_step : (symbols : List ℕ) (i number : ℕ) → i < length symbols �
 value_step symbols i number l = ap (value_after number) (drop_more symbols i 0 l)
 
 -- one digit more
-pub value_more : (symbols : List ℕ) (i number more : ℕ) → i < length symbols → value_after number (drop i symbols) ≡ decimal_value symbols → more ≡ 10 * number + (get_or symbols i 0 - 48) → value_after more (drop (i + 1) symbols) ≡ decimal_value symbols
-value_more symbols i number more l v e = rw e (sym (value_step symbols i number l) ∙ v)
+pub value_more : (symbols : List ℕ) (i number more whole : ℕ) → i < length symbols → value_after number (drop i symbols) ≡ whole → more ≡ 10 * number + (get_or symbols i 0 - 48) → value_after more (drop (i + 1) symbols) ≡ whole
+value_more symbols i number more whole l v e = rw e (sym (value_step symbols i number l) ∙ v)
 
 -- all digits
-pub value_whole : (symbols : List ℕ) (i number : ℕ) → length symbols ≤ i → value_after number (drop i symbols) ≡ decimal_value symbols → number ≡ decimal_value symbols
-value_whole symbols i number l v = let none : drop i symbols ≡ [] = drop_all i symbols l in rw none at v
+pub value_whole : (symbols : List ℕ) (i number whole : ℕ) → length symbols ≤ i → value_after number (drop i symbols) ≡ whole → number ≡ whole
+value_whole symbols i number whole l v = let none : drop i symbols ≡ [] = drop_all i symbols l in rw none at v
 
 -- one symbol more that is a digit
 pub digits_more : (symbols : List ℕ) (i : ℕ) → i < length symbols → is_digit (get_or symbols i 0) ≡ true → are_digits (drop i symbols) ≡ are_digits symbols → are_digits (drop (i + 1) symbols) ≡ are_digits symbols
@@ -135,7 +136,7 @@ same_digits xs ys l a b e = (same_after 0 0 xs ys l a b (after_zero xs ∙ e ∙
 pub value_below : (ds : List ℕ) (n : ℕ) → are_digits ds ≡ true → length ds ≡ n → decimal_value ds < 10 ^ n
 value_below ds n d l = digits_value_short own ds n d (omega arith)
 
--- writing the digits of a number, zeros in front
+-- writing the digits of a number, leading zeros
 
 value_push : (n : ℕ) (xs : List ℕ) (d : ℕ) → value_after n (xs ++ d ∷ []) ≡ 10 * value_after n xs + (d - 48)
 value_push n [] d = refl
@@ -181,7 +182,7 @@ padded_from n number (suc place) digits p = padded_from n number place (digits +
 pub some_padded : (n number : ℕ) → number < 10 ^ n → (digits : List ℕ) × IsPadded n number digits
 some_padded n number h = let r = padded_from n number n [] (pads_start n number h) in (r.0, pads_end n number r.0 r.1)
 
--- the last digits of a number, written behind a place of a list, and the number in front of them
+-- the last digits of a number, written behind a place of a list, and the number before them
 pub record Fills (n number place left : ℕ) (digits : List ℕ) : Type 0 where
   pub back : List ℕ
   pub behind : List ℕ
@@ -231,6 +232,11 @@ fills_more n number left digits f some =
     let turn = mul_comm (10 ^ n) left in
     omega arith
 
+-- the digits of a number that has no more
+pub fills_whole : (n number left : ℕ) (digits : List ℕ) → Fills n number 0 left digits → number < 10 ^ n → IsPadded n number (take n digits)
+fills_whole n number zero digits f small = fills_end n number digits f
+fills_whole n number (suc left) digits f small = absurd (let more = fills_more n number (suc left) digits f (omega arith) in omega arith)
+
 -- the digits of a number, as many as its decimal text has, are that text
 
 pub below_count : (number : ℕ) → number < 2 ^ 64 → number < 10 ^ length (decimal number)
@@ -243,8 +249,8 @@ pub padded_decimal : (number n : ℕ) (digits : List ℕ) → number < 2 ^ 64 �
 padded_decimal number n digits small e p =
     same_digits digits (decimal number) (p.count ∙ e) p.all_digits (digits_of_decimal number small) (p.value ∙ sym (value_decimal number small))
 
-pub too_great : (symbols : List ℕ) (i number limit : ℕ) → i < length symbols → value_after number (drop i symbols) ≡ decimal_value symbols → limit ≤ 10 * number + (get_or symbols i 0 - 48) → decimal_value symbols < limit → ⊥
-too_great symbols i number limit l v h small =
+pub too_great : (symbols : List ℕ) (i number limit whole : ℕ) → i < length symbols → value_after number (drop i symbols) ≡ whole → limit ≤ 10 * number + (get_or symbols i 0 - 48) → whole < limit → ⊥
+too_great symbols i number limit whole l v h small =
     let s = value_step symbols i number l in
     let g = value_grows (10 * number + (get_or symbols i 0 - 48)) (drop (i + 1) symbols) in
     omega arith

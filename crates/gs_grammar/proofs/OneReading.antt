@@ -38,7 +38,7 @@ not_two level w option values one two =
     let b = one.only two.other in
     two.differ (record { option = a.option ∙ sym b.option; words = a.words ∙ sym b.words })
 
--- it can be told of two lists of words whether they are one
+-- it is decidable of two lists of words whether they are one
 same_words : (words words' : List (List ℕ)) → (words ≡ words') ⊎ (words ≡ words' → ⊥)
 same_words [] [] = inl refl
 same_words [] (w ∷ words) = inr (λ e. cc)

@@ -11,7 +11,7 @@ use Rattle.gs_chars.proofs.TruthsAndLists.{and_parts}
 use Rattle.gs_bits.specs.Bits.{AreBits, number_of, bits_of}
 use Rattle.gs_bits.specs.BitLaws.{length-bits_of, AreBits-bits_of, number_of-bits_of, number_of-append, number_of-below, bits_of-number_of}
 use Rattle.gs_grammar.specs.Words.{WritesNumber, IsPacked, PacksMany}
-use Rattle.gs_grammar.specs.Numerals.{HasCode, NoCode}
+use Rattle.gs_grammar.specs.NumeralsSupport.{HasCode, NoCode}
 
 pub writes_length : (bits number : ℕ) (w : List ℕ) → WritesNumber bits number w → length w ≡ bits
 writes_length bits number w h = ap length h.written ∙ length-bits_of bits number

@@ -1,7 +1,8 @@
 -- In how many ways a list of symbols is derived, counted up to two: by the items of an option, and by the options of a level.
 use Rattle.std.proofs.Common.{◌≡◌, ℕ, ◌<◌, List}
 use Rattle.gs_grammar.specs.declared.item.Item.{Item}
-use Rattle.gs_grammar.specs.Derivations.{IsDerived, OneWay, TwoWays, Derivation, OneDerivation, TwoDerivations}
+use Rattle.gs_grammar.specs.Derivations.{IsDerived, Derivation, OneDerivation, TwoDerivations}
+use Rattle.gs_grammar.specs.DerivationsSupport.{OneWay, TwoWays}
 use Rattle.gs_grammar.specs.Searches.{AtCut}
 
 -- in no way, in exactly one, or in two and more

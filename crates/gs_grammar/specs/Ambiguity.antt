@@ -1,5 +1,5 @@
 -- Ambiguous levels: lists of symbols with two different derivations, and how a text shows such a list. What a load of tables
--- refuses as ambiguous is told by these.
+-- rejects as ambiguous is given by these.
 use Rattle.std.specs.Prelude.{◌≡◌, ℕ, ◌+◌, ◌<◌, ◌≤◌, ◌⊎◌, Bool, if◌then◌else◌, List, All, Some, map}
 use Rattle.std.specs.List.{slice_get}
 use Rattle.gs_grammar.specs.declared.item.Item.{Item}
@@ -7,17 +7,17 @@ use Rattle.gs_grammar.specs.Derivations.{Derivation, AreSame, TwoDerivations}
 use Rattle.gs_grammar.specs.Items.{IsItem}
 use Rattle.gs_grammar.specs.Levels.{LevelForm, item_lists}
 
--- the level is ambiguous: some list of symbols has two different derivations in it
+-- trusted, own: the level is ambiguous: some list of symbols has two different derivations in it
 pub record IsAmbiguous (level : List (List Item)) : Type 0 where
   pub w : List ℕ
   pub two : TwoDerivations level w
 
--- the level is not ambiguous: no list of symbols has two different derivations in it
+-- trusted, own: the level is not ambiguous: no list of symbols has two different derivations in it
 abbrev pub IsUnambiguous : List (List Item) → Type 0
 IsUnambiguous level = IsAmbiguous level → ⊥
 
--- The two options share the list: it has a derivation by each. Two derivations by different options are different; an option
--- shares a list with itself where the list has two different derivations by it.
+-- trusted, own: The two options share the list: it has a derivation by each. Two derivations by different options are
+-- different; an option shares a list with itself where the list has two different derivations by it.
 pub record ShareList (level : List (List Item)) (i j : ℕ) (w : List ℕ) : Type 0 where
   pub one : Derivation level w
   pub other : Derivation level w
@@ -25,32 +25,33 @@ pub record ShareList (level : List (List Item)) (i j : ℕ) (w : List ℕ) : Typ
   pub by_other : other.option ≡ j
   pub differ : AreSame level w one other → ⊥
 
--- a text that shows symbols: the bytes `0` and `1` for the numbers of a bit level, and the symbols of any other as they are
+-- trusted, own: a text that shows symbols: the bytes `0` and `1` for the numbers of a bit level, and the symbols of any
+-- other as they are
 abbrev pub shown_symbols : Bool → List ℕ → List ℕ
 shown_symbols bit_level w = if bit_level then map (λ bit. bit + 48) w else w
 
--- the pair k, l stands before the pair i, j: in the order of the first option, and then of the second
+-- trusted, own: the pair k, l stands before the pair i, j: in the order of the first option, and then of the second
 abbrev pub StandsBefore : ℕ → ℕ → ℕ → ℕ → Type 0
 StandsBefore k l i j = (k < i) ⊎ ((k ≡ i) × (l < j))
 
--- Options i and j, i at most j, are the first pair of the level that shares a list, and they share this one.
+-- trusted, own: Options i and j, i at most j, are the first pair of the level that shares a list, and they share this one.
 pub record IsFirstShare (level : List (List Item)) (i j : ℕ) (w : List ℕ) : Type 0 where
   pub order : i ≤ j
   pub share : ShareList level i j w
   pub first : (k l : ℕ) (v : List ℕ) → k ≤ l → StandsBefore k l i j → ShareList level k l v → ⊥
 
--- some pair of options is the first that shares a list
+-- trusted, own: some pair of options is the first that shares a list
 pub record HasFirstShare (level : List (List Item)) : Type 0 where
   pub i : ℕ
   pub j : ℕ
   pub w : List ℕ
   pub share : IsFirstShare level i j w
 
--- each item of each option keeps its bounds
+-- trusted, own: each item of each option keeps its bounds
 abbrev pub AreItems : List (List Item) → Type 0
 AreItems level = (k : ℕ) (items : List Item) → slice_get level k ≡ Some items → All IsItem items
 
--- Options i and j are the first pair of the level that shares a list, and the text shows one that they share.
+-- trusted, own: Options i and j are the first pair of the level that shares a list, and the text shows one that they share.
 pub record ShowsFirstShare (level : LevelForm) (i j : ℕ) (text : List ℕ) : Type 0 where
   pub w : List ℕ
   pub share : IsFirstShare (item_lists level.options) i j w

@@ -5,62 +5,40 @@ use Rattle.std.specs.List.{concat, slice_get}
 use Rattle.gs_grammar.specs.declared.item.Item.{Item}
 use Rattle.gs_grammar.specs.Words.{Word, number_of_word}
 
--- each item has one word, with its value
+-- trusted, TDT 2.0, section 3: each item has one word, with its value
 pub data EachWord : List Item → List (List ℕ) → List (List ℕ) → Type 0 where
   no_item : EachWord [] [] []
   one_item : (item : Item) (value w : List ℕ) (items : List Item) (values words : List (List ℕ)) → Word item value w → EachWord items values words → EachWord (item ∷ items) (value ∷ values) (w ∷ words)
 
--- the words are one of each item, with these values, and joined they are the whole list
+-- trusted, TDT 2.0, section 3: the words are one of each item, with these values, and joined they are the whole list
 pub record Derives (items : List Item) (w : List ℕ) (values words : List (List ℕ)) : Type 0 where
   pub each : EachWord items values words
   pub joined : concat words ≡ w
 
--- the items derive the list
+-- trusted, own: the items derive the list
 pub record IsDerived (items : List Item) (w : List ℕ) : Type 0 where
   pub values : List (List ℕ)
   pub words : List (List ℕ)
   pub derives : Derives items w values words
 
--- the items derive the list, with these values
-pub record HasValues (items : List Item) (w : List ℕ) (values : List (List ℕ)) : Type 0 where
-  pub words : List (List ℕ)
-  pub derives : Derives items w values words
-
--- the numbers of the words, one for each item
+-- trusted, own: the numbers of the words, one for each item
 abbrev pub numbers_of_words : List Item → List (List ℕ) → List ℕ
 numbers_of_words (item ∷ items) (w ∷ words) = number_of_word item w ∷ numbers_of_words items words
 numbers_of_words _ _ = []
 
--- the items derive the list by words of these numbers
+-- trusted, own: the items derive the list by words of these numbers
 pub record HasNumbers (items : List Item) (w numbers : List ℕ) : Type 0 where
   pub values : List (List ℕ)
   pub words : List (List ℕ)
   pub derives : Derives items w values words
   pub numbers_are : numbers ≡ numbers_of_words items words
 
--- the answer whether the items derive the list: where they do, by words of these numbers
+-- trusted, own: the answer whether the items derive the list: where they do, by words of these numbers
 abbrev pub GivesNumbers : Bool → List Item → List ℕ → List ℕ → Type 0
 GivesNumbers answer items w numbers = MatchBool answer (HasNumbers items w numbers) (IsDerived items w → ⊥)
 
--- the items derive the list in one way alone
-pub record OneWay (items : List Item) (w : List ℕ) : Type 0 where
-  pub values : List (List ℕ)
-  pub words : List (List ℕ)
-  pub derives : Derives items w values words
-  pub only : (values' words' : List (List ℕ)) → Derives items w values' words' → words' ≡ words
-
--- the items derive the list by two different lists of words
-pub record TwoWays (items : List Item) (w : List ℕ) : Type 0 where
-  pub values : List (List ℕ)
-  pub words : List (List ℕ)
-  pub derives : Derives items w values words
-  pub values' : List (List ℕ)
-  pub words' : List (List ℕ)
-  pub derives' : Derives items w values' words'
-  pub differ : words ≡ words' → ⊥
-
--- a derivation of the list in the level: the number of an option, and one word of each of its items, which joined are the
--- list; and the values of the words
+-- trusted, TDT 2.0, section 3: a derivation of the list in the level: the number of an option, and one word of each of its
+-- items, which joined are the list; and the values of the words
 pub record Derivation (level : List (List Item)) (w : List ℕ) : Type 0 where
   pub option : ℕ
   pub items : List Item
@@ -69,18 +47,18 @@ pub record Derivation (level : List (List Item)) (w : List ℕ) : Type 0 where
   pub of_level : slice_get level option ≡ Some items
   pub derives : Derives items w values words
 
--- two derivations are one where the option and the words are the same
+-- trusted, own: two derivations are one where the option and the words are the same
 pub record AreSame (level : List (List Item)) (w : List ℕ) (one other : Derivation level w) : Type 0 where
   pub option : one.option ≡ other.option
   pub words : one.words ≡ other.words
 
--- the list has two different derivations
+-- trusted, own: the list has two different derivations
 pub record TwoDerivations (level : List (List Item)) (w : List ℕ) : Type 0 where
   pub one : Derivation level w
   pub other : Derivation level w
   pub differ : AreSame level w one other → ⊥
 
--- the list has one derivation, and this is its option and these are its values
+-- trusted, own: the list has one derivation, and this is its option and these are its values
 pub record OneDerivation (level : List (List Item)) (w : List ℕ) (option : ℕ) (values : List (List ℕ)) : Type 0 where
   pub derivation : Derivation level w
   pub of_option : derivation.option ≡ option

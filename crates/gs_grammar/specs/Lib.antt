@@ -1,12 +1,16 @@
 pub mod Limits
 pub mod Items
+pub mod ItemsSupport
 pub mod Words
 pub mod Languages
 pub mod Numerals
+pub mod NumeralsSupport
 pub mod Levels
+pub mod LevelsSupport
 pub mod Derivations
+pub mod DerivationsSupport
 pub mod Ambiguity
 pub mod Counts
 pub mod Searches
-pub mod Writing
+pub mod WrittenWords
 pub mod Laws

@@ -1,6 +1,6 @@
 ghost use Rattle.std.specs.Prelude.{◌≡◌, ◌↔◌, ◌≤◌, ◌++◌, ◌<◌, ℕ, List, IsTrue, IfSome, IfNone, IfOk, length, replicate};
 ghost use Rattle.gs_grammar.specs.Words.{WritesNumber, IsPacked, PacksMany};
-ghost use Rattle.gs_grammar.specs.Numerals.{HasCode, NoCode};
+ghost use Rattle.gs_grammar.specs.NumeralsSupport.{HasCode, NoCode};
 
 use gs_chars::{CharSet, Memory, Text};
 use std::alloc::Global;

@@ -1,4 +1,4 @@
-ghost use Rattle.std.specs.Prelude.{◌≡◌, ◌<◌, ◌≤◌, ◌^◌, ◌&&◌, nat_le, nat_lt, true, false};
+ghost use Rattle.std.specs.Prelude.{◌≡◌, ◌*◌, ◌<◌, ◌≤◌, ◌^◌, ◌&&◌, nat_le, nat_lt, true, false};
 ghost use Rattle.std.specs.List.{list_all};
 ghost use Rattle.gs_grammar.specs.Items.{is_in_bounds, is_symbol, is_between, size_of, shortest_of};
 
@@ -12,6 +12,8 @@ pub enum Item {
     Lit(Text),
     /// On a text level, exactly `n` digits, 1 to 18.
     Pad { n: u8 },
+    /// On a text level, `lo` to `hi` digits, 1 to 18.
+    Digits { lo: u8, hi: u8 },
     /// On a text level, the decimal text, without leading zeros, of a number of at most `max`.
     Int { max: u64 },
     /// On a text level, `lo` to `hi` characters of the set of 82, 1 to 64, each in its spelling of EPC URIs.
@@ -21,6 +23,9 @@ pub enum Item {
     /// On a bit level, a number of at most `max`, which is below 2 to the `bits`, in `bits` bits, 1 to 64. Its value is the
     /// decimal text without leading zeros.
     Num { bits: u8, max: u64 },
+    /// On a bit level, 1 to `hi` digits, at most 12: the number of the digit 1 followed by them, in `bits` bits, at most 64. Twice
+    /// 10 to the `hi` is at most 2 to the `bits`.
+    NumStr { bits: u8, hi: u8 },
     /// On a bit level, `lo` to `hi` characters of the set of 82, 7 bits of each, then zeros up to `bits` bits, at most 448.
     Ascii7 { lo: u8, hi: u8, bits: u16 },
     /// On a bit level, `a` zeros or `b` zeros, 1 to 64. Its value is empty.
@@ -75,6 +80,23 @@ fn is_num(bits: u8, max: u64) -> bool
     1 <= bits && bits <= 64 && fits_bits(max, bits)
 }
 
+/// Whether an item `Digits` keeps its bounds.
+fn is_digits(lo: u8, hi: u8) -> bool
+    ensures { result ≡ is_in_bounds false (Item.Digits lo hi) }
+{
+    1 <= lo && lo <= hi && hi <= 18
+}
+
+/// Whether an item `NumStr` keeps its bounds.
+fn is_num_str(bits: u8, hi: u8) -> bool
+    ensures { result ≡ is_in_bounds true (Item.NumStr bits hi) }
+{
+    if !is_within(1, 12, usize::from(hi)) {
+        return false;
+    }
+    bits <= 64 && fits_bits(2 * 10u64.pow(u32::from(hi)) - 1, bits)
+}
+
 /// Whether an item `Ascii7` keeps its bounds.
 fn is_ascii7(lo: u8, hi: u8, bits: u16) -> bool
     ensures { result ≡ is_in_bounds true (Item.Ascii7 lo hi bits) }
@@ -93,6 +115,7 @@ impl Item {
                 is_within(1, 64, symbols.len()) && are_literal_symbols(bit_level, symbols)
             }
             Item::Pad { n } => !bit_level && is_within(1, 18, usize::from(*n)),
+            Item::Digits { lo, hi } => !bit_level && is_digits(*lo, *hi),
             Item::Int { max } => !bit_level && *max <= u64::MAX,
             Item::Esc { lo, hi } => !bit_level && are_bounds(*lo, *hi),
             Item::NumPad { bits, n } => {
@@ -101,6 +124,7 @@ impl Item {
                     && is_within(1, 18, usize::from(*n))
             }
             Item::Num { bits, max } => bit_level && is_num(*bits, *max),
+            Item::NumStr { bits, hi } => bit_level && is_num_str(*bits, *hi),
             Item::Ascii7 { lo, hi, bits } => bit_level && is_ascii7(*lo, *hi, *bits),
             Item::Fill { a, b } => bit_level && are_bounds(*a, *b),
         }
@@ -114,9 +138,12 @@ impl Item {
         match self {
             Item::Lit(literal) => literal.as_bytes().len(),
             Item::Pad { n } => usize::from(*n),
+            Item::Digits { hi, .. } => usize::from(*hi),
             Item::Int { max } => digit_count(*max),
             Item::Esc { hi, .. } => 3 * usize::from(*hi),
-            Item::NumPad { bits, .. } | Item::Num { bits, .. } => usize::from(*bits),
+            Item::NumPad { bits, .. } | Item::Num { bits, .. } | Item::NumStr { bits, .. } => {
+                usize::from(*bits)
+            }
             Item::Ascii7 { bits, .. } => usize::from(*bits),
             Item::Fill { b, .. } => usize::from(*b),
         }
@@ -128,7 +155,7 @@ impl Item {
     {
         match self {
             Item::Int { .. } => 1,
-            Item::Esc { lo, .. } => usize::from(*lo),
+            Item::Digits { lo, .. } | Item::Esc { lo, .. } => usize::from(*lo),
             Item::Fill { a, .. } => usize::from(*a),
             _ => self.size(),
         }

@@ -4,22 +4,24 @@ ghost use Rattle.gs_grammar.specs.Ambiguity.{AreItems, HasFirstShare, IsUnambigu
 ghost use Rattle.gs_grammar.specs.Words.{IsWord};
 ghost use Rattle.gs_grammar.specs.Languages.{Language};
 ghost use Rattle.gs_grammar.specs.Counts.{Counted};
-ghost use Rattle.gs_grammar.specs.Laws.{DigitsWriteTheirNumber, NoWordIsEmpty, NumeralWritesItsNumber, OneDerivationIsNotTwo, OneDerivationIsOneReading, UnambiguousLevelsReadAlone, WordFixesValue, WrittenIsDerived, WrittenIsRead};
+ghost use Rattle.gs_grammar.specs.Laws.{DigitsBehindOneWriteTheirNumber, DigitsWriteTheirNumber, NoWordIsEmpty, NumeralWritesItsNumber, OneDerivationIsNotTwo, OneDerivationIsOneReading, UnambiguousLevelsReadAlone, WordFixesValue, WrittenIsDerived, WrittenIsRead};
 
 /// A word fixes its value: no list of symbols is a word of one item with two values.
 pub fn word_fixes_its_value()
     ensures { WordFixesValue }
 {}
 
-/// The words of each item, told without their values.
+/// The words of each item, without their values.
 pub fn words_without_values()
     ensures { (item : Item) (w : List ℕ) → IsWord item w ↔ Language item w }
 {}
 
-/// The number of a whole word, of an item that is a number in bits, is the one that its value writes.
+/// The number of a whole word, of an item that is a number in bits, is the one that its value writes, behind a 1 where the item
+/// is `NumStr`.
 pub fn word_writes_its_value()
     ensures digits { DigitsWriteTheirNumber }
     ensures numeral { NumeralWritesItsNumber }
+    ensures behind_one { DigitsBehindOneWriteTheirNumber }
 {}
 
 /// No word of an item that keeps its bounds is empty.
@@ -54,7 +56,7 @@ pub fn unambiguous_levels_read_alone()
     ensures { UnambiguousLevelsReadAlone }
 {}
 
-/// It can be told of each level of items in their bounds whether it is ambiguous: it is not, or some pair of its options is
+/// It is decidable of each level of items in their bounds whether it is ambiguous: it is not, or some pair of its options is
 /// the first that shares a list.
 pub fn each_level_is_judged()
     ensures { (level : List (List Item)) → AreItems level → IsUnambiguous level ⊎ HasFirstShare level }

@@ -1,21 +1,33 @@
-ghost use Rattle.std.specs.Prelude.{◌≡◌, ◌↔◌, ◌^◌, ◌<◌, ◌≤◌, List, IsTrue, IfSome, IfNone, IfOk, SomeIff, length, decimal, nat_lt};
-ghost use Rattle.gs_grammar.specs.Numerals.{IsPadded, NoNumeral, WritesSmall};
+ghost use Rattle.std.specs.Prelude.{◌≡◌, ◌↔◌, ◌^◌, ◌*◌, ◌+◌, ℕ, ◌<◌, ◌≤◌, List, IsTrue, IfSome, IfNone, IfOk, SomeIff, length, decimal, nat_lt};
+ghost use Rattle.gs_grammar.specs.Numerals.{NoNumeral, WritesSmall};
+ghost use Rattle.gs_grammar.specs.NumeralsSupport.{IsPadded, number_behind};
+ghost use Rattle.gs_grammar.specs.Languages.{IsOneBehind};
 ghost use Rattle.gs_grammar.specs.Words.{decimal_value};
-ghost use Rattle.gs_grammar.specs.Writing.{has_leading_zero};
+ghost use Rattle.gs_grammar.specs.WrittenWords.{has_leading_zero};
 
 use crate::wide::WideNumber;
 use gs_chars::{CharSet, Memory, Text};
 use std::alloc::Global;
+
+/// The number of decimal digits of a number behind the first.
+pub fn digits_behind(number: u64) -> u32
+    ensures count { result + 1 ≡ length (decimal number) }
+    ensures few { result ≤ 19 }
+    ensures from { 0 < number → 10 ^ result ≤ number }
+    ensures below { number < 10 * 10 ^ result }
+{
+    match number.checked_ilog10() {
+        Some(power) => power,
+        None => 0,
+    }
+}
 
 /// The number of decimal digits of a number.
 pub fn digit_count(number: u64) -> usize
     ensures count { result ≡ length (decimal number) }
     ensures few { result ≤ 20 }
 {
-    match number.checked_ilog10() {
-        Some(power) => power as usize + 1,
-        None => 1,
-    }
+    digits_behind(number) as usize + 1
 }
 
 /// Whether a number has at most n digits. n is at most 18.
@@ -33,11 +45,30 @@ pub fn has_leading_zero(symbols: &[u8]) -> bool
     symbols.len() > 1 && symbols[0] == b'0'
 }
 
-/// The number that decimal digits write. `None` comes exactly where it is not below 2 to the 64.
-pub fn decimal_number(digits: &[u8]) -> Option<u64>
-    ensures { SomeIff result (decimal_value digits.now < 2 ^ 64) (decimal_value digits.now) }
+/// How many digits stand behind the first of a number, where that is a 1. `None` comes exactly where the digits of the number are
+/// no 1 and from 1 to `most` behind it. `most` is at most 12.
+pub fn digits_behind_one(number: u64, most: u8) -> Option<u8>
+    requires { most ≤ 12 }
+    ensures least { IfSome result (λ count. 1 ≤ count) }
+    ensures most { IfSome result (λ count. count ≤ most) }
+    ensures digits { IfSome result (λ count. IsOneBehind count number) }
+    ensures none { IfNone result ((count : ℕ) → 1 ≤ count → count ≤ most → IsOneBehind count number → ⊥) }
 {
-    let mut number: u64 = 0;
+    let count = digits_behind(number);
+    if count == 0 || count > u32::from(most) {
+        return None;
+    }
+    if number >= 2 * 10u64.pow(count) {
+        return None;
+    }
+    Some(count as u8)
+}
+
+/// The number that a number and decimal digits behind it write. `None` comes exactly where it is not below 2 to the 64.
+pub fn decimal_number_behind(front: u64, digits: &[u8]) -> Option<u64>
+    ensures { SomeIff result (number_behind front digits.now < 2 ^ 64) (number_behind front digits.now) }
+{
+    let mut number = front;
     for digit in digits {
         let shifted = number.checked_mul(10)?;
         number = shifted.checked_add(u64::from(digit.saturating_sub(b'0')))?;
@@ -45,22 +76,29 @@ pub fn decimal_number(digits: &[u8]) -> Option<u64>
     Some(number)
 }
 
-/// The number that decimal digits write. `None` comes exactly where it is not below 2 to the 256.
-fn wide_decimal_number(digits: &[u8]) -> Option<WideNumber>
-    ensures { SomeIff result (decimal_value digits.now < 2 ^ 256) (decimal_value digits.now) }
+/// The number that decimal digits write. `None` comes exactly where it is not below 2 to the 64.
+pub fn decimal_number(digits: &[u8]) -> Option<u64>
+    ensures { SomeIff result (decimal_value digits.now < 2 ^ 64) (decimal_value digits.now) }
 {
-    let mut number = WideNumber::from_digit(0);
+    decimal_number_behind(0, digits)
+}
+
+/// The number that a digit's number and decimal digits behind it write. `None` comes exactly where it is not below 2 to the 256.
+fn wide_number_behind(front: u8, digits: &[u8]) -> Option<WideNumber>
+    ensures { SomeIff result (number_behind front digits.now < 2 ^ 256) (number_behind front digits.now) }
+{
+    let mut number = WideNumber::from_digit(front);
     for digit in digits {
         number = number.with_digit(digit.saturating_sub(b'0'))?;
     }
     Some(number)
 }
 
-/// Whether the number that decimal digits write has room in this many bits.
-pub fn fits_wide_bits(digits: &[u8], bits: u8) -> bool
-    ensures { result ≡ nat_lt (decimal_value digits.now) (2 ^ bits) }
+/// Whether the number that a digit's number and decimal digits behind it write has room in this many bits.
+pub fn fits_wide_bits(front: u8, digits: &[u8], bits: u8) -> bool
+    ensures { result ≡ nat_lt (number_behind front digits.now) (2 ^ bits) }
 {
-    match wide_decimal_number(digits) {
+    match wide_number_behind(front, digits) {
         Some(number) => number.fits_bits(bits),
         None => false,
     }
@@ -96,11 +134,11 @@ pub fn numeral(symbols: &[u8]) -> Option<u64>
     number_of_digits(symbols)
 }
 
-/// The n digits of a number, zeros in front. `None` comes exactly where the number has more digits. n is at most 18.
-pub fn padded_within(alloc: Global, number: u64, n: u8) -> Result<Option<Text>, Memory>
-    requires { n ≤ 18 }
-    ensures found { IfOk result (λ found. IfSome found (λ digits. IsPadded n number digits)) }
-    ensures none { IfOk result (λ found. IfNone found (10 ^ n ≤ number)) }
+/// The n digits of a number, leading zeros. n is at most 18, and the number has no more digits.
+pub fn padded(alloc: Global, number: u64, n: u8) -> Result<Text, Memory>
+    requires few { n ≤ 18 }
+    requires fits { number < 10 ^ n }
+    ensures { IfOk result (λ digits. IsPadded n number digits) }
 {
     let mut digits = [b'0'; 18];
     let mut place = usize::from(n);
@@ -110,23 +148,8 @@ pub fn padded_within(alloc: Global, number: u64, n: u8) -> Result<Option<Text>, 
         digits[place] = b'0' + (left % 10) as u8;
         left /= 10;
     }
-    if left > 0 {
-        return Ok(None);
-    }
     let text = Text::from_bytes(alloc, &digits[..usize::from(n)])?;
-    Ok(Some(text))
-}
-
-/// The n digits of a number, zeros in front. n is at most 18, and the number has no more digits.
-pub fn padded(alloc: Global, number: u64, n: u8) -> Result<Text, Memory>
-    requires few { n ≤ 18 }
-    requires fits { number < 10 ^ n }
-    ensures { IfOk result (λ digits. IsPadded n number digits) }
-{
-    match padded_within(alloc, number, n)? {
-        Some(digits) => Ok(digits),
-        None => unreachable!(),
-    }
+    Ok(text)
 }
 
 /// The decimal text of a number.

@@ -1,9 +1,9 @@
 ghost use Rattle.std.specs.Prelude.{◌≡◌, ◌≤◌, All, IfOk, IfErr, SomeIff, position};
 ghost use Rattle.gs_grammar.specs.Items.{IsItem, is_bad, size_of_all};
-ghost use Rattle.gs_grammar.specs.Levels.{KeepBounds, IsFaultOf};
+ghost use Rattle.gs_grammar.specs.Levels.{KeepBounds, IsErrorOf};
 ghost use Rattle.gs_grammar.specs.Limits.{most_symbols};
 
-use crate::fault::OptFault;
+use crate::error::OptFault;
 use crate::item::Item;
 use gs_chars::List;
 use std::alloc::Global;
@@ -23,7 +23,8 @@ pub struct Opt {
 impl Model for Opt {
     ghost use Rattle.std.specs.Prelude.{◌≡◌};
     ghost use Rattle.gs_grammar.specs.Items.{size_of_all};
-    ghost use Rattle.gs_grammar.specs.Levels.{OptionForm, IsOption};
+    ghost use Rattle.gs_grammar.specs.Levels.{OptionForm};
+    ghost use Rattle.gs_grammar.specs.LevelsSupport.{IsOption};
 
     ghost Value = { OptionForm };
 
@@ -60,7 +61,7 @@ impl Opt {
         ensures bit_level { IfOk result (λ option. option.bit_level ≡ bit_level) }
         ensures items { IfOk result (λ option. option.items ≡ items.items) }
         ensures in_bounds { IfOk result (λ option. KeepBounds bit_level items.items) }
-        ensures refused { IfErr result (λ fault. IsFaultOf bit_level items.items fault) }
+        ensures rejected { IfErr result (λ error. IsErrorOf bit_level items.items error) }
     {
         if let Some(k) = first_bad(bit_level, items.as_slice()) {
             return Err(OptFault::BadItem(k));
@@ -73,6 +74,21 @@ impl Opt {
             items: List::from_vec(items),
             size,
         })
+    }
+
+    /// The option of these items, which keep every bound.
+    pub fn of_items(bit_level: bool, items: Vec<Item>) -> Opt
+        requires { KeepBounds bit_level items.items }
+        ensures { result ≡ record { bit_level = bit_level; items = items.items } }
+    {
+        match size_within_limit(items.as_slice()) {
+            Some(size) => Opt {
+                bit_level,
+                items: List::from_vec(items),
+                size,
+            },
+            None => unreachable!(),
+        }
     }
 
     /// The items, in their order.

@@ -4,7 +4,7 @@ ghost use Rattle.gs_grammar.specs.Derivations.{IsDerived};
 ghost use Rattle.gs_grammar.specs.Searches.{AtCut};
 
 use crate::item::Item;
-use crate::words::is_word;
+use crate::word_tests::is_word;
 
 /// Whether the items derive the symbols. It tries each split into a word of the first item and the rest, and stops at the first
 /// derivation. Each item keeps its bounds.

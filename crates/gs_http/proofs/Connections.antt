@@ -7,23 +7,24 @@ use Rattle.gs_ai.specs.declared.row.AiRow.{AiRow}
 use Rattle.gs_chars.proofs.TruthsAndLists.{or_first}
 use Rattle.gs_links.specs.declared.link.Link.{Link}
 use Rattle.gs_port.specs.Contents.{append_known, append_nothing, append_twice, prepend_known, prepend_nothing, prepend_twice}
-use Rattle.gs_http.specs.declared.filling.Filled.TheVariants as filled
-use Rattle.gs_http.specs.declared.filling.Filled.{Filled}
-use Rattle.gs_http.specs.declared.served.Served.{Served}
-use Rattle.gs_http.specs.declared.served.Served.TheVariants.{Done, ReadFault, WriteFault, Memory}
-use Rattle.gs_http.specs.declared.served.Turn.{Turn}
-use Rattle.gs_http.specs.declared.served.Turn.TheVariants.{Stays, Over}
-use Rattle.gs_http.specs.declared.settings.Reply.{Reply}
+use Rattle.gs_http.specs.declared.next_head.Filled.TheVariants as filled
+use Rattle.gs_http.specs.declared.next_head.Filled.{Filled}
+use Rattle.gs_http.specs.declared.outcomes.Served.{Served}
+use Rattle.gs_http.specs.declared.outcomes.Served.TheVariants.{Done, ReadFault, WriteFault, Memory}
+use Rattle.gs_http.specs.declared.outcomes.Turn.{Turn}
+use Rattle.gs_http.specs.declared.outcomes.Turn.TheVariants.{Stays, Over}
+use Rattle.gs_http.specs.declared.replies.Reply.{Reply}
 use Rattle.gs_http.specs.declared.settings.Settings.{Settings}
-use Rattle.gs_http.specs.Connected.{Begins, NothingLeft, Reads}
+use Rattle.gs_http.specs.ConnectedSupport.{Begins, NothingLeft, Reads}
 use Rattle.gs_http.specs.Heads.{Asked}
 use Rattle.gs_http.specs.Replies.{reply_of}
-use Rattle.gs_http.specs.Serving.{Delivers, IsServed, OnDone, Outcome, Turned}
+use Rattle.gs_http.specs.Turns.{Delivers, Outcome, Turned}
+use Rattle.gs_http.specs.ServedStreams.{IsServed, OnDone}
 use Rattle.gs_http.specs.Streams.{AreReplies, BeginsWith, IsReplyTo, all_bytes, bytes_of, front_of, has_closing, head_end, headless, heads_of, replies_of, with_front}
 use Rattle.gs_http.proofs.Fronts.{front_cut, front_ended, front_full, front_head}
 use Rattle.gs_http.proofs.StreamLaws.{all_append, are_append, bytes_append, closing_append, replies_append, some_replies}
 
--- what is left, and nothing where that is not told
+-- what is left, and nothing where that is not known
 abbrev pub rest_of : Option (List ℕ) → List ℕ
 rest_of None = []
 rest_of (Some rest) = rest
@@ -163,7 +164,7 @@ module _ (table : List AiRow) (links : List Link) (settings : Settings) where
         few = let shorter = length-append head after in let whole = ap length split in omega arith;
       }
 
-  -- nothing more is done: the replies to what is left follow those so far, and a front of them was written
+  -- nothing more is done: the replies to what is left follow those so far, and a prefix of them was written
   pub finish : (n i : ℕ) (bytes grown : List ℕ) (l0 l1 l2 t0 t1 t2 h0 h1 h2 : Option (List ℕ)) (served : Served)
       → SoFar n i bytes l0 l1 t0 t1 h0 h1 → Reads bytes grown l1 l2 t1 t2 → length grown ≤ 12287
       → (tail : List Reply) → AreReplies table links settings (n - i) (heads_of (n - i) (grown ++ rest_of l2)) tail
@@ -209,7 +210,7 @@ module _ (table : List AiRow) (links : List Link) (settings : Settings) where
       done WriteFault a tail part replied stay h = tt
       done Memory a tail part replied stay h = tt
 
-  -- the first reply to what is left was written, or a front of it
+  -- the first reply to what is left was written, or a prefix of it
   module _ (n i : ℕ) (bytes grown : List ℕ) (l0 l1 l2 t0 t1 t2 h0 h1 h2 : Option (List ℕ)) (x : SoFar n i bytes l0 l1 t0 t1 h0 h1) (r : Reads bytes grown l1 l2 t1 t2) (few : length grown ≤ 12287) where
     end_with : (head : Option (List ℕ)) (heads : List (Option (List ℕ))) → heads_of (n - i) (grown ++ rest_of l2) ≡ head ∷ heads
         → (reply : Reply) → IsReplyTo table links settings head ((n - i) == 1) reply → (served : Served) → Delivers (Over served) reply h1 h2
@@ -235,7 +236,7 @@ module _ (table : List AiRow) (links : List Link) (settings : Settings) where
         by WriteFault others are d = finish n i bytes grown l0 l1 l2 t0 t1 t2 h0 h1 h2 WriteFault x r few (reply ∷ others) are (take d.0 reply.bytes) (front_of_reply others d.0) d.1 tt
         by Memory others are d = finish n i bytes grown l0 l1 l2 t0 t1 t2 h0 h1 h2 Memory x r few (reply ∷ others) are (take d.0 reply.bytes) (front_of_reply others d.0) d.1 tt
 
-    -- nothing was written, for a fault or for want of memory
+    -- nothing was written, for an error or out of memory
     end_before : (served : Served) → OnDone served ⊥ → h2 ≡ h1 → IsServed n table links settings served l0 l2 t0 t2 h0 h2
     end_before served not_done same =
         let tail = some_replies table links settings (n - i) (heads_of (n - i) (grown ++ rest_of l2)) in
@@ -304,7 +305,7 @@ module _ (table : List AiRow) (links : List Link) (settings : Settings) where
   pub not_last : (last : Bool) (bytes after : List ℕ) (l1 l2 t1 t2 h1 h2 : Option (List ℕ)) → Turned table links settings Stays last bytes after l1 l2 t1 t2 h1 h2 → last ≡ false
   not_last last bytes after l1 l2 t1 t2 h1 h2 turn = outcome_last turn.front last turn.grown after h1 h2 turn.outcome
 
-  -- nothing was done, for want of memory
+  -- nothing was done, out of memory
   pub nothing_done : (n : ℕ) (left taken held : Option (List ℕ)) → IsServed n table links settings Memory left left taken taken held held
   nothing_done n left taken held =
       let reads : Reads [] [] left left taken taken = record { bytes = []; grown = refl; moved = sym (prepend_nothing left); took = sym (append_nothing taken) } in

@@ -87,7 +87,7 @@ stable (c ∷ text) more p e =
           rw (there, stable text more q.0 q.1) (ap Some (sym q.2))
     ]
 
--- ---- the front of a stream
+-- ---- the start of a stream
 
 take_both : {X : Type 0} (n : ℕ) (xs ys : List X) → take n (xs ++ ys) ≡ take n xs ++ take (n - length xs) ys
 take_both zero [] ys = refl

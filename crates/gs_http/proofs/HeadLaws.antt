@@ -4,7 +4,7 @@ use Rattle.std.proofs.lemmas.Bool.{cases_lt, false≢true}
 use Rattle.gs_chars.proofs.TruthsAndLists.{true_or_false}
 use Rattle.httparse.specs.Grammar.{ReadsRequest, RequestHead}
 use Rattle.httparse.proofs.GrammarLemmas.{request_from_pieces, request_head, request_pieces, request_tree, request_unique}
-use Rattle.gs_http.specs.Heads.{Asked, IsAsked, asked_of, is_refused}
+use Rattle.gs_http.specs.Heads.{Asked, IsAsked, asked_of, is_rejected}
 use Rattle.gs_http.proofs.Decisions.{head_decided}
 
 pub one_asked : (head : List ℕ) (a b : Option Asked) → IsAsked head a → IsAsked head b → a ≡ b
@@ -25,15 +25,15 @@ asked_by_head head h reads = elim (cases_lt 64 (length h.fields)) [
         let few : length h.fields ≤ 64 = subst (λ (g : RequestHead). length g.fields ≤ 64) same is.whole.few in
         omega arith,
   )
-  | inr few ↦ elim (true_or_false (is_refused head (asked_of h).fields)) [
+  | inr few ↦ elim (true_or_false (is_rejected head (asked_of h).fields)) [
     | inr taken ↦ (Some (asked_of h), record { h = h; whole = record { reads = reads; few = few }; says = refl; taken = taken })
-    | inl refused ↦ (
+    | inl rejected ↦ (
       None,
       λ asked is.
           let same = (request_unique head is.h h [] [] is.whole.reads reads).0 in
           let says : asked ≡ asked_of h = is.says ∙ ap asked_of same in
-          let taken : is_refused head (asked_of h).fields ≡ false = subst (λ (a : Asked). is_refused head a.fields ≡ false) says is.taken in
-          false≢true (sym taken ∙ refused),
+          let taken : is_rejected head (asked_of h).fields ≡ false = subst (λ (a : Asked). is_rejected head a.fields ≡ false) says is.taken in
+          false≢true (sym taken ∙ rejected),
     )
   ]
 ]

@@ -1,8 +1,9 @@
 pub mod Scans
-pub mod Chosen
+pub mod Ranges
+pub mod ChoiceLemmas
 pub mod Decisions
 pub mod HeadLaws
-pub mod Refusals
+pub mod Rejections
 pub mod Fronts
 pub mod Readings
 pub mod StreamLaws

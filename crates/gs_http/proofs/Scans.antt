@@ -1,11 +1,11 @@
--- Scans of texts from their front and from their end, and of the parts between bytes that separate.
-use Rattle.std.proofs.Common.{◌≡◌, ℕ, zero, suc, ◌+◌, ◌-◌, ◌<◌, ◌≤◌, Bool, true, false, List, [], ◌∷◌, ◌++◌, length, get_or, take, drop, Some, None, refl, sym, ap, ◌∙◌, arith, inl, inr, drop-cons, add-one}
+-- Scans of texts from their start and from their end, and of the parts between bytes that separate.
+use Rattle.std.proofs.Common.{◌≡◌, ℕ, zero, suc, ◌+◌, ◌<◌, ◌≤◌, Bool, true, false, List, [], ◌∷◌, length, get_or, take, drop, Some, None, refl, sym, ap, ◌∙◌, arith, inl, inr, drop-cons, add-one}
 use Rattle.std.specs.List.{find, list_any, position_or_len, slice_split, zip}
 use Rattle.std.proofs.lemmas.Bool.{cases_lt}
 use Rattle.gs_chars.proofs.TruthsAndLists.{true_or_false}
-use Rattle.gs_http.specs.Heads.{is_lone}
+use Rattle.gs_http.specs.Heads.{is_bare_line_feed}
 
--- ---- from the front
+-- ---- from the start
 
 -- what is left at a place within the text
 pub left_at : {X : Type 0} (xs : List X) (i : ℕ) (d : X) → i < length xs → drop i xs ≡ get_or xs i d ∷ drop (i + 1) xs
@@ -17,16 +17,16 @@ none_left [] (suc i) h = refl
 none_left (x ∷ xs) zero h = absurd (omega arith)
 none_left (x ∷ xs) (suc i) h = none_left xs i (omega arith)
 
-pub lone_step : (head : List ℕ) (i before : ℕ) → i < length head → is_lone (before, get_or head i 0) ≡ false
-    → list_any is_lone (zip (before ∷ drop i head) (drop i head)) ≡ list_any is_lone (zip (get_or head i 0 ∷ drop (i + 1) head) (drop (i + 1) head))
-lone_step head i before low fails = rw (left_at head i 0 low, fails) refl
+pub bare_step : (head : List ℕ) (i before : ℕ) → i < length head → is_bare_line_feed (before, get_or head i 0) ≡ false
+    → list_any is_bare_line_feed (zip (before ∷ drop i head) (drop i head)) ≡ list_any is_bare_line_feed (zip (get_or head i 0 ∷ drop (i + 1) head) (drop (i + 1) head))
+bare_step head i before low fails = rw (left_at head i 0 low, fails) refl
 
-pub lone_here : (head : List ℕ) (i before : ℕ) → i < length head → is_lone (before, get_or head i 0) ≡ true
-    → list_any is_lone (zip (before ∷ drop i head) (drop i head)) ≡ true
-lone_here head i before low passes = rw (left_at head i 0 low, passes) refl
+pub bare_here : (head : List ℕ) (i before : ℕ) → i < length head → is_bare_line_feed (before, get_or head i 0) ≡ true
+    → list_any is_bare_line_feed (zip (before ∷ drop i head) (drop i head)) ≡ true
+bare_here head i before low passes = rw (left_at head i 0 low, passes) refl
 
-pub lone_end : (head : List ℕ) (i before : ℕ) → length head ≤ i → list_any is_lone (zip (before ∷ drop i head) (drop i head)) ≡ false
-lone_end head i before high = rw (none_left head i high) refl
+pub bare_end : (head : List ℕ) (i before : ℕ) → length head ≤ i → list_any is_bare_line_feed (zip (before ∷ drop i head) (drop i head)) ≡ false
+bare_end head i before high = rw (none_left head i high) refl
 
 -- ---- parts
 

@@ -3,7 +3,7 @@ use Rattle.std.proofs.Common.{◌≡◌, ℕ, ◌-◌, Bool, false, List, [], �
 use Rattle.gs_ai.specs.declared.row.AiRow.{AiRow}
 use Rattle.gs_chars.proofs.TruthsAndLists.{or_first, or_second}
 use Rattle.gs_links.specs.declared.link.Link.{Link}
-use Rattle.gs_http.specs.declared.settings.Reply.{Reply}
+use Rattle.gs_http.specs.declared.replies.Reply.{Reply}
 use Rattle.gs_http.specs.declared.settings.Settings.{Settings}
 use Rattle.gs_http.specs.Heads.{Asked}
 use Rattle.gs_http.specs.Replies.{reply_of}

@@ -4,42 +4,43 @@ use Rattle.std.specs.Char.{to_ascii_lowercase}
 use Rattle.std.specs.List.{before_first, list_any, slice_split}
 use Rattle.httparse.specs.Grammar.{trim_ows}
 use Rattle.gs_http.specs.declared.sign.Sign.{Sign}
-use Rattle.gs_http.specs.declared.sign.Sign.TheVariants.{Encoded, Sized, Says}
+use Rattle.gs_http.specs.declared.sign.Sign.TheVariants.{Encoded, Sized, HasPart}
 use Rattle.gs_http.specs.declared.sign.Word.{Word}
 use Rattle.gs_http.specs.declared.sign.Word.TheVariants.{Close, Linkset}
 
--- the text is the word, which has no capital letters, in letters of either case
+-- trusted, RFC 9110, section 5.1: the text is the word, which has no capital letters, in letters of either case
 abbrev pub is_word : List ℕ → List ℕ → Bool
 is_word word text = bytes_eq (map to_ascii_lowercase text) word
 
--- the byte is a comma, which ends a member of a list (RFC 9110, section 5.6.1)
+-- trusted, RFC 9110, section 5.6.1: the byte is a comma, which ends a member of a list
 abbrev pub is_comma : ℕ → Bool
 is_comma c = c == 44
 
--- the byte is a semicolon, which begins a parameter (RFC 9110, section 5.6.6)
+-- trusted, RFC 9110, section 5.6.6: the byte is a semicolon, which begins a parameter
 abbrev pub is_semicolon : ℕ → Bool
 is_semicolon c = c == 59
 
--- the name of the field that may say the word
+-- trusted, own: the name of the field that may have the word
 abbrev pub field_of : Word → List ℕ
 field_of Close = codes "connection"
 field_of Linkset = codes "accept"
 
--- a part of the field's value is the word; of a media type, what stands before its parameters
+-- trusted, RFC 9110, section 12.5.1: a part of the field's value is the word; of a media type, what stands before its
+-- parameters
 abbrev pub is_part : Word → List ℕ → Bool
 is_part Close part = is_word (codes "close") (trim_ows part)
 is_part Linkset part = is_word (codes "application/linkset+json") (trim_ows (before_first is_semicolon part))
 
--- one of the parts between commas is the word
+-- trusted, RFC 9110, section 5.6.1: one of the parts between commas is the word
 abbrev pub has_part : Word → List ℕ → Bool
 has_part word value = list_any (is_part word) (slice_split is_comma value)
 
--- the field, a name and a value without the white space around it, shows the sign
+-- trusted, own: the field, a name and a value without the white space around it, shows the sign
 abbrev pub shows : Sign → List ℕ × List ℕ → Bool
 shows Encoded field = is_word (codes "transfer-encoding") field.0
 shows Sized field = is_word (codes "content-length") field.0 && not (bytes_eq field.1 (codes "0"))
-shows (Says word) field = is_word (field_of word) field.0 && has_part word field.1
+shows (HasPart word) field = is_word (field_of word) field.0 && has_part word field.1
 
--- some field shows the sign
+-- trusted, own: some field shows the sign
 abbrev pub is_shown : Sign → List (List ℕ × List ℕ) → Bool
 is_shown sign fields = list_any (shows sign) fields

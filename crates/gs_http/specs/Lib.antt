@@ -1,8 +1,14 @@
+pub mod Sites
 pub mod Fields
 pub mod Heads
-pub mod Wishes
+pub mod AskedRelations
+pub mod LanguageRanges
 pub mod Answers
 pub mod Replies
 pub mod Streams
-pub mod Connected
-pub mod Serving
+pub mod ConnectionReads
+pub mod ConnectedSupport
+pub mod ServedStreams
+pub mod Untouched
+pub mod LentValues
+pub mod Turns

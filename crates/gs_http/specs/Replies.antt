@@ -3,19 +3,19 @@
 use Rattle.std.specs.Prelude.{◌≡◌, ℕ, ◌==◌, ◌||◌, Bool, true, false, if◌then◌else◌, List, [], ◌∷◌, ◌++◌, codes, length, decimal, Option, Some, None}
 use Rattle.gs_ai.specs.declared.row.AiRow.{AiRow}
 use Rattle.gs_links.specs.declared.link.Link.{Link}
-use Rattle.gs_http.specs.declared.settings.Reply.{Reply}
+use Rattle.gs_http.specs.declared.replies.Reply.{Reply}
 use Rattle.gs_http.specs.declared.settings.Settings.{Settings}
-use Rattle.gs_http.specs.declared.sign.Sign.TheVariants.{Says}
+use Rattle.gs_http.specs.declared.sign.Sign.TheVariants.{HasPart}
 use Rattle.gs_http.specs.declared.sign.Word.TheVariants.{Close}
 use Rattle.gs_http.specs.Answers.{Answer, described, linkset, choices, redirect, bad_request, not_found, not_allowed, answer_of, is_head}
 use Rattle.gs_http.specs.Fields.{is_shown}
 use Rattle.gs_http.specs.Heads.{Asked, IsAsked}
 
--- a line with its end
+-- trusted, RFC 9112, section 2.1: a line with its end
 abbrev pub line : List ℕ → List ℕ
 line text = text ++ 13 ∷ 10 ∷ []
 
--- the status code and its reason phrase (RFC 9110, section 15)
+-- trusted, RFC 9110, section 15: the status code and its reason phrase
 abbrev pub status_of : Answer → List ℕ
 status_of (described _) = codes "200 OK"
 status_of (linkset _) = codes "200 OK"
@@ -25,7 +25,8 @@ status_of bad_request = codes "400 Bad Request"
 status_of not_found = codes "404 Not Found"
 status_of not_allowed = codes "405 Method Not Allowed"
 
--- the field that only this answer has: where to go on, which methods are allowed, or the type of the body
+-- trusted, RFC 9110, sections 8.3, 10.2.1 and 10.2.2: the field that only this answer has: where to go on, which methods are
+-- allowed, or the type of the body
 abbrev pub own_field : Answer → List ℕ
 own_field (described _) = line (codes "Content-Type: application/json")
 own_field (linkset _) = line (codes "Content-Type: application/linkset+json")
@@ -35,7 +36,7 @@ own_field bad_request = []
 own_field not_found = []
 own_field not_allowed = line (codes "Allow: GET, HEAD")
 
--- the bytes behind the head
+-- trusted, own: the bytes behind the head
 abbrev pub body_of : Answer → List ℕ
 body_of (described text) = text
 body_of (linkset text) = text
@@ -45,15 +46,15 @@ body_of bad_request = []
 body_of not_found = []
 body_of not_allowed = []
 
--- the field that says how many bytes the body has (RFC 9110, section 8.6)
+-- trusted, RFC 9110, section 8.6: the field that says how many bytes the body has
 abbrev pub length_field : ℕ → List ℕ
 length_field len = line (codes "Content-Length: " ++ decimal len)
 
--- the field that says that the connection is closed (RFC 9112, section 9.6)
+-- trusted, RFC 9112, section 9.6: the field that says that the connection is closed
 abbrev pub close_field : Bool → List ℕ
 close_field close = if close then line (codes "Connection: close") else []
 
--- the bytes, without the body where only the head is asked for
+-- trusted, RFC 9112, section 2.1: the bytes, without the body where only the head is asked for
 unfoldable pub reply_bytes : Bool → Bool → Answer → List ℕ
 reply_bytes head_only close answer =
     line (codes "HTTP/1.1 " ++ status_of answer)
@@ -63,12 +64,12 @@ reply_bytes head_only close answer =
     ++ line []
     ++ (if head_only then [] else body_of answer)
 
--- the connection ends with the reply
+-- trusted, RFC 9112, section 9.3: the connection ends with the reply
 abbrev pub closes : Bool → Asked → Bool
-closes last asked = last || ((asked.minor == 0) || is_shown (Says Close) asked.fields)
+closes last asked = last || ((asked.minor == 0) || is_shown (HasPart Close) asked.fields)
 
--- The reply to what a head says, where it is that of a request that is answered; `last` says that the connection ends with it
--- anyway.
+-- trusted, own: the reply to what a head says, where it is that of a request that is answered; `last` says that the
+-- connection ends with it anyway.
 unfoldable pub reply_of : List AiRow → List Link → Settings → Option Asked → Bool → Reply
 reply_of table links settings None last = record { bytes = reply_bytes false true bad_request; close = true }
 reply_of table links settings (Some asked) last = record {
@@ -76,7 +77,7 @@ reply_of table links settings (Some asked) last = record {
   close = closes last asked;
 }
 
--- the reply to a head
+-- trusted, own: the reply to a head
 pub record IsReply (table : List AiRow) (links : List Link) (settings : Settings) (head : List ℕ) (last : Bool) (reply : Reply) : Type 0 where
   pub asked : Option Asked
   pub is_asked : IsAsked head asked

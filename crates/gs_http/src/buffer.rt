@@ -1,8 +1,9 @@
 ghost use Rattle.std.specs.Prelude.{◌≡◌, ◌≤◌, ◌<◌, ◌+◌, [], true, drop, length};
-ghost use Rattle.gs_http.specs.Connected.{Comes, Reads, reads_with};
+ghost use Rattle.gs_http.specs.ConnectedSupport.{Comes, Reads, reads_with};
+ghost use Rattle.gs_http.specs.Untouched.{IsUnwritten, StaysOpen};
 
-use crate::reading::{More, read_more};
-use crate::sending::drop_front;
+use crate::more_bytes::{More, read_more};
+use crate::output::drop_front;
 use gs_port::Conn;
 use std::alloc::Global;
 use std::marker::Model;
@@ -12,7 +13,7 @@ use std::marker::Model;
 #[derive(Drop)]
 pub(crate) struct Buffer {
     bytes: Vec<u8>,
-    /// How many bytes in front were let go of.
+    /// How many bytes at the start were let go of.
     gone: usize,
 }
 
@@ -69,11 +70,8 @@ impl Buffer {
         ensures few { length self.new ≤ length self.old + 4096 }
         ensures count { C.reads conn.new ≡ reads_with result (C.reads conn.old) }
         ensures counts { C.reads conn.old ≤ C.reads conn.new }
-        ensures same_held { C.held conn.new ≡ C.held conn.old }
-        ensures same_writes { C.writes conn.new ≡ C.writes conn.old }
-        ensures stays_open { C.is_open conn.new ≡ true }
-        ensures same_aside { C.aside conn.new ≡ C.aside conn.old }
-        ensures same_ends { C.ends conn.new ≡ C.ends conn.old }
+        ensures unwritten { IsUnwritten C.held C.writes conn.old conn.new }
+        ensures stays_open { StaysOpen C.is_open C.aside C.ends conn.old conn.new }
     {
         drop_front(&mut self.bytes, self.gone);
         self.gone = 0;

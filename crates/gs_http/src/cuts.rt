@@ -1,24 +1,8 @@
 ghost use Rattle.std.specs.Prelude.{◌≡◌, ◌+◌, ◌≤◌, drop, length};
-ghost use Rattle.std.specs.List.{after_first, before_first, position_or_len};
-ghost use Rattle.gs_dlink.specs.Uris.{is_byte, path_of, query_of, separates_parts};
+ghost use Rattle.std.specs.List.{after_first, before_first};
+ghost use Rattle.gs_dlink.specs.Uris.{is_byte, path_of, query_of};
 
-use memchr::{memchr, memchr2};
-
-/// The place of the first such byte, or the length of the text.
-pub(crate) fn place_of(text: &[u8], byte: u8) -> usize
-    ensures place { result ≡ position_or_len (is_byte byte) text.now }
-    ensures within { result ≤ length text.now }
-{
-    memchr(byte, text).unwrap_or(text.len())
-}
-
-/// The place of the first byte that separates the parts of a query, or the length of the text.
-pub(crate) fn part_len(text: &[u8]) -> usize
-    ensures place { result ≡ position_or_len separates_parts text.now }
-    ensures within { result ≤ length text.now }
-{
-    memchr2(b'&', b';', text).unwrap_or(text.len())
-}
+use gs_dlink::place_of;
 
 /// What stands before the first such byte, or all of the text.
 pub(crate) fn before(text: &[u8], byte: u8) -> &[u8]

@@ -4,15 +4,16 @@ ghost use Rattle.std.specs.List.{list_any, slice_split};
 ghost use Rattle.httparse.specs.Grammar.{is_ows, skip_ows, trim_ows};
 ghost use Rattle.httparse.specs.Spans.{IsHeaderWithin, header_bytes};
 ghost use Rattle.gs_http.specs.Fields.{field_of, has_part, is_part, is_shown, is_word, shows};
-ghost use Rattle.gs_http.specs.Heads.{asked_by};
+ghost use Rattle.gs_http.specs.LentValues.{asked_by};
 
-use crate::cuts::{after, before, place_of};
+use crate::cuts::{after, before};
 use crate::request::Request;
 use crate::sign::{Sign, Word};
+use gs_dlink::place_of;
 use httparse::spans::HeaderSpan;
 
 /// Whether the text is the word, which has no capital letters, in letters of either case.
-fn is_word(text: &[u8], word: &[u8]) -> bool
+pub(crate) fn is_word(text: &[u8], word: &[u8]) -> bool
     requires { map to_ascii_lowercase word.now ≡ word.now }
     ensures { result ≡ is_word word.now text.now }
 {
@@ -26,7 +27,7 @@ fn is_blank(c: u8) -> bool
     c == b' ' || c == b'\t'
 }
 
-/// The text without the spaces and tabs at its front.
+/// The text without the spaces and tabs at its start.
 fn without_front(text: &[u8]) -> &[u8]
     ensures { result.now ≡ skip_ows text.now }
 {
@@ -54,7 +55,7 @@ fn without_end(text: &[u8]) -> &[u8]
 
 /// The text without the spaces and tabs at both ends.
 #[tactic(auto, unfolding(httparse::specs::Grammar::trim_ows))]
-fn trimmed(text: &[u8]) -> &[u8]
+pub(crate) fn trimmed(text: &[u8]) -> &[u8]
     ensures { result.now ≡ trim_ows text.now }
 {
     without_end(without_front(text))
@@ -87,8 +88,8 @@ fn has_part(value: &[u8], word: Word) -> bool
     }
 }
 
-/// Whether the name is that of the field that may say the word.
-fn may_say(name: &[u8], word: Word) -> bool
+/// Whether the name is that of the field that may have the word.
+fn is_field_of(name: &[u8], word: Word) -> bool
     ensures { result ≡ is_word (field_of word) name.now }
 {
     match word {
@@ -104,7 +105,7 @@ fn shows(name: &[u8], value: &[u8], sign: Sign) -> bool
     match sign {
         Sign::Encoded => is_word(name, b"transfer-encoding"),
         Sign::Sized => is_word(name, b"content-length") && value != b"0".as_slice(),
-        Sign::Says(word) => may_say(name, word) && has_part(value, word),
+        Sign::HasPart(word) => is_field_of(name, word) && has_part(value, word),
     }
 }
 

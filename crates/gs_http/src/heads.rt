@@ -1,7 +1,8 @@
 ghost use Rattle.std.specs.Prelude.{◌≡◌, length, IfSome, MatchOption};
 ghost use Rattle.httparse.specs.Grammar.{RequestHead};
 ghost use Rattle.httparse.specs.Spans.{IsRequestAt, IsRequestWithin};
-ghost use Rattle.gs_http.specs.Heads.{IsWhole, SaysHead, asked_by, has_lone_feed, is_lone, is_refused, most_fields};
+ghost use Rattle.gs_http.specs.Heads.{IsWhole, has_bare_line_feed, is_bare_line_feed, is_rejected, most_fields};
+ghost use Rattle.gs_http.specs.LentValues.{SaysHead, asked_by};
 
 use crate::fields::is_shown;
 use crate::request::Request;
@@ -51,19 +52,19 @@ pub(crate) fn request_at<'a>(
 }
 
 /// Whether a byte is a line feed without a carriage return before it.
-fn is_lone(before: u8, c: u8) -> bool
-    ensures { result ≡ is_lone (before, c) }
+fn is_bare_line_feed(before: u8, c: u8) -> bool
+    ensures { result ≡ is_bare_line_feed (before, c) }
 {
     c == b'\n' && before != b'\r'
 }
 
 /// Whether some line feed stands without a carriage return before it.
-fn has_lone_feed(head: &[u8]) -> bool
-    ensures { result ≡ has_lone_feed head.now }
+fn has_bare_line_feed(head: &[u8]) -> bool
+    ensures { result ≡ has_bare_line_feed head.now }
 {
     let mut before = 0;
     for c in head {
-        if is_lone(before, *c) {
+        if is_bare_line_feed(before, *c) {
             return true;
         }
         before = *c;
@@ -71,12 +72,12 @@ fn has_lone_feed(head: &[u8]) -> bool
     false
 }
 
-/// Whether the request is not answered: for a lone line feed, or a body.
-#[tactic(auto, unfolding(crate::specs::Heads::is_refused))]
-pub(crate) fn is_refused(request: &Request<'_>) -> bool
-    ensures { result ≡ is_refused request.now.head.now (asked_by request.now).fields }
+/// Whether the request is not answered: for a bare line feed, or a body.
+#[tactic(auto, unfolding(crate::specs::Heads::is_rejected))]
+pub(crate) fn is_rejected(request: &Request<'_>) -> bool
+    ensures { result ≡ is_rejected request.now.head.now (asked_by request.now).fields }
 {
-    has_lone_feed(request.head)
+    has_bare_line_feed(request.head)
         || is_shown(request, Sign::Encoded)
         || is_shown(request, Sign::Sized)
 }

@@ -3,7 +3,7 @@ ghost use Rattle.gs_ai.specs.declared.row.AiRow.{AiRow};
 ghost use Rattle.gs_links.specs.declared.link.Link.{Link};
 ghost use Rattle.gs_http.specs.Replies.{IsReply};
 ghost use Rattle.gs_http.specs.Streams.{IsReplies};
-ghost use Rattle.gs_http.specs.declared.settings.Reply.{Reply as Answered};
+ghost use Rattle.gs_http.specs.declared.replies.Reply.{Reply as Answered};
 ghost use Rattle.gs_http.specs.declared.settings.Settings.{Settings as How};
 
 /// A head has exactly one reply, by whatever table, links and settings.

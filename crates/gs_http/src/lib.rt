@@ -3,11 +3,12 @@
 //! - `reply` answers one head: a redirect, several links to choose from, a linkset, the resolver description file, or a status
 //!   alone.
 //! - `serve_one` answers the heads of one connection in order, however their bytes come, and says how that ended.
+//! - `Resolver` has what both make of a `Site` once for many requests; `reply_with` and `serve_with` are lent it.
 //!
 //! # Example
 //!
 //! A lot that has a link of its own. The gate runs this case, for which crates/vectors_replies/src/heads.rt makes the call; the
-//! head of crates/vector_cases/src/lib.rt says how bytes are written, and `lots` is a linkset of that file.
+//! head of crates/vectors_cases/src/lib.rt says how bytes are written, and `lots` is a linkset of that file.
 //!
 //! ```text
 //! gs_http::reply lots - - GET\x20/01/09506000134352/10/ABC/21/X1\x20HTTP/1.1\x0D\x0AHost:\x20r\x0D\x0A\x0D\x0A
@@ -24,29 +25,37 @@
 #![tactic(auto)]
 
 mod answer;
+mod asked_relation;
 mod buffer;
-mod choosing;
+mod connection;
 mod cuts;
 mod fields;
-mod filling;
+mod head_reply;
 mod heads;
+mod languages;
 mod laws;
+mod more_bytes;
+mod next_head;
+mod outcomes;
+mod output;
 mod query;
-mod reading;
-mod replying;
+mod replies;
+mod reply_bytes;
 mod request;
-mod sending;
-mod served;
-mod serving;
+mod resolver;
+mod routing;
 mod settings;
 mod sign;
+mod site;
 mod turns;
-mod wish;
-mod wishing;
-mod writing;
+mod weights;
 
+pub use connection::{serve_one, serve_with};
+pub use head_reply::{reply, reply_with};
+pub use languages::language_ranges;
 pub use laws::{one_answer_to_a_stream, one_reply};
-pub use replying::reply;
-pub use served::Served;
-pub use serving::serve_one;
-pub use settings::{Reply, Settings};
+pub use outcomes::Served;
+pub use replies::Reply;
+pub use resolver::Resolver;
+pub use settings::Settings;
+pub use site::Site;

@@ -8,12 +8,3 @@ pub struct Settings {
     /// The bytes of the resolver description file, where there is one.
     pub describe: Option<Text>,
 }
-
-/// The reply to a head.
-#[derive(Drop)]
-pub struct Reply {
-    /// Its bytes.
-    pub bytes: Text,
-    /// Whether the connection ends with it.
-    pub close: bool,
-}

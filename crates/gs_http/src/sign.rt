@@ -15,5 +15,5 @@ pub(crate) enum Sign {
     /// That a body has a length that is not written `0`.
     Sized,
     /// A word among its parts.
-    Says(Word),
+    HasPart(Word),
 }

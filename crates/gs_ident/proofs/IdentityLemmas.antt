@@ -7,7 +7,7 @@ use Rattle.gs_ai.specs.declared.row.AiRow.{AiRow}
 use Rattle.gs_ai.specs.Tables.{is_key_of}
 use Rattle.gs_chars.proofs.TruthsAndLists.{equal_bytes, same_bytes, get_of_take}
 use Rattle.gs_ai.proofs.Searches.{none_any}
-use Rattle.gs_ident.specs.declared.faults.IdentFault.TheVariants.{Repeat, NoKey, TwoKeys}
+use Rattle.gs_ident.specs.declared.errors.IdentFault.TheVariants.{Repeat, NoKey, TwoKeys}
 use Rattle.gs_ident.specs.Elements.{Elements, pairs_of}
 use Rattle.gs_ident.specs.Identities.{pair_with, stands_for_none, counted, contradicts, contradiction, first_key, other_key, listed, is_other, ascending, elements_of, by_contradiction, by_key, by_other_key, identity_of_counted, identity_of_pairs, IsInOrder, IsMadeWith}
 use Rattle.gs_ident.proofs.CodeOrder.{own_ascending, own_by_code, pair_with_filter, place_ascending, same_ascending}

@@ -14,7 +14,8 @@ use Rattle.gs_chars.proofs.TruthsAndLists.{equal_bytes, false_from, not_false, p
 use Rattle.gs_ident.specs.declared.keys.KeyPlace.{KeyPlace}
 use Rattle.gs_ident.specs.declared.keys.Keys.{Keys}
 use Rattle.gs_ident.specs.Identities.{counted, first_key, stands_for_none}
-use Rattle.gs_ident.specs.Keys.{AreKeys, IsFirstKey, IsOtherKey, IsRowOf, is_none_text}
+use Rattle.gs_ident.specs.Keys.{AreKeys, IsFirstKey, IsOtherKey, IsRowOf}
+use Rattle.gs_ident.specs.KeysSupport.{is_none_text}
 use Rattle.gs_ident.proofs.PairLemmas.{filter_all, find_by_cases, find_nothing, not_found}
 use Rattle.gs_ident.proofs.MovedPairs.{any_at}
 

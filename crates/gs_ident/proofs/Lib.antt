@@ -2,6 +2,7 @@ pub mod AgreementLemmas
 pub mod CodeOrder
 pub mod IdentityLemmas
 pub mod KeyLemmas
+pub mod KeyPairs
 pub mod LinkLemmas
 pub mod PairLemmas
 pub mod RoomLemmas

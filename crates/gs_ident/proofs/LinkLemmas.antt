@@ -7,7 +7,7 @@ use Rattle.gs_chars.specs.Characters.{is_digit, are_digits}
 use Rattle.gs_chars.specs.Escapes.{hex_digit}
 use Rattle.gs_ai.specs.declared.pair.Pair.{Pair}
 use Rattle.gs_ai.specs.declared.row.AiRow.{AiRow}
-use Rattle.gs_ai.specs.declared.faults.ValueFault.TheVariants.{Unknown}
+use Rattle.gs_ai.specs.declared.errors.ValueFault.TheVariants.{Unknown}
 use Rattle.gs_ai.specs.Tables.{is_row, KeepsRules}
 use Rattle.gs_ai.specs.Values.{has_code}
 use Rattle.gs_chars.proofs.TruthsAndLists.{and_first, and_second, and_true, equal_bytes, false_from, not_false}
@@ -106,10 +106,10 @@ unfolding percent_encoded
 encoded_free [] = refl
 encoded_free (c ∷ value) = free_append (escaped_byte c) (percent_encoded value) (byte_free c) (encoded_free value)
 
--- ---- a value is told by its escapes
+-- ---- a value is given by its escapes
 
-hex_told : (m n : ℕ) → hex_digit m ≡ hex_digit n → m ≡ n
-hex_told m n e = elim (two_ways (nat_lt m 10)) [
+hex_known : (m n : ℕ) → hex_digit m ≡ hex_digit n → m ≡ n
+hex_known m n e = elim (two_ways (nat_lt m 10)) [
   | inl a ↦ elim (two_ways (nat_lt n 10)) [
     | inl b ↦ let f = rw (a, b) at e in omega arith
     | inr b ↦ let f = rw (a, b) at e in let low : m < 10 = grind (arith, nat_tests) in let high : 10 ≤ n = grind (arith, nat_tests) in omega arith
@@ -123,8 +123,8 @@ hex_told m n e = elim (two_ways (nat_lt m 10)) [
 same_code : (c d : ℕ) → c / 16 ≡ d / 16 → c % 16 ≡ d % 16 → c ≡ d
 same_code c d q r = omega arith
 
-byte_told : (c d : ℕ) (x y : List ℕ) → escaped_byte c ++ x ≡ escaped_byte d ++ y → (c ≡ d) × (x ≡ y)
-byte_told c d x y e = elim (two_ways (is_unescaped c)) [
+byte_known : (c d : ℕ) (x y : List ℕ) → escaped_byte c ++ x ≡ escaped_byte d ++ y → (c ≡ d) × (x ≡ y)
+byte_known c d x y e = elim (two_ways (is_unescaped c)) [
   | inl a ↦ elim (two_ways (is_unescaped d)) [
     | inl b ↦ let f = rw (a, b) at e in let g : c ∷ x ≡ d ∷ y = f in (cc, cc)
     | inr b ↦ let f = rw (a, b) at e in let g : c ∷ x ≡ 37 ∷ hex_digit (d / 16) ∷ hex_digit (d % 16) ∷ y = f in
@@ -137,7 +137,7 @@ byte_told c d x y e = elim (two_ways (is_unescaped c)) [
         let g : 37 ∷ hex_digit (c / 16) ∷ hex_digit (c % 16) ∷ x ≡ 37 ∷ hex_digit (d / 16) ∷ hex_digit (d % 16) ∷ y = f in
         let high : hex_digit (c / 16) ≡ hex_digit (d / 16) = cc in
         let low : hex_digit (c % 16) ≡ hex_digit (d % 16) = cc in
-        (same_code c d (hex_told (c / 16) (d / 16) high) (hex_told (c % 16) (d % 16) low), cc)
+        (same_code c d (hex_known (c / 16) (d / 16) high) (hex_known (c % 16) (d % 16) low), cc)
   ]
 ]
 
@@ -147,18 +147,18 @@ some_byte c x e = elim (two_ways (is_unescaped c)) [
   | inr a ↦ let f = rw a at e in let g : 37 ∷ hex_digit (c / 16) ∷ hex_digit (c % 16) ∷ x ≡ [] = f in cc
 ]
 
-value_told : (a b : List ℕ) → percent_encoded a ≡ percent_encoded b → a ≡ b
+value_known : (a b : List ℕ) → percent_encoded a ≡ percent_encoded b → a ≡ b
 unfolding percent_encoded
-value_told [] [] e = refl
-value_told [] (d ∷ b) e = absurd (some_byte d (percent_encoded b) (sym e))
-value_told (c ∷ a) [] e = absurd (some_byte c (percent_encoded a) e)
-value_told (c ∷ a) (d ∷ b) e =
-    let first = byte_told c d (percent_encoded a) (percent_encoded b) e in
-    let rest = value_told a b first.1 in
+value_known [] [] e = refl
+value_known [] (d ∷ b) e = absurd (some_byte d (percent_encoded b) (sym e))
+value_known (c ∷ a) [] e = absurd (some_byte c (percent_encoded a) e)
+value_known (c ∷ a) (d ∷ b) e =
+    let first = byte_known c d (percent_encoded a) (percent_encoded b) e in
+    let rest = value_known a b first.1 in
     let head = first.0 in
     cc
 
--- ---- a pair is told by its code and its escaped value
+-- ---- a pair is given by its code and its escaped value
 
 pair_same : (p q : Pair) → p.code ≡ q.code → p.value ≡ q.value → p ≡ q
 pair_same p q e f = λ i. record { code = e i; value = f i }
@@ -167,15 +167,15 @@ pair_same p q e f = λ i. record { code = e i; value = f i }
 abbrev unit : ℕ → Pair → List ℕ
 unit s p = p.code ++ s ∷ percent_encoded p.value
 
-unit_told : (s : ℕ) (p q : Pair) (x y : List ℕ) → separates s ≡ true → is_free p.code ≡ true → is_free q.code ≡ true → is_cut x ≡ true → is_cut y ≡ true → unit s p ++ x ≡ unit s q ++ y → (p ≡ q) × (x ≡ y)
-unit_told s p q x y sep fp fq cx cy e =
+unit_known : (s : ℕ) (p q : Pair) (x y : List ℕ) → separates s ≡ true → is_free p.code ≡ true → is_free q.code ≡ true → is_cut x ≡ true → is_cut y ≡ true → unit s p ++ x ≡ unit s q ++ y → (p ≡ q) × (x ≡ y)
+unit_known s p q x y sep fp fq cx cy e =
     let left : unit s p ++ x ≡ p.code ++ s ∷ (percent_encoded p.value ++ x) = append_assoc p.code (s ∷ percent_encoded p.value) x in
     let right : unit s q ++ y ≡ q.code ++ s ∷ (percent_encoded q.value ++ y) = append_assoc q.code (s ∷ percent_encoded q.value) y in
     let codes = cut p.code q.code (s ∷ (percent_encoded p.value ++ x)) (s ∷ (percent_encoded q.value ++ y)) fp fq sep sep (sym left ∙ e ∙ right) in
     let after = codes.1 in
     let rest : percent_encoded p.value ++ x ≡ percent_encoded q.value ++ y = cc in
     let values = cut (percent_encoded p.value) (percent_encoded q.value) x y (encoded_free p.value) (encoded_free q.value) cx cy rest in
-    (pair_same p q codes.0 (value_told p.value q.value values.0), values.1)
+    (pair_same p q codes.0 (value_known p.value q.value values.0), values.1)
 
 -- each pair's code is free of bytes that separate
 abbrev AllFree : List Pair → Type 0
@@ -194,25 +194,25 @@ tails_cut (p ∷ ps) = refl
 cons_same : (p q : Pair) (ps qs : List Pair) → p ≡ q → ps ≡ qs → p ∷ ps ≡ q ∷ qs
 cons_same p q ps qs e f = λ i. e i ∷ f i
 
-tails_told : (ps qs : List Pair) → AllFree ps → AllFree qs → tails ps ≡ tails qs → ps ≡ qs
-tails_told [] [] fp fq e = refl
-tails_told [] (q ∷ qs) fp fq e = absurd (let g : [] ≡ 38 ∷ (query_part q ++ tails qs) = e in cc)
-tails_told (p ∷ ps) [] fp fq e = absurd (let g : 38 ∷ (query_part p ++ tails ps) ≡ [] = e in cc)
-tails_told (p ∷ ps) (q ∷ qs) fp fq e =
+tails_known : (ps qs : List Pair) → AllFree ps → AllFree qs → tails ps ≡ tails qs → ps ≡ qs
+tails_known [] [] fp fq e = refl
+tails_known [] (q ∷ qs) fp fq e = absurd (let g : [] ≡ 38 ∷ (query_part q ++ tails qs) = e in cc)
+tails_known (p ∷ ps) [] fp fq e = absurd (let g : 38 ∷ (query_part p ++ tails ps) ≡ [] = e in cc)
+tails_known (p ∷ ps) (q ∷ qs) fp fq e =
     let g : 38 ∷ (query_part p ++ tails ps) ≡ 38 ∷ (query_part q ++ tails qs) = e in
     let inner : query_part p ++ tails ps ≡ query_part q ++ tails qs = cc in
-    let told = unit_told 61 p q (tails ps) (tails qs) refl fp.0 fq.0 (tails_cut ps) (tails_cut qs) inner in
-    cons_same p q ps qs told.0 (tails_told ps qs fp.1 fq.1 told.1)
+    let known = unit_known 61 p q (tails ps) (tails qs) refl fp.0 fq.0 (tails_cut ps) (tails_cut qs) inner in
+    cons_same p q ps qs known.0 (tails_known ps qs fp.1 fq.1 known.1)
 
-query_told : (ps qs : List Pair) → AllFree ps → AllFree qs → query_of ps ≡ query_of qs → ps ≡ qs
-query_told [] [] fp fq e = refl
-query_told [] (q ∷ qs) fp fq e = absurd (let g : [] ≡ 63 ∷ (query_part q ++ tails qs) = e in cc)
-query_told (p ∷ ps) [] fp fq e = absurd (let g : 63 ∷ (query_part p ++ tails ps) ≡ [] = e in cc)
-query_told (p ∷ ps) (q ∷ qs) fp fq e =
+query_known : (ps qs : List Pair) → AllFree ps → AllFree qs → query_of ps ≡ query_of qs → ps ≡ qs
+query_known [] [] fp fq e = refl
+query_known [] (q ∷ qs) fp fq e = absurd (let g : [] ≡ 63 ∷ (query_part q ++ tails qs) = e in cc)
+query_known (p ∷ ps) [] fp fq e = absurd (let g : 63 ∷ (query_part p ++ tails ps) ≡ [] = e in cc)
+query_known (p ∷ ps) (q ∷ qs) fp fq e =
     let g : 63 ∷ (query_part p ++ tails ps) ≡ 63 ∷ (query_part q ++ tails qs) = e in
     let inner : query_part p ++ tails ps ≡ query_part q ++ tails qs = cc in
-    let told = unit_told 61 p q (tails ps) (tails qs) refl fp.0 fq.0 (tails_cut ps) (tails_cut qs) inner in
-    cons_same p q ps qs told.0 (tails_told ps qs fp.1 fq.1 told.1)
+    let known = unit_known 61 p q (tails ps) (tails qs) refl fp.0 fq.0 (tails_cut ps) (tails_cut qs) inner in
+    cons_same p q ps qs known.0 (tails_known ps qs fp.1 fq.1 known.1)
 
 -- ---- the path
 
@@ -232,16 +232,16 @@ no_step q qs [] vs e = let g : [] ≡ 47 ∷ (unit 47 q ++ (steps qs ++ query_of
 no_step q qs (a ∷ us) vs e = let g : 63 ∷ (query_part a ++ tails us) ≡ 47 ∷ (unit 47 q ++ (steps qs ++ query_of vs)) = e ∙ step_out q qs vs in
     let bad : 63 ≡ 47 = cc in absurd (true≢false (ap (λ (n : ℕ). n == 63) bad))
 
-path_told : (ps qs us vs : List Pair) → AllFree ps → AllFree qs → steps ps ++ query_of us ≡ steps qs ++ query_of vs → (ps ≡ qs) × (query_of us ≡ query_of vs)
-path_told [] [] us vs fp fq e = (refl, e)
-path_told [] (q ∷ qs) us vs fp fq e = absurd (no_step q qs us vs e)
-path_told (p ∷ ps) [] us vs fp fq e = absurd (no_step p ps vs us (sym e))
-path_told (p ∷ ps) (q ∷ qs) us vs fp fq e =
+path_known : (ps qs us vs : List Pair) → AllFree ps → AllFree qs → steps ps ++ query_of us ≡ steps qs ++ query_of vs → (ps ≡ qs) × (query_of us ≡ query_of vs)
+path_known [] [] us vs fp fq e = (refl, e)
+path_known [] (q ∷ qs) us vs fp fq e = absurd (no_step q qs us vs e)
+path_known (p ∷ ps) [] us vs fp fq e = absurd (no_step p ps vs us (sym e))
+path_known (p ∷ ps) (q ∷ qs) us vs fp fq e =
     let g : 47 ∷ (unit 47 p ++ (steps ps ++ query_of us)) ≡ 47 ∷ (unit 47 q ++ (steps qs ++ query_of vs)) = sym (step_out p ps us) ∙ e ∙ step_out q qs vs in
     let inner : unit 47 p ++ (steps ps ++ query_of us) ≡ unit 47 q ++ (steps qs ++ query_of vs) = cc in
-    let told = unit_told 47 p q (steps ps ++ query_of us) (steps qs ++ query_of vs) refl fp.0 fq.0 (rest_cut ps us) (rest_cut qs vs) inner in
-    let rest = path_told ps qs us vs fp.1 fq.1 told.1 in
-    (cons_same p q ps qs told.0 rest.0, rest.1)
+    let known = unit_known 47 p q (steps ps ++ query_of us) (steps qs ++ query_of vs) refl fp.0 fq.0 (rest_cut ps us) (rest_cut qs vs) inner in
+    let rest = path_known ps qs us vs fp.1 fq.1 known.1 in
+    (cons_same p q ps qs known.0 rest.0, rest.1)
 
 -- ---- the link
 
@@ -254,14 +254,14 @@ in_shape stem a =
 elements_same : (a b : Elements) → a.key ≡ b.key → a.qualifiers ≡ b.qualifiers → a.attributes ≡ b.attributes → a ≡ b
 elements_same a b e f g = λ i. record { key = e i; qualifiers = f i; attributes = g i }
 
-link_told : (stem : List ℕ) (a b : Elements) → AllFree (a.key ∷ a.qualifiers) → AllFree (b.key ∷ b.qualifiers) → AllFree a.attributes → AllFree b.attributes → spelled stem a ≡ spelled stem b → a ≡ b
-link_told stem a b pa pb qa qb e =
+link_known : (stem : List ℕ) (a b : Elements) → AllFree (a.key ∷ a.qualifiers) → AllFree (b.key ∷ b.qualifiers) → AllFree a.attributes → AllFree b.attributes → spelled stem a ≡ spelled stem b → a ≡ b
+link_known stem a b pa pb qa qb e =
     let body = append_cancel_left stem _ _ (sym (in_shape stem a) ∙ e ∙ in_shape stem b) in
-    let told = path_told (a.key ∷ a.qualifiers) (b.key ∷ b.qualifiers) a.attributes b.attributes pa pb body in
-    let paths = told.0 in
+    let known = path_known (a.key ∷ a.qualifiers) (b.key ∷ b.qualifiers) a.attributes b.attributes pa pb body in
+    let paths = known.0 in
     let keys : a.key ≡ b.key = cc in
     let qualifiers : a.qualifiers ≡ b.qualifiers = cc in
-    elements_same a b keys qualifiers (query_told a.attributes b.attributes qa qb told.1)
+    elements_same a b keys qualifiers (query_known a.attributes b.attributes qa qb known.1)
 
 -- ---- the codes of a table
 
@@ -291,4 +291,4 @@ module _ (rows : List AiRow) (rules : KeepsRules rows) where
 
   pub one_link_each : (a b : Elements) → IsMadeWith rows a → IsMadeWith rows b → (a ≡ b) ↔ (canonical_link a ≡ canonical_link b)
   one_link_each a b made_a made_b =
-      (λ e. ap canonical_link e, λ e. link_told canonical_stem a b (free_path a made_a) (free_path b made_b) (free_query a made_a) (free_query b made_b) e)
+      (λ e. ap canonical_link e, λ e. link_known canonical_stem a b (free_path a made_a) (free_path b made_b) (free_query a made_a) (free_query b made_b) e)

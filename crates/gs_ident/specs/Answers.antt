@@ -1,9 +1,9 @@
--- What pairs that count are told of their identity, step by step. This is the project's own.
+-- What pairs that count are known of their identity, step by step. This is the project's own.
 use Rattle.std.specs.Prelude.{◌≡◌, ◌≢◌, List, Some, Result, Ok, Err, slice_get}
 use Rattle.gs_ai.specs.declared.pair.Pair.{Pair}
 use Rattle.gs_ai.specs.declared.row.AiRow.{AiRow}
-use Rattle.gs_ident.specs.declared.faults.IdentFault.{IdentFault}
-use Rattle.gs_ident.specs.declared.faults.IdentFault.TheVariants.{Memory}
+use Rattle.gs_ident.specs.declared.errors.IdentFault.{IdentFault}
+use Rattle.gs_ident.specs.declared.errors.IdentFault.TheVariants.{Memory}
 use Rattle.gs_ident.specs.declared.keys.KeyPlace.{KeyPlace}
 use Rattle.gs_ident.specs.Identities.{elements_of, identity_of_counted}
 use Rattle.gs_ident.specs.Keys.{HasFirstKey}
@@ -13,7 +13,7 @@ pub record HasOnlyKey (table : List AiRow) (pairs : List Pair) (place : KeyPlace
   pub first : HasFirstKey table pairs place
   pub only : (key : Pair) → slice_get pairs place.pair ≡ Some key → identity_of_counted table pairs ≡ Ok (elements_of table pairs key)
 
--- the pairs have this only key, or no identity for this reason; want of memory says nothing
+-- the pairs have this only key, or no identity for this reason; out of memory says nothing
 abbrev pub IsOnlyKey : List AiRow → List Pair → Result KeyPlace IdentFault → Type 0
 IsOnlyKey table pairs (Ok place) = HasOnlyKey table pairs place
-IsOnlyKey table pairs (Err fault) = fault ≢ Memory → identity_of_counted table pairs ≡ Err fault
+IsOnlyKey table pairs (Err error) = error ≢ Memory → identity_of_counted table pairs ≡ Err error

@@ -1,8 +1,11 @@
 pub mod Agreement
 pub mod Answers
 pub mod Elements
+pub mod ElementsSupport
 pub mod Identities
 pub mod Keys
+pub mod KeysSupport
 pub mod Links
 pub mod Moves
+pub mod QualifiedKeys
 pub mod Room

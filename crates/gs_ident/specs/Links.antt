@@ -6,48 +6,50 @@ use Rattle.gs_chars.specs.Escapes.{hex_digit}
 use Rattle.gs_ai.specs.declared.pair.Pair.{Pair}
 use Rattle.gs_ident.specs.Elements.{Elements}
 
--- the ASCII letters
+-- trusted, own: the ASCII letters
 abbrev pub is_letter : ℕ → Bool
 is_letter c = (nat_le 65 c && nat_le c 90) || (nat_le 97 c && nat_le c 122)
 
--- A byte that stands for itself in a value: RFC 3986, section 2.3, without the tilde, which no value has.
+-- trusted, RFC 3986, sections 2.1 and 2.3: A byte that stands for itself in a value: RFC 3986, section 2.3, without the
+-- tilde, which no value has.
 unfoldable pub is_unescaped : ℕ → Bool
 is_unescaped c = is_letter c || is_digit c || list_any (λ x. x == c) (codes "-._")
 
--- a percent sign and the byte in two upper-case hexadecimal digits: RFC 3986, section 2.1
+-- trusted, own: a percent sign and the byte in two upper-case hexadecimal digits: RFC 3986, section 2.1
 abbrev pub percent_escape : ℕ → List ℕ
 percent_escape c = 37 ∷ hex_digit (c / 16) ∷ hex_digit (c % 16) ∷ []
 
--- a byte of a value as it is written
+-- trusted, own: a byte of a value as it is written
 abbrev pub escaped_byte : ℕ → List ℕ
 escaped_byte c = if is_unescaped c then c ∷ [] else percent_escape c
 
--- a value as it is written in a link
+-- trusted, RFC 3986, sections 2.1 and 2.3: a value as it is written in a link
 unfoldable pub percent_encoded : List ℕ → List ℕ
 percent_encoded value = flat_map escaped_byte value
 
--- `/code/value`
+-- trusted, own: `/code/value`
 abbrev pub path_step : Pair → List ℕ
 path_step pair = 47 ∷ (pair.code ++ 47 ∷ percent_encoded pair.value)
 
--- `code=value`
+-- trusted, own: `code=value`
 abbrev pub query_part : Pair → List ℕ
 query_part pair = pair.code ++ 61 ∷ percent_encoded pair.value
 
--- nothing, or `?code=value` and then `&code=value` for each further pair
+-- trusted, own: nothing, or `?code=value` and then `&code=value` for each further pair
 abbrev pub query_of : List Pair → List ℕ
 query_of [] = []
 query_of (pair ∷ pairs) = 63 ∷ (query_part pair ++ flat_map (λ p. 38 ∷ query_part p) pairs)
 
--- the stem, the steps of the key and of its qualifiers, and the query of the attributes
+-- trusted, GS1 Digital Link URI Syntax, section 4: the stem, the steps of the key and of its qualifiers, and the query of
+-- the attributes
 abbrev pub spelled : List ℕ → Elements → List ℕ
 spelled stem identity =
     stem ++ path_step identity.key ++ flat_map path_step identity.qualifiers ++ query_of identity.attributes
 
--- the stem of GS1's own resolver
+-- trusted, own: the stem of GS1's own resolver
 abbrev pub canonical_stem : List ℕ
 canonical_stem = codes "https://id.gs1.org"
 
--- the one canonical link of an identity
+-- trusted, GS1 Digital Link URI Syntax, section 5; the order of attributes is own: the one canonical link of an identity
 abbrev pub canonical_link : Elements → List ℕ
 canonical_link identity = spelled canonical_stem identity

@@ -3,10 +3,10 @@ use Rattle.std.specs.Prelude.{ℕ, ◌+◌, List, length}
 use Rattle.std.specs.List.{sum_by}
 use Rattle.gs_ai.specs.declared.pair.Pair.{Pair}
 
--- the bytes of code and value, with two for what stands around the code
+-- trusted, own: the bytes of code and value, with two for what stands around the code
 abbrev pub room_of_pair : Pair → ℕ
 room_of_pair pair = length pair.code + length pair.value + 2
 
--- those of all pairs
+-- trusted, own: those of all pairs
 abbrev pub room_of_pairs : List Pair → ℕ
 room_of_pairs pairs = sum_by room_of_pair pairs

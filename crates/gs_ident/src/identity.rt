@@ -1,7 +1,11 @@
-ghost use Rattle.std.specs.Prelude.{◌≡◌, ◌≤◌, IfOk, filter, length, take};
-ghost use Rattle.gs_ident.specs.Elements.{elements_with, first_qualifiers, is_coded, key_alone, with_qualifier};
+ghost use Rattle.std.specs.Prelude.{◌≡◌, ◌≤◌, ◌∷◌, IfOk, Ok, filter, length, take};
+ghost use Rattle.gs_ident.specs.Elements.{first_qualifiers, is_coded, key_alone, with_qualifier};
+ghost use Rattle.gs_ident.specs.ElementsSupport.{elements_with};
+ghost use Rattle.gs_ident.specs.Identities.{IsMadeWith, counted, identity_of_pairs};
+ghost use Rattle.gs_ident.specs.QualifiedKeys.{IsQualifiedKey, pairs_in};
 
-use gs_ai::Pair;
+use crate::pair_choice::stands_for_none;
+use gs_ai::{AiTable, Pair};
 use gs_chars::{List, Memory, Text};
 use std::alloc::Global;
 use std::marker::Model;
@@ -44,7 +48,26 @@ impl Identity {
         }
     }
 
-    /// The identity of the key and the first `k` qualifiers. The one refusal is want of memory. `k`, how many qualifiers are
+    /// The identity of a key, and of the one element that qualifies it, where there is one: what `make` gives of the two. A
+    /// qualifier whose value stands for none is dropped. The one error is out of memory. Key and qualifier are in order by the
+    /// table; the row of the key is that of a key, and lists the qualifier's code.
+    pub fn of_key(
+        alloc: Global,
+        table: &AiTable,
+        key: Pair,
+        qualifier: Option<Pair>,
+    ) -> Result<Identity, Memory>
+        requires { IsQualifiedKey table.now key qualifier }
+        ensures made { IfOk result (λ identity. identity_of_pairs table.now (key ∷ pairs_in qualifier) ≡ Ok identity) }
+        ensures with_table { IfOk result (λ identity. IsMadeWith table.now identity) }
+    {
+        // for the proof alone: the rows keep the rules
+        let _ = table.rows();
+        let qualifiers = counted_pairs(alloc, table, qualifier)?;
+        Ok(Identity::from_pairs(key, qualifiers, Vec::new(alloc)))
+    }
+
+    /// The identity of the key and the first `k` qualifiers. The one error is out of memory. `k`, how many qualifiers are
     /// kept, is at most their number.
     pub fn prefix(&self, alloc: Global, k: usize) -> Result<Identity, Memory>
         requires { k ≤ length self.now.qualifiers }
@@ -109,8 +132,23 @@ impl Identity {
     }
 }
 
+/// The pair, where there is one that counts.
+fn counted_pairs(alloc: Global, table: &AiTable, pair: Option<Pair>) -> Result<Vec<Pair>, Memory>
+    ensures { IfOk result (λ pairs. pairs.items ≡ counted table.now (pairs_in pair)) }
+{
+    let Some(pair) = pair else {
+        return Ok(Vec::new(alloc));
+    };
+    if stands_for_none(table, &pair) {
+        return Ok(Vec::new(alloc));
+    }
+    let mut pairs = Vec::with_capacity(alloc, 1)?;
+    pairs.push(pair)?;
+    Ok(pairs)
+}
+
 /// Whether the pair has the code.
-fn is_coded(code: &[u8], pair: &Pair) -> bool
+pub fn is_coded(code: &[u8], pair: &Pair) -> bool
     ensures { result ≡ is_coded code.now pair.now }
 {
     code == pair.code.as_bytes()

@@ -1,6 +1,7 @@
 ghost use Rattle.std.specs.Prelude.{◌≡◌, ◌||◌, ◌++◌, ◌∷◌, [], List, length};
 ghost use Rattle.gs_ai.specs.declared.pair.Pair.{Pair};
-ghost use Rattle.gs_ident.specs.Keys.{AreKeys, IsRowOf, is_none_text};
+ghost use Rattle.gs_ident.specs.Keys.{AreKeys, IsRowOf};
+ghost use Rattle.gs_ident.specs.KeysSupport.{is_none_text};
 
 use gs_ai::{AiRow, AiTable, Pair};
 
@@ -63,7 +64,7 @@ fn with_pair(table: &AiTable, keys: Keys, place: usize, pair: &Pair, row: usize)
     }
 }
 
-/// The keys among the pairs. The row of each is looked up once. Each pair has a code of the table.
+/// The keys among the pairs. The row of each is looked up once.
 pub fn keys_among(table: &AiTable, pairs: &[Pair]) -> Keys
     ensures { AreKeys table.now pairs.now result }
 {

@@ -1,6 +1,6 @@
 //! Identities of things: a key, its qualifiers and the attributes, and the GS1 Digital Link that spells them.
 //!
-//! - `make` makes an identity of pairs of codes and values, in any order, or tells the first error.
+//! - `make` makes an identity of pairs of codes and values, in any order, or gives the first error.
 //! - `spell` writes its Digital Link under a stem; `canonical` the canonical link, under https://id.gs1.org.
 //!
 //! # Example
@@ -20,17 +20,17 @@
 //! - A value that stands for none, as 0 of 254, is left out.
 #![tactic(auto)]
 
-mod choosing;
-mod faults;
+mod errors;
 mod identity;
 mod keys;
-mod making;
+mod maker;
+mod pair_choice;
+mod pair_order;
 mod room;
-mod sorting;
 mod spelling;
 
-pub use faults::IdentFault;
+pub use errors::IdentFault;
 pub use gs_ai::Pair;
-pub use identity::Identity;
-pub use making::make;
-pub use spelling::{canonical, one_link_each, spell};
+pub use identity::{Identity, is_coded};
+pub use maker::make;
+pub use spelling::{CANONICAL_STEM, append_escaped, canonical, one_link_each, spell};

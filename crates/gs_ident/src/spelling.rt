@@ -15,8 +15,9 @@ const ESCAPED: AsciiSet = percent_encoding::ascii_set!(
     NON_ALPHANUMERIC.remove(b'-').remove(b'.').remove(b'_')
 );
 
-/// Appends the value with its escapes.
-fn write_value(out: &mut Vec<u8>, value: &[u8]) -> Result<(), Memory>
+/// Appends the value as it is written in a link: letters, digits, `-`, `.` and `_` as they are, any other byte as `%` and two
+/// upper-case hexadecimal digits (RFC 3986, section 2.1). The one error is out of memory.
+pub fn append_escaped(out: &mut Vec<u8>, value: &[u8]) -> Result<(), Memory>
     ensures { IfOk result (λ _. out.new.items ≡ out.old.items ++ percent_encoded value.now) }
 {
     for piece in percent_encode(value, ESCAPED) {
@@ -33,7 +34,7 @@ fn write_pair(out: &mut Vec<u8>, before: u8, pair: &Pair, between: u8) -> Result
     out.push(before)?;
     out.extend_from_slice(pair.code.as_bytes())?;
     out.push(between)?;
-    write_value(out, pair.value.as_bytes())
+    append_escaped(out, pair.value.as_bytes())
 }
 
 /// Appends each pair as `write_pair` does.
@@ -65,7 +66,7 @@ fn room_for(stem: &[u8], identity: &Identity) -> usize {
 }
 
 /// The link of the identity under the stem: the key's pair and those of the qualifiers as the path, the attributes as the
-/// query (GS1 Digital Link URI Syntax, section 4). The one refusal is want of memory.
+/// query (GS1 Digital Link URI Syntax, section 4). The one error is out of memory.
 pub fn spell(alloc: Global, stem: &[u8], identity: &Identity) -> Result<Text, Memory>
     ensures { IfOk result (λ text. text ≡ spelled stem.now identity.now) }
 {
@@ -77,12 +78,15 @@ pub fn spell(alloc: Global, stem: &[u8], identity: &Identity) -> Result<Text, Me
     Ok(Text::from_vec(out))
 }
 
-/// The canonical link of the identity, which has the stem `https://id.gs1.org` (GS1 Digital Link URI Syntax, section 5).
-/// The one refusal is want of memory.
+/// The stem of GS1's own resolver, which canonical links have (GS1 Digital Link URI Syntax, section 5).
+pub const CANONICAL_STEM: &str = "https://id.gs1.org";
+
+/// The canonical link of the identity, which has the stem `CANONICAL_STEM` (GS1 Digital Link URI Syntax, section 5).
+/// The one error is out of memory.
 pub fn canonical(alloc: Global, identity: &Identity) -> Result<Text, Memory>
     ensures { IfOk result (λ text. text ≡ canonical_link identity.now) }
 {
-    spell(alloc, b"https://id.gs1.org", identity)
+    spell(alloc, CANONICAL_STEM.as_bytes(), identity)
 }
 
 /// Two identities that were made with one table are equal exactly where their canonical links are equal bytes.

@@ -1,6 +1,7 @@
-pub mod Fitted
-pub mod FirstFailing
-pub mod Judged
-pub mod Looked
-pub mod Walked
+pub mod ArrayItems
+pub mod FitLemmas
+pub mod FirstFailures
+pub mod JudgementLemmas
+pub mod LookUpLemmas
+pub mod WalkLemmas
 pub mod Pointers

@@ -2,9 +2,9 @@
 use Rattle.std.specs.Prelude.{◌≡◌, ℕ, Bool, if◌then◌else◌, List, Option, Some, None, Result, Ok, Err}
 use Rattle.serde_json.specs.Data.{Data}
 use Rattle.gs_json.specs.Places.{item_place}
-use Rattle.gs_json.specs.Shapes.{first_fault, sort_faults}
-use Rattle.gs_json.specs.declared.fault.JsonFault.{JsonFault}
-use Rattle.gs_json.specs.declared.fault.JsonFault.TheVariants.{Kind}
+use Rattle.gs_json.specs.Shapes.{first_error, sort_errors}
+use Rattle.gs_json.specs.declared.error.JsonFault.{JsonFault}
+use Rattle.gs_json.specs.declared.error.JsonFault.TheVariants.{Kind}
 use Rattle.gs_json.specs.declared.fit.Fit.{Fit}
 use Rattle.gs_json.specs.declared.fit.Fit.TheVariants as fit
 use Rattle.gs_json.specs.declared.plan.Sort.{Sort}
@@ -15,9 +15,9 @@ fit_answer place fit.Whole = Ok tt
 fit_answer place fit.Not = Err (Kind place)
 fit_answer place (fit.AllBut i) = Err (Kind (item_place place i))
 
--- wherever a part stands, its first fault by the sort is the answer by how it fits
+-- wherever a part stands, its first error by the sort is the answer by how it fits
 abbrev pub FitsAs : Sort → Data → Fit → Type 0
-FitsAs sort d fits = (place : List ℕ) → first_fault (sort_faults place sort d) ≡ fit_answer place fits
+FitsAs sort d fits = (place : List ℕ) → first_error (sort_errors place sort d) ≡ fit_answer place fits
 
 -- fits whole where the test holds, else not at all
 abbrev pub fit_if : Bool → Fit

@@ -1,6 +1,9 @@
 pub mod Answers
+pub mod AnswersSupport
 pub mod Fits
+pub mod Members
 pub mod Parts
+pub mod PartsSupport
 pub mod Places
 pub mod Plans
 pub mod Shapes

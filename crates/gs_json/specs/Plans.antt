@@ -4,6 +4,6 @@ use Rattle.std.specs.Borrow.{Bor}
 use Rattle.gs_json.specs.declared.plan.Entry.{Entry}
 use Rattle.gs_json.specs.declared.plan.Sort.{Sort}
 
--- the member of a name, with whether it must be there, and what it must be
+-- trusted, own: the member of a name, with whether it must be there, and what it must be
 abbrev pub entry_of : Bor (List ℕ) × Bool × Sort → Entry
 entry_of member = record { name = member.0.now; required = member.1; sort = member.2 }

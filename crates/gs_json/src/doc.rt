@@ -2,7 +2,7 @@ ghost use Rattle.std.specs.Prelude.{◌≡◌, ◌⊎◌, Some, None, Err, IfOk,
 ghost use Rattle.serde_json.specs.Read.{read as read_text};
 ghost use Rattle.serde_json.specs.View.{view};
 
-use crate::fault::JsonFault;
+use crate::error::JsonFault;
 use crate::node::Node;
 use serde_json::Value;
 use std::alloc::Global;
@@ -37,7 +37,7 @@ impl Doc {
     {
         match Value::from_slice(alloc, bytes) {
             Ok(tree) => Ok(Doc { tree }),
-            Err(fault) if fault.is_memory() => Err(JsonFault::Memory),
+            Err(error) if error.is_memory() => Err(JsonFault::Memory),
             Err(_) => Err(JsonFault::Syntax),
         }
     }

@@ -1,9 +1,9 @@
 //! JSON documents (RFC 8259), whose parts are looked up by name and place and judged by a plan.
 //!
 //! - `Doc::parse` reads a document; `Node` is a part of it, looked up by `member` and `item`, with its value by `text`,
-//!   `number` and others; or by `find` and `value`, which tell no error.
+//!   `number` and others; or by `find` and `value`, which give no error.
 //! - `Node::shaped` judges an object by a plan: which members it must and may have, and of what sort they are. `plan_of` makes
-//!   one.
+//!   one. `text_in`, `number_in`, `truth_in` and `items_in` read the member of a name of an object that was judged.
 //!
 //! # Example
 //!
@@ -19,21 +19,23 @@
 //!
 //! - Of equal names the last counts, and the members of an object come in ascending order of their names.
 //! - A number that is asked for has to be written in digits alone, and be at most 2^64 - 1.
-//! - A byte order mark in front is an error.
+//! - A byte order mark at the start is an error.
 #![tactic(auto)]
 
 mod doc;
-mod fault;
+mod error;
 mod fit;
 mod laws;
-mod looking;
+mod look_ups;
+mod members;
 mod node;
 mod place;
 mod plan;
 mod shape;
 
 pub use doc::Doc;
-pub use fault::JsonFault;
+pub use error::JsonFault;
 pub use laws::places_point_to_their_parts;
+pub use members::{items_in, items_of, number_in, text_in, truth_in};
 pub use node::Node;
 pub use plan::{Entry, Sort, plan_of};

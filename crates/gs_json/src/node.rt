@@ -5,7 +5,7 @@ ghost use Rattle.std.specs.BTreeMap.{keys};
 ghost use Rattle.gs_json.specs.Answers.{AscendByBytes, names_lent};
 ghost use Rattle.gs_json.specs.Places.{item_place, member_place};
 
-use crate::fault::JsonFault;
+use crate::error::JsonFault;
 use crate::place::{Place, Step};
 use crate::plan::Entry;
 use crate::shape::judge;
@@ -28,7 +28,8 @@ impl Drop for Node<'_> {
 }
 
 impl<'a> Model for Node<'a> {
-    ghost use Rattle.gs_json.specs.Parts.{Part, part_code};
+    ghost use Rattle.gs_json.specs.Parts.{Part};
+    ghost use Rattle.gs_json.specs.PartsSupport.{part_code};
 
     ghost Value = { Part };
 
@@ -38,8 +39,9 @@ impl<'a> Model for Node<'a> {
 }
 
 impl<'a> Node<'a> {
-    ghost use Rattle.gs_json.specs.Answers.{IsFault, OrMemory, asked, count_of, items_count, maybe_of, member_of, names_at, number_of, result_map, seen};
-    ghost use Rattle.gs_json.specs.Shapes.{IsFirst, shape_faults};
+    ghost use Rattle.gs_json.specs.Answers.{OrMemory, asked, count_of, items_count, maybe_of, member_of, names_at, number_of, result_map, seen};
+    ghost use Rattle.gs_json.specs.AnswersSupport.{IsError};
+    ghost use Rattle.gs_json.specs.Shapes.{IsFirst, shape_errors};
     ghost use Rattle.std.specs.Prelude.{[]};
 
     /// The whole of a tree.
@@ -116,7 +118,7 @@ impl<'a> Node<'a> {
         }
     }
 
-    /// The item of an array at a number, counted from 0. The one refusal is want of memory. This is an array, and the number is
+    /// The item of an array at a number, counted from 0. The one error is out of memory. This is an array, and the number is
     /// below the number of its items.
     pub fn item(&self, alloc: Global, i: usize) -> Result<Node<'a>, JsonFault>
         requires { i < items_count (view self.now.tree) }
@@ -147,20 +149,20 @@ impl<'a> Node<'a> {
         Ok(List::from_vec(keys_of(alloc, map)?))
     }
 
-    /// Judges an object by a plan, and answers the first fault in this order. `Kind` with this place, where this is no
+    /// Judges an object by a plan, and answers the first error in this order. `Kind` with this place, where this is no
     /// object. Then entry by entry of the plan: `Lacks` with the member's place where a required member is absent, `Kind`
     /// with the member's place where it is not of the entry's sort, and for texts and arrays in an array the place of the
     /// first item of another kind. Last `Unknown` with the place of the first member, in ascending order, that the plan
     /// does not name.
     pub fn shaped(&self, alloc: Global, plan: &[Entry]) -> Result<(), JsonFault>
-        ensures { IsFirst result (shape_faults self.now plan.now) }
+        ensures { IsFirst result (shape_errors self.now plan.now) }
     {
         judge(alloc, self.value, &self.place, plan)
     }
 
-    /// The fault that this is of another kind.
+    /// The error that this is of another kind.
     fn other_kind(&self, alloc: Global) -> JsonFault
-        ensures { IsFault result (JsonFault.Kind self.now.place) }
+        ensures { IsError result (JsonFault.Kind self.now.place) }
     {
         match self.place.text(alloc) {
             Ok(place) => JsonFault::Kind(place),
@@ -168,9 +170,9 @@ impl<'a> Node<'a> {
         }
     }
 
-    /// The fault that there is no member of this name.
+    /// The error that there is no member of this name.
     fn no_member(&self, alloc: Global, name: &str) -> JsonFault
-        ensures { IsFault result (JsonFault.Lacks (member_place self.now.place name.now)) }
+        ensures { IsError result (JsonFault.Lacks (member_place self.now.place name.now)) }
     {
         match self.place.member_text(alloc, name.as_bytes()) {
             Ok(place) => JsonFault::Lacks(place),

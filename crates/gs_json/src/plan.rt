@@ -32,8 +32,8 @@ pub struct Entry {
     pub sort: Sort,
 }
 
-/// The plan of these members: the name of each, whether the object must have it, and what it must be. The one refusal is
-/// want of memory.
+/// The plan of these members: the name of each, whether the object must have it, and what it must be. The one rejection is
+/// out of memory.
 pub fn plan_of(alloc: Global, members: &[(&[u8], bool, Sort)]) -> Result<List<Entry>, Memory>
     ensures { IfOk result (λ plan. plan ≡ map entry_of members.now) }
 {

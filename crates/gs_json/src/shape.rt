@@ -1,23 +1,23 @@
 ghost use Rattle.std.specs.Prelude.{◌≡◌, option_map};
 ghost use Rattle.serde_json.specs.Find.{as_object, get_member};
 ghost use Rattle.serde_json.specs.View.{view, members_view};
-ghost use Rattle.gs_json.specs.Shapes.{IsFirst, entry_faults, is_named, members_faults, unknown_faults};
+ghost use Rattle.gs_json.specs.Shapes.{IsFirst, entry_errors, is_named, members_errors, unknown_errors};
 
-use crate::fault::JsonFault;
+use crate::error::JsonFault;
 use crate::fit::{Fit, fit_of};
 use crate::place::Place;
 use crate::plan::Entry;
 use serde_json::{Map, Value};
 use std::alloc::Global;
 
-/// Judges what stands at a place by a plan, and answers its first fault.
+/// Judges what stands at a place by a plan, and answers its first error.
 pub(crate) fn judge(
     alloc: Global,
     value: &Value,
     place: &Place<'_>,
     plan: &[Entry],
 ) -> Result<(), JsonFault>
-    ensures { IsFirst result (members_faults place.now plan.now (as_object (view value.now))) }
+    ensures { IsFirst result (members_errors place.now plan.now (as_object (view value.now))) }
 {
     let Some(map) = value.as_object() else {
         return Err(JsonFault::Kind(place.text(alloc)?));
@@ -36,7 +36,7 @@ fn judge_member(
     place: &Place<'_>,
     entry: &Entry,
 ) -> Result<(), JsonFault>
-    ensures { IsFirst result (entry_faults place.now (members_view map.now.entries) entry.now) }
+    ensures { IsFirst result (entry_errors place.now (members_view map.now.entries) entry.now) }
 {
     let name = entry.name.as_bytes();
     match member_named(map, name) {
@@ -67,7 +67,7 @@ fn judge_names(
     place: &Place<'_>,
     plan: &[Entry],
 ) -> Result<(), JsonFault>
-    ensures { IsFirst result (unknown_faults place.now plan.now (members_view map.now.entries)) }
+    ensures { IsFirst result (unknown_errors place.now plan.now (members_view map.now.entries)) }
 {
     for name in map.keys() {
         if !names(plan, name.as_bytes()) {

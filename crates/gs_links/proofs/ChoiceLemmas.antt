@@ -13,7 +13,7 @@ use Rattle.gs_links.specs.Choices.{are_first, chosen, chosen_depth, deepest, dep
 use Rattle.gs_links.specs.declared.link.Link.{Link}
 use Rattle.gs_links.specs.declared.link.Want.{Want}
 
--- ---- pairs in front of others
+-- ---- pairs before others
 
 pub too_few : (first pairs : List Pair) → length pairs < length first → false ≡ are_first first pairs
 too_few [] pairs h = absurd (omega arith)
@@ -252,7 +252,7 @@ candidate_is_prefix : (identity : Elements) (want : Want) (link : Link) → is_c
 unfolding is_candidate
 candidate_is_prefix identity want link h = and_first (is_prefix link.anchor identity) (is_wanted want link.relation) h
 
-length_taken : {X : Type 0} (k : ℕ) (xs : List X) → k ≤ length xs → length (take k xs) ≡ k
+pub length_taken : {X : Type 0} (k : ℕ) (xs : List X) → k ≤ length xs → length (take k xs) ≡ k
 length_taken zero [] h = refl
 length_taken zero (x ∷ xs) h = refl
 length_taken (suc k) [] h = absurd (omega arith)

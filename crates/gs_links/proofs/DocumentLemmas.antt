@@ -9,8 +9,10 @@ use Rattle.std.specs.Ordering.{is_lt, match_ordering, nat_cmp, ordering_reverse}
 use Rattle.std.specs.Str.{bytes_eq, is_utf8}
 use Rattle.std.proofs.lemmas.Cmp.{nat_list_cmp_total}
 use Rattle.std.proofs.lemmas.List.{append-nil, map-append}
-use Rattle.std.proofs.lemmas.List.Elements.{filter-append, filter_map-append}
-use Rattle.gs_chars.proofs.TruthsAndLists.{and_first, and_second, and_true, within}
+use Rattle.std.proofs.lemmas.Bool.{eq-eqb}
+use Rattle.std.proofs.lemmas.List.Elements.{All-cons, All-head, All-tail, filter-append, filter_map-append}
+use Rattle.std.specs.Option.{option_map_or}
+use Rattle.gs_chars.proofs.TruthsAndLists.{and_first, and_second, and_true, equal_bytes, within}
 use Rattle.gs_ident.specs.Elements.{Elements, first_qualifiers}
 use Rattle.gs_ident.specs.Links.{canonical_link}
 use Rattle.gs_linkset.specs.LinkShapes.{ascend, is_below, is_below_first, is_context, is_relation, is_target, new_answer}
@@ -18,9 +20,12 @@ use Rattle.gs_linkset.specs.declared.doc.DocFault.{DocFault}
 use Rattle.gs_linkset.specs.declared.link_types.Context.{Context}
 use Rattle.gs_linkset.specs.declared.link_types.Relation.{Relation}
 use Rattle.gs_linkset.specs.declared.link_types.Target.{Target}
-use Rattle.gs_links.specs.Choices.{IsAmong, chosen, chosen_depth, is_chosen}
+use Rattle.gs_links.specs.Choices.{IsAmong, chosen, chosen_depth, is_chosen, passing}
 use Rattle.gs_links.specs.Documents.{document_of, linked, names_of, put_name, relation_of, relations_of, targets_of, with_name}
+use Rattle.gs_links.specs.Index.{IsRelationIndex, has_name_number, hash_with, listed}
+use Rattle.gs_links.specs.Languages.{matches, narrowed, some_or}
 use Rattle.gs_links.specs.Shapes.{is_link}
+use Rattle.gs_links.specs.declared.index.Index.{Index}
 use Rattle.gs_links.specs.declared.link.Link.{Link}
 use Rattle.gs_links.specs.declared.link.Want.{Want}
 use Rattle.gs_links.proofs.ChoiceLemmas.{chosen_anchor, found, get_at, take_next}
@@ -78,6 +83,67 @@ chosen_within links identity want numbers e k d h =
     let place = row.2 in
     let low = within links row.0 row.1 row.3 in
     omega (arith, place, low)
+
+passing_within : (links : List Link) (test : Link → Bool) (bound : ℕ) (numbers : List ℕ) → All (λ i. i < bound) numbers → All (λ i. i < bound) (passing links test numbers)
+passing_within links test bound [] each = each
+passing_within links test bound (n ∷ numbers) each = by (option_map_or test (slice_get links n) false) (passing_within links test bound numbers (All-tail (λ i. i < bound) n numbers each))
+  where
+    by : (b : Bool) → All (λ i. i < bound) (passing links test numbers) → All (λ i. i < bound) (if b then n ∷ passing links test numbers else passing links test numbers)
+    by true rest = All-cons (λ i. i < bound) n (passing links test numbers) (All-head (λ i. i < bound) n numbers each) rest
+    by false rest = rest
+
+some_within : (bound : ℕ) (numbers others : List ℕ) → All (λ i. i < bound) numbers → All (λ i. i < bound) others → All (λ i. i < bound) (some_or numbers others)
+some_within bound [] others a b = b
+some_within bound (n ∷ numbers) others a b = a
+
+narrowed_within : (links : List Link) (bound : ℕ) (numbers : List ℕ) (ranges : List (List ℕ)) → All (λ i. i < bound) numbers → All (λ i. i < bound) (narrowed links numbers ranges)
+narrowed_within links bound numbers [] each = each
+narrowed_within links bound numbers (range ∷ ranges) each =
+    some_within bound (passing links (matches range) numbers) (narrowed links numbers ranges) (passing_within links (matches range) bound numbers each) (narrowed_within links bound numbers ranges each)
+
+-- so are those of them that are narrowed
+pub document_within : (links : List Link) (identity : Elements) (numbers : List ℕ) → (want : Want) × (ranges : List (List ℕ)) × (numbers ≡ narrowed links (chosen links identity want) ranges) → All (λ i. i < length links) numbers
+document_within links identity numbers (want, ranges, e) =
+    rw e (narrowed_within links (length links) (chosen links identity want) ranges (chosen_within links identity want (chosen links identity want) refl))
+
+-- what is chosen
+pub narrow_within : (links : List Link) (numbers : List ℕ) → (identity : Elements) × (want : Want) × (numbers ≡ chosen links identity want) → All (λ i. i < length links) numbers
+narrow_within links numbers (identity, want, e) = chosen_within links identity want numbers e
+
+-- ---- the links of a relation, by an index
+
+passing_filter : (links : List Link) (test : Link → Bool) (numbers : List ℕ) → linked links (passing links test numbers) ≡ filter test (linked links numbers)
+passing_filter links test [] = refl
+passing_filter links test (n ∷ numbers) = by (slice_get links n) refl (passing_filter links test numbers)
+  where
+    kept : (link : Link) (b : Bool) → test link ≡ b → slice_get links n ≡ Some link → linked links (passing links test numbers) ≡ filter test (linked links numbers) → linked links (if b then n ∷ passing links test numbers else passing links test numbers) ≡ (if b then link ∷ filter test (linked links numbers) else filter test (linked links numbers))
+    kept link true own at rest = rw at (ap (λ ls. link ∷ ls) rest)
+    kept link false own at rest = rest
+
+    by : (o : Option Link) → slice_get links n ≡ o → linked links (passing links test numbers) ≡ filter test (linked links numbers) → linked links (if option_map_or test (slice_get links n) false then n ∷ passing links test numbers else passing links test numbers) ≡ filter test (cons_option o (linked links numbers))
+    by None at rest = rw at rest
+    by (Some link) at rest = rw at (kept link (test link) refl at rest)
+
+filter_both : (t u : Link → Bool) → ((link : Link) → u link ≡ true → t link ≡ true) → (links : List Link) → filter u (filter t links) ≡ filter u links
+filter_both t u each [] = refl
+filter_both t u each (link ∷ links) = by (t link) (u link) (each link) refl (filter_both t u each links)
+  where
+    by : (b c : Bool) → (c ≡ true → b ≡ true) → u link ≡ c → filter u (filter t links) ≡ filter u links → filter u (if b then link ∷ filter t links else filter t links) ≡ (if c then link ∷ filter u links else filter u links)
+    by true true h e rest = rw e (ap (λ ls. link ∷ ls) rest)
+    by true false h e rest = rw e rest
+    by false true h e rest = absurd (let g : false ≡ true = h refl in cc)
+    by false false h e rest = rest
+
+-- the targets of a name are those of the links with the name's number
+pub relation_by_index : (index : Index) (links : List Link) (numbers own name : List ℕ) (n : ℕ) → IsRelationIndex index links numbers → n ≡ hash_with 14695981039346656037 name → own ≡ listed index n → relation_of (linked links own) name ≡ relation_of (linked links numbers) name
+relation_by_index index links numbers own name n indexed is at =
+    rw (at, indexed n, passing_filter links (has_name_number n) numbers, filter_both (has_name_number n) (λ link. bytes_eq link.relation name) named (linked links numbers)) refl
+  where
+    named : (link : Link) → bytes_eq link.relation name ≡ true → has_name_number n link ≡ true
+    named link h = eq-eqb (hash_with 14695981039346656037 link.relation) n (ap (hash_with 14695981039346656037) (equal_bytes link.relation name h) ∙ sym is)
+
+pub indexed_within : (index : Index) (links : List Link) (numbers own : List ℕ) (n : ℕ) → IsRelationIndex index links numbers → All (λ i. i < length links) numbers → own ≡ listed index n → All (λ i. i < length links) own
+indexed_within index links numbers own n indexed each at = rw (at, indexed n) (passing_within links (has_name_number n) (length links) numbers each)
 
 linked_shaped : (links : List Link) (numbers : List ℕ) → list_all is_link links ≡ true → list_all is_link (linked links numbers) ≡ true
 linked_shaped links [] h = refl
@@ -204,10 +270,10 @@ document_is links numbers link rest anchor relations contexts e a r made =
     let own = rw e at r in
     rw (made, a, own, e) refl
 
-pub never : (contexts document : List Context) (r : Result (List Context) DocFault) (fault : DocFault) → contexts ≡ document → new_answer document ≡ Ok document → r ≡ new_answer contexts → r ≡ Err fault → ⊥
-never contexts document r fault same good made bad =
+pub never : (contexts document : List Context) (r : Result (List Context) DocFault) (error : DocFault) → contexts ≡ document → new_answer document ≡ Ok document → r ≡ new_answer contexts → r ≡ Err error → ⊥
+never contexts document r error same good made bad =
     let g = rw (made, same, good) at bad in
-    let w : Ok document ≡ Err fault = g in
+    let w : Ok document ≡ Err error = g in
     cc
 
 pub given : (contexts document doc : List Context) (r : Result (List Context) DocFault) → contexts ≡ document → new_answer document ≡ Ok document → r ≡ new_answer contexts → r ≡ Ok doc → doc ≡ document

@@ -10,37 +10,38 @@ use Rattle.gs_linkset.specs.declared.link_types.Relation.{Relation}
 use Rattle.gs_linkset.specs.declared.link_types.Target.{Target}
 use Rattle.gs_links.specs.declared.link.Link.{Link}
 
--- the links of numbers
+-- trusted, own: the links of numbers
 abbrev pub linked : List Link → List ℕ → List Link
 linked links numbers = filter_map (slice_get links) numbers
 
--- a name among names in ascending order, each once
+-- trusted, own: a name among names in ascending order, each once
 abbrev pub put_name : List ℕ → List (List ℕ) → List (List ℕ)
 put_name name [] = name ∷ []
 put_name name (n ∷ names) =
     match_ordering (slice_cmp nat_cmp name n) (name ∷ n ∷ names) (n ∷ names) (n ∷ put_name name names)
 
--- `anchor` is no relation's name
+-- trusted, own: `anchor` is no relation's name
 abbrev pub with_name : List (List ℕ) → Link → List (List ℕ)
 with_name names link = if bytes_eq link.relation (codes "anchor") then names else put_name link.relation names
 
--- the names of the links' relations, in ascending order
+-- trusted, own: the names of the links' relations, in ascending order
 abbrev pub names_of : List Link → List (List ℕ)
 names_of links = fold with_name [] links
 
--- the targets of a relation, in the order of the links
+-- trusted, own: the targets of a relation, in the order of the links
 abbrev pub targets_of : List Link → List ℕ → List Target
 targets_of links name = map (λ link. link.target) (filter (λ link. bytes_eq link.relation name) links)
 
--- a relation with its targets
+-- trusted, own: a relation with its targets
 abbrev pub relation_of : List Link → List ℕ → Relation
 relation_of links name = record { name = name; targets = targets_of links name }
 
--- the relations of the links, in ascending order of name
+-- trusted, own: the relations of the links, in ascending order of name
 abbrev pub relations_of : List Link → List Relation
 relations_of links = map (relation_of links) (names_of links)
 
--- the document of links with one anchor
+-- trusted, RFC 9264, section 4.2; GS1 Digital Link URI Syntax, section 5; that it is one context is own: the document of
+-- links with one anchor
 abbrev pub document_of : List Link → List Context
 document_of [] = []
 document_of (link ∷ links) = record { anchor = canonical_link link.anchor; relations = relations_of (link ∷ links) } ∷ []

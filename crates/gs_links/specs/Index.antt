@@ -1,11 +1,11 @@
 -- The numbers of anchors, and the links by them: a hash of the bytes of an anchor's pairs, FNV-1a with 64 bits (G. Fowler,
 -- L. C. Noll and K.-P. Vo). That a store finds its links by it is this project's own.
-use Rattle.std.specs.Prelude.{◌≡◌, ℕ, Bool, false, ◌*◌, ◌%◌, ◌^◌, ◌==◌, if◌then◌else◌, List, [], ◌∷◌, ◌++◌, filter, fold, nat_eq, slice_get, bit_xor}
+use Rattle.std.specs.Prelude.{◌≡◌, ℕ, Bool, ◌*◌, ◌%◌, ◌^◌, ◌==◌, if◌then◌else◌, List, [], ◌∷◌, ◌++◌, fold, nat_eq, bit_xor}
 use Rattle.std.specs.Option.{option_map_or}
 use Rattle.gs_ai.specs.declared.pair.Pair.{Pair}
 use Rattle.gs_ident.specs.Elements.{Elements}
 use Rattle.indexmap.specs.IndexMap.{get}
-use Rattle.gs_links.specs.Choices.{is_chosen, numbers_from}
+use Rattle.gs_links.specs.Choices.{is_chosen, numbers_from, passing}
 use Rattle.gs_links.specs.declared.index.Index.{Index}
 use Rattle.gs_links.specs.declared.link.Link.{Link}
 use Rattle.gs_links.specs.declared.link.Want.{Want}
@@ -38,10 +38,14 @@ IsIndexOf index links = (n : ℕ) → listed index n ≡ numbers_from 0 (has_num
 abbrev pub with_last : List ℕ → ℕ → ℕ → ℕ → List ℕ
 with_last numbers m i n = if m == n then numbers ++ i ∷ [] else numbers
 
--- of numbers those of links that pass a test
-abbrev pub passing : List Link → (Link → Bool) → List ℕ → List ℕ
-passing links test numbers = filter (λ i. option_map_or test (slice_get links i) false) numbers
-
 -- of numbers those of candidates with so many qualifiers
 abbrev pub chosen_among : List Link → Elements → Want → ℕ → List ℕ → List ℕ
 chosen_among links identity want depth numbers = passing links (is_chosen identity want depth) numbers
+
+-- the link's relation has the number: the hash of its name's bytes
+abbrev pub has_name_number : ℕ → Link → Bool
+has_name_number n link = hash_with 14695981039346656037 link.relation == n
+
+-- the index has at each number those of the numbers whose links have relations with it, in their order, and no others
+abbrev pub IsRelationIndex : Index → List Link → List ℕ → Type 0
+IsRelationIndex index links numbers = (n : ℕ) → listed index n ≡ passing links (has_name_number n) numbers

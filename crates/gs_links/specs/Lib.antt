@@ -1,5 +1,9 @@
 pub mod Choices
-pub mod Loading
+pub mod Loads
+pub mod LoadingSupport
 pub mod Shapes
+pub mod ShapesSupport
 pub mod Documents
 pub mod Index
+pub mod Languages
+pub mod Marks

@@ -1,9 +1,9 @@
 ghost use Rattle.std.specs.Prelude.{◌≡◌, ◌≢◌, All, Err, IfErr, IfOk, Ok};
 ghost use Rattle.gs_ident.specs.Identities.{IsInOrder, IsMadeWith};
-ghost use Rattle.gs_links.specs.Loading.{anchor_answer, pairs_answer, without_attributes};
-ghost use Rattle.gs_links.specs.declared.fault.AnchorWhy.TheVariants.{Link as NoLink, Ident};
+ghost use Rattle.gs_links.specs.Loads.{anchor_answer, pairs_answer, without_attributes};
+ghost use Rattle.gs_links.specs.declared.error.AnchorWhy.TheVariants.{Link as NoLink, Ident};
 
-use crate::fault::AnchorWhy;
+use crate::error::AnchorWhy;
 use gs_ai::{AiTable, Pair};
 use gs_chars::Memory;
 use gs_dlink::{LinkFault, read_link, read_target};
@@ -11,11 +11,11 @@ use gs_ident::{IdentFault, Identity, make};
 use std::alloc::Global;
 
 /// The pairs that an anchor names.
-#[tactic(auto, unfolding(crate::specs::Loading::pairs_answer))]
+#[tactic(auto, unfolding(crate::specs::Loads::pairs_answer))]
 fn read_pairs(alloc: Global, table: &AiTable, text: &[u8]) -> Result<Vec<Pair>, LinkFault>
     ensures pairs { IfOk result (λ pairs. pairs_answer table.now text.now ≡ Ok pairs.items) }
     ensures in_order { IfOk result (λ pairs. All (IsInOrder table.now) pairs.items) }
-    ensures fault { IfErr result (λ e. e ≢ LinkFault.Memory → pairs_answer table.now text.now ≡ Err e) }
+    ensures error { IfErr result (λ e. e ≢ LinkFault.Memory → pairs_answer table.now text.now ≡ Err e) }
 {
     if text.starts_with(b"/") {
         read_target(alloc, table, text)
@@ -37,10 +37,10 @@ fn without_attributes(identity: Identity) -> Result<Identity, AnchorWhy>
 }
 
 /// Why an anchor that is no link is none.
-fn no_link(fault: LinkFault) -> Result<AnchorWhy, Memory>
-    ensures { IfOk result (λ why. (why ≡ NoLink fault) × (fault ≢ LinkFault.Memory)) }
+fn no_link(error: LinkFault) -> Result<AnchorWhy, Memory>
+    ensures { IfOk result (λ why. (why ≡ NoLink error) × (error ≢ LinkFault.Memory)) }
 {
-    match fault {
+    match error {
         LinkFault::NotHttp => Ok(AnchorWhy::Link(LinkFault::NotHttp)),
         LinkFault::NoKeyPath => Ok(AnchorWhy::Link(LinkFault::NoKeyPath)),
         LinkFault::Element(element) => Ok(AnchorWhy::Link(LinkFault::Element(element))),
@@ -49,10 +49,10 @@ fn no_link(fault: LinkFault) -> Result<AnchorWhy, Memory>
 }
 
 /// Why an anchor whose pairs have no identity is none.
-fn no_identity(fault: IdentFault) -> Result<AnchorWhy, Memory>
-    ensures { IfOk result (λ why. (why ≡ Ident fault) × (fault ≢ IdentFault.Memory)) }
+fn no_identity(error: IdentFault) -> Result<AnchorWhy, Memory>
+    ensures { IfOk result (λ why. (why ≡ Ident error) × (error ≢ IdentFault.Memory)) }
 {
-    match fault {
+    match error {
         IdentFault::Repeat(code) => Ok(AnchorWhy::Ident(IdentFault::Repeat(code))),
         IdentFault::NoKey => Ok(AnchorWhy::Ident(IdentFault::NoKey)),
         IdentFault::TwoKeys(code) => Ok(AnchorWhy::Ident(IdentFault::TwoKeys(code))),
@@ -71,10 +71,10 @@ pub(crate) fn read_anchor(
 {
     let pairs = match read_pairs(alloc, table, text) {
         Ok(pairs) => pairs,
-        Err(fault) => return Ok(Err(no_link(fault)?)),
+        Err(error) => return Ok(Err(no_link(error)?)),
     };
     match make(alloc, table, pairs) {
         Ok(identity) => Ok(without_attributes(identity)),
-        Err(fault) => Ok(Err(no_identity(fault)?)),
+        Err(error) => Ok(Err(no_identity(error)?)),
     }
 }

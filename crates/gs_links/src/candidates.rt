@@ -13,7 +13,7 @@ fn is_same_pair(a: &Pair, b: &Pair) -> bool
     a.code.as_bytes() == b.code.as_bytes() && a.value.as_bytes() == b.value.as_bytes()
 }
 
-/// Whether pairs stand in front of others.
+/// Whether pairs stand before others.
 fn are_first(first: &[Pair], pairs: &[Pair]) -> bool
     ensures { result ≡ are_first first.now pairs.now }
 {
@@ -64,7 +64,7 @@ fn is_chosen(identity: &Identity, want: Want<'_>, depth: usize, link: &Link) -> 
     is_candidate(identity, want, link) && link.anchor.qualifiers().len() == depth
 }
 
-/// Puts in front, of the numbers, those of candidates with so many qualifiers, and gives how many they are.
+/// Puts at the start, of the numbers, those of candidates with so many qualifiers, and gives how many they are.
 pub(crate) fn put_chosen(
     links: &[Link],
     numbers: &[u32],

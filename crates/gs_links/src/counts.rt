@@ -1,5 +1,6 @@
 ghost use Rattle.std.specs.Prelude.{◌≡◌, ◌≤◌, ◌+◌, min, nat_lt, suc};
-ghost use Rattle.gs_links.specs.Loading.{relations_count, targets_count};
+ghost use Rattle.gs_links.specs.Loads.{targets_count};
+ghost use Rattle.gs_links.specs.LoadingSupport.{relations_count};
 ghost use Rattle.gs_links.specs.Shapes.{most_links};
 
 use gs_linkset::{Context, Relation};
@@ -19,8 +20,8 @@ fn count_relations(before: usize, relations: &[Relation]) -> usize
     count
 }
 
-/// Whether the contexts have more targets than a store.
-pub(crate) fn is_over(contexts: &[Context]) -> bool
+/// Whether the contexts have more targets than a store has links: more than 65,536.
+pub fn is_over(contexts: &[Context]) -> bool
     ensures { result ≡ nat_lt most_links (targets_count contexts.now) }
 {
     let mut count = 0;

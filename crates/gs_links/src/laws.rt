@@ -1,6 +1,10 @@
-ghost use Rattle.std.specs.Prelude.{◌≡◌, ◌≤◌, ◌↔◌, ℕ, List, Some, length, slice_get, true};
+ghost use Rattle.std.specs.Prelude.{◌≡◌, ◌≤◌, ◌↔◌, ℕ, List, Ok, Some, length, slice_get, true};
+ghost use Rattle.gs_ai.specs.declared.row.AiRow.{AiRow};
 ghost use Rattle.gs_ident.specs.Elements.{Elements, first_qualifiers};
+ghost use Rattle.gs_linkset.specs.LinkShapes.{links_of_document};
+ghost use Rattle.gs_linkset.specs.declared.link_types.Context.{Context};
 ghost use Rattle.gs_links.specs.Choices.{IsAmong, chosen, chosen_depth, depth_of, is_candidate, is_prefix};
+ghost use Rattle.gs_links.specs.Loads.{expanded, keeps_names, load_answer};
 ghost use Rattle.gs_links.specs.declared.link.Link.{Link};
 ghost use Rattle.gs_links.specs.declared.link.Want.{Want};
 
@@ -33,4 +37,17 @@ pub fn one_anchor()
     ensures { (links : List Link) (identity : Elements) (want : Want) (i : ℕ) (link : Link)
         → IsAmong (chosen links identity want) i → slice_get links i ≡ Some link
         → link.anchor ≡ first_qualifiers (chosen_depth links identity want) identity }
+{}
+
+/// Under a vocabulary that keeps names, an expanded relation is not changed where it is expanded again.
+pub fn expanded_once()
+    ensures { (voc name : List ℕ) → keeps_names voc ≡ true → expanded voc (expanded voc name) ≡ expanded voc name }
+{}
+
+/// Two linksets that have the same links, in one order, and that both load give the same links, however they are cut into
+/// contexts.
+pub fn same_links_same_store()
+    ensures { (table : List AiRow) (voc : List ℕ) (a b : List Context) (x y : List Link)
+        → links_of_document a ≡ links_of_document b → load_answer table voc a ≡ Ok x
+        → load_answer table voc b ≡ Ok y → x ≡ y }
 {}

@@ -1,15 +1,16 @@
 //! The link store: the links of a linkset by the identities of their anchors, the choice of the links of an
-//! identity, and the document of these.
+//! identity, by language too, and the document of these.
 //!
-//! - `Store::load` takes a linkset, or tells its first refusal.
+//! - `Store::load` takes a linkset, or gives its first rejection.
 //! - `Store::choose` finds the links of an identity, of one relation or of all, at the longest of its prefixes that has one: a
 //!   link of a lot goes before one of the trade item.
+//! - `Store::narrow` keeps, of what was chosen, the links in the first wished language that one of them has.
 //! - `Store::document` makes a linkset of what was chosen.
 //!
 //! # Example
 //!
 //! An anchor needs a key: the qualifier 21 alone names nothing. The gate runs this case, for which
-//! crates/vectors_texts/src/links.rt makes the call; the cases of `choose` and `document` stand beside it.
+//! crates/vectors_texts/src/links.rt makes the call; the cases of `choose`, `narrow` and `document` stand beside it.
 //!
 //! ```text
 //! gs_links::load {"linkset":[{"anchor":"/21/A"}]}
@@ -21,22 +22,33 @@
 //! - Each context has an `anchor`, which RFC 9264 leaves optional: a link has to belong to an identity.
 //! - An anchor is a Digital Link, with its host or without, and has no attributes, since links are chosen by keys and qualifiers.
 //! - That only the links of the longest prefix are chosen is a profile of this project.
+//! - A language range that none of the chosen links is in is passed over, and where none is left all stay: RFC 4647 leaves
+//!   open what then comes.
 //! - A store has at most 65,536 links; a reference has 1 to 2,048 bytes from 33 to 126.
 #![tactic(auto)]
 
 mod anchors;
 mod candidates;
-mod choosing;
+mod choice;
 mod counts;
 mod documents;
-mod fault;
+mod error;
 mod index;
+mod languages;
 mod laws;
 mod link;
-mod loading;
+mod loader;
+mod marks;
+mod narrower;
 mod store;
+mod vocabulary;
 
-pub use fault::{AnchorWhy, StoreFault};
-pub use laws::{by_key_and_qualifiers, deeper_hides, one_anchor, prefixes_of};
+pub use counts::is_over;
+pub use error::{AnchorWhy, StoreFault};
+pub use laws::{
+    by_key_and_qualifiers, deeper_hides, expanded_once, one_anchor, prefixes_of,
+    same_links_same_store,
+};
 pub use link::{Chosen, Link, Want};
 pub use store::Store;
+pub use vocabulary::{expand, keeps_names};

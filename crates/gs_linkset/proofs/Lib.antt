@@ -1,4 +1,4 @@
-pub mod Copied
+pub mod CopyLemmas
 pub mod Ascents
 pub mod Parts
 pub mod MustHave

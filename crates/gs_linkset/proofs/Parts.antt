@@ -3,27 +3,12 @@ use Rattle.std.proofs.Common.{◌≡◌, ℕ, zero, suc, List, [], ◌∷◌, le
 use Rattle.std.specs.Option.{option_and_then}
 use Rattle.serde_json.specs.View.{items_view, view}
 use Rattle.serde_json.specs.declared.value.Value.{Value as Tree}
-use Rattle.serde_json.specs.Data.{Data, null, boolean, number, string, array, object, Items, no_items, item}
-use Rattle.serde_json.specs.Events.{items_len}
-use Rattle.serde_json.specs.Find.{as_array, at, get_item}
-use Rattle.gs_json.specs.Answers.{count_of, items_count}
-use Rattle.gs_json.specs.Shapes.{items_list}
-use Rattle.gs_linkset.specs.Attributes.{array_in, every, items_of}
-
--- the items of an array, seen one by one
-listed : (values : List Tree) → map view values ≡ items_list (items_view values)
-listed [] = refl
-listed (value ∷ values) = ap (λ items. view value ∷ items) (listed values)
-
-listed_length : (items : Items) → length (items_list items) ≡ items_len items
-listed_length no_items = refl
-listed_length (item d items) = ap suc (listed_length items)
-
-listed_at : (items : Items) (i : ℕ) → slice_get (items_list items) i ≡ get_item i items
-listed_at no_items zero = refl
-listed_at no_items (suc i) = refl
-listed_at (item d items) zero = refl
-listed_at (item d items) (suc i) = listed_at items i
+use Rattle.serde_json.specs.Data.{Data, null, boolean, number, string, array, object}
+use Rattle.serde_json.specs.Find.{as_array}
+use Rattle.gs_json.specs.Answers.{count_of}
+use Rattle.gs_json.specs.Members.{array_in, items_of}
+use Rattle.gs_json.proofs.ArrayItems.{listed}
+use Rattle.gs_linkset.specs.Attributes.{every}
 
 -- what is no array has no items
 pub no_array : (d : Data) → None ≡ count_of d → array_in d ≡ None
@@ -42,27 +27,6 @@ is_array (number m) n h = absurd (cc)
 is_array (string s) n h = absurd (cc)
 is_array (array items) n h = refl
 is_array (object _) n h = absurd (cc)
-
-pub counted : (d : Data) (n : ℕ) → n ≡ items_count d → length (items_of d) ≡ n
-counted null n h = sym h
-counted (boolean b) n h = sym h
-counted (number m) n h = sym h
-counted (string s) n h = sym h
-counted (array items) n h = listed_length items ∙ sym h
-counted (object _) n h = sym h
-
-pub items_at : (d : Data) (i : ℕ) → slice_get (items_of d) i ≡ at i d
-items_at null zero = refl
-items_at null (suc i) = refl
-items_at (boolean b) zero = refl
-items_at (boolean b) (suc i) = refl
-items_at (number n) zero = refl
-items_at (number n) (suc i) = refl
-items_at (string s) zero = refl
-items_at (string s) (suc i) = refl
-items_at (array items) i = listed_at items i
-items_at (object _) zero = refl
-items_at (object _) (suc i) = refl
 
 -- what is read of all items of an array
 pub whole_array : {Y : Type 0} (f : Data → Option Y) (d : Data) (values : List Tree) (r : Option (List Y)) → Some (items_view values) ≡ as_array d → r ≡ every f (map view values) → r ≡ option_and_then (every f) (array_in d)

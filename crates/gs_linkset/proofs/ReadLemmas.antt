@@ -4,42 +4,46 @@ use Rattle.std.specs.Prelude.{IfSome, Result, Ok, Err, option_map, option_and_th
 use Rattle.std.specs.List.{cons_option, enumerate_from, filter_map, flat_map, list_all}
 use Rattle.std.proofs.lemmas.List.{append-nil, map-append}
 use Rattle.gs_chars.proofs.TruthsAndLists.{and_first, and_second, nil_parts}
-use Rattle.gs_json.specs.declared.fault.JsonFault.{JsonFault}
-use Rattle.gs_json.specs.declared.fault.JsonFault.TheVariants.{Kind, Memory}
+use Rattle.gs_json.specs.declared.error.JsonFault.{JsonFault}
+use Rattle.gs_json.specs.declared.error.JsonFault.TheVariants.{Kind, Memory}
 use Rattle.gs_json.specs.declared.plan.Sort.TheVariants.{Text}
-use Rattle.gs_linkset.specs.Answers.{ItemAnswer, OrMemory, first_or, member_answer, text_answer}
+use Rattle.gs_json.specs.Members.{items_of, text_in}
+use Rattle.gs_chars.specs.Answers.{first_or}
+use Rattle.gs_linkset.specs.AnswersSupport.{ItemAnswer, member_answer, text_answer}
 use Rattle.std.specs.Str.{bytes_eq, is_utf8}
 use Rattle.serde_json.specs.Data.{Data}
 use Rattle.serde_json.specs.Find.{get}
-use Rattle.gs_linkset.specs.Attributes.{every, items_of}
-use Rattle.gs_json.specs.Answers.{asked, count_of, names_of}
+use Rattle.gs_linkset.specs.Attributes.{every}
+use Rattle.gs_json.specs.Answers.{OrMemory, asked, count_of, names_of}
 use Rattle.gs_json.specs.Places.{item_place, member_place}
-use Rattle.gs_linkset.specs.Documents.{member_faults, text_in, attr_of, attr_with, item_faults, relation_faults, relation_of, relation_with, names_in, target_faults, target_of, targets_at}
-use Rattle.gs_linkset.proofs.Parts.{is_array, items_at, no_array}
+use Rattle.gs_linkset.specs.Documents.{member_errors, attr_of, attr_with, item_errors, relation_errors, relation_of, relation_with, names_in, target_errors, target_of, targets_at}
+use Rattle.gs_chars.proofs.ErrorAnswers.{no_error}
+use Rattle.gs_json.proofs.ArrayItems.{items_at}
+use Rattle.gs_linkset.proofs.Parts.{is_array, no_array}
 use Rattle.gs_linkset.specs.LinkShapes.{ascend, is_attr, is_context, is_relation, is_target, is_value}
 use Rattle.gs_linkset.specs.declared.link_types.Attr.{Attr}
 use Rattle.gs_linkset.specs.declared.link_types.AttrValue.{AttrValue}
 use Rattle.gs_linkset.specs.declared.link_types.Relation.{Relation}
 use Rattle.gs_linkset.specs.declared.link_types.Target.{Target}
 
--- ---- the first fault
+-- ---- the first error
 
-pub fault_in_front : {X Y : Type 0} (a b : List JsonFault) (x : X) (y : Y) (e : JsonFault) → OrMemory (Err e) (first_or a x) → OrMemory (Err e) (first_or (a ++ b) y)
-fault_in_front a b x y e (inl h) = inl (let same : e ≡ Memory = cc in ap Err same)
-fault_in_front [] b x y e (inr h) = absurd (let g : Err e ≡ Ok x = h in cc)
-fault_in_front (f ∷ a) b x y e (inr h) = inr (let same : e ≡ f = cc in ap Err same)
+pub error_in_front : {X Y : Type 0} (a b : List JsonFault) (x : X) (y : Y) (e : JsonFault) → OrMemory (Err e) (first_or a x) → OrMemory (Err e) (first_or (a ++ b) y)
+error_in_front a b x y e (inl h) = inl (let same : e ≡ Memory = cc in ap Err same)
+error_in_front [] b x y e (inr h) = absurd (let g : Err e ≡ Ok x = h in cc)
+error_in_front (f ∷ a) b x y e (inr h) = inr (let same : e ≡ f = cc in ap Err same)
 
--- what a reading without fault says
-pub no_fault : {X : Type 0} (a : List JsonFault) (x z : X) → OrMemory (Ok z) (first_or a x) → (a ≡ []) × (z ≡ x)
-no_fault a x z (inl h) = absurd (let g : Ok z ≡ Err Memory = h in cc)
-no_fault [] x z (inr h) = (refl, let g : Ok z ≡ Ok x = h in cc)
-no_fault (f ∷ a) x z (inr h) = absurd (let g : Ok z ≡ Err f = h in cc)
+-- what a reading without error says
+pub none_first : {X : Type 0} (a : List JsonFault) (x z : X) → OrMemory (Ok z) (first_or a x) → (a ≡ []) × (z ≡ x)
+none_first a x z (inl h) = absurd (let g : Ok z ≡ Err Memory = h in cc)
+none_first [] x z (inr h) = (refl, let g : Ok z ≡ Ok x = h in cc)
+none_first (f ∷ a) x z (inr h) = absurd (let g : Ok z ≡ Err f = h in cc)
 
--- the same fault, whatever would be read
-pub same_fault : {X Y : Type 0} (a : List JsonFault) (x : X) (y : Y) (e : JsonFault) → OrMemory (Err e) (first_or a x) → OrMemory (Err e) (first_or a y)
-same_fault a x y e (inl h) = inl (let same : e ≡ Memory = cc in ap Err same)
-same_fault [] x y e (inr h) = absurd (let g : Err e ≡ Ok x = h in cc)
-same_fault (f ∷ a) x y e (inr h) = inr (let same : e ≡ f = cc in ap Err same)
+-- the same error, whatever would be read
+pub same_error : {X Y : Type 0} (a : List JsonFault) (x : X) (y : Y) (e : JsonFault) → OrMemory (Err e) (first_or a x) → OrMemory (Err e) (first_or a y)
+same_error a x y e (inl h) = inl (let same : e ≡ Memory = cc in ap Err same)
+same_error [] x y e (inr h) = absurd (let g : Err e ≡ Ok x = h in cc)
+same_error (f ∷ a) x y e (inr h) = inr (let same : e ≡ f = cc in ap Err same)
 
 pub all_read : {X : Type 0} (a : List JsonFault) (x z : X) → a ≡ [] → z ≡ x → OrMemory (Ok z) (first_or a x)
 all_read a x z none e = rw (none, e) (inr refl)
@@ -101,34 +105,34 @@ module _ {X Y : Type 0} (f : X → Option Y) where
   pub every_all : (xs : List X) (i : ℕ) (ys : List Y) → length xs ≤ i → every f (take i xs) ≡ Some ys → every f xs ≡ Some ys
   every_all xs i ys all h = rw (take_all xs i all) at h
 
--- ---- faults, one after the other
+-- ---- errors, one after the other
 
-module _ {A : Type 0} (faults : A → List JsonFault) where
-  split : (list : List A) (i : ℕ) (a : A) → slice_get list i ≡ Some a → flat_map faults (take i list) ≡ [] → (rest : List JsonFault) × (flat_map faults list ≡ faults a ++ rest)
+module _ {A : Type 0} (errors : A → List JsonFault) where
+  split : (list : List A) (i : ℕ) (a : A) → slice_get list i ≡ Some a → flat_map errors (take i list) ≡ [] → (rest : List JsonFault) × (flat_map errors list ≡ errors a ++ rest)
   split [] i a at none = absurd (let g : None ≡ Some a = at in cc)
-  split (b ∷ list) zero a at none = let same : b ≡ a = cc in rw same (flat_map faults list, refl)
+  split (b ∷ list) zero a at none = let same : b ≡ a = cc in rw same (flat_map errors list, refl)
   split (b ∷ list) (suc i) a at none =
-      let parts = nil_parts (faults b) (flat_map faults (take i list)) none in
+      let parts = nil_parts (errors b) (flat_map errors (take i list)) none in
       let rest = split list i a at parts.1 in
       rw parts.0 (rest.0, rest.1)
 
-  -- the first fault is that of the item at a place
-  pub fault_at : {X Y : Type 0} (list : List A) (i : ℕ) (a : A) (x : X) (y : Y) (e : JsonFault) → slice_get list i ≡ Some a → flat_map faults (take i list) ≡ [] → OrMemory (Err e) (first_or (faults a) x) → OrMemory (Err e) (first_or (flat_map faults list) y)
-  fault_at list i a x y e at none h =
+  -- the first error is that of the item at a place
+  pub error_at : {X Y : Type 0} (list : List A) (i : ℕ) (a : A) (x : X) (y : Y) (e : JsonFault) → slice_get list i ≡ Some a → flat_map errors (take i list) ≡ [] → OrMemory (Err e) (first_or (errors a) x) → OrMemory (Err e) (first_or (flat_map errors list) y)
+  error_at list i a x y e at none h =
       let parts = split list i a at none in
-      rw parts.1 (fault_in_front (faults a) parts.0 x y e h)
+      rw parts.1 (error_in_front (errors a) parts.0 x y e h)
 
-  next_none : (list : List A) (i : ℕ) (a : A) → slice_get list i ≡ Some a → flat_map faults (take i list) ≡ [] → faults a ≡ [] → flat_map faults (take (suc i) list) ≡ []
+  next_none : (list : List A) (i : ℕ) (a : A) → slice_get list i ≡ Some a → flat_map errors (take i list) ≡ [] → errors a ≡ [] → flat_map errors (take (suc i) list) ≡ []
   next_none [] i a at none h = absurd (let g : None ≡ Some a = at in cc)
   next_none (b ∷ list) zero a at none h = let same : b ≡ a = cc in rw (same, h) refl
   next_none (b ∷ list) (suc i) a at none h =
-      let parts = nil_parts (faults b) (flat_map faults (take i list)) none in
+      let parts = nil_parts (errors b) (flat_map errors (take i list)) none in
       rw parts.0 (next_none list i a at parts.1 h)
 
-  pub none_more : (list : List A) (i : ℕ) (a : A) → slice_get list i ≡ Some a → flat_map faults (take i list) ≡ [] → faults a ≡ [] → flat_map faults (take (i + 1) list) ≡ []
+  pub none_more : (list : List A) (i : ℕ) (a : A) → slice_get list i ≡ Some a → flat_map errors (take i list) ≡ [] → errors a ≡ [] → flat_map errors (take (i + 1) list) ≡ []
   none_more list i a at none h = let next : i + 1 ≡ suc i = omega arith in rw next (next_none list i a at none h)
 
-  pub none_all : (list : List A) (i : ℕ) → length list ≤ i → flat_map faults (take i list) ≡ [] → flat_map faults list ≡ []
+  pub none_all : (list : List A) (i : ℕ) → length list ≤ i → flat_map errors (take i list) ≡ [] → flat_map errors list ≡ []
   none_all list i all h = rw (take_all list i all) at h
 
 -- the rows of a list are its items with their numbers
@@ -182,70 +186,70 @@ pub relation_shaped : (name : List ℕ) (targets : List Target) → bytes_eq nam
 unfolding is_relation
 relation_shaped name targets a b c = rw (a, b, c) refl
 
--- ---- items of an array, each with its faults and what it is read as
+-- ---- items of an array, each with its errors and what it is read as
 
-module _ {Y : Type 0} (faults : List ℕ → Data → List JsonFault) (made : Data → Y) (place : List ℕ) (items : List Data) where
-  abbrev row_faults : ℕ × Data → List JsonFault
-  row_faults row = faults (item_place place row.0) row.1
+module _ {Y : Type 0} (errors : List ℕ → Data → List JsonFault) (made : Data → Y) (place : List ℕ) (items : List Data) where
+  abbrev row_errors : ℕ × Data → List JsonFault
+  row_errors row = errors (item_place place row.0) row.1
 
   -- what is known of the items before a place
   pub record SoFar (read : List Y) (i : ℕ) : Type 0 where
-    pub none : flat_map row_faults (take i (enumerate_from 0 items)) ≡ []
+    pub none : flat_map row_errors (take i (enumerate_from 0 items)) ≡ []
     pub read_as : read ≡ map made (take i items)
 
-  pub item_fault : (read : List Y) (i : ℕ) (d : Data) (e : JsonFault) → SoFar read i → slice_get items i ≡ Some d → OrMemory (Err e) (first_or (faults (item_place place i) d) (made d)) → OrMemory (Err e) (first_or (item_faults faults place items) (map made items))
-  item_fault read i d e so_far at h = fault_at row_faults (enumerate_from 0 items) i (i, d) (made d) (map made items) e (row_at items i d at) so_far.none h
+  pub item_error : (read : List Y) (i : ℕ) (d : Data) (e : JsonFault) → SoFar read i → slice_get items i ≡ Some d → OrMemory (Err e) (first_or (errors (item_place place i) d) (made d)) → OrMemory (Err e) (first_or (item_errors errors place items) (map made items))
+  item_error read i d e so_far at h = error_at row_errors (enumerate_from 0 items) i (i, d) (made d) (map made items) e (row_at items i d at) so_far.none h
 
-  pub item_read : (read : List Y) (i : ℕ) (d : Data) (y : Y) (more : List Y) → SoFar read i → slice_get items i ≡ Some d → OrMemory (Ok y) (first_or (faults (item_place place i) d) (made d)) → more ≡ read ++ y ∷ [] → SoFar more (i + 1)
+  pub item_read : (read : List Y) (i : ℕ) (d : Data) (y : Y) (more : List Y) → SoFar read i → slice_get items i ≡ Some d → OrMemory (Ok y) (first_or (errors (item_place place i) d) (made d)) → more ≡ read ++ y ∷ [] → SoFar more (i + 1)
   item_read read i d y more so_far at h e =
-      let own = no_fault (faults (item_place place i) d) (made d) y h in
-      record { none = none_more row_faults (enumerate_from 0 items) i (i, d) (row_at items i d at) so_far.none own.0; read_as = mapped_more made items i d read y more at so_far.read_as own.1 e }
+      let own = none_first (errors (item_place place i) d) (made d) y h in
+      record { none = none_more row_errors (enumerate_from 0 items) i (i, d) (row_at items i d at) so_far.none own.0; read_as = mapped_more made items i d read y more at so_far.read_as own.1 e }
 
-  pub items_read : (read : List Y) (i : ℕ) → SoFar read i → length items ≤ i → OrMemory (Ok read) (first_or (item_faults faults place items) (map made items))
+  pub items_read : (read : List Y) (i : ℕ) → SoFar read i → length items ≤ i → OrMemory (Ok read) (first_or (item_errors errors place items) (map made items))
   items_read read i so_far all =
       let few : length (enumerate_from 0 items) ≤ i = rw (rows_from 0 items) all in
-      all_read (item_faults faults place items) (map made items) read (none_all row_faults (enumerate_from 0 items) i few so_far.none) (rw (take_all items i all) at so_far.read_as)
+      all_read (item_errors errors place items) (map made items) read (none_all row_errors (enumerate_from 0 items) i few so_far.none) (rw (take_all items i all) at so_far.read_as)
 
 -- the same for the items of what is an array
-module _ {Y : Type 0} (faults : List ℕ → Data → List JsonFault) (made : Data → Y) (place : List ℕ) (whole : Data) where
+module _ {Y : Type 0} (errors : List ℕ → Data → List JsonFault) (made : Data → Y) (place : List ℕ) (whole : Data) where
   abbrev answer_at : List ℕ → Data → Result Y JsonFault
-  answer_at at d = first_or (faults at d) (made d)
+  answer_at at d = first_or (errors at d) (made d)
 
-  pub array_fault : (read : List Y) (i : ℕ) (e : JsonFault) → SoFar faults made place (items_of whole) read i → ItemAnswer answer_at place i whole (Err e) → OrMemory (Err e) (first_or (item_faults faults place (items_of whole)) (map made (items_of whole)))
-  array_fault read i e so_far (inl h) = inl (let same : e ≡ Memory = cc in ap Err same)
-  array_fault read i e so_far (inr p) = item_fault faults made place (items_of whole) read i p.0 e so_far (items_at whole i ∙ sym p.1) p.2
+  pub array_error : (read : List Y) (i : ℕ) (e : JsonFault) → SoFar errors made place (items_of whole) read i → ItemAnswer answer_at place i whole (Err e) → OrMemory (Err e) (first_or (item_errors errors place (items_of whole)) (map made (items_of whole)))
+  array_error read i e so_far (inl h) = inl (let same : e ≡ Memory = cc in ap Err same)
+  array_error read i e so_far (inr p) = item_error errors made place (items_of whole) read i p.0 e so_far (items_at whole i ∙ sym p.1) p.2
 
-  pub array_read : (read : List Y) (i : ℕ) (y : Y) (more : List Y) → SoFar faults made place (items_of whole) read i → ItemAnswer answer_at place i whole (Ok y) → more ≡ read ++ y ∷ [] → SoFar faults made place (items_of whole) more (i + 1)
+  pub array_read : (read : List Y) (i : ℕ) (y : Y) (more : List Y) → SoFar errors made place (items_of whole) read i → ItemAnswer answer_at place i whole (Ok y) → more ≡ read ++ y ∷ [] → SoFar errors made place (items_of whole) more (i + 1)
   array_read read i y more so_far (inl h) e = absurd (let g : Ok y ≡ Err Memory = h in cc)
-  array_read read i y more so_far (inr p) e = item_read faults made place (items_of whole) read i p.0 y more so_far (items_at whole i ∙ sym p.1) p.2 e
+  array_read read i y more so_far (inr p) e = item_read errors made place (items_of whole) read i p.0 y more so_far (items_at whole i ∙ sym p.1) p.2 e
 
--- ---- members of an object, each with its faults and what it is read as
+-- ---- members of an object, each with its errors and what it is read as
 
-module _ {X : Type 0} (faults : List ℕ → List JsonFault) (made : List ℕ → Option X) (shape : X → Bool) (names : List (List ℕ)) where
+module _ {X : Type 0} (errors : List ℕ → List JsonFault) (made : List ℕ → Option X) (shape : X → Bool) (names : List (List ℕ)) where
   pub record Found (read : List X) (i : ℕ) : Type 0 where
-    pub none : flat_map faults (take i names) ≡ []
+    pub none : flat_map errors (take i names) ≡ []
     pub kept : read ≡ filter_map made (take i names)
     pub shaped : list_all shape read ≡ true
 
-  pub member_fault : (read : List X) (i : ℕ) (name : List ℕ) (e : JsonFault) (all : List (List ℕ)) → names ≡ all → Found read i → slice_get names i ≡ Some name → OrMemory (Err e) (first_or (faults name) (made name)) → OrMemory (Err e) (first_or (flat_map faults all) (filter_map made all))
-  member_fault read i name e all same so_far at h = rw (← same) (fault_at faults names i name (made name) (filter_map made names) e at so_far.none h)
+  pub member_error : (read : List X) (i : ℕ) (name : List ℕ) (e : JsonFault) (all : List (List ℕ)) → names ≡ all → Found read i → slice_get names i ≡ Some name → OrMemory (Err e) (first_or (errors name) (made name)) → OrMemory (Err e) (first_or (flat_map errors all) (filter_map made all))
+  member_error read i name e all same so_far at h = rw (← same) (error_at errors names i name (made name) (filter_map made names) e at so_far.none h)
 
-  pub member_kept : (read : List X) (i : ℕ) (name : List ℕ) (r : Option X) (more : List X) → Found read i → slice_get names i ≡ Some name → OrMemory (Ok r) (first_or (faults name) (made name)) → IfSome r (λ x. shape x ≡ true) → more ≡ read ++ cons_option r [] → Found more (i + 1)
+  pub member_kept : (read : List X) (i : ℕ) (name : List ℕ) (r : Option X) (more : List X) → Found read i → slice_get names i ≡ Some name → OrMemory (Ok r) (first_or (errors name) (made name)) → IfSome r (λ x. shape x ≡ true) → more ≡ read ++ cons_option r [] → Found more (i + 1)
   member_kept read i name r more so_far at h own_shape e =
-      let own = no_fault (faults name) (made name) r h in
+      let own = none_first (errors name) (made name) r h in
       record {
-        none = none_more faults names i name at so_far.none own.0;
+        none = none_more errors names i name at so_far.none own.0;
         kept = kept_by made names i name r read more at so_far.kept own.1 e;
         shaped = rw e (all_by shape read r so_far.shaped own_shape);
       }
 
-  pub members_read : (read : List X) (i : ℕ) (all : List (List ℕ)) → names ≡ all → Found read i → length names ≤ i → OrMemory (Ok read) (first_or (flat_map faults all) (filter_map made all))
+  pub members_read : (read : List X) (i : ℕ) (all : List (List ℕ)) → names ≡ all → Found read i → length names ≤ i → OrMemory (Ok read) (first_or (flat_map errors all) (filter_map made all))
   members_read read i all same so_far few =
-      rw (← same) (all_read (flat_map faults names) (filter_map made names) read (none_all faults names i few so_far.none) (rw (take_all names i few) at so_far.kept))
+      rw (← same) (all_read (flat_map errors names) (filter_map made names) read (none_all errors names i few so_far.none) (rw (take_all names i few) at so_far.kept))
 
 -- the names that an object answers
-pub listed_names : (place : List ℕ) (d : Data) (names : List (List ℕ)) → Ok names ≡ asked place (names_of d) → names ≡ names_in d
-listed_names place d names h = by (names_of d) h
+pub listed_names : (place : List ℕ) (d : Data) (names : List (List ℕ)) → OrMemory (Ok names) (asked place (names_of d)) → names ≡ names_in d
+listed_names place d names h = by (names_of d) (no_error Memory names (asked place (names_of d)) h)
   where
     by : (o : Option (List (List ℕ))) → Ok names ≡ asked place o → names ≡ unwrap_or o []
     by None h = absurd (let g : Ok names ≡ Err (Kind place) = h in cc)
@@ -257,25 +261,25 @@ module _ (name place : List ℕ) (d : Data) where
   pub no_relation : None ≡ count_of d → OrMemory (Ok None) (member_answer name place d)
   no_relation h = rw (no_array d h) (inr refl)
 
-  pub relation_refused : (n : ℕ) (e : JsonFault) → Some n ≡ count_of d → OrMemory (Err e) (first_or (item_faults target_faults place (items_of d)) (map target_of (items_of d))) → OrMemory (Err e) (member_answer name place d)
-  relation_refused n e count h = rw (is_array d n count) (same_fault (item_faults target_faults place (items_of d)) (map target_of (items_of d)) (Some (relation_with name (items_of d))) e h)
+  pub relation_rejected : (n : ℕ) (e : JsonFault) → Some n ≡ count_of d → OrMemory (Err e) (first_or (item_errors target_errors place (items_of d)) (map target_of (items_of d))) → OrMemory (Err e) (member_answer name place d)
+  relation_rejected n e count h = rw (is_array d n count) (same_error (item_errors target_errors place (items_of d)) (map target_of (items_of d)) (Some (relation_with name (items_of d))) e h)
 
-  pub relation_made : (n : ℕ) (targets : List Target) → Some n ≡ count_of d → OrMemory (Ok targets) (first_or (item_faults target_faults place (items_of d)) (map target_of (items_of d))) → OrMemory (Ok (Some (record { name = name; targets = targets }))) (member_answer name place d)
+  pub relation_made : (n : ℕ) (targets : List Target) → Some n ≡ count_of d → OrMemory (Ok targets) (first_or (item_errors target_errors place (items_of d)) (map target_of (items_of d))) → OrMemory (Ok (Some (record { name = name; targets = targets }))) (member_answer name place d)
   relation_made n targets count h =
-      let own = no_fault (item_faults target_faults place (items_of d)) (map target_of (items_of d)) targets h in
+      let own = none_first (item_errors target_errors place (items_of d)) (map target_of (items_of d)) targets h in
       rw (is_array d n count, own.0, own.1) (inr refl)
 
 module _ (place : List ℕ) (d : Data) (name : List ℕ) where
-  pub anchor_left_out : true ≡ bytes_eq name (codes "anchor") → OrMemory (Ok None) (first_or (relation_faults place d name) (relation_of d name))
-  unfolding relation_faults relation_of targets_at
+  pub anchor_left_out : true ≡ bytes_eq name (codes "anchor") → OrMemory (Ok None) (first_or (relation_errors place d name) (relation_of d name))
+  unfolding relation_errors relation_of targets_at
   anchor_left_out h = rw (← h) (inr refl)
 
-  pub no_member : bytes_eq name (codes "anchor") ≡ false → None ≡ get name d → OrMemory (Ok None) (first_or (relation_faults place d name) (relation_of d name))
-  unfolding relation_faults relation_of targets_at
+  pub no_member : bytes_eq name (codes "anchor") ≡ false → None ≡ get name d → OrMemory (Ok None) (first_or (relation_errors place d name) (relation_of d name))
+  unfolding relation_errors relation_of targets_at
   no_member other h = rw (other, ← h) (inr refl)
 
-  pub by_member : (e : Data) (r : Result (Option Relation) JsonFault) → bytes_eq name (codes "anchor") ≡ false → Some e ≡ get name d → OrMemory r (member_answer name (member_place place name) e) → OrMemory r (first_or (relation_faults place d name) (relation_of d name))
-  unfolding relation_faults relation_of targets_at
+  pub by_member : (e : Data) (r : Result (Option Relation) JsonFault) → bytes_eq name (codes "anchor") ≡ false → Some e ≡ get name d → OrMemory r (member_answer name (member_place place name) e) → OrMemory r (first_or (relation_errors place d name) (relation_of d name))
+  unfolding relation_errors relation_of targets_at
   by_member e r other h answer = rw (other, ← h) answer
 
 -- ---- a target
@@ -283,28 +287,28 @@ module _ (place : List ℕ) (d : Data) (name : List ℕ) where
 abbrev none_of : List ℕ → List JsonFault
 none_of n = []
 
-no_faults : (ns : List (List ℕ)) → flat_map none_of ns ≡ []
-no_faults [] = refl
-no_faults (n ∷ ns) = no_faults ns
+no_errors : (ns : List (List ℕ)) → flat_map none_of ns ≡ []
+no_errors [] = refl
+no_errors (n ∷ ns) = no_errors ns
 
 module _ (place : List ℕ) (d : Data) where
-  abbrev target_told : Result Target JsonFault
-  target_told = first_or (target_faults place d) (target_of d)
+  abbrev target_known : Result Target JsonFault
+  target_known = first_or (target_errors place d) (target_of d)
 
-  pub no_href : (e : JsonFault) → OrMemory (Err e) (text_answer (codes "href") place d) → OrMemory (Err e) target_told
-  unfolding target_faults
-  no_href e h = same_fault (member_faults Text (codes "href") place d) (text_in (codes "href") d) (target_of d) e h
+  pub no_href : (e : JsonFault) → OrMemory (Err e) (text_answer (codes "href") place d) → OrMemory (Err e) target_known
+  unfolding target_errors
+  no_href e h = same_error (member_errors Text (codes "href") place d) (text_in (codes "href") d) (target_of d) e h
 
-  pub attrs_refused : {X : Type 0} (x : X) (e : JsonFault) → OrMemory (Err e) (first_or (flat_map none_of (names_in d)) x) → OrMemory (Err e) target_told
-  attrs_refused x e (inl h) = inl (let same : e ≡ Memory = cc in ap Err same)
-  attrs_refused x e (inr h) = absurd (let g = rw (no_faults (names_in d)) at h in let bad : Err e ≡ Ok x = g in cc)
+  pub attrs_rejected : {X : Type 0} (x : X) (e : JsonFault) → OrMemory (Err e) (first_or (flat_map none_of (names_in d)) x) → OrMemory (Err e) target_known
+  attrs_rejected x e (inl h) = inl (let same : e ≡ Memory = cc in ap Err same)
+  attrs_rejected x e (inr h) = absurd (let g = rw (no_errors (names_in d)) at h in let bad : Err e ≡ Ok x = g in cc)
 
   pub target_read : (href : List ℕ) (attrs : List Attr) → OrMemory (Ok href) (text_answer (codes "href") place d) → OrMemory (Ok attrs) (first_or (flat_map none_of (names_in d)) (filter_map (attr_of d) (names_in d)))
-      → OrMemory (Ok (record { href = href; attrs = attrs })) target_told
-  unfolding target_faults target_of
+      → OrMemory (Ok (record { href = href; attrs = attrs })) target_known
+  unfolding target_errors target_of
   target_read href attrs h g =
-      let own = no_fault (member_faults Text (codes "href") place d) (text_in (codes "href") d) href h in
-      let all = no_fault (flat_map none_of (names_in d)) (filter_map (attr_of d) (names_in d)) attrs g in
+      let own = none_first (member_errors Text (codes "href") place d) (text_in (codes "href") d) href h in
+      let all = none_first (flat_map none_of (names_in d)) (filter_map (attr_of d) (names_in d)) attrs g in
       rw (own.0, own.1, all.1) (inr refl)
 
 -- ---- shapes

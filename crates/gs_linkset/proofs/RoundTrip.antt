@@ -1,5 +1,5 @@
 -- What is written of a document is read as that document.
-use Rattle.std.proofs.Common.{◌≡◌, ◌≤◌, ℕ, zero, suc, ◌+◌, List, [], ◌∷◌, map, Bool, true, false, Option, Some, None, slice_get, codes, Ordering, Less, Equal, Greater, refl, ap, ◌∙◌, arith}
+use Rattle.std.proofs.Common.{◌≡◌, ◌≤◌, ℕ, zero, suc, ◌+◌, List, [], ◌∷◌, map, Bool, true, false, Option, Some, None, slice_get, codes, Ordering, Less, Equal, Greater, refl, sym, ap, ◌∙◌, arith}
 use Rattle.std.specs.Prelude.{Ok, not}
 use Rattle.std.specs.Cmp.Lexicographic.{slice_cmp}
 use Rattle.std.specs.List.{enumerate_from, filter_map, flat_map, list_all}
@@ -13,19 +13,20 @@ use Rattle.gs_chars.proofs.TruthsAndLists.{and_first, and_second, false_from_not
 use Rattle.gs_json.specs.Answers.{AscendByBytes, names_of_members}
 use Rattle.gs_json.specs.Places.{item_place, member_place}
 use Rattle.gs_json.specs.Shapes.{items_list}
-use Rattle.gs_json.specs.declared.fault.JsonFault.{JsonFault}
+use Rattle.gs_json.specs.declared.error.JsonFault.{JsonFault}
 use Rattle.gs_json.specs.declared.plan.Sort.TheVariants as sort
 use Rattle.serde_json.specs.Data.{Data, string, object, Members, no_members, member, put, depth, items_depth, members_depth}
 use Rattle.serde_json.specs.Find.{as_str, get_member}
-use Rattle.serde_json.specs.Read.{max_depth}
+use Rattle.serde_json.specs.Read.{max_depth, read as read_text}
 use Rattle.serde_json.specs.View.{items_of as listed}
 use Rattle.serde_json.specs.Written.{compact_text}
 use Rattle.serde_json.proofs.Views.{get_member-put, get_member-put_other}
-use Rattle.gs_linkset.specs.Answers.{document_answer, document_of, read_answer}
-use Rattle.gs_linkset.specs.Attributes.{array_in, every, is_single, is_tagged, tagged_text, value_of}
-use Rattle.gs_linkset.specs.Documents.{attr_of, context_faults, context_of, contexts_of, document_faults, member_faults, relation_faults, relation_of, target_faults, target_of, targets_at, text_in}
+use Rattle.gs_json.specs.Members.{array_in, document_of, text_in}
+use Rattle.gs_linkset.specs.Answers.{document_answer, read_answer}
+use Rattle.gs_linkset.specs.Attributes.{every, is_single, is_tagged, tagged_text, value_of}
+use Rattle.gs_linkset.specs.Documents.{attr_of, context_errors, context_of, contexts_of, document_errors, member_errors, relation_errors, relation_of, target_errors, target_of, targets_at}
 use Rattle.gs_linkset.specs.LinkShapes.{is_attr, is_context, is_relation, is_tagged_text, is_target, is_value}
-use Rattle.gs_linkset.specs.Written.{array_by, attr_members, context_tree, members_by, relation_members, tagged_tree, target_tree, tree_of, value_tree, written}
+use Rattle.gs_linkset.specs.WrittenTrees.{array_by, attr_members, context_tree, members_by, relation_members, tagged_tree, target_text, target_tree, tree_of, value_tree, written}
 use Rattle.gs_linkset.specs.declared.link_types.Attr.{Attr}
 use Rattle.gs_linkset.specs.declared.link_types.AttrValue.{AttrValue}
 use Rattle.gs_linkset.specs.declared.link_types.AttrValue.TheVariants.{One, Many, Tagged}
@@ -57,11 +58,11 @@ module _ {X : Type 0} (tree : X → Data) (t : X → Bool) where
   every_back f each [] all = refl
   every_back f each (x ∷ xs) all = rw (each x (and_first (t x) (list_all t xs) all), every_back f each xs (and_second (t x) (list_all t xs) all)) refl
 
-  no_row_faults : (faults : List ℕ → Data → List JsonFault) (place : List ℕ) → ((p : List ℕ) (x : X) → t x ≡ true → faults p (tree x) ≡ []) → (n : ℕ) (xs : List X) → list_all t xs ≡ true
-      → flat_map (λ row. faults (item_place place row.0) row.1) (enumerate_from n (map tree xs)) ≡ []
-  no_row_faults faults place each n [] all = refl
-  no_row_faults faults place each n (x ∷ xs) all =
-      rw (each (item_place place n) x (and_first (t x) (list_all t xs) all)) (no_row_faults faults place each (n + 1) xs (and_second (t x) (list_all t xs) all))
+  no_row_errors : (errors : List ℕ → Data → List JsonFault) (place : List ℕ) → ((p : List ℕ) (x : X) → t x ≡ true → errors p (tree x) ≡ []) → (n : ℕ) (xs : List X) → list_all t xs ≡ true
+      → flat_map (λ row. errors (item_place place row.0) row.1) (enumerate_from n (map tree xs)) ≡ []
+  no_row_errors errors place each n [] all = refl
+  no_row_errors errors place each n (x ∷ xs) all =
+      rw (each (item_place place n) x (and_first (t x) (list_all t xs) all)) (no_row_errors errors place each (n + 1) xs (and_second (t x) (list_all t xs) all))
 
 module _ {X : Type 0} (tree : X → Data) (n : ℕ) (each : (x : X) → depth (tree x) ≤ n) where
   deep_items : (xs : List X) → items_depth (listed (map tree xs)) ≤ n
@@ -118,23 +119,23 @@ module _ {Y : Type 0} (f : List ℕ → Option Y) (k : List ℕ) (d : Data) (non
   passed (member l e ms) = passed_by (slice_cmp nat_cmp k l) l e ms refl (passed ms)
 
 module _ (g : List ℕ → List JsonFault) (k : List ℕ) (d : Data) (none : g k ≡ []) where
-  faultless_by : (o : Ordering) (l : List ℕ) (e : Data) (ms : Members) → flat_map g (names_of_members (put k d ms)) ≡ flat_map g (names_of_members ms)
+  errorless_by : (o : Ordering) (l : List ℕ) (e : Data) (ms : Members) → flat_map g (names_of_members (put k d ms)) ≡ flat_map g (names_of_members ms)
       → flat_map g (names_of_members (match_ordering o (member k d (member l e ms)) (member l d ms) (member l e (put k d ms)))) ≡ flat_map g (names_of_members (member l e ms))
-  faultless_by Less l e ms more = rw none refl
-  faultless_by Equal l e ms more = refl
-  faultless_by Greater l e ms more = rw more refl
+  errorless_by Less l e ms more = rw none refl
+  errorless_by Equal l e ms more = refl
+  errorless_by Greater l e ms more = rw more refl
 
-  faultless : (ms : Members) → flat_map g (names_of_members (put k d ms)) ≡ flat_map g (names_of_members ms)
-  faultless no_members = rw none refl
-  faultless (member l e ms) = faultless_by (slice_cmp nat_cmp k l) l e ms (faultless ms)
+  errorless : (ms : Members) → flat_map g (names_of_members (put k d ms)) ≡ flat_map g (names_of_members ms)
+  errorless no_members = rw none refl
+  errorless (member l e ms) = errorless_by (slice_cmp nat_cmp k l) l e ms (errorless ms)
 
--- the text that was put at a name is there, and has no fault
+-- the text that was put at a name is there, and has no error
 module _ (k : List ℕ) (s : List ℕ) (ms : Members) where
   text_there : text_in k (object (put k (string s) ms)) ≡ s
   text_there = rw (get_member-put k (string s) ms) refl
 
-  no_text_faults : (place : List ℕ) → member_faults sort.Text k place (object (put k (string s) ms)) ≡ []
-  no_text_faults place = rw (get_member-put k (string s) ms) refl
+  no_text_errors : (place : List ℕ) → member_errors sort.Text k place (object (put k (string s) ms)) ≡ []
+  no_text_errors place = rw (get_member-put k (string s) ms) refl
 
 other_name : (a b : List ℕ) → not (bytes_eq a b) ≡ true → a ≡ b → ⊥
 other_name a b h same = absurd (let g = rw (same, same_bytes b) at h in let bad : false ≡ true = g in cc)
@@ -181,9 +182,9 @@ module _ (target : Target) (h : is_target target ≡ true) where
       let all = passed (attr_of (target_tree target)) (codes "href") (string target.href) no_href (attr_members target.attrs) ∙ ap (filter_map (attr_of (target_tree target))) names ∙ kept in
       rw (text_there (codes "href") target.href (attr_members target.attrs), all) refl
 
-  pub no_target_faults : (place : List ℕ) → target_faults place (target_tree target) ≡ []
-  unfolding target_faults
-  no_target_faults place = no_text_faults (codes "href") target.href (attr_members target.attrs) place
+  pub no_target_errors : (place : List ℕ) → target_errors place (target_tree target) ≡ []
+  unfolding target_errors
+  no_target_errors place = no_text_errors (codes "href") target.href (attr_members target.attrs) place
 
 -- ---- relations
 
@@ -206,18 +207,18 @@ module _ (context : Context) (h : is_context context ≡ true) where
       let targets = maps_back target_tree is_target target_of target_back relation.targets (targets_shaped i relation at) in
       rw (targets_there i relation at, targets) refl
 
-  no_relation_faults : (place : List ℕ) (i : ℕ) (relation : Relation) → slice_get context.relations i ≡ Some relation → relation_faults place (context_tree context) relation.name ≡ []
-  unfolding relation_faults
-  no_relation_faults place i relation at =
-      rw (targets_there i relation at) (no_row_faults target_tree is_target target_faults (member_place place relation.name) (λ p target t. no_target_faults target t p) 0 relation.targets (targets_shaped i relation at))
+  no_relation_errors : (place : List ℕ) (i : ℕ) (relation : Relation) → slice_get context.relations i ≡ Some relation → relation_errors place (context_tree context) relation.name ≡ []
+  unfolding relation_errors
+  no_relation_errors place i relation at =
+      rw (targets_there i relation at) (no_row_errors target_tree is_target target_errors (member_place place relation.name) (λ p target t. no_target_errors target t p) 0 relation.targets (targets_shaped i relation at))
 
   no_anchor : relation_of (context_tree context) (codes "anchor") ≡ None
   unfolding relation_of targets_at
   no_anchor = refl
 
-  no_anchor_faults : (place : List ℕ) → relation_faults place (context_tree context) (codes "anchor") ≡ []
-  unfolding relation_faults targets_at
-  no_anchor_faults place = refl
+  no_anchor_errors : (place : List ℕ) → relation_errors place (context_tree context) (codes "anchor") ≡ []
+  unfolding relation_errors targets_at
+  no_anchor_errors place = refl
 
   pub context_back : context_of (context_tree context) ≡ context
   unfolding context_of
@@ -227,20 +228,20 @@ module _ (context : Context) (h : is_context context ≡ true) where
       let all = passed (relation_of (context_tree context)) (codes "anchor") (string context.anchor) no_anchor (relation_members context.relations) ∙ ap (filter_map (relation_of (context_tree context))) names ∙ kept in
       rw (text_there (codes "anchor") context.anchor (relation_members context.relations), all) refl
 
-  pub no_context_faults : (place : List ℕ) → context_faults place (context_tree context) ≡ []
-  unfolding context_faults
-  no_context_faults place =
-      let none = none_by (λ relation. relation.name) (λ relation. array_by target_tree relation.targets) (relation_faults place (context_tree context)) context.relations (no_relation_faults place) in
+  pub no_context_errors : (place : List ℕ) → context_errors place (context_tree context) ≡ []
+  unfolding context_errors
+  no_context_errors place =
+      let none = none_by (λ relation. relation.name) (λ relation. array_by target_tree relation.targets) (relation_errors place (context_tree context)) context.relations (no_relation_errors place) in
       let names = names_by (λ relation. relation.name) (λ relation. array_by target_tree relation.targets) context.relations in
-      let all = faultless (relation_faults place (context_tree context)) (codes "anchor") (string context.anchor) (no_anchor_faults place) (relation_members context.relations) ∙ ap (flat_map (relation_faults place (context_tree context))) names ∙ none in
-      none_of_both _ _ (no_text_faults (codes "anchor") context.anchor (relation_members context.relations) place) all
+      let all = errorless (relation_errors place (context_tree context)) (codes "anchor") (string context.anchor) (no_anchor_errors place) (relation_members context.relations) ∙ ap (flat_map (relation_errors place (context_tree context))) names ∙ none in
+      none_of_both _ _ (no_text_errors (codes "anchor") context.anchor (relation_members context.relations) place) all
 
 -- ---- the document
 
 document_back : (contexts : List Context) → list_all is_context contexts ≡ true → document_answer (tree_of contexts) ≡ Ok contexts
-unfolding document_answer document_faults contexts_of
+unfolding document_answer document_errors contexts_of
 document_back contexts h =
-    let none = no_row_faults context_tree is_context context_faults (member_place [] (codes "linkset")) (λ p context t. no_context_faults context t p) 0 contexts h in
+    let none = no_row_errors context_tree is_context context_errors (member_place [] (codes "linkset")) (λ p context t. no_context_errors context t p) 0 contexts h in
     let back = maps_back context_tree is_context context_of context_back contexts h in
     rw (list_back (map context_tree contexts), none, back) refl
 
@@ -311,7 +312,20 @@ deep_context context =
 deep_tree : (contexts : List Context) → depth (tree_of contexts) ≤ max_depth
 deep_tree contexts = let items = deep_items context_tree 5 deep_context contexts in omega arith
 
--- ---- the law
+-- ---- the laws
+
+shallow_target : (target : Target) → depth (target_tree target) ≤ max_depth
+shallow_target target = let deep = deep_target target in omega arith
+
+-- two targets with one text are one
+pub same_by_text : (a b : Target) → is_target a ≡ true → is_target b ≡ true → target_text a ≡ target_text b → a ≡ b
+unfolding target_text
+same_by_text a b ha hb same =
+    let reads_a = text_reads (target_tree a) (plain_target a ha) (shallow_target a) in
+    let reads_b = text_reads (target_tree b) (plain_target b hb) (shallow_target b) in
+    let one : Some (target_tree a) ≡ Some (target_tree b) = sym reads_a ∙ ap read_text same ∙ reads_b in
+    let tree : target_tree a ≡ target_tree b = cc in
+    sym (target_back a ha) ∙ ap target_of tree ∙ target_back b hb
 
 pub written_back : (contexts : List Context) → list_all is_context contexts ≡ true → read_answer (written contexts) ≡ Ok contexts
 unfolding read_answer document_of written

@@ -6,7 +6,9 @@ use Rattle.std.proofs.lemmas.Str.{IsUtf8-string_bytes, is_utf8-from_IsUtf8}
 use Rattle.serde_json.specs.Data.{Data}
 use Rattle.serde_json.specs.Find.{as_str}
 use Rattle.gs_json.specs.Answers.{OrMemory, asked}
-use Rattle.gs_json.specs.declared.fault.JsonFault.{JsonFault}
+use Rattle.gs_chars.proofs.ErrorAnswers.{no_error}
+use Rattle.gs_json.specs.declared.error.JsonFault.{JsonFault}
+use Rattle.gs_json.specs.declared.error.JsonFault.TheVariants.{Memory}
 use Rattle.serde_json.specs.View.{view, view_step}
 use Rattle.serde_json.specs.declared.value.Value.{Value as Tree, out-Value, map-Value}
 use Rattle.serde_json.specs.declared.value.Value.TheFolds.{fold_out-Value}
@@ -37,5 +39,5 @@ own_text place v t h = by (as_str (view v)) refl
         rw same (text_is_utf8 v s e)
 
 pub read_text : (place : List ℕ) (v : Tree) (r : Result (List ℕ) JsonFault) → OrMemory r (asked place (as_str (view v))) → IfOk r (λ t. is_utf8 t ≡ true)
-read_text place v (Ok t) h = own_text place v t h
-read_text place v (Err fault) h = tt
+read_text place v (Ok t) h = own_text place v t (no_error Memory t (asked place (as_str (view v))) h)
+read_text place v (Err error) h = tt

@@ -23,7 +23,7 @@ use Rattle.gs_linkset.specs.declared.link_types.Relation.{Relation}
 use Rattle.gs_linkset.specs.declared.link_types.Target.{Target}
 use Rattle.gs_linkset.specs.LinkShapes.{ascend, is_attr, is_below_first, is_context, is_relation, is_tagged_text, is_target, is_value}
 use Rattle.gs_linkset.proofs.ReadLemmas.{take_next}
-use Rattle.gs_linkset.specs.Written.{array_by, attr_members, context_tree, members_by, relation_members, tagged_tree, target_tree, tree_of, value_tree, with_language}
+use Rattle.gs_linkset.specs.WrittenTrees.{array_by, attr_members, context_tree, members_by, relation_members, tagged_tree, target_tree, tree_of, value_tree, with_language}
 
 pub valid : {S E : Type 0} (text : List ℕ) (same : S → Type 0) (other : E → Type 0) (r : Result S E) → is_utf8 text ≡ true → MatchResult r (λ s. same s × IsUtf8 text) (λ e. (IsUtf8 text → ⊥) × other e) → IsOk r
 valid text same other (Ok s) t h = refl
@@ -162,7 +162,7 @@ whole_value (One text) = refl
 whole_value (Many texts) = whole_items string (λ text. refl) texts
 whole_value (Tagged pairs) = whole_items tagged_tree whole_tagged pairs
 
-whole_target : (target : Target) → has_float (target_tree target) ≡ false
+pub whole_target : (target : Target) → has_float (target_tree target) ≡ false
 whole_target target =
     whole_put (codes "href") (string target.href) (attr_members target.attrs) refl
     (whole_members (λ attr. value_tree attr.value) (λ attr. whole_value attr.value) (λ attr. attr.name) target.attrs)

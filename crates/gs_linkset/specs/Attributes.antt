@@ -1,57 +1,49 @@
 -- The attributes of a target in JSON: RFC 9264, sections 4.2.4.1 to 4.2.4.3. That an attribute of another kind is ignored is
 -- this project's own rule.
-use Rattle.std.specs.Prelude.{ℕ, Bool, ◌==◌, ◌||◌, if◌then◌else◌, List, [], ◌∷◌, codes, Option, Some, option_map, option_and_then, unwrap_or}
+use Rattle.std.specs.Prelude.{ℕ, Bool, ◌==◌, ◌||◌, if◌then◌else◌, List, [], ◌∷◌, codes, Option, Some, option_map, option_and_then}
 use Rattle.std.specs.List.{ends_with}
 use Rattle.std.specs.Option.{option_map_or}
 use Rattle.std.specs.Str.{bytes_eq}
 use Rattle.serde_json.specs.Data.{Data}
-use Rattle.serde_json.specs.Find.{as_array, as_str, get}
-use Rattle.gs_json.specs.Shapes.{items_list}
+use Rattle.serde_json.specs.Find.{as_str, get}
+use Rattle.gs_json.specs.Members.{array_in}
 use Rattle.gs_linkset.specs.declared.link_types.AttrValue.{AttrValue}
 use Rattle.gs_linkset.specs.declared.link_types.AttrValue.TheVariants.{One, Many, Tagged}
 
--- what is read of all items, where each of them gives something
+-- trusted, own: what is read of all items, where each of them gives something
 abbrev pub every : {X Y : Type 0} → (X → Option Y) → List X → Option (List Y)
 every f [] = Some []
 every f (x ∷ xs) = option_and_then (λ y. option_map (λ ys. y ∷ ys) (every f xs)) (f x)
 
--- the names of internationalized attributes end in `*` (section 4.2.4.2)
+-- trusted, own: the names of internationalized attributes end in `*` (section 4.2.4.2)
 abbrev pub is_tagged : List ℕ → Bool
 is_tagged name = ends_with (λ a b. a == b) name (codes "*")
 
--- the attributes of RFC 8288 that have one value (section 4.2.4.1)
+-- trusted, own: the attributes of RFC 8288 that have one value (section 4.2.4.1)
 abbrev pub is_single : List ℕ → Bool
 is_single name = bytes_eq name (codes "type") || (bytes_eq name (codes "title") || bytes_eq name (codes "media"))
 
--- the items of an array
-abbrev pub array_in : Data → Option (List Data)
-array_in d = option_map items_list (as_array d)
-
--- the items of an array, and none of what is no array
-abbrev pub items_of : Data → List Data
-items_of d = unwrap_or (array_in d) []
-
--- an array of texts
+-- trusted, own: an array of texts
 abbrev pub texts_of : Data → Option (List (List ℕ))
 texts_of d = option_and_then (every as_str) (array_in d)
 
--- the language of a text, which is empty where none is said
+-- trusted, own: the language of a text, which is empty where none is said
 abbrev pub language_of : Data → Option (List ℕ)
 language_of d = option_map_or as_str (get (codes "language") d) (Some [])
 
--- a text and its language
+-- trusted, own: a text and its language
 abbrev pub text_with : Data → List ℕ → Option (List ℕ × List ℕ)
 text_with d text = option_map (λ language. (text, language)) (language_of d)
 
--- an object of a tagged value: its text and its language, or none where it has no such members
+-- trusted, own: an object of a tagged value: its text and its language, or none where it has no such members
 abbrev pub tagged_text : Data → Option (List ℕ × List ℕ)
 tagged_text d = option_and_then (text_with d) (option_and_then as_str (get (codes "value") d))
 
--- an array of texts with their languages
+-- trusted, own: an array of texts with their languages
 abbrev pub tagged_texts : Data → Option (List (List ℕ × List ℕ))
 tagged_texts d = option_and_then (every tagged_text) (array_in d)
 
--- the value of an attribute, where it is of the kind that the name has
+-- trusted, RFC 9264, sections 4.2.4.1 to 4.2.4.3: the value of an attribute, where it is of the kind that the name has
 unfoldable pub value_of : List ℕ → Data → Option AttrValue
 value_of name d =
     if is_tagged name then option_map Tagged (tagged_texts d)

@@ -55,7 +55,7 @@ fn copy_value(alloc: Global, value: &AttrValue) -> Result<AttrValue, Memory>
 }
 
 impl Target {
-    /// An equal target. The one refusal is want of memory.
+    /// An equal target. The one error is out of memory.
     pub fn copy(&self, alloc: Global) -> Result<Target, Memory>
         ensures { IfOk result (λ target. target ≡ self.now) }
     {

@@ -51,7 +51,7 @@ impl LinkDoc {
     }
 
     /// The linkset of contexts that have the shape. It takes no memory.
-    pub(crate) fn of_contexts(contexts: List<Context>) -> LinkDoc
+    pub fn of_contexts(contexts: List<Context>) -> LinkDoc
         requires { list_all is_context contexts ≡ true }
         ensures { result ≡ contexts }
     {

@@ -1,6 +1,6 @@
 //! Linksets (RFC 9264) in JSON: contexts with an anchor, their relations and the targets of these, read and written.
 //!
-//! - `read` reads a linkset from a document, or tells its first error; `write` writes one.
+//! - `read` reads a linkset from a document, or gives its first error; `write` writes one.
 //! - `LinkDoc` gives the parts of a linkset that is built from links.
 //!
 //! # Example
@@ -20,20 +20,20 @@
 //! - Relations and attributes are in ascending order of their names, so one linkset has one text.
 #![tactic(auto)]
 
-mod adding;
 mod copies;
 mod doc;
 mod laws;
 mod link_shapes;
 mod link_types;
 mod members;
+mod pushes;
 mod read_attrs;
 mod read_members;
-mod reading;
-mod writing;
+mod reader;
+mod writer;
 
 pub use doc::{DocFault, LinkDoc};
-pub use laws::written_is_read;
+pub use laws::{one_text_each, written_is_read};
 pub use link_types::{Attr, AttrValue, Context, Relation, Target};
-pub use reading::read;
-pub use writing::write;
+pub use reader::read;
+pub use writer::write;

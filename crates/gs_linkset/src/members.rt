@@ -1,7 +1,8 @@
 ghost use Rattle.std.specs.Prelude.{◌≡◌, IfOk, true};
 ghost use Rattle.std.specs.Str.{is_utf8};
 ghost use Rattle.serde_json.specs.View.{view};
-ghost use Rattle.gs_linkset.specs.Answers.{OrMemory, count_answer, text_answer};
+ghost use Rattle.gs_json.specs.Answers.{OrMemory};
+ghost use Rattle.gs_linkset.specs.AnswersSupport.{count_answer, text_answer};
 
 use gs_chars::Text;
 use gs_json::{JsonFault, Node};

@@ -2,7 +2,8 @@ ghost use Rattle.std.specs.Prelude.{◌≡◌, IfOk, IfSome, codes, false, map, 
 ghost use Rattle.std.specs.List.{list_all};
 ghost use Rattle.std.specs.Str.{bytes_eq};
 ghost use Rattle.serde_json.specs.View.{view};
-ghost use Rattle.gs_linkset.specs.Attributes.{array_in, every, language_of, tagged_text, value_of};
+ghost use Rattle.gs_json.specs.Members.{array_in};
+ghost use Rattle.gs_linkset.specs.Attributes.{every, language_of, tagged_text, value_of};
 ghost use Rattle.gs_linkset.specs.Documents.{attr_named};
 ghost use Rattle.gs_linkset.specs.LinkShapes.{is_attr, is_value};
 
@@ -20,17 +21,17 @@ trait ReadEntry: Shaped + Drop {
     ghost use Rattle.serde_json.specs.Data.{Data};
 
     /// What an item is read as, where it is read as something.
-    ghost told: { Data → Option Self };
+    ghost known: { Data → Option Self };
 
     /// What an item is read as.
     fn read(alloc: Global, item: &Value) -> Result<Option<Self>, Memory>
-        ensures told { IfOk result (λ entry. entry ≡ told (view item.now)) }
+        ensures known { IfOk result (λ entry. entry ≡ known (view item.now)) }
         ensures shape { IfOk result (λ entry. IfSome entry (λ entry. Self.shape entry ≡ true)) };
 }
 
 /// What is read of the items, where all are read as something.
 fn all_entries<T: ReadEntry>(alloc: Global, items: &[Value]) -> Result<Option<List<T>>, Memory>
-    ensures entries { IfOk result (λ entries. entries ≡ every T.told (map view items.now)) }
+    ensures entries { IfOk result (λ entries. entries ≡ every T.known (map view items.now)) }
     ensures shape { IfOk result (λ entries. IfSome entries (λ entries. list_all T.shape entries ≡ true)) }
 {
     let mut entries = Vec::new(alloc);
@@ -46,7 +47,7 @@ fn all_entries<T: ReadEntry>(alloc: Global, items: &[Value]) -> Result<Option<Li
 /// What is read of the items of an array, where it is one of such items alone.
 fn read_entries<T: ReadEntry>(alloc: Global, part: &Value) -> Result<Option<List<T>>, Memory>
     ensures entries { IfOk result (λ entries.
-        entries ≡ option_and_then (every T.told) (array_in (view part.now))) }
+        entries ≡ option_and_then (every T.known) (array_in (view part.now))) }
     ensures shape { IfOk result (λ entries. IfSome entries (λ entries. list_all T.shape entries ≡ true)) }
 {
     match part.as_array() {
@@ -58,7 +59,7 @@ fn read_entries<T: ReadEntry>(alloc: Global, part: &Value) -> Result<Option<List
 impl ReadEntry for Text {
     ghost use Rattle.serde_json.specs.Find.{as_str};
 
-    ghost told = { as_str };
+    ghost known = { as_str };
 
     fn read(alloc: Global, item: &Value) -> Result<Option<Text>, Memory> {
         match item.as_str() {
@@ -88,7 +89,7 @@ fn tagged_text(object: &Value) -> Option<(&str, &str)>
 }
 
 impl ReadEntry for (Text, Text) {
-    ghost told = { tagged_text };
+    ghost known = { tagged_text };
 
     fn read(alloc: Global, item: &Value) -> Result<Option<(Text, Text)>, Memory> {
         match tagged_text(item) {
@@ -153,7 +154,7 @@ impl ReadMember for Attr {
     ghost use Rattle.gs_linkset.specs.Documents.{attr_of};
     ghost use Rattle.gs_linkset.specs.Names.{attr_has_name};
 
-    ghost faults = { λ _ _ _. [] };
+    ghost errors = { λ _ _ _. [] };
 
     ghost made = { attr_of };
 

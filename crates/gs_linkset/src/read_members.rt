@@ -1,13 +1,13 @@
 ghost use Rattle.std.specs.Prelude.{◌≡◌, IfOk, IfSome, map, true};
 ghost use Rattle.std.specs.List.{filter_map, flat_map, list_all};
 ghost use Rattle.serde_json.specs.View.{view};
-ghost use Rattle.gs_json.specs.Answers.{AscendByBytes};
-ghost use Rattle.gs_linkset.specs.Answers.{OrMemory, first_or};
+ghost use Rattle.gs_json.specs.Answers.{AscendByBytes, OrMemory};
+ghost use Rattle.gs_chars.specs.Answers.{first_or};
 ghost use Rattle.gs_linkset.specs.Documents.{names_in};
 ghost use Rattle.gs_linkset.specs.LinkShapes.{ascend};
 
-use crate::adding::push_some;
 use crate::link_shapes::Named;
+use crate::pushes::push_some;
 use gs_chars::List;
 use gs_json::{JsonFault, Node};
 use std::alloc::Global;
@@ -16,10 +16,10 @@ use std::alloc::Global;
 pub(crate) trait ReadMember: Named + Drop {
     ghost use Rattle.std.specs.Prelude.{List, Option, Some, ℕ};
     ghost use Rattle.serde_json.specs.Data.{Data};
-    ghost use Rattle.gs_json.specs.declared.fault.JsonFault.{JsonFault};
+    ghost use Rattle.gs_json.specs.declared.error.JsonFault.{JsonFault};
 
-    /// The faults of the member of a name, in an object at a place.
-    ghost faults: { List ℕ → Data → List ℕ → List JsonFault };
+    /// The errors of the member of a name, in an object at a place.
+    ghost errors: { List ℕ → Data → List ℕ → List JsonFault };
 
     /// What the member of a name is read as, where it is read as something.
     ghost made: { Data → List ℕ → Option Self };
@@ -27,7 +27,7 @@ pub(crate) trait ReadMember: Named + Drop {
     /// What the member of a name is read as.
     fn read(alloc: Global, object: &Node<'_>, name: &str) -> Result<Option<Self>, JsonFault>
         ensures answer { OrMemory result (first_or
-            (faults object.now.place (view object.now.tree) name.now)
+            (errors object.now.place (view object.now.tree) name.now)
             (made (view object.now.tree) name.now)) }
         ensures shape { IfOk result (λ read. IfSome read (λ read. Self.shape read ≡ true)) };
 
@@ -42,7 +42,7 @@ pub(crate) fn read_members<M: ReadMember>(
     object: &Node<'_>,
 ) -> Result<List<M>, JsonFault>
     ensures answer { OrMemory result (first_or
-        (flat_map (M.faults object.now.place (view object.now.tree)) (names_in (view object.now.tree)))
+        (flat_map (M.errors object.now.place (view object.now.tree)) (names_in (view object.now.tree)))
         (filter_map (M.made (view object.now.tree)) (names_in (view object.now.tree)))) }
     ensures shape { IfOk result (λ all. list_all M.shape all ≡ true) }
     ensures ascending { IfOk result (λ all. ascend (map M.name_of all) ≡ true) }
@@ -63,7 +63,7 @@ fn named_members<M: ReadMember>(
     requires names { map (λ name. name.now) names.now ≡ names_in (view object.now.tree) }
     requires ascending { AscendByBytes (map (λ name. name.now) names.now) }
     ensures answer { OrMemory result (first_or
-        (flat_map (M.faults object.now.place (view object.now.tree)) (names_in (view object.now.tree)))
+        (flat_map (M.errors object.now.place (view object.now.tree)) (names_in (view object.now.tree)))
         (filter_map (M.made (view object.now.tree)) (names_in (view object.now.tree)))) }
     ensures shape { IfOk result (λ all. list_all M.shape all ≡ true) }
     ensures ascending { IfOk result (λ all. ascend (map M.name_of all) ≡ true) }

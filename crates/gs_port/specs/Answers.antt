@@ -1,5 +1,5 @@
 -- What an answer of the outside says, by its variant.
-use Rattle.std.specs.Prelude.{◌≡◌, ◌↔◌, ◌⊎◌, ℕ, List, [], Option, Result, Ok, Err, IfSome, min, take, length}
+use Rattle.std.specs.Prelude.{◌≡◌, ◌↔◌, ◌⊎◌, ℕ, List, [], Option, Result, Ok, Err, IfSome, take}
 use Rattle.gs_port.specs.Contents.{append_known, prepend_known}
 use Rattle.gs_port.specs.Counts.{Rises, counted}
 use Rattle.gs_port.specs.Files.{FilesHeld, IsAbsent, counted_if_there}
@@ -11,194 +11,176 @@ use Rattle.gs_port.specs.declared.files.OpenAnswer.{OpenAnswer}
 use Rattle.gs_port.specs.declared.files.OpenAnswer.TheVariants as opening
 use Rattle.gs_port.specs.declared.door.AcceptAnswer.{AcceptAnswer}
 use Rattle.gs_port.specs.declared.door.AcceptAnswer.TheVariants as accepting
-use Rattle.gs_port.specs.declared.reading.FileFault.{FileFault}
-use Rattle.gs_port.specs.declared.reading.FileFault.TheVariants as file
+use Rattle.gs_port.specs.declared.file_reader.FileFault.{FileFault}
+use Rattle.gs_port.specs.declared.file_reader.FileFault.TheVariants as file
 use Rattle.gs_port.specs.declared.whole.Whole.{Whole}
 use Rattle.gs_port.specs.declared.whole.Whole.TheVariants as whole
 
--- a fact about the number of bytes that a read moved
+-- trusted, own: a fact about the number of bytes that a read moved
 abbrev pub IfGot : ReadAnswer → (ℕ → Type 0) → Type 0
 IfGot (read.Got n) fact = fact n
 IfGot read.Failed fact = Unit {0}
 
--- what a read moved to the front of the buffer was the front of what was left, and the rest is left now
+-- trusted, own: what a read moved to the start of the buffer was the start of what was left, and the rest is left now
 abbrev pub MovesFront : ReadAnswer → List ℕ → Option (List ℕ) → Option (List ℕ) → Type 0
 MovesFront answer buffer before now = IfGot answer (λ n. before ≡ prepend_known (take n buffer) now)
 
--- what a read moved to the front of the buffer was added to what was read before
+-- trusted, own: what a read moved to the start of the buffer was added to what was read before
 abbrev pub AddsMoved : ReadAnswer → List ℕ → Option (List ℕ) → Option (List ℕ) → Type 0
 AddsMoved answer buffer before now = IfGot answer (λ n. now ≡ append_known before (take n buffer))
 
--- a read moved 0 bytes exactly where nothing was left, where that is told
+-- trusted, own: a read moved 0 bytes exactly where nothing was left, where that is known
 abbrev pub IsZeroAtEnd : ReadAnswer → Option (List ℕ) → Type 0
 IsZeroAtEnd answer left = IfGot answer (λ n. IfSome left (λ bytes. (n ≡ 0) ↔ (bytes ≡ [])))
 
--- a read moved so many bytes, or all that were left where they were fewer, where that is told
-abbrev pub MovesMost : ReadAnswer → ℕ → Option (List ℕ) → Type 0
-MovesMost answer most left = IfGot answer (λ n. IfSome left (λ bytes. n ≡ min most (length bytes)))
-
--- a fact for a read that failed
+-- trusted, own: a fact for a read that failed
 abbrev pub OnReadFailed : ReadAnswer → Type 0 → Type 0
 OnReadFailed (read.Got n) fact = Unit {0}
 OnReadFailed read.Failed fact = fact
 
--- the count of faults after a read: one more where it failed
+-- trusted, own: the count of errors after a read: one more where it failed
 abbrev pub count_after_read : ReadAnswer → ℕ → ℕ
 count_after_read (read.Got n) count = count
 count_after_read read.Failed count = counted count
 
--- a fact about the number of bytes that a write took
+-- trusted, own: a fact about the number of bytes that a write took
 abbrev pub IfTook : WriteAnswer → (ℕ → Type 0) → Type 0
 IfTook (write.Took n) fact = fact n
 IfTook write.Failed fact = Unit {0}
 IfTook write.Memory fact = Unit {0}
 
--- what a write took from the front of the piece was added to what was held
+-- trusted, own: what a write took from the start of the piece was added to what was held
 abbrev pub AppendsFront : WriteAnswer → List ℕ → Option (List ℕ) → Option (List ℕ) → Type 0
 AppendsFront answer piece before now = IfTook answer (λ n. now ≡ append_known before (take n piece))
 
--- a fact for a write that took nothing, be it for a fault or for want of memory
+-- trusted, own: a fact for a write that took nothing, be it for an error or for lack of memory
 abbrev pub OnNothingTaken : WriteAnswer → Type 0 → Type 0
 OnNothingTaken (write.Took n) fact = Unit {0}
 OnNothingTaken write.Failed fact = fact
 OnNothingTaken write.Memory fact = fact
 
--- a fact for a write that failed
+-- trusted, own: a fact for a write that failed
 abbrev pub OnWriteFailed : WriteAnswer → Type 0 → Type 0
 OnWriteFailed (write.Took n) fact = Unit {0}
 OnWriteFailed write.Failed fact = fact
 OnWriteFailed write.Memory fact = Unit {0}
 
--- the count of faults after a write: one more where it failed
+-- trusted, own: the count of errors after a write: one more where it failed
 abbrev pub count_after_write : WriteAnswer → ℕ → ℕ
 count_after_write (write.Took n) count = count
 count_after_write write.Failed count = counted count
 count_after_write write.Memory count = count
 
--- a fact for bytes that were written whole
+-- trusted, own: a fact for bytes that were written whole
 abbrev pub OnDone : Whole → Type 0 → Type 0
 OnDone whole.Done fact = fact
 OnDone whole.SinkFault fact = Unit {0}
 OnDone whole.Memory fact = Unit {0}
 
--- a fact for bytes of which the rest was not written
+-- trusted, own: a fact for bytes of which the rest was not written
 abbrev pub OnShort : Whole → Type 0 → Type 0
 OnShort whole.Done fact = Unit {0}
 OnShort whole.SinkFault fact = fact
 OnShort whole.Memory fact = fact
 
--- a fact for bytes of which the rest was not written for a fault
+-- trusted, own: a fact for bytes of which the rest was not written for an error
 abbrev pub OnSinkFault : Whole → Type 0 → Type 0
 OnSinkFault whole.Done fact = Unit {0}
 OnSinkFault whole.SinkFault fact = fact
 OnSinkFault whole.Memory fact = Unit {0}
 
--- the count of faults after bytes were written: one more where the rest was not written for a fault
+-- trusted, own: the count of errors after bytes were written: one more where the rest was not written for an error
 abbrev pub count_after_whole : Whole → ℕ → ℕ
 count_after_whole whole.Done count = count
 count_after_whole whole.SinkFault count = counted count
 count_after_whole whole.Memory count = count
 
--- a fact for a file that was opened
+-- trusted, own: a fact for a file that was opened
 abbrev pub OnOpened : OpenAnswer → Type 0 → Type 0
 OnOpened opening.Opened fact = fact
 OnOpened opening.Failed fact = Unit {0}
 OnOpened opening.Memory fact = Unit {0}
 
--- a fact for a file that was not opened, be it for a fault or for want of memory
+-- trusted, own: a fact for a file that was not opened, be it for an error or for lack of memory
 abbrev pub OnNotOpened : OpenAnswer → Type 0 → Type 0
 OnNotOpened opening.Opened fact = Unit {0}
 OnNotOpened opening.Failed fact = fact
 OnNotOpened opening.Memory fact = fact
 
--- a fact for an open that failed
+-- trusted, own: a fact for an open that failed
 abbrev pub OnOpenFailed : OpenAnswer → Type 0 → Type 0
 OnOpenFailed opening.Opened fact = Unit {0}
 OnOpenFailed opening.Failed fact = fact
 OnOpenFailed opening.Memory fact = Unit {0}
 
--- the count of faults after an open: one more where it failed
-abbrev pub count_after_open : OpenAnswer → ℕ → ℕ
-count_after_open opening.Opened count = count
-count_after_open opening.Failed count = counted count
-count_after_open opening.Memory count = count
-
--- the same, where a file that is not among those that are told is no fault
+-- trusted, own: the same, where a file that is not among those that are known is no error
 abbrev pub count_after_named : OpenAnswer → Option FilesHeld → List ℕ → ℕ → ℕ
 count_after_named opening.Opened files name count = count
 count_after_named opening.Failed files name count = counted_if_there files name count
 count_after_named opening.Memory files name count = count
 
--- an open of the named file fails only where a fault was counted, or where the files are told and it is not among them
+-- trusted, own: an open of the named file fails only where an error was counted, or where the files are known and it is not
+-- among them
 abbrev pub OpenFails : OpenAnswer → Option FilesHeld → List ℕ → ℕ → ℕ → Type 0
 OpenFails answer files name before now = OnOpenFailed answer (Rises before now ⊎ IsAbsent files name)
 
--- the count of faults between two moments with an open of the named file: one more where the file is there and it failed
+-- trusted, own: the count of errors between two moments with an open of the named file: one more where the file is there
+-- and it failed
 abbrev pub CountsOpen : OpenAnswer → Option FilesHeld → List ℕ → ℕ → ℕ → Type 0
 CountsOpen answer files name before now = now ≡ count_after_named answer files name before
 
--- a fact for a connection that was accepted
+-- trusted, own: a fact for a connection that was accepted
 abbrev pub OnAccepted : AcceptAnswer → Type 0 → Type 0
 OnAccepted accepting.Accepted fact = fact
 OnAccepted accepting.Closed fact = Unit {0}
 OnAccepted accepting.Failed fact = Unit {0}
 
--- a fact for an accept that found no connection, be it that none comes any more or for a fault
+-- trusted, own: a fact for an accept that found no connection, be it that none comes any more or for an error
 abbrev pub OnNotAccepted : AcceptAnswer → Type 0 → Type 0
 OnNotAccepted accepting.Accepted fact = Unit {0}
 OnNotAccepted accepting.Closed fact = fact
 OnNotAccepted accepting.Failed fact = fact
 
--- a fact for an accept after which no connection comes any more
+-- trusted, own: a fact for an accept after which no connection comes any more
 abbrev pub OnClosed : AcceptAnswer → Type 0 → Type 0
 OnClosed accepting.Accepted fact = Unit {0}
 OnClosed accepting.Closed fact = fact
 OnClosed accepting.Failed fact = Unit {0}
 
--- a fact for an accept that failed
+-- trusted, own: a fact for an accept that failed
 abbrev pub OnAcceptFailed : AcceptAnswer → Type 0 → Type 0
 OnAcceptFailed accepting.Accepted fact = Unit {0}
 OnAcceptFailed accepting.Closed fact = Unit {0}
 OnAcceptFailed accepting.Failed fact = fact
 
--- the count of faults after an accept: one more where it failed
-abbrev pub count_after_accept : AcceptAnswer → ℕ → ℕ
-count_after_accept accepting.Accepted count = count
-count_after_accept accepting.Closed count = count
-count_after_accept accepting.Failed count = counted count
-
--- a fact about the first bytes of a file that has too many
+-- trusted, own: a fact about the first bytes of a file that has too many
 abbrev pub IfOver : Result (List ℕ) FileFault → (List ℕ → Type 0) → Type 0
 IfOver (Ok text) fact = Unit {0}
 IfOver (Err (file.Over text)) fact = fact text
 IfOver (Err file.Failed) fact = Unit {0}
 IfOver (Err file.Memory) fact = Unit {0}
 
--- a fact for a file that could not be read
+-- trusted, own: a fact for a file that could not be read
 abbrev pub OnFileFailed : Result (List ℕ) FileFault → Type 0 → Type 0
 OnFileFailed (Ok text) fact = Unit {0}
 OnFileFailed (Err (file.Over text)) fact = Unit {0}
 OnFileFailed (Err file.Failed) fact = fact
 OnFileFailed (Err file.Memory) fact = Unit {0}
 
--- the count of faults after the reading of a file: one more where it failed, but where it is not among files that are told
+-- trusted, own: the count of errors after the reading of a file: one more where it failed, but where it is not among files
+-- that are known
 abbrev pub count_after_file : Result (List ℕ) FileFault → Option FilesHeld → List ℕ → ℕ → ℕ
 count_after_file (Ok text) files name count = count
 count_after_file (Err (file.Over text)) files name count = count
 count_after_file (Err file.Failed) files name count = counted_if_there files name count
 count_after_file (Err file.Memory) files name count = count
 
--- the reading of the named file fails only where a fault was counted, or where the files are told and it is not among them
+-- trusted, own: the reading of the named file fails only where an error was counted, or where the files are known and it is
+-- not among them
 abbrev pub FileFails : Result (List ℕ) FileFault → Option FilesHeld → List ℕ → ℕ → ℕ → Type 0
 FileFails answer files name before now = OnFileFailed answer (Rises before now ⊎ IsAbsent files name)
 
--- the count of faults between two moments with the reading of the named file: one more where it is there and it failed
+-- trusted, own: the count of errors between two moments with the reading of the named file: one more where it is there and
+-- it failed
 abbrev pub CountsFile : Result (List ℕ) FileFault → Option FilesHeld → List ℕ → ℕ → ℕ → Type 0
 CountsFile answer files name before now = now ≡ count_after_file answer files name before
-
--- the count of faults after the reading of the current file
-abbrev pub count_after_rest : Result (List ℕ) FileFault → ℕ → ℕ
-count_after_rest (Ok text) count = count
-count_after_rest (Err (file.Over text)) count = count
-count_after_rest (Err file.Failed) count = counted count
-count_after_rest (Err file.Memory) count = count

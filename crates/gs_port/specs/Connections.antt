@@ -6,82 +6,79 @@ use Rattle.gs_port.specs.declared.files.OpenAnswer.TheVariants as opening
 use Rattle.gs_port.specs.declared.door.AcceptAnswer.{AcceptAnswer}
 use Rattle.gs_port.specs.declared.door.AcceptAnswer.TheVariants as accepting
 
--- a connection that was finished: the bytes that were read of it and those that were written to it, where they are told, and
--- how far the counts of its reads and of its writes rose
+-- trusted, own: a connection that was finished: the bytes that were read of it and those that were written to it, where
+-- they are known, and how far the counts of its reads and of its writes rose
 pub record Finished : Type 0 where
   pub read : Option (List ℕ)
   pub written : Option (List ℕ)
   pub reads : ℕ
   pub writes : ℕ
 
--- what the reads and writes of a connection leave as it was, that is, of a door: its own count of faults, of opens and of
--- accepts; whether it was opened; the inputs of the waiting connections and the finished connections, in order, where it tells
--- them; and the counts of reads and of writes that stood at its last accept
+-- trusted, own: what the reads and writes of a connection leave as it was, that is, of a door: its own count of errors, of
+-- opens and of accepts; whether it was opened; the inputs of the waiting connections and the finished connections, in
+-- order, where they are known; and the counts of reads and of writes that stood at its last accept
 pub record Aside : Type 0 where
-  pub faults : ℕ
+  pub errors : ℕ
   pub opened : Bool
   pub waiting : Option (List (List ℕ))
   pub finished : Option (List Finished)
   pub reads_then : ℕ
   pub writes_then : ℕ
 
--- a fault of a door itself was counted between two moments
-abbrev pub FaultRises : Aside → Aside → Type 0
-FaultRises before now = Rises before.faults now.faults
+-- trusted, own: an error of a door itself was counted between two moments
+abbrev pub ErrorRises : Aside → Aside → Type 0
+ErrorRises before now = Rises before.errors now.errors
 
--- between two moments it did not change whether a door was opened
+-- trusted, own: between two moments it did not change whether a door was opened
 abbrev pub SameOpened : Aside → Aside → Type 0
 SameOpened before now = now.opened ≡ before.opened
 
--- of what is no door
+-- trusted, own: of what is no door
 abbrev pub no_aside : Aside
-no_aside = record { faults = 0; opened = false; waiting = None; finished = None; reads_then = 0; writes_then = 0 }
+no_aside = record { errors = 0; opened = false; waiting = None; finished = None; reads_then = 0; writes_then = 0 }
 
--- of a door that tells of no connection
-abbrev pub untold_aside : ℕ → Bool → ℕ → ℕ → Aside
-untold_aside faults opened reads_then writes_then =
-    record { faults = faults; opened = opened; waiting = None; finished = None; reads_then = reads_then; writes_then = writes_then }
-
--- the input of the first waiting connection, where it is told and one waits
+-- trusted, own: the input of the first waiting connection, where it is known and one waits
 abbrev pub first_input : Option (List (List ℕ)) → Option (List ℕ)
 first_input None = None
 first_input (Some []) = None
 first_input (Some (input ∷ rest)) = Some input
 
--- nothing was read of the first waiting connection yet, and nothing written to it
+-- trusted, own: nothing was read of the first waiting connection yet, and nothing written to it
 abbrev pub first_begun : Option (List (List ℕ)) → Option (List ℕ)
 first_begun waiting = option_map (λ _. []) (first_input waiting)
 
--- nothing was read of the first connection that waits at a door, and nothing written to it
+-- trusted, own: nothing was read of the first connection that waits at a door, and nothing written to it
 abbrev pub begun_next : Aside → Option (List ℕ)
 begun_next aside = first_begun aside.waiting
 
--- the waiting connections behind the first
+-- trusted, own: the waiting connections behind the first
 abbrev pub behind_first : Option (List (List ℕ)) → Option (List (List ℕ))
 behind_first None = None
 behind_first (Some []) = Some []
 behind_first (Some (input ∷ rest)) = Some rest
 
--- what an open leaves: the door was opened, or a fault was counted
+-- trusted, own: what an open leaves: the door was opened, or an error was counted
 abbrev pub after_open : OpenAnswer → Aside → Aside
 after_open opening.Opened aside = record aside { opened = true }
-after_open opening.Failed aside = record aside { faults = counted aside.faults }
+after_open opening.Failed aside = record aside { errors = counted aside.errors }
 after_open opening.Memory aside = aside
 
--- what an accept leaves, at these counts of reads and of writes
+-- trusted, own: what an accept leaves, at these counts of reads and of writes
 abbrev pub after_accept : AcceptAnswer → ℕ → ℕ → Aside → Aside
 after_accept accepting.Accepted reads writes aside = record aside { waiting = behind_first aside.waiting; reads_then = reads; writes_then = writes }
 after_accept accepting.Closed reads writes aside = aside
-after_accept accepting.Failed reads writes aside = record aside { faults = counted aside.faults }
+after_accept accepting.Failed reads writes aside = record aside { errors = counted aside.errors }
 
--- the connection of which these bytes were read and to which these were written, as it is finished at these counts
+-- trusted, own: the connection of which these bytes were read and to which these were written, as it is finished at these
+-- counts
 abbrev pub finished_now : Option (List ℕ) → Option (List ℕ) → ℕ → ℕ → Aside → Finished
 finished_now read written reads writes aside = record { read = read; written = written; reads = reads - aside.reads_then; writes = writes - aside.writes_then }
 
--- what a finish leaves: one more connection is finished
+-- trusted, own: what a finish leaves: one more connection is finished
 abbrev pub after_finish : Finished → Aside → Aside
 after_finish last aside = record aside { finished = option_map (λ before. before ++ last ∷ []) aside.finished }
 
--- what the finish of a connection leaves, of which these bytes were read and to which these were written, at these counts
+-- trusted, own: what the finish of a connection leaves, of which these bytes were read and to which these were written, at
+-- these counts
 abbrev pub after_finish_of : Option (List ℕ) → Option (List ℕ) → ℕ → ℕ → Aside → Aside
 after_finish_of read written reads writes aside = after_finish (finished_now read written reads writes aside) aside

@@ -1,31 +1,31 @@
--- What an object has left or holds, where it tells that: `Some` of the bytes, or `None`.
+-- What an object has left or holds, where that is known: `Some` of the bytes, or `None`.
 use Rattle.std.specs.Prelude.{◌≡◌, ℕ, ◌≤◌, List, [], ◌++◌, Option, Some, None, length, refl, take}
 use Rattle.std.proofs.Common.{sym, ap, append_assoc, append-nil}
 
--- the bytes and then what is told
+-- trusted, own: the bytes and then what is known
 abbrev pub prepend_known : List ℕ → Option (List ℕ) → Option (List ℕ)
 prepend_known bytes None = None
 prepend_known bytes (Some rest) = Some (bytes ++ rest)
 
--- what is told and then the bytes
+-- trusted, own: what is known and then the bytes
 abbrev pub append_known : Option (List ℕ) → List ℕ → Option (List ℕ)
 append_known None bytes = None
 append_known (Some held) bytes = Some (held ++ bytes)
 
--- at most so many bytes were taken between two moments
+-- trusted, own: at most so many bytes were taken between two moments
 abbrev pub TakesAtMost : ℕ → Option (List ℕ) → Option (List ℕ) → Type 0
 TakesAtMost most before now = (taken : List ℕ) × (length taken ≤ most) × (before ≡ prepend_known taken now)
 
--- of the bytes, some from the front were added between two moments
+-- trusted, own: of the bytes, some from the start were added between two moments
 abbrev pub AddsFrontOf : List ℕ → Option (List ℕ) → Option (List ℕ) → Type 0
 AddsFrontOf bytes before now = (n : ℕ) × (n ≤ length bytes) × (now ≡ append_known before (take n bytes))
 
--- no bytes in front change nothing
+-- no bytes at the start change nothing
 pub prepend_nothing : (known : Option (List ℕ)) → prepend_known [] known ≡ known
 prepend_nothing None = refl
 prepend_nothing (Some rest) = refl
 
--- bytes in front of bytes in front are their join in front
+-- bytes before bytes at the start are their join at the start
 pub prepend_twice : (a b : List ℕ) (known : Option (List ℕ)) → prepend_known a (prepend_known b known) ≡ prepend_known (a ++ b) known
 prepend_twice a b None = refl
 prepend_twice a b (Some rest) = ap Some (sym (append_assoc a b rest))

@@ -16,13 +16,13 @@ pub trait Conn {
     /// Whether a connection is open.
     ghost is_open: { Self → Bool };
 
-    /// The bytes of the connection that are left to read, where they are told.
+    /// The bytes of the connection that are left to read, where they are known.
     ghost left: { Self → Option (List ℕ) };
 
-    /// The bytes of the connection that were read, where they are told.
+    /// The bytes of the connection that were read, where they are known.
     ghost taken: { Self → Option (List ℕ) };
 
-    /// The bytes that were written to the connection, where they are told.
+    /// The bytes that were written to the connection, where they are known.
     ghost held: { Self → Option (List ℕ) };
 
     /// The count of the reads that failed. It stands still at 2^64 - 1.
@@ -34,7 +34,7 @@ pub trait Conn {
     /// What reads and writes leave as it was.
     ghost aside: { Self → Aside };
 
-    /// Moves the next bytes of what is left into the front of `buf`, at most as many as `buf` is long, and 0 exactly
+    /// Moves the next bytes of what is left into the start of `buf`, at most as many as `buf` is long, and 0 exactly
     /// where nothing is left. `Failed` comes only where a failed read was counted, and moves nothing.
     fn read(&mut self, buf: &mut [u8]) -> ReadAnswer
         requires room { 0 < length buf.old }
@@ -54,7 +54,7 @@ pub trait Conn {
         ensures same_aside { aside self.new ≡ aside self.old }
         ensures same_ends { ends self.new ≡ ends self.old };
 
-    /// Writes bytes from the front of the piece, at least one unless it is empty. `Failed` comes only where a failed
+    /// Writes bytes from the start of the piece, at least one unless it is empty. `Failed` comes only where a failed
     /// write was counted. It writes nothing, and neither does `Memory`.
     fn write(&mut self, piece: &[u8]) -> WriteAnswer
         requires current { is_open self.old ≡ true }

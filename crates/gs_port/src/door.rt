@@ -1,5 +1,5 @@
 ghost use Rattle.std.specs.Prelude.{◌≡◌, ◌≢◌, ◌≤◌, [], true, false, IfSome, Some};
-ghost use Rattle.gs_port.specs.Connections.{FaultRises, SameOpened, after_accept, after_finish_of, after_open, begun_next};
+ghost use Rattle.gs_port.specs.Connections.{ErrorRises, SameOpened, after_accept, after_finish_of, after_open, begun_next};
 ghost use Rattle.gs_port.specs.Connections.{first_input};
 ghost use Rattle.gs_port.specs.Answers.{OnAcceptFailed, OnAccepted, OnClosed, OnNotAccepted, OnNotOpened, OnOpenFailed, OnOpened};
 
@@ -13,21 +13,21 @@ pub enum AcceptAnswer {
     Accepted,
     /// No connection comes any more.
     Closed,
-    /// A fault, which was counted.
+    /// An error, which was counted.
     Failed,
 }
 
 /// A door at which connections come, of which one is open at a time. What it sets aside of its reads and writes is its own
-/// count of faults, which are those of `open` and `accept`; whether it was opened; its waiting and its finished
-/// connections, where it tells them; and the counts of reads and of writes that stood at its last `accept`.
+/// count of errors, which are those of `open` and `accept`; whether it was opened; its waiting and its finished
+/// connections, where they are known; and the counts of reads and of writes that stood at its last `accept`.
 pub trait Door: Conn {
-    /// Begins to listen at the address. `Failed` comes only where a fault was counted; it begins nothing, and neither does
+    /// Begins to listen at the address. `Failed` comes only where an error was counted; it begins nothing, and neither does
     /// `Memory`. What was opened stays so, and the connections stay as they are.
     fn open(&mut self, address: &str) -> OpenAnswer
         ensures opened { OnOpened result ((Self.aside self.new).opened ≡ true) }
         ensures not_opened { OnNotOpened result (SameOpened (Self.aside self.old) (Self.aside self.new)) }
-        ensures failed { OnOpenFailed result (FaultRises (Self.aside self.old) (Self.aside self.new)) }
-        ensures counts { (Self.aside self.old).faults ≤ (Self.aside self.new).faults }
+        ensures failed { OnOpenFailed result (ErrorRises (Self.aside self.old) (Self.aside self.new)) }
+        ensures counts { (Self.aside self.old).errors ≤ (Self.aside self.new).errors }
         ensures aside { Self.aside self.new ≡ after_open result (Self.aside self.old) }
         ensures same_current { Self.is_open self.new ≡ Self.is_open self.old }
         ensures same_left { Self.left self.new ≡ Self.left self.old }
@@ -38,7 +38,7 @@ pub trait Door: Conn {
         ensures same_ends { Self.ends self.new ≡ Self.ends self.old };
 
     /// Takes the next connection as the open one: the first of those that wait, with all its input left, nothing read of it
-    /// and nothing written to it. `Closed` comes exactly where none is left, and `Failed` only where a fault was counted.
+    /// and nothing written to it. `Closed` comes exactly where none is left, and `Failed` only where an error was counted.
     fn accept(&mut self) -> AcceptAnswer
         requires none_open { Self.is_open self.old ≡ false }
         requires listening { (Self.aside self.old).opened ≡ true }
@@ -49,8 +49,8 @@ pub trait Door: Conn {
         ensures unwritten { OnAccepted result (Self.held self.new ≡ begun_next (Self.aside self.old)) }
         ensures not_accepted { OnNotAccepted result (Self.is_open self.new ≡ false) }
         ensures closed { OnClosed result (IfSome (Self.aside self.old).waiting (λ waiting. waiting ≡ [])) }
-        ensures failed { OnAcceptFailed result (FaultRises (Self.aside self.old) (Self.aside self.new)) }
-        ensures counts { (Self.aside self.old).faults ≤ (Self.aside self.new).faults }
+        ensures failed { OnAcceptFailed result (ErrorRises (Self.aside self.old) (Self.aside self.new)) }
+        ensures counts { (Self.aside self.old).errors ≤ (Self.aside self.new).errors }
         ensures aside { Self.aside self.new ≡ after_accept result (Self.reads self.old) (Self.writes self.old)
             (Self.aside self.old) }
         ensures same_reads { Self.reads self.new ≡ Self.reads self.old }

@@ -1,6 +1,6 @@
 ghost use Rattle.std.specs.Prelude.{◌≡◌, ◌<◌, ◌≤◌, ℕ, Bool, true, false, List, [], ◌∷◌, Option, length};
 ghost use Rattle.gs_port.specs.Counts.{Rises};
-ghost use Rattle.gs_port.specs.Files.{AddsNames, FilesHeld, IsAbsent, told_file};
+ghost use Rattle.gs_port.specs.Files.{AddsNames, FilesHeld, IsAbsent, known_file};
 ghost use Rattle.gs_port.specs.Answers.{CountsOpen, IfGot, IsZeroAtEnd, MovesFront, OnNotOpened, OnOpened, OnReadFailed, OpenFails};
 ghost use Rattle.gs_port.specs.Answers.{count_after_read};
 
@@ -11,48 +11,48 @@ use crate::source::ReadAnswer;
 pub enum OpenAnswer {
     /// The file is the current one, with all its bytes left.
     Opened,
-    /// A fault, which was counted, or a file that is not among those that are told.
+    /// An error, which was counted, or a file that is not among those that are known.
     Failed,
-    /// Want of memory.
+    /// Out of memory.
     Memory,
 }
 
 /// Files, which are opened by their names and read one at a time.
 pub trait Files {
-    /// The files, each a name and its bytes, where they are told. The first file with a name is the one that is opened.
+    /// The files, each a name and its bytes, where they are known. The first file with a name is the one that is opened.
     ghost files: { Self → Option FilesHeld };
 
     /// Whether a file is current.
     ghost is_open: { Self → Bool };
 
-    /// The bytes that are left of the current file, where the files are told.
+    /// The bytes that are left of the current file, where the files are known.
     ghost left: { Self → Option (List ℕ) };
 
-    /// The count of faults: of the calls that failed, but for opens of a name that is not among files that are told. It
+    /// The count of errors: of the calls that failed, but for opens of a name that is not among files that are known. It
     /// stands still at 2^64 - 1.
-    ghost faults: { Self → ℕ };
+    ghost errors: { Self → ℕ };
 
-    /// The names that were opened, in order, whether or not there was a file, where they are told. What tells them may end
-    /// to tell them for want of memory, and nothing begins to.
+    /// The names that were opened, in order, whether or not there was a file, where they are known. They may cease
+    /// to be known when memory ran out, and none becomes known.
     ghost opened: { Self → Option (List (List ℕ)) };
 
-    /// Makes the named file the current one, with all its bytes left. `Failed` comes only where a fault was counted, or
-    /// where the files are told and the named one is not among them, which is no fault. After any answer but `Opened` no
-    /// file is current. After any answer the name is the last of those that were opened, where they are still told.
+    /// Makes the named file the current one, with all its bytes left. `Failed` comes only where an error was counted, or
+    /// where the files are known and the named one is not among them, which is no error. After any answer but `Opened` no
+    /// file is current. After any answer the name is the last of those that were opened, where they are still known.
     fn open(&mut self, name: &str) -> OpenAnswer
         ensures opened { OnOpened result (is_open self.new ≡ true) }
-        ensures whole { OnOpened result (left self.new ≡ told_file (files self.old) name.now) }
+        ensures whole { OnOpened result (left self.new ≡ known_file (files self.old) name.now) }
         ensures there { OnOpened result (¬ IsAbsent (files self.old) name.now) }
         ensures not_opened { OnNotOpened result (is_open self.new ≡ false) }
-        ensures failed { OpenFails result (files self.old) name.now (faults self.old) (faults self.new) }
-        ensures absent { IsAbsent (files self.old) name.now → faults self.new ≡ faults self.old }
+        ensures failed { OpenFails result (files self.old) name.now (errors self.old) (errors self.new) }
+        ensures absent { IsAbsent (files self.old) name.now → errors self.new ≡ errors self.old }
         ensures files { files self.new ≡ files self.old }
-        ensures counts { faults self.old ≤ faults self.new }
-        ensures count { CountsOpen result (files self.old) name.now (faults self.old) (faults self.new) }
+        ensures counts { errors self.old ≤ errors self.new }
+        ensures count { CountsOpen result (files self.old) name.now (errors self.old) (errors self.new) }
         ensures named { AddsNames (opened self.old) (name.now ∷ []) (opened self.new) };
 
-    /// Moves the next bytes of what is left of the current file into the front of `buf`, at most as many as `buf` is
-    /// long, and 0 exactly where nothing is left. `Failed` comes only where a fault was counted, and moves nothing.
+    /// Moves the next bytes of what is left of the current file into the start of `buf`, at most as many as `buf` is
+    /// long, and 0 exactly where nothing is left. `Failed` comes only where an error was counted, and moves nothing.
     fn read(&mut self, buf: &mut [u8]) -> ReadAnswer
         requires room { 0 < length buf.old }
         requires current { is_open self.old ≡ true }
@@ -60,10 +60,10 @@ pub trait Files {
         ensures moved { MovesFront result buf.new (left self.old) (left self.new) }
         ensures end { IsZeroAtEnd result (left self.old) }
         ensures unmoved { OnReadFailed result (left self.new ≡ left self.old) }
-        ensures failed { OnReadFailed result (Rises (faults self.old) (faults self.new)) }
+        ensures failed { OnReadFailed result (Rises (errors self.old) (errors self.new)) }
         ensures files { files self.new ≡ files self.old }
         ensures stays_open { is_open self.new ≡ true }
         ensures same_names { opened self.new ≡ opened self.old }
-        ensures counts { faults self.old ≤ faults self.new }
-        ensures count { faults self.new ≡ count_after_read result (faults self.old) };
+        ensures counts { errors self.old ≤ errors self.new }
+        ensures count { errors self.new ≡ count_after_read result (errors self.old) };
 }

@@ -1,9 +1,9 @@
-//! The outside: sources, sinks, files, connections and doors, with what they tell of their content and their counts of faults.
+//! The outside: sources, sinks, files, connections and doors, with what is known of their content and their counts of errors.
 //!
 //! - `Source`, `Sink`, `Files`, `Conn` and `Door` are the traits that every other crate reads and writes through. Each has a
-//!   count of faults, which rises by one at each call that fails and at nothing else.
+//!   count of errors, which rises by one at each call that fails and at nothing else.
 //! - `MemSource` and `MemSink` are a source and a sink in memory, of which calls fail by a `CallPlan`; `Pair` makes one
-//!   connection of a source and a sink. Files and a door in memory are those of gs_memory; the system's objects, of gs_system.
+//!   connection of a source and a sink. Files and a door in memory are those of gs_port_memory; the system's objects, of gs_port_system.
 //! - `read_file` and `write_whole` read and write whole things.
 //!
 //! # Example
@@ -19,18 +19,18 @@
 //! # Where it differs from the system
 //!
 //! - One connection is open at a time, and a connection that is finished is closed at once.
-//! - Counts of faults stand still at 2^64 - 1.
+//! - Counts of errors stand still at 2^64 - 1.
 #![tactic(auto)]
 
 mod conn;
 mod door;
+mod file_reader;
 mod files;
 mod mem_sink;
 mod mem_source;
 mod opened_names;
 mod pair;
 mod plan;
-mod reading;
 mod sink;
 mod source;
 mod transfer;
@@ -38,13 +38,13 @@ mod whole;
 
 pub use conn::Conn;
 pub use door::{AcceptAnswer, Door};
+pub use file_reader::{FileFault, read_file};
 pub use files::{Files, OpenAnswer};
 pub use mem_sink::MemSink;
 pub use mem_source::MemSource;
 pub use opened_names::OpenedNames;
 pub use pair::Pair;
 pub use plan::CallPlan;
-pub use reading::{FileFault, read_file};
 pub use sink::{Sink, WriteAnswer};
 pub use source::{ReadAnswer, Source};
 pub use transfer::copy_front;

@@ -8,13 +8,13 @@ use crate::sink::{Sink, WriteAnswer};
 use std::alloc::Global;
 use std::marker::Model;
 
-/// A sink in memory, which takes at most so many bytes at a time, and fails at the calls that it is told.
+/// A sink in memory, which takes at most so many bytes at a time, and fails at the calls that the plan names.
 #[derive(Drop)]
 pub struct MemSink {
     bytes: Vec<u8>,
     cut: usize,
     plan: CallPlan,
-    faults: u64,
+    errors: u64,
 }
 
 impl Model for MemSink {
@@ -23,7 +23,7 @@ impl Model for MemSink {
 
     ghost Value = { MemOutput };
 
-    ghost view = { λ a. record { kept = a.bytes.items; most = a.cut; plan = a.plan; count = a.faults } };
+    ghost view = { λ a. record { kept = a.bytes.items; most = a.cut; plan = a.plan; count = a.errors } };
 
     ghost invariant = { λ a. 0 < a.cut };
 }
@@ -38,7 +38,7 @@ impl MemSink {
             bytes: Vec::new(alloc),
             cut,
             plan: CallPlan::new(fails),
-            faults: 0,
+            errors: 0,
         }
     }
 
@@ -53,7 +53,7 @@ impl MemSink {
 impl Sink for MemSink {
     ghost held = { λ s. Some s.kept };
 
-    ghost faults = { λ s. s.count };
+    ghost errors = { λ s. s.count };
 
     fn write(&mut self, piece: &[u8]) -> WriteAnswer
         ensures within { IfTook result (λ n. n ≤ length piece.now) }
@@ -70,7 +70,7 @@ impl Sink for MemSink {
         ensures plan { self.new.plan ≡ after_call self.old.plan }
     {
         if self.plan.next_fails() {
-            self.faults = self.faults.saturating_add(1);
+            self.errors = self.errors.saturating_add(1);
             return WriteAnswer::Failed;
         }
         let taken = self.cut.min(piece.len());

@@ -1,7 +1,8 @@
 ghost use Rattle.std.specs.Prelude.{◌≡◌, ◌<◌, ◌≤◌, Some, length, min};
 ghost use Rattle.gs_port.specs.Counts.{Rises};
 ghost use Rattle.gs_port.specs.Memory.{FailsNow, after_call, unread_input};
-ghost use Rattle.gs_port.specs.Answers.{IfGot, IsZeroAtEnd, MovesFront, MovesMost, OnReadFailed, count_after_read};
+ghost use Rattle.gs_port.specs.Answers.{IfGot, IsZeroAtEnd, MovesFront, OnReadFailed, count_after_read};
+ghost use Rattle.gs_port.specs.AnswersSupport.{MovesMost};
 
 use crate::plan::CallPlan;
 use crate::source::{ReadAnswer, Source};
@@ -9,14 +10,14 @@ use crate::transfer::copy_front;
 use std::alloc::Global;
 use std::marker::Model;
 
-/// A source in memory, which moves at most so many bytes at a time, and fails at the calls that it is told.
+/// A source in memory, which moves at most so many bytes at a time, and fails at the calls that the plan names.
 #[derive(Drop)]
 pub struct MemSource {
     bytes: Vec<u8>,
     at: usize,
     cut: usize,
     plan: CallPlan,
-    faults: u64,
+    errors: u64,
 }
 
 impl Model for MemSource {
@@ -29,7 +30,7 @@ impl Model for MemSource {
       rest = drop a.at a.bytes.items;
       most = a.cut;
       plan = a.plan;
-      count = a.faults;
+      count = a.errors;
     } };
 
     ghost invariant = { λ a. (0 < a.cut) × (a.at ≤ vec_len a.bytes) };
@@ -47,7 +48,7 @@ impl MemSource {
             at: 0,
             cut,
             plan: CallPlan::new(fails),
-            faults: 0,
+            errors: 0,
         }
     }
 }
@@ -55,7 +56,7 @@ impl MemSource {
 impl Source for MemSource {
     ghost left = { λ s. Some s.rest };
 
-    ghost faults = { λ s. s.count };
+    ghost errors = { λ s. s.count };
 
     fn read(&mut self, buf: &mut [u8]) -> ReadAnswer
         requires room { 0 < length buf.old }
@@ -73,7 +74,7 @@ impl Source for MemSource {
         ensures plan { self.new.plan ≡ after_call self.old.plan }
     {
         if self.plan.next_fails() {
-            self.faults = self.faults.saturating_add(1);
+            self.errors = self.errors.saturating_add(1);
             return ReadAnswer::Failed;
         }
         let moved = copy_front(&self.bytes[self.at..], self.cut, buf);

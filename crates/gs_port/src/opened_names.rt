@@ -5,7 +5,7 @@ use gs_chars::{List, Memory, Text};
 use std::alloc::Global;
 use std::marker::Model;
 
-/// The names that were opened, in order, until memory was wanting for one: from then on they are told no more.
+/// The names that were opened, in order, until memory ran out for one: from then on they are not known any more.
 #[derive(Drop)]
 pub struct OpenedNames {
     alloc: Global,
@@ -44,8 +44,8 @@ impl OpenedNames {
     pub fn add(&mut self, name: &str)
         ensures { AddsNames self.old (name.now ∷ []) self.new }
     {
-        let told = self.names.take();
-        self.names = match told {
+        let known = self.names.take();
+        self.names = match known {
             Some(names) => with_name(self.alloc, names, name).ok(),
             None => None,
         };

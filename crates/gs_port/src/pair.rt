@@ -36,9 +36,9 @@ impl<'a, S: Source, K: Sink> Conn for Pair<'a, S, K> {
 
     ghost held = { λ s. K.held s.sink.now };
 
-    ghost reads = { λ s. S.faults s.source.now };
+    ghost reads = { λ s. S.errors s.source.now };
 
-    ghost writes = { λ s. K.faults s.sink.now };
+    ghost writes = { λ s. K.errors s.sink.now };
 
     ghost aside = { λ s. no_aside };
 

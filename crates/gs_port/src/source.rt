@@ -7,27 +7,27 @@ ghost use Rattle.gs_port.specs.Answers.{IfGot, IsZeroAtEnd, MovesFront, OnReadFa
 pub enum ReadAnswer {
     /// This many bytes were moved. It is 0 at the end.
     Got(usize),
-    /// A fault, which was counted. Nothing was moved.
+    /// An error, which was counted. Nothing was moved.
     Failed,
 }
 
 /// What bytes are read from.
 pub trait Source {
-    /// The bytes that are left, where the source tells them.
+    /// The bytes that are left, where they are known.
     ghost left: { Self → Option (List ℕ) };
 
-    /// The count of faults: of the calls that failed. It stands still at 2^64 - 1.
-    ghost faults: { Self → ℕ };
+    /// The count of errors: of the calls that failed. It stands still at 2^64 - 1.
+    ghost errors: { Self → ℕ };
 
-    /// Moves the next bytes of what is left into the front of `buf`, at most as many as `buf` is long, and 0 exactly
-    /// where nothing is left. `Failed` comes only where a fault was counted, and moves nothing.
+    /// Moves the next bytes of what is left into the start of `buf`, at most as many as `buf` is long, and 0 exactly
+    /// where nothing is left. `Failed` comes only where an error was counted, and moves nothing.
     fn read(&mut self, buf: &mut [u8]) -> ReadAnswer
         requires room { 0 < length buf.old }
         ensures within { IfGot result (λ n. n ≤ length buf.new) }
         ensures moved { MovesFront result buf.new (left self.old) (left self.new) }
         ensures end { IsZeroAtEnd result (left self.old) }
         ensures unmoved { OnReadFailed result (left self.new ≡ left self.old) }
-        ensures failed { OnReadFailed result (Rises (faults self.old) (faults self.new)) }
-        ensures counts { faults self.old ≤ faults self.new }
-        ensures count { faults self.new ≡ count_after_read result (faults self.old) };
+        ensures failed { OnReadFailed result (Rises (errors self.old) (errors self.new)) }
+        ensures counts { errors self.old ≤ errors self.new }
+        ensures count { errors self.new ≡ count_after_read result (errors self.old) };
 }

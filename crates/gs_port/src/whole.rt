@@ -10,9 +10,9 @@ use crate::sink::{Sink, WriteAnswer};
 pub enum Whole {
     /// All bytes were written.
     Done,
-    /// The sink failed, and counted it. A front of the bytes was written.
+    /// The sink failed, and counted it. A prefix of the bytes was written.
     SinkFault,
-    /// Want of memory. A front of the bytes was written.
+    /// Out of memory. A prefix of the bytes was written.
     Memory,
 }
 
@@ -20,9 +20,9 @@ pub enum Whole {
 pub fn write_whole<K: Sink>(sink: &mut K, bytes: &[u8]) -> Whole
     ensures done { OnDone result (K.held sink.new ≡ append_known (K.held sink.old) bytes.now) }
     ensures short { OnShort result (AddsFrontOf bytes.now (K.held sink.old) (K.held sink.new)) }
-    ensures fault { OnSinkFault result (Rises (K.faults sink.old) (K.faults sink.new)) }
-    ensures counts { K.faults sink.old ≤ K.faults sink.new }
-    ensures count { K.faults sink.new ≡ count_after_whole result (K.faults sink.old) }
+    ensures error { OnSinkFault result (Rises (K.errors sink.old) (K.errors sink.new)) }
+    ensures counts { K.errors sink.old ≤ K.errors sink.new }
+    ensures count { K.errors sink.new ≡ count_after_whole result (K.errors sink.old) }
 {
     let mut done = 0;
     while done < bytes.len() {

@@ -1,5 +1,5 @@
-pub mod FirstRefusals
-pub mod Found
+pub mod FirstRejections
+pub mod FindLemmas
 pub mod Longest
 pub mod Parts
-pub mod Refused
+pub mod RejectionLemmas

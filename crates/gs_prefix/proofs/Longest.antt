@@ -6,7 +6,8 @@ use Rattle.std.proofs.lemmas.Bool.Decides.{nat_tests}
 use Rattle.gs_chars.proofs.TruthsAndLists.{and_first, and_second, and_true, equal_bytes, true_or_false}
 use Rattle.gs_chars.specs.Characters.{are_digits}
 use Rattle.gs_prefix.specs.declared.entry.PrefixEntry.{PrefixEntry}
-use Rattle.gs_prefix.specs.Lengths.{begins, beginning, has_prefix, is_entry, is_longest, is_prefix, longest_entry, length_of_longest}
+use Rattle.gs_prefix.specs.Lengths.{begins, beginning, has_prefix, is_longest, is_prefix, longest_entry, length_of_longest}
+use Rattle.gs_prefix.specs.LengthsSupport.{is_entry}
 
 -- ---- tests
 
@@ -116,14 +117,14 @@ begins_facts digits entry ok h =
     }
 
 module _ (entries : List PrefixEntry) (digits : List ℕ) (ok : list_all is_entry entries ≡ true) where
-  -- no longer front is an entry
+  -- no longer prefix is an entry
   abbrev NoneFrom : ℕ → Type 0
   NoneFrom n = (k : ℕ) → n ≤ k → k < 13 → k ≤ length digits → find (has_prefix (take k digits)) entries ≡ None
 
   facts : (x : PrefixEntry) → IsIn x entries → begins digits x ≡ true → Begins digits x
   facts x there h = begins_facts digits x (all_at is_entry entries x ok there) h
 
-  -- an entry with which the digits begin is no longer than the front that is one
+  -- an entry with which the digits begin is no longer than the start that is one
   no_longer : (n : ℕ) → NoneFrom (n + 1) → (x : PrefixEntry) → IsIn x entries → begins digits x ≡ true → length x.prefix ≤ n
   no_longer n none x there h =
       let f = facts x there h in
@@ -202,7 +203,7 @@ module _ (entries : List PrefixEntry) (digits : List ℕ) (ok : list_all is_entr
   pub length_none : NoneFrom 1 → None ≡ length_of_longest entries digits
   length_none none = rw (longest_none none) refl
 
--- one more front that is no entry
+-- one more prefix that is no entry
 pub none_found : (entries : List PrefixEntry) (digits : List ℕ) (n : ℕ) (r : Option ℕ) → 1 ≤ n → r ≡ option_map (λ entry. entry.length) (find (has_prefix (take (n - 1) digits)) entries) → is_some r ≡ false
     → ((k : ℕ) → n ≤ k → k < 13 → k ≤ length digits → find (has_prefix (take k digits)) entries ≡ None)
     → (k : ℕ) → n - 1 ≤ k → k < 13 → k ≤ length digits → find (has_prefix (take k digits)) entries ≡ None

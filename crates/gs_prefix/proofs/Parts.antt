@@ -1,50 +1,10 @@
--- The parts of a document.
-use Rattle.std.proofs.Common.{◌≡◌, ℕ, zero, suc, List, [], ◌∷◌, length, map, refl, slice_get, ap}
-use Rattle.serde_json.specs.Data.{Data, null, boolean, number, string, array, object, Items, no_items, item}
-use Rattle.serde_json.specs.Events.{items_len}
-use Rattle.serde_json.specs.Find.{at, get_item}
-use Rattle.serde_json.specs.View.{items_view, view}
+-- What is read of the items of a document.
+use Rattle.std.proofs.Common.{◌≡◌, List, [], ◌∷◌, map, refl, ap}
+use Rattle.serde_json.specs.Data.{Data}
+use Rattle.serde_json.specs.View.{view}
 use Rattle.serde_json.specs.declared.value.Value.{Value as Tree}
-use Rattle.gs_json.specs.Answers.{items_count}
-use Rattle.gs_prefix.specs.Documents.{items_in, list_of}
-
--- the items of an array, seen one by one
-pub listed : (values : List Tree) → map view values ≡ list_of (items_view values)
-listed [] = refl
-listed (value ∷ values) = ap (λ items. view value ∷ items) (listed values)
 
 -- what is read of each item
 pub mapped_views : {Y : Type 0} (f : Data → Y) (values : List Tree) → map (λ value. f (view value)) values ≡ map f (map view values)
 mapped_views f [] = refl
 mapped_views f (value ∷ values) = ap (λ ys. f (view value) ∷ ys) (mapped_views f values)
-
-listed_length : (items : Items) → length (list_of items) ≡ items_len items
-listed_length no_items = refl
-listed_length (item d items) = ap suc (listed_length items)
-
-pub items_length : (d : Data) → length (items_in d) ≡ items_count d
-items_length null = refl
-items_length (boolean b) = refl
-items_length (number n) = refl
-items_length (string s) = refl
-items_length (array items) = listed_length items
-items_length (object _) = refl
-
-listed_at : (items : Items) (i : ℕ) → slice_get (list_of items) i ≡ get_item i items
-listed_at no_items zero = refl
-listed_at no_items (suc i) = refl
-listed_at (item d items) zero = refl
-listed_at (item d items) (suc i) = listed_at items i
-
-pub items_at : (d : Data) (i : ℕ) → slice_get (items_in d) i ≡ at i d
-items_at null zero = refl
-items_at null (suc i) = refl
-items_at (boolean b) zero = refl
-items_at (boolean b) (suc i) = refl
-items_at (number n) zero = refl
-items_at (number n) (suc i) = refl
-items_at (string s) zero = refl
-items_at (string s) (suc i) = refl
-items_at (array items) i = listed_at items i
-items_at (object _) zero = refl
-items_at (object _) (suc i) = refl

@@ -1,56 +1,44 @@
 -- The length of a company prefix by the first digits of a key: GS1 General Specifications, section 1.4.4. That the longest
 -- entry decides is this project's own rule, after GS1's list of company prefix lengths.
-use Rattle.std.specs.Prelude.{ℕ, Bool, ◌==◌, ◌&&◌, nat_le, if◌then◌else◌, List, [], ◌∷◌, ◌++◌, length, take, filter, find, map, Vec, Option, Some, None, option_map, option_and_then}
+use Rattle.std.specs.Prelude.{ℕ, Bool, ◌==◌, ◌&&◌, nat_le, if◌then◌else◌, List, length, take, filter, find, Option, Some, None, option_map, option_and_then}
 use Rattle.std.specs.List.{list_all}
 use Rattle.std.specs.Str.{bytes_eq}
-use Rattle.std.specs.declared.alloc.Global.{Global}
 use Rattle.gs_chars.specs.Characters.{are_digits}
 use Rattle.gs_prefix.specs.declared.entry.PrefixEntry.{PrefixEntry}
 
--- the entries of prefixes and their lengths
-abbrev pub entries_of : List (Vec ℕ Global × ℕ) → List PrefixEntry
-entries_of pairs = map (λ pair. record { prefix = pair.0.items; length = pair.1 }) pairs
-
--- one to twelve digits
+-- trusted, own: one to twelve digits
 abbrev pub is_prefix : List ℕ → Bool
 is_prefix text = are_digits text && nat_le 1 (length text) && nat_le (length text) 12
 
--- an entry that a list may have
-abbrev pub is_entry : PrefixEntry → Bool
-is_entry entry = is_prefix entry.prefix && nat_le entry.length 12
-
--- the entry is that of this prefix
+-- trusted, own: the entry is that of this prefix
 abbrev pub has_prefix : List ℕ → PrefixEntry → Bool
 has_prefix prefix entry = bytes_eq prefix entry.prefix
 
--- the entries, and then one of this prefix and length
-abbrev pub with_entry : List PrefixEntry → List ℕ → ℕ → List PrefixEntry
-with_entry entries prefix length = entries ++ (record { prefix = prefix; length = length }) ∷ []
-
--- the digits begin with the entry's prefix
+-- trusted, own: the digits begin with the entry's prefix
 abbrev pub begins : List ℕ → PrefixEntry → Bool
 begins digits entry = has_prefix (take (length entry.prefix) digits) entry
 
--- the entries with which the digits begin
+-- trusted, own: the entries with which the digits begin
 abbrev pub beginning : List PrefixEntry → List ℕ → List PrefixEntry
 beginning entries digits = filter (begins digits) entries
 
--- none of the entries has a longer prefix
+-- trusted, own: none of the entries has a longer prefix
 abbrev pub is_longest : List PrefixEntry → PrefixEntry → Bool
 is_longest entries entry = list_all (λ other. nat_le (length other.prefix) (length entry.prefix)) entries
 
--- the longest entry with which the digits begin
+-- trusted, own: the longest entry with which the digits begin
 unfoldable pub longest_entry : List PrefixEntry → List ℕ → Option PrefixEntry
 longest_entry entries digits = find (is_longest (beginning entries digits)) (beginning entries digits)
 
--- the length of that entry, where there is one
+-- trusted, own: the length of that entry, where there is one
 abbrev pub length_of_longest : List PrefixEntry → List ℕ → Option ℕ
 length_of_longest entries digits = option_map (λ entry. entry.length) (longest_entry entries digits)
 
--- the length 0 says that the digits belong to no company prefix
+-- trusted, own: the length 0 says that the digits belong to no company prefix
 abbrev pub not_zero : ℕ → Option ℕ
 not_zero n = if n == 0 then None else Some n
 
--- how many digits the company prefix has with which the digits begin
+-- trusted, GS1 General Specifications, section 1.4.4; that the longest decides and what 0 says is own: how many digits the
+-- company prefix has with which the digits begin
 unfoldable pub prefix_length : List PrefixEntry → List ℕ → Option ℕ
 prefix_length entries digits = option_and_then not_zero (length_of_longest entries digits)

@@ -1,13 +1,13 @@
 ghost use Rattle.std.specs.Prelude.{◌≡◌, [], IfOk};
 ghost use Rattle.serde_json.specs.View.{view};
-ghost use Rattle.gs_json.specs.Shapes.{shape_faults};
-ghost use Rattle.gs_prefix.specs.Answers.{IsFirst, of_json};
-ghost use Rattle.gs_prefix.specs.Documents.{array_faults, entries_faults, entry_plan, form_faults, items_in, list_plan, version_faults};
+ghost use Rattle.gs_json.specs.Members.{items_of};
+ghost use Rattle.gs_json.specs.Shapes.{shape_errors};
+ghost use Rattle.gs_prefix.specs.AnswersSupport.{IsFirst, of_json};
+ghost use Rattle.gs_prefix.specs.Documents.{array_errors, entries_errors, entry_plan, form_errors, list_plan, version_errors};
 
-use crate::fault::PrefixFault;
-use crate::members::number_in;
+use crate::error::PrefixFault;
 use gs_chars::{List, Memory, Text};
-use gs_json::{Entry, JsonFault, Node, Sort, plan_of};
+use gs_json::{Entry, JsonFault, Node, Sort, number_in, plan_of};
 use std::alloc::Global;
 
 /// The members of the document.
@@ -36,29 +36,29 @@ fn entry_plan(alloc: Global) -> Result<List<Entry>, Memory>
     )
 }
 
-/// A fault of JSON, with want of memory as its own.
-pub(crate) fn of_json(fault: JsonFault) -> PrefixFault
-    ensures { result ≡ of_json fault }
+/// An error of JSON, with out of memory as its own.
+pub(crate) fn of_json(error: JsonFault) -> PrefixFault
+    ensures { result ≡ of_json error }
 {
-    match fault {
+    match error {
         JsonFault::Memory => PrefixFault::Memory,
         other => PrefixFault::Json(other),
     }
 }
 
-/// The first fault of an object by its plan.
+/// The first error of an object by its plan.
 fn judge_object(alloc: Global, object: &Node<'_>, plan: &[Entry]) -> Result<(), PrefixFault>
-    ensures { IsFirst result (shape_faults object.now plan.now) }
+    ensures { IsFirst result (shape_errors object.now plan.now) }
 {
     match object.shaped(alloc, plan) {
         Ok(()) => Ok(()),
-        Err(fault) => Err(of_json(fault)),
+        Err(error) => Err(of_json(error)),
     }
 }
 
-/// Refuses a document of another version.
+/// Rejects a document of another version.
 fn judge_version(alloc: Global, root: &Node<'_>) -> Result<(), PrefixFault>
-    ensures { IsFirst result (version_faults (view root.now.tree)) }
+    ensures { IsFirst result (version_errors (view root.now.tree)) }
 {
     if number_in(root.value(), "version") == 1 {
         return Ok(());
@@ -67,19 +67,19 @@ fn judge_version(alloc: Global, root: &Node<'_>) -> Result<(), PrefixFault>
     Err(PrefixFault::Json(JsonFault::Kind(place)))
 }
 
-/// The first fault of the entries of an array, entry by entry.
+/// The first error of the entries of an array, entry by entry.
 fn judge_items(alloc: Global, array: &Node<'_>) -> Result<(), PrefixFault>
-    ensures { IsFirst result (array_faults array.now.place (items_in (view array.now.tree))) }
+    ensures { IsFirst result (array_errors array.now.place (items_of (view array.now.tree))) }
 {
     let plan = entry_plan(alloc)?;
     judge_by(alloc, array, plan.items())
 }
 
-/// The first fault of the entries of an array by the plan of an entry, entry by entry.
-#[tactic(auto, unfolding(crate::specs::Documents::array_faults))]
+/// The first error of the entries of an array by the plan of an entry, entry by entry.
+#[tactic(auto, unfolding(crate::specs::Documents::array_errors))]
 fn judge_by(alloc: Global, array: &Node<'_>, plan: &[Entry]) -> Result<(), PrefixFault>
     requires { plan.now ≡ entry_plan }
-    ensures { IsFirst result (array_faults array.now.place (items_in (view array.now.tree))) }
+    ensures { IsFirst result (array_errors array.now.place (items_of (view array.now.tree))) }
 {
     let count = array.items_len().unwrap_or(0);
     for i in 0..count {
@@ -91,11 +91,11 @@ fn judge_by(alloc: Global, array: &Node<'_>, plan: &[Entry]) -> Result<(), Prefi
     Ok(())
 }
 
-/// The first fault of the entries of a document, entry by entry.
-#[tactic(auto, unfolding(crate::specs::Documents::array_faults, crate::specs::Documents::entries_faults))]
+/// The first error of the entries of a document, entry by entry.
+#[tactic(auto, unfolding(crate::specs::Documents::array_errors, crate::specs::Documents::entries_errors))]
 fn judge_entries(alloc: Global, root: &Node<'_>) -> Result<(), PrefixFault>
     requires { root.now.place ≡ [] }
-    ensures { IsFirst result (entries_faults (view root.now.tree)) }
+    ensures { IsFirst result (entries_errors (view root.now.tree)) }
 {
     match root.find(alloc, "prefixes")? {
         Some(array) => judge_items(alloc, &array),
@@ -103,10 +103,10 @@ fn judge_entries(alloc: Global, root: &Node<'_>) -> Result<(), PrefixFault>
     }
 }
 
-/// The first fault of the form of a document: of its object, then of its version, then of its entries.
+/// The first error of the form of a document: of its object, then of its version, then of its entries.
 pub(crate) fn judge_form(alloc: Global, root: &Node<'_>) -> Result<(), PrefixFault>
     requires { root.now.place ≡ [] }
-    ensures { IsFirst result (form_faults (view root.now.tree)) }
+    ensures { IsFirst result (form_errors (view root.now.tree)) }
 {
     let plan = list_plan(alloc)?;
     judge_object(alloc, root, plan.items())?;

@@ -1,7 +1,8 @@
 ghost use Rattle.std.specs.Prelude.{◌≡◌, false, [], IfOk, length, find};
 ghost use Rattle.std.specs.List.{list_any};
 ghost use Rattle.std.specs.Option.{option_map};
-ghost use Rattle.gs_prefix.specs.Lengths.{has_prefix, with_entry};
+ghost use Rattle.gs_prefix.specs.Lengths.{has_prefix};
+ghost use Rattle.gs_prefix.specs.LengthsSupport.{with_entry};
 
 use gs_chars::Memory;
 use indexmap::IndexMap;
@@ -22,7 +23,7 @@ impl Drop for Index {
 
 impl Model for Index {
     ghost use Rattle.std.specs.Prelude.{List};
-    ghost use Rattle.gs_prefix.specs.Lengths.{entries_of};
+    ghost use Rattle.gs_prefix.specs.LengthsSupport.{entries_of};
     ghost use Rattle.gs_prefix.specs.declared.entry.PrefixEntry.{PrefixEntry};
 
     ghost Value = { List PrefixEntry };

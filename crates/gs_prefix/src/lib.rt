@@ -1,6 +1,6 @@
 //! Lists of company prefix lengths: which digits begin with a company prefix, and how many of them it has.
 //!
-//! - `PrefixList::load` reads a list, or tells its first error; `length_of` gives the number of digits of the company prefix
+//! - `PrefixList::load` reads a list, or gives its first error; `length_of` gives the number of digits of the company prefix
 //!   that digits begin with, by the longest row that fits.
 //!
 //! # Example
@@ -20,14 +20,13 @@
 #![tactic(auto)]
 
 mod entry;
-mod fault;
+mod error;
 mod form;
 mod index;
-mod members;
 mod prefix_list;
 mod read;
 mod rules;
 
 pub use entry::PrefixEntry;
-pub use fault::PrefixFault;
+pub use error::PrefixFault;
 pub use prefix_list::PrefixList;

@@ -1,11 +1,13 @@
 ghost use Rattle.std.specs.Prelude.{◌≡◌, ◌<◌, ◌≤◌, [], IfSome, length, slice_get};
 ghost use Rattle.serde_json.specs.View.{view};
-ghost use Rattle.gs_prefix.specs.Answers.{OrMemory, AddsEntry, document_answer, first_or, load_answer};
+ghost use Rattle.gs_chars.specs.Answers.{first_or};
+ghost use Rattle.gs_prefix.specs.Answers.{OrMemory, document_answer, load_answer};
+ghost use Rattle.gs_prefix.specs.AnswersSupport.{AddsEntry};
 ghost use Rattle.gs_prefix.specs.Lengths.{length_of_longest, prefix_length};
-ghost use Rattle.gs_prefix.specs.Rules.{refusals};
+ghost use Rattle.gs_prefix.specs.Rules.{rejections};
 
 use crate::entry::PrefixEntry;
-use crate::fault::PrefixFault;
+use crate::error::PrefixFault;
 use crate::form::{judge_form, of_json};
 use crate::index::Index;
 use crate::read::read_entries;
@@ -28,7 +30,7 @@ impl Model for PrefixList {
     ghost use Rattle.std.specs.Prelude.{◌≡◌, List, true};
     ghost use Rattle.std.specs.List.{list_all};
     ghost use Rattle.gs_prefix.specs.declared.entry.PrefixEntry.{PrefixEntry};
-    ghost use Rattle.gs_prefix.specs.Lengths.{is_entry};
+    ghost use Rattle.gs_prefix.specs.LengthsSupport.{is_entry};
 
     ghost Value = { List PrefixEntry };
 
@@ -48,7 +50,7 @@ impl PrefixList {
     }
 
     /// The list that a document in JSON gives: an object with exactly `version`, the number 1, and `prefixes`, an array of
-    /// objects with exactly `prefix`, a text, and `length`, a number. Of the refusals the first in this order is the answer.
+    /// objects with exactly `prefix`, a text, and `length`, a number. Of the rejections the first in this order is the answer.
     /// `Json`: the bytes are no JSON text; the document, its version or an entry has not this form. `Limit`: more than
     /// 65,536 entries. Then entry by entry `BadPrefix`, `BadLength`, `Twice`. `Memory` may come in place of any answer.
     pub fn load(alloc: Global, bytes: &[u8]) -> Result<PrefixList, PrefixFault>
@@ -56,11 +58,11 @@ impl PrefixList {
     {
         match Doc::parse(alloc, bytes) {
             Ok(doc) => PrefixList::of_root(alloc, &doc.root(alloc)),
-            Err(fault) => Err(of_json(fault)),
+            Err(error) => Err(of_json(error)),
         }
     }
 
-    /// The list that the document of this tree gives, or its first refusal.
+    /// The list that the document of this tree gives, or its first rejection.
     fn of_root(alloc: Global, root: &Node<'_>) -> Result<PrefixList, PrefixFault>
         requires { root.now.place ≡ [] }
         ensures { OrMemory result (document_answer (view root.now.tree)) }
@@ -70,9 +72,9 @@ impl PrefixList {
         PrefixList::of_entries(alloc, entries.as_slice())
     }
 
-    /// The list of the entries, or their first refusal.
+    /// The list of the entries, or their first rejection.
     fn of_entries(alloc: Global, entries: &[PrefixEntry]) -> Result<PrefixList, PrefixFault>
-        ensures { OrMemory result (first_or (refusals entries.now) entries.now) }
+        ensures { OrMemory result (first_or (rejections entries.now) entries.now) }
     {
         if entries.len() > MOST_ENTRIES {
             return Err(PrefixFault::Limit);

@@ -3,8 +3,8 @@ ghost use Rattle.serde_json.specs.View.{view};
 ghost use Rattle.gs_prefix.specs.Documents.{entries_of, entry_of};
 
 use crate::entry::PrefixEntry;
-use crate::members::{items_of, number_in, text_in};
 use gs_chars::{Memory, Text};
+use gs_json::{items_in, number_in, text_in};
 use serde_json::Value;
 use std::alloc::Global;
 
@@ -23,7 +23,7 @@ pub(crate) fn read_entries(alloc: Global, root: &Value) -> Result<Vec<PrefixEntr
     ensures { IfOk result (λ entries. entries.items ≡ entries_of (view root.now)) }
 {
     let mut entries = Vec::new(alloc);
-    for item in items_of(root) {
+    for item in items_in(root, "prefixes") {
         entries.push(read_entry(alloc, item)?)?;
     }
     Ok(entries)

@@ -1,10 +1,10 @@
 ghost use Rattle.std.specs.Prelude.{◌≡◌};
-ghost use Rattle.gs_prefix.specs.Answers.{first_or};
+ghost use Rattle.gs_chars.specs.Answers.{first_or};
 ghost use Rattle.gs_prefix.specs.Lengths.{is_prefix};
-ghost use Rattle.gs_prefix.specs.Rules.{entry_refusals};
+ghost use Rattle.gs_prefix.specs.Rules.{entry_rejections};
 
 use crate::entry::PrefixEntry;
-use crate::fault::PrefixFault;
+use crate::error::PrefixFault;
 use crate::index::Index;
 use gs_chars::are_digits;
 
@@ -20,7 +20,7 @@ fn is_prefix(text: &[u8]) -> bool
 
 /// The first rule that an entry breaks, beside the earlier entries.
 pub(crate) fn check_entry(earlier: &Index, i: usize, entry: &PrefixEntry) -> Result<(), PrefixFault>
-    ensures { result ≡ first_or (entry_refusals earlier.now i entry.now) tt }
+    ensures { result ≡ first_or (entry_rejections earlier.now i entry.now) tt }
 {
     let prefix = entry.prefix.as_bytes();
     if !is_prefix(prefix) {

@@ -7,13 +7,13 @@ use Rattle.std.proofs.lemmas.List.Elements.{filter-append}
 use Rattle.gs_chars.proofs.TruthsAndLists.{read_at}
 use Rattle.gs_grammar.specs.declared.item.Item.{Item}
 use Rattle.gs_grammar.specs.Items.{size_of, size_of_all}
-use Rattle.gs_document.specs.declared.field.Field.{Field}
-use Rattle.gs_document.specs.declared.field.Field.TheVariants.{Filter, Gcp, Rest, Serial}
+use Rattle.gs_tables_document.specs.declared.field.Field.{Field}
+use Rattle.gs_tables_document.specs.declared.field.Field.TheVariants.{Filter, Gcp, Rest, Serial}
 use Rattle.gs_tables.specs.declared.field_items.Found.{Found}
 use Rattle.gs_tables.specs.declared.field_items.Found.TheVariants.{One, More}
 use Rattle.gs_tables.specs.Founds.{IsFound, IsMany}
-use Rattle.gs_document.specs.Items.{FieldItem}
-use Rattle.gs_rows.specs.Rules.{is_field, items_of_field}
+use Rattle.gs_tables_document.specs.Items.{FieldItem}
+use Rattle.gs_tables.specs.Rules.{is_field, items_of_field}
 
 abbrev there : List (Option FieldItem) → List FieldItem
 there xs = flat_map option_to_list xs
@@ -88,7 +88,7 @@ size_append (x ∷ xs) ys = omega (arith, size_append xs ys)
 alone_append : (xs ys : List FieldItem) → size_of_all (map (λ (i : FieldItem). i.1) (xs ++ ys)) ≡ size_of_all (map (λ (i : FieldItem). i.1) xs) + size_of_all (map (λ (i : FieldItem). i.1) ys)
 alone_append xs ys = ap size_of_all (map-append (λ (i : FieldItem). i.1) xs ys) ∙ size_append (map (λ (i : FieldItem). i.1) xs) (map (λ (i : FieldItem). i.1) ys)
 
--- a front and the next item are too long, so that all are
+-- a prefix and the next item are too long, so that all are
 pub size_passed : (xs : List (Option FieldItem)) (i : ℕ) (entry : Option FieldItem) (x : FieldItem) (most : ℕ) → i < length xs → entry ≡ get_or xs i entry → entry ≡ Some x → most < size_of_all (map (λ (i : FieldItem). i.1) (flat_map option_to_list (take i xs))) + size_of x.1 → size_of_all (map (λ (i : FieldItem). i.1) (flat_map option_to_list xs)) ≤ most → ⊥
 size_passed xs i entry x most low read is long short =
     let at : slice_get xs i ≡ Some (Some x) = read_at xs i entry low read ∙ ap Some is in

@@ -1,20 +1,20 @@
--- What is answered once the levels are judged, by what the rules answer: one answer beside want of memory, and no other but for
+-- What is answered once the levels are judged, by what the rules answer: one answer beside out of memory, and no other but for
 -- the text of an ambiguous level.
 use Rattle.std.proofs.Common.{◌≡◌, ℕ, List, refl, sym, ◌∙◌, inl, inr, arith}
 use Rattle.std.specs.Prelude.{Result, Ok, Err}
 use Rattle.std.proofs.lemmas.Bool.{cases_lt, cases_eq}
-use Rattle.gs_document.specs.declared.fault.LoadFault.{LoadFault}
-use Rattle.gs_document.specs.declared.fault.LoadFault.TheVariants.{Json, Version, Limit, Ai, BadKind, BadItem, Mismatch, Duplicate, Ambiguous, Memory}
-use Rattle.gs_document.specs.declared.level_name.LevelName.{LevelName}
-use Rattle.gs_document.specs.declared.level_name.LevelName.TheVariants.{Binary, Tag, Pure}
+use Rattle.gs_tables_document.specs.declared.error.LoadFault.{LoadFault}
+use Rattle.gs_tables_document.specs.declared.error.LoadFault.TheVariants.{Json, Version, Limit, Ai, BadKind, BadItem, Mismatch, Duplicate, Ambiguous, Memory}
+use Rattle.gs_tables_document.specs.declared.level_name.LevelName.{LevelName}
+use Rattle.gs_tables_document.specs.declared.level_name.LevelName.TheVariants.{Binary, Tag, Pure}
 use Rattle.gs_grammar.specs.Ambiguity.{ShowsFirstShare}
 use Rattle.gs_grammar.specs.Levels.{LevelForm}
-use Rattle.gs_tables.specs.Judged.{AreClear, IsClear, IsFirstAmbiguous, IsLoaded, Judged, levels_of}
+use Rattle.gs_tables.specs.Judgements.{AreClear, IsClear, IsFirstAmbiguous, IsLoaded, Judged, levels_of}
 use Rattle.gs_tables.specs.Shapes.{AreAlike, HasMemory, but_text, same}
-use Rattle.gs_rows.specs.Tables.{IsShaped, TableRows}
+use Rattle.gs_tables.specs.Tables.{IsShaped, TableRows}
 use Rattle.gs_tables.proofs.JudgedLevels.{items_kept, level_decided}
 
--- what holds of the answers of rules: there is one beside want of memory and no other, none names an ambiguous level, and their
+-- what holds of the answers of rules: there is one beside out of memory and no other, none names an ambiguous level, and their
 -- sets keep them
 pub record IsRuling (Ruled : Result TableRows LoadFault → Type 0) : Type 0 where
   pub some : (answer : Result TableRows LoadFault) × HasMemory answer × Ruled answer
@@ -32,10 +32,10 @@ judged_set Ruled set ruled shaped = elim (level_decided (levels_of set) (items_k
 
 judged_by : (Ruled : Result TableRows LoadFault → Type 0) → IsRuling Ruled → (answer : Result TableRows LoadFault) → HasMemory answer → Ruled answer → (answer : Result TableRows LoadFault) × HasMemory answer × Judged Ruled answer
 judged_by Ruled ruling (Ok set) enough r = judged_set Ruled set r (ruling.shaped set r)
-judged_by Ruled ruling (Err (Json fault)) enough r = (Err (Json fault), enough, r)
+judged_by Ruled ruling (Err (Json error)) enough r = (Err (Json error), enough, r)
 judged_by Ruled ruling (Err Version) enough r = (Err Version, enough, r)
 judged_by Ruled ruling (Err (Limit name)) enough r = (Err (Limit name), enough, r)
-judged_by Ruled ruling (Err (Ai fault)) enough r = (Err (Ai fault), enough, r)
+judged_by Ruled ruling (Err (Ai error)) enough r = (Err (Ai error), enough, r)
 judged_by Ruled ruling (Err (BadKind i)) enough r = (Err (BadKind i), enough, r)
 judged_by Ruled ruling (Err (BadItem level i k)) enough r = (Err (BadItem level i k), enough, r)
 judged_by Ruled ruling (Err (Mismatch level i)) enough r = (Err (Mismatch level i), enough, r)
@@ -51,30 +51,30 @@ judged_some Ruled ruling = judged_by Ruled ruling ruling.some.0 ruling.some.1 ru
 data Judgement (Ruled : Result TableRows LoadFault → Type 0) (answer : Result TableRows LoadFault) : Type 0 where
   loads : (set : TableRows) → Ruled (Ok set) → AreClear (levels_of set) → answer ≡ Ok set → Judgement Ruled answer
   shares : (set : TableRows) (name : LevelName) (i j : ℕ) (text : List ℕ) → Ruled (Ok set) → IsFirstAmbiguous (levels_of set) name i j text → answer ≡ Err (Ambiguous name i j text) → Judgement Ruled answer
-  refuses : Ruled answer → (fault : LoadFault) → answer ≡ Err fault → Judgement Ruled answer
+  rejects : Ruled answer → (error : LoadFault) → answer ≡ Err error → Judgement Ruled answer
 
 judgement : (Ruled : Result TableRows LoadFault → Type 0) (answer : Result TableRows LoadFault) → Judged Ruled answer → Judgement Ruled answer
 judgement Ruled (Ok set) j = loads set j.0 j.1 refl
 judgement Ruled (Err (Ambiguous name i j text)) h = shares h.0 name i j text h.1 h.2 refl
-judgement Ruled (Err (Json fault)) j = refuses j (Json fault) refl
-judgement Ruled (Err Version) j = refuses j Version refl
-judgement Ruled (Err (Limit name)) j = refuses j (Limit name) refl
-judgement Ruled (Err (Ai fault)) j = refuses j (Ai fault) refl
-judgement Ruled (Err (BadKind i)) j = refuses j (BadKind i) refl
-judgement Ruled (Err (BadItem level i k)) j = refuses j (BadItem level i k) refl
-judgement Ruled (Err (Mismatch level i)) j = refuses j (Mismatch level i) refl
-judgement Ruled (Err (Duplicate level j i)) h = refuses h (Duplicate level j i) refl
-judgement Ruled (Err Memory) j = refuses j Memory refl
+judgement Ruled (Err (Json error)) j = rejects j (Json error) refl
+judgement Ruled (Err Version) j = rejects j Version refl
+judgement Ruled (Err (Limit name)) j = rejects j (Limit name) refl
+judgement Ruled (Err (Ai error)) j = rejects j (Ai error) refl
+judgement Ruled (Err (BadKind i)) j = rejects j (BadKind i) refl
+judgement Ruled (Err (BadItem level i k)) j = rejects j (BadItem level i k) refl
+judgement Ruled (Err (Mismatch level i)) j = rejects j (Mismatch level i) refl
+judgement Ruled (Err (Duplicate level j i)) h = rejects h (Duplicate level j i) refl
+judgement Ruled (Err Memory) j = rejects j Memory refl
 
 one_set : (Ruled : Result TableRows LoadFault → Type 0) → IsRuling Ruled → (set set' : TableRows) → Ruled (Ok set) → Ruled (Ok set') → set ≡ set'
 one_set Ruled ruling set set' a b =
     let e : Ok set ≡ Ok set' = ruling.one (Ok set) (Ok set') a b (λ e. let f : Ok set ≡ Err Memory = e in cc) (λ e. let f : Ok set' ≡ Err Memory = e in cc) in
     cc
 
-not_both : (Ruled : Result TableRows LoadFault → Type 0) → IsRuling Ruled → (set : TableRows) (answer : Result TableRows LoadFault) (fault : LoadFault) → Ruled (Ok set) → Ruled answer → HasMemory answer → answer ≡ Err fault → ⊥
-not_both Ruled ruling set answer fault a b enough e =
+not_both : (Ruled : Result TableRows LoadFault → Type 0) → IsRuling Ruled → (set : TableRows) (answer : Result TableRows LoadFault) (error : LoadFault) → Ruled (Ok set) → Ruled answer → HasMemory answer → answer ≡ Err error → ⊥
+not_both Ruled ruling set answer error a b enough e =
     let f : Ok set ≡ answer = ruling.one (Ok set) answer a b (λ e. let f : Ok set ≡ Err Memory = e in cc) enough in
-    let g : Ok set ≡ Err fault = f ∙ e in
+    let g : Ok set ≡ Err error = f ∙ e in
     cc
 
 clear_or_shared : (levels : LevelName → LevelForm) (name : LevelName) (i j : ℕ) (text : List ℕ) → IsClear (levels name) → IsFirstAmbiguous levels name i j text → ⊥
@@ -119,17 +119,17 @@ alike_by : (Ruled : Result TableRows LoadFault → Type 0) → IsRuling Ruled �
 alike_by Ruled ruling one other enough enough' (loads set r clear e) (loads set' r' clear' e') = same (e ∙ (let s = one_set Ruled ruling set set' r r' in rw s refl) ∙ sym e')
 alike_by Ruled ruling one other enough enough' (loads set r clear e) (shares set' name i j text r' first e') =
     absurd (clear_or_shared (levels_of set') name i j text (let s = one_set Ruled ruling set set' r r' in let c : AreClear (levels_of set') = rw (← s) clear in c name) first)
-alike_by Ruled ruling one other enough enough' (loads set r clear e) (refuses r' fault e') = absurd (not_both Ruled ruling set other fault r r' enough' e')
+alike_by Ruled ruling one other enough enough' (loads set r clear e) (rejects r' error e') = absurd (not_both Ruled ruling set other error r r' enough' e')
 alike_by Ruled ruling one other enough enough' (shares set name i j text r first e) (loads set' r' clear e') =
     absurd (clear_or_shared (levels_of set) name i j text (let s = one_set Ruled ruling set set' r r' in let c : AreClear (levels_of set) = rw s clear in c name) first)
 alike_by Ruled ruling one other enough enough' (shares set name i j text r first e) (shares set' name' i' j' text' r' first' e') =
     let s = one_set Ruled ruling set set' r r' in
     let moved : IsFirstAmbiguous (levels_of set) name' i' j' text' = rw s first' in
     alike (levels_of set) name name' i j i' j' text text' one other first moved e e'
-alike_by Ruled ruling one other enough enough' (shares set name i j text r first e) (refuses r' fault e') = absurd (not_both Ruled ruling set other fault r r' enough' e')
-alike_by Ruled ruling one other enough enough' (refuses r fault e) (loads set r' clear e') = absurd (not_both Ruled ruling set one fault r' r enough e)
-alike_by Ruled ruling one other enough enough' (refuses r fault e) (shares set name i j text r' first e') = absurd (not_both Ruled ruling set one fault r' r enough e)
-alike_by Ruled ruling one other enough enough' (refuses r fault e) (refuses r' fault' e') = same (ruling.one one other r r' enough enough')
+alike_by Ruled ruling one other enough enough' (shares set name i j text r first e) (rejects r' error e') = absurd (not_both Ruled ruling set other error r r' enough' e')
+alike_by Ruled ruling one other enough enough' (rejects r error e) (loads set r' clear e') = absurd (not_both Ruled ruling set one error r' r enough e)
+alike_by Ruled ruling one other enough enough' (rejects r error e) (shares set name i j text r' first e') = absurd (not_both Ruled ruling set one error r' r enough e)
+alike_by Ruled ruling one other enough enough' (rejects r error e) (rejects r' error' e') = same (ruling.one one other r r' enough enough')
 
 pub judged_alike : (Ruled : Result TableRows LoadFault → Type 0) → IsRuling Ruled → (one other : Result TableRows LoadFault) → Judged Ruled one → Judged Ruled other → HasMemory one → HasMemory other → AreAlike one other
 judged_alike Ruled ruling one other a b enough enough' = alike_by Ruled ruling one other enough enough' (judgement Ruled one a) (judgement Ruled other b)

@@ -4,27 +4,29 @@ use Rattle.std.specs.Prelude.{Result, Ok, Err}
 use Rattle.std.proofs.lemmas.List.{length-map}
 use Rattle.std.proofs.lemmas.Option.{slice_get_within}
 use Rattle.gs_ai.specs.declared.row.AiRow.{AiRow}
-use Rattle.gs_ai.specs.Tables.{table_faults}
-use Rattle.gs_document.specs.declared.document.Document.{Document}
-use Rattle.gs_document.specs.declared.document.KindRow.{KindRow}
-use Rattle.gs_document.specs.declared.document.OptionRow.{OptionRow}
-use Rattle.gs_document.specs.declared.fault.LoadFault.{LoadFault}
-use Rattle.gs_document.specs.declared.fault.LoadFault.TheVariants.{Json, Version, Limit, Ai, BadKind, BadItem, Mismatch, Duplicate, Ambiguous, Memory}
-use Rattle.gs_document.specs.declared.kind.Kind.{Kind}
-use Rattle.gs_document.specs.declared.level_name.LevelName.{LevelName}
-use Rattle.gs_document.specs.declared.level_name.LevelName.TheVariants.{Binary, Tag, Pure}
-use Rattle.gs_document.specs.Documents.{is_bits}
+use Rattle.gs_ai.specs.Tables.{table_errors}
+use Rattle.gs_tables_document.specs.declared.document.Document.{Document}
+use Rattle.gs_tables_document.specs.declared.document.KindRow.{KindRow}
+use Rattle.gs_tables_document.specs.declared.document.OptionRow.{OptionRow}
+use Rattle.gs_tables_document.specs.declared.error.LoadFault.{LoadFault}
+use Rattle.gs_tables_document.specs.declared.error.LoadFault.TheVariants.{Json, Version, Limit, Ai, BadKind, BadItem, Mismatch, Duplicate, Ambiguous, Memory}
+use Rattle.gs_tables_document.specs.declared.kind.Kind.{Kind}
+use Rattle.gs_tables_document.specs.declared.level_name.LevelName.{LevelName}
+use Rattle.gs_tables_document.specs.declared.level_name.LevelName.TheVariants.{Binary, Tag, Pure}
+use Rattle.gs_tables_document.specs.Documents.{is_bits}
 use Rattle.gs_grammar.specs.Ambiguity.{AreItems, HasFirstShare, ShowsFirstShare, shown_symbols}
 use Rattle.gs_grammar.specs.Levels.{LevelForm, OptionForm, item_lists}
 use Rattle.gs_grammar.proofs.DecidedShares.{share_decided}
 use Rattle.gs_grammar.proofs.WordLaws.{all_items}
-use Rattle.gs_rows.specs.declared.level_table.LevelTable.{LevelTable}
-use Rattle.gs_rows.specs.declared.level_tables.LevelTables.{LevelTables}
-use Rattle.gs_tables.specs.Judged.{AreClear, AreClearBefore, AreJudged, AreOfRows, IsClear, IsFirstAmbiguous, Judged, by_name, levels_of, levels_of_rows}
-use Rattle.gs_rows.specs.Tables.{IsAnswer, IsShaped, TableRows, level_of, level_rows, limit_refusals, row_refusals, rule_refusals, kind_of, set_of}
+use Rattle.gs_tables.specs.declared.level_table.LevelTable.{LevelTable}
+use Rattle.gs_tables.specs.declared.level_tables.LevelTables.{LevelTables}
+use Rattle.gs_tables.specs.Judgements.{AreClear, AreClearBefore, IsClear, IsFirstAmbiguous, Judged, levels_of}
+use Rattle.gs_tables.specs.JudgedSupport.{AreJudged, AreOfRows, by_name, levels_of_rows}
+use Rattle.gs_tables.specs.Tables.{IsAnswer, IsShaped, TableRows, level_of, level_rows, limit_rejections, row_rejections, kind_of, set_of}
+use Rattle.gs_tables.specs.TablesSupport.{rule_rejections}
 use Rattle.gs_tables.proofs.KeptSets.{as_many_said, options_kept}
-use Rattle.gs_tables.proofs.SetLemmas.{others_refused, rules_kept, set_made}
-use Rattle.gs_tables.proofs.RuledRefusals.{ruled_first, ruled_of_document}
+use Rattle.gs_tables.proofs.SetLemmas.{others_rejected, rules_kept, set_made}
+use Rattle.gs_tables.proofs.RuledRejections.{ruled_first, ruled_of_document}
 
 -- ---- the levels of a set, judged by a law
 
@@ -77,17 +79,17 @@ level_decided levels items = elim (share_decided (item_lists (levels Binary).opt
 
 -- ---- the answer to a document
 
--- what a rule refuses is refused
-pub judged_rule : (document : Document) (e : LoadFault) → IsAnswer (row_refusals document) (set_of document) (Err e) → Judged (IsAnswer (row_refusals document) (set_of document)) (Err e)
-judged_rule document (Json fault) h = h
+-- what a rule rejects is rejected
+pub judged_rule : (document : Document) (e : LoadFault) → IsAnswer (row_rejections document) (set_of document) (Err e) → Judged (IsAnswer (row_rejections document) (set_of document)) (Err e)
+judged_rule document (Json error) h = h
 judged_rule document Version h = h
 judged_rule document (Limit name) h = h
-judged_rule document (Ai fault) h = h
+judged_rule document (Ai error) h = h
 judged_rule document (BadKind i) h = h
 judged_rule document (BadItem level i k) h = h
 judged_rule document (Mismatch level i) h = h
 judged_rule document (Duplicate level j i) h = h
-judged_rule document (Ambiguous name i j text) h = absurd (let f : true ≡ false = ruled_first (row_refusals document) (Ambiguous name i j text) (ruled_of_document document) h in cc)
+judged_rule document (Ambiguous name i j text) h = absurd (let f : true ≡ false = ruled_first (row_rejections document) (Ambiguous name i j text) (ruled_of_document document) h in cc)
 judged_rule document Memory h = tt
 
 moved_first : (set : TableRows) (name : LevelName) (i j : ℕ) (text : List ℕ) → IsFirstAmbiguous (by_name set.binary.level set.tag.level set.pure.level) name i j text → IsFirstAmbiguous (levels_of set) name i j text
@@ -101,14 +103,14 @@ moved_clear binary tag pure set b t p h Tag = rw t (h Tag)
 moved_clear binary tag pure set b t p h Pure = rw p (h Pure)
 
 -- so is a set of which a level is ambiguous
-pub judged_levels : (document : Document) (binary tag pure : LevelTable) (e : LoadFault) → row_refusals document ≡ [] → binary ≡ level_of document.kinds Binary document.binary → tag ≡ level_of document.kinds Tag document.tag → pure ≡ level_of document.kinds Pure document.pure
-    → AreJudged (by_name binary.level tag.level pure.level) (Err e) → Judged (IsAnswer (row_refusals document) (set_of document)) (Err e)
+pub judged_levels : (document : Document) (binary tag pure : LevelTable) (e : LoadFault) → row_rejections document ≡ [] → binary ≡ level_of document.kinds Binary document.binary → tag ≡ level_of document.kinds Tag document.tag → pure ≡ level_of document.kinds Pure document.pure
+    → AreJudged (by_name binary.level tag.level pure.level) (Err e) → Judged (IsAnswer (row_rejections document) (set_of document)) (Err e)
 judged_levels document binary tag pure (Ambiguous name i j text) none b t p h = (set_of document, (none, refl), moved_first (set_of document) name i j text (rw (b, t, p) at h))
 judged_levels document binary tag pure Memory none b t p h = tt
-judged_levels document binary tag pure (Json fault) none b t p h = absurd h
+judged_levels document binary tag pure (Json error) none b t p h = absurd h
 judged_levels document binary tag pure Version none b t p h = absurd h
 judged_levels document binary tag pure (Limit name) none b t p h = absurd h
-judged_levels document binary tag pure (Ai fault) none b t p h = absurd h
+judged_levels document binary tag pure (Ai error) none b t p h = absurd h
 judged_levels document binary tag pure (BadKind i) none b t p h = absurd h
 judged_levels document binary tag pure (BadItem level i k) none b t p h = absurd h
 judged_levels document binary tag pure (Mismatch level i) none b t p h = absurd h
@@ -118,22 +120,22 @@ judged_levels document binary tag pure (Duplicate level j i) none b t p h = absu
 pub judged_made : (kinds : List KindRow) (binary tag pure : List OptionRow) (made : LevelTables) (answer : Result (Unit {0}) LoadFault) → AreOfRows kinds binary tag pure made → AreJudged (by_name made.binary.level made.tag.level made.pure.level) answer → AreJudged (levels_of_rows kinds binary tag pure) answer
 judged_made kinds binary tag pure made answer of_rows h = rw (of_rows.0, of_rows.1, of_rows.2) at h
 
--- what is refused by a rule, or by the judgement of the levels
-pub levels_refused : (document : Document) (ais : List AiRow) (e : LoadFault) → limit_refusals document ≡ [] → (map Ai (table_faults document.ais) ≡ []) × (ais ≡ document.ais)
-    → (slice_get (rule_refusals ais document.kinds document.binary document.tag document.pure) 0 ≡ Some e)
-    ⊎ ((rule_refusals ais document.kinds document.binary document.tag document.pure ≡ [])
+-- what is rejected by a rule, or by the judgement of the levels
+pub levels_rejected : (document : Document) (ais : List AiRow) (e : LoadFault) → limit_rejections document ≡ [] → (map Ai (table_errors document.ais) ≡ []) × (ais ≡ document.ais)
+    → (slice_get (rule_rejections ais document.kinds document.binary document.tag document.pure) 0 ≡ Some e)
+    ⊎ ((rule_rejections ais document.kinds document.binary document.tag document.pure ≡ [])
     × AreJudged (levels_of_rows document.kinds document.binary document.tag document.pure) (Err e))
-    → Judged (IsAnswer (row_refusals document) (set_of document)) (Err e)
-levels_refused document ais e limits table (inl first) = judged_rule document e (others_refused document ais e limits table first)
-levels_refused document ais e limits table (inr h) =
+    → Judged (IsAnswer (row_rejections document) (set_of document)) (Err e)
+levels_rejected document ais e limits table (inl first) = judged_rule document e (others_rejected document ais e limits table first)
+levels_rejected document ais e limits table (inr h) =
     judged_levels document (level_of document.kinds Binary document.binary) (level_of document.kinds Tag document.tag) (level_of document.kinds Pure document.pure) e
     (rules_kept document ais limits table h.0) refl refl refl h.1
 
 -- the set of what is made of the rows of a document
-pub set_judged : (document : Document) (ais : List AiRow) (kinds : List Kind) (made : LevelTables) → limit_refusals document ≡ [] → (map Ai (table_faults document.ais) ≡ []) × (ais ≡ document.ais)
-    → rule_refusals ais document.kinds document.binary document.tag document.pure ≡ [] → AreClear (levels_of_rows document.kinds document.binary document.tag document.pure)
+pub set_judged : (document : Document) (ais : List AiRow) (kinds : List Kind) (made : LevelTables) → limit_rejections document ≡ [] → (map Ai (table_errors document.ais) ≡ []) × (ais ≡ document.ais)
+    → rule_rejections ais document.kinds document.binary document.tag document.pure ≡ [] → AreClear (levels_of_rows document.kinds document.binary document.tag document.pure)
     → kinds ≡ map kind_of document.kinds → AreOfRows document.kinds document.binary document.tag document.pure made
-    → Judged (IsAnswer (row_refusals document) (set_of document)) (Ok (record { ais = ais; kinds = kinds; binary = made.binary; tag = made.tag; pure = made.pure }))
+    → Judged (IsAnswer (row_rejections document) (set_of document)) (Ok (record { ais = ais; kinds = kinds; binary = made.binary; tag = made.tag; pure = made.pure }))
 set_judged document ais kinds made limits table none clear k of_rows =
     let set : TableRows = record { ais = ais; kinds = kinds; binary = made.binary; tag = made.tag; pure = made.pure } in
     let is = set_made document ais set limits table none refl k of_rows.0 of_rows.1 of_rows.2 in
@@ -144,10 +146,10 @@ set_judged document ais kinds made limits table none clear k of_rows =
 pub judged_as : (Ruled Other : Result TableRows LoadFault → Type 0) → ((answer : Result TableRows LoadFault) → Ruled answer → Other answer) → (answer : Result TableRows LoadFault) → Judged Ruled answer → Judged Other answer
 judged_as Ruled Other move (Ok set) h = (move (Ok set) h.0, h.1)
 judged_as Ruled Other move (Err (Ambiguous name i j text)) h = (h.0, move (Ok h.0) h.1, h.2)
-judged_as Ruled Other move (Err (Json fault)) h = move (Err (Json fault)) h
+judged_as Ruled Other move (Err (Json error)) h = move (Err (Json error)) h
 judged_as Ruled Other move (Err Version) h = move (Err Version) h
 judged_as Ruled Other move (Err (Limit name)) h = move (Err (Limit name)) h
-judged_as Ruled Other move (Err (Ai fault)) h = move (Err (Ai fault)) h
+judged_as Ruled Other move (Err (Ai error)) h = move (Err (Ai error)) h
 judged_as Ruled Other move (Err (BadKind i)) h = move (Err (BadKind i)) h
 judged_as Ruled Other move (Err (BadItem level i k)) h = move (Err (BadItem level i k)) h
 judged_as Ruled Other move (Err (Mismatch level i)) h = move (Err (Mismatch level i)) h

@@ -4,37 +4,38 @@ use Rattle.std.specs.List.{find}
 use Rattle.std.proofs.lemmas.Option.{slice_get-map}
 use Rattle.gs_chars.proofs.TruthsAndLists.{mapped_some, none_behind}
 use Rattle.gs_ai.specs.declared.row.AiRow.{AiRow}
-use Rattle.gs_ai.specs.Tables.{table_faults}
+use Rattle.gs_ai.specs.Tables.{table_errors}
 use Rattle.gs_ai.specs.Values.{has_code}
-use Rattle.gs_document.specs.declared.document.Document.{Document}
-use Rattle.gs_document.specs.declared.document.KindRow.{KindRow}
-use Rattle.gs_document.specs.declared.document.OptionRow.{OptionRow}
-use Rattle.gs_document.specs.declared.fault.LoadFault.TheVariants.{Ai}
-use Rattle.gs_document.specs.declared.level_name.LevelName.{LevelName}
-use Rattle.gs_document.specs.declared.level_name.LevelName.TheVariants.{Binary, Tag, Pure}
-use Rattle.gs_document.specs.declared.opt_info.OptInfo.{OptInfo}
-use Rattle.gs_document.specs.Documents.{is_bits}
+use Rattle.gs_tables_document.specs.declared.document.Document.{Document}
+use Rattle.gs_tables_document.specs.declared.document.KindRow.{KindRow}
+use Rattle.gs_tables_document.specs.declared.document.OptionRow.{OptionRow}
+use Rattle.gs_tables_document.specs.declared.error.LoadFault.TheVariants.{Ai}
+use Rattle.gs_tables_document.specs.declared.level_name.LevelName.{LevelName}
+use Rattle.gs_tables_document.specs.declared.level_name.LevelName.TheVariants.{Binary, Tag, Pure}
+use Rattle.gs_tables_document.specs.declared.opt_info.OptInfo.{OptInfo}
+use Rattle.gs_tables_document.specs.Documents.{is_bits}
 use Rattle.gs_grammar.specs.declared.item.Item.{Item}
 use Rattle.gs_grammar.specs.Levels.{OptionForm, item_lists}
-use Rattle.gs_rows.specs.declared.form.KeyForm.{KeyForm}
-use Rattle.gs_rows.specs.Forms.{form_at, key_form}
-use Rattle.gs_rows.specs.KeptRules.{AreKept, KeptOption}
-use Rattle.gs_rows.specs.Rules.{has_name}
-use Rattle.gs_rows.specs.Tables.{IsShaped, TableRows, info_of, items_alone, items_there, kind_of, kinds_refusals, level_of, level_refusals, level_rows, limit_refusals, option_form, options_of, row_refusals, rule_refusals, set_of}
-use Rattle.gs_rows.proofs.KeptRows.{kind_at, placed, row_at}
+use Rattle.gs_tables.specs.declared.form.KeyForm.{KeyForm}
+use Rattle.gs_tables.specs.Forms.{form_at, key_form}
+use Rattle.gs_tables.specs.KeptRules.{AreKept, KeptOption}
+use Rattle.gs_tables.specs.Rules.{has_name}
+use Rattle.gs_tables.specs.Tables.{IsShaped, TableRows, info_of, items_alone, items_there, kind_of, kinds_rejections, level_of, level_rejections, level_rows, limit_rejections, option_form, row_rejections, set_of}
+use Rattle.gs_tables.specs.TablesSupport.{options_of, rule_rejections}
+use Rattle.gs_tables.proofs.KeptRows.{kind_at, placed, row_at}
 use Rattle.gs_tables.proofs.SetLemmas.{sound}
 
 -- ---- the rows of a document
 
--- no refusal of kinds, and none of the options of a level
-no_refusals : (document : Document) (level : LevelName) → row_refusals document ≡ [] → (kinds_refusals document.ais document.kinds ≡ []) × (level_refusals document.ais document.kinds level (options_of level document) ≡ [])
-unfolding row_refusals
-no_refusals document level none =
-    let rows = none_behind (limit_refusals document) (map Ai (table_faults document.ais) ++ rule_refusals document.ais document.kinds document.binary document.tag document.pure) none in
-    let kept = sound document.ais document.kinds document.binary document.tag document.pure (none_behind (map Ai (table_faults document.ais)) (rule_refusals document.ais document.kinds document.binary document.tag document.pure) rows) in
+-- no rejection of kinds, and none of the options of a level
+no_rejections : (document : Document) (level : LevelName) → row_rejections document ≡ [] → (kinds_rejections document.ais document.kinds ≡ []) × (level_rejections document.ais document.kinds level (options_of level document) ≡ [])
+unfolding row_rejections
+no_rejections document level none =
+    let rows = none_behind (limit_rejections document) (map Ai (table_errors document.ais) ++ rule_rejections document.ais document.kinds document.binary document.tag document.pure) none in
+    let kept = sound document.ais document.kinds document.binary document.tag document.pure (none_behind (map Ai (table_errors document.ais)) (rule_rejections document.ais document.kinds document.binary document.tag document.pure) rows) in
     (kept.kinds_kept, by level kept.binary_kept kept.tag_kept kept.pure_kept)
   where
-    by : (level : LevelName) → level_refusals document.ais document.kinds Binary document.binary ≡ [] → level_refusals document.ais document.kinds Tag document.tag ≡ [] → level_refusals document.ais document.kinds Pure document.pure ≡ [] → level_refusals document.ais document.kinds level (options_of level document) ≡ []
+    by : (level : LevelName) → level_rejections document.ais document.kinds Binary document.binary ≡ [] → level_rejections document.ais document.kinds Tag document.tag ≡ [] → level_rejections document.ais document.kinds Pure document.pure ≡ [] → level_rejections document.ais document.kinds level (options_of level document) ≡ []
     by Binary b t p = b
     by Tag b t p = t
     by Pure b t p = p
@@ -69,10 +70,10 @@ same_form ais key row form other found formed at =
     let same : Some other ≡ Some form = sym at ∙ here ∙ formed in
     cc
 
-of_row : (document : Document) (level : LevelName) (i : ℕ) (items : List Item) (info : OptInfo) (row : OptionRow) → row_refusals document ≡ [] → slice_get (options_of level document) i ≡ Some row
+of_row : (document : Document) (level : LevelName) (i : ℕ) (items : List Item) (info : OptInfo) (row : OptionRow) → row_rejections document ≡ [] → slice_get (options_of level document) i ≡ Some row
     → items ≡ items_alone row → info ≡ info_of document.kinds row → KeptOption (set_of document) level items info
 of_row document level i items info row none at items_are info_is =
-    let none' = no_refusals document level none in
+    let none' = no_rejections document level none in
     let kept = row_at document.ais document.kinds level (options_of level document) i row none'.1 at in
     let place = placed (has_name row.kind) document.kinds kept.kind kept.named in
     let rules = kind_at document.ais document.kinds place.0 kept.kind none'.0 place.2 in
@@ -93,7 +94,7 @@ of_row document level i items info row none at items_are info_is =
       serial = kept.fields.serial;
     })
 
-kept_in : (document : Document) (level : LevelName) (i : ℕ) (items : List Item) (info : OptInfo) → row_refusals document ≡ []
+kept_in : (document : Document) (level : LevelName) (i : ℕ) (items : List Item) (info : OptInfo) → row_rejections document ≡ []
     → slice_get (item_lists (level_of document.kinds level (options_of level document)).level.options) i ≡ Some items
     → slice_get (level_of document.kinds level (options_of level document)).info i ≡ Some info → KeptOption (set_of document) level items info
 kept_in document level i items info none of_level said =

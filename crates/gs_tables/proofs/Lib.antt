@@ -1,8 +1,10 @@
+pub mod KeptRows
+pub mod NumberLemmas
 pub mod FoundItems
-pub mod RefusalLists
+pub mod RejectionLists
 pub mod SetLemmas
 pub mod KeptSets
-pub mod RuledRefusals
+pub mod RuledRejections
 pub mod JudgedLevels
 pub mod JudgedAnswers
 pub mod OneAnswer

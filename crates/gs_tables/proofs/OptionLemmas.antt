@@ -1,10 +1,11 @@
--- Chains of tests, and the refusals of an option.
+-- Chains of tests, and the rejections of an option.
 use Rattle.std.proofs.Common.{◌≡◌, ℕ, Bool, true, false, not, ◌&&◌, ◌≤◌, nat_lt, arith, List, [], ◌++◌, Option, Some, None, slice_get, refl, sym, option_map}
 use Rattle.std.proofs.lemmas.Grind.{common_steps}
 use Rattle.std.specs.Prelude.{Result, option_to_list}
 use Rattle.std.specs.Option.{option_map_or}
-use Rattle.gs_document.specs.declared.fault.LoadFault.{LoadFault}
-use Rattle.gs_rows.specs.Tables.{IsFirst, refuse_if}
+use Rattle.gs_tables_document.specs.declared.error.LoadFault.{LoadFault}
+use Rattle.gs_chars.specs.Answers.{error_if}
+use Rattle.gs_tables.specs.TablesSupport.{IsFirst}
 
 -- ---- three tests, one after the other
 
@@ -25,11 +26,11 @@ tested test found x b e f = rw (e, f) refl
 pub not_tested : {X : Type 0} (test : X → Bool) (found : Option X) → found ≡ None → false ≡ option_map_or test found false
 not_tested test found e = rw e refl
 
--- ---- the refusals of an option, in their order
+-- ---- the rejections of an option, in their order
 
--- the refusals of an option by the tests that they come of
+-- the rejections of an option by the tests that they come of
 abbrev pub listed : Option ℕ → Option ℕ → (ℕ → LoadFault) → (ℕ → LoadFault) → Bool → Bool → LoadFault → LoadFault → List LoadFault
-listed bad twin f twins large fit size mismatch = option_to_list (option_map f bad) ++ refuse_if large size ++ refuse_if (not fit) mismatch ++ option_to_list (option_map twins twin)
+listed bad twin f twins large fit size mismatch = option_to_list (option_map f bad) ++ error_if large size ++ error_if (not fit) mismatch ++ option_to_list (option_map twins twin)
 
 pub bad_first : (bad twin : Option ℕ) (f twins : ℕ → LoadFault) (large fit : Bool) (size mismatch : LoadFault) (k : ℕ) → bad ≡ Some k → slice_get (listed bad twin f twins large fit size mismatch) 0 ≡ Some (f k)
 bad_first bad twin f twins large fit size mismatch k e = rw e refl
@@ -40,7 +41,7 @@ size_next bad twin f twins large fit size mismatch e g = rw (e, g) refl
 pub mismatch_next : (bad twin : Option ℕ) (f twins : ℕ → LoadFault) (large fit : Bool) (size mismatch : LoadFault) → bad ≡ None → large ≡ false → fit ≡ false → slice_get (listed bad twin f twins large fit size mismatch) 0 ≡ Some mismatch
 mismatch_next bad twin f twins large fit size mismatch e g h = rw (e, g, h) refl
 
--- what decides where the first three tests refuse nothing
+-- what decides where the first three tests reject nothing
 pub twin_decides : (bad twin : Option ℕ) (f twins : ℕ → LoadFault) (large fit : Bool) (size mismatch : LoadFault) (answer : Result (Unit {0}) LoadFault) → bad ≡ None → large ≡ false → fit ≡ true → IsFirst (option_to_list (option_map twins twin)) answer → IsFirst (listed bad twin f twins large fit size mismatch) answer
 twin_decides bad twin f twins large fit size mismatch answer e g h i = rw (e, g, h) i
 

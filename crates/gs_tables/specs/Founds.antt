@@ -1,11 +1,11 @@
 -- What is found of the items of a field, and of the earlier options. No contract of a public call names it.
 use Rattle.std.specs.Prelude.{◌≡◌, ℕ, List, [], ◌∷◌, position, option_map, option_to_list}
-use Rattle.gs_document.specs.declared.document.OptionRow.{OptionRow}
-use Rattle.gs_document.specs.declared.fault.LoadFault.{LoadFault}
-use Rattle.gs_document.specs.declared.fault.LoadFault.TheVariants.{Duplicate}
-use Rattle.gs_document.specs.declared.level_name.LevelName.{LevelName}
+use Rattle.gs_tables_document.specs.declared.document.OptionRow.{OptionRow}
+use Rattle.gs_tables_document.specs.declared.error.LoadFault.{LoadFault}
+use Rattle.gs_tables_document.specs.declared.error.LoadFault.TheVariants.{Duplicate}
+use Rattle.gs_tables_document.specs.declared.level_name.LevelName.{LevelName}
 use Rattle.gs_grammar.specs.declared.item.Item.{Item}
-use Rattle.gs_rows.specs.Tables.{is_same}
+use Rattle.gs_tables.specs.Tables.{is_same}
 use Rattle.gs_tables.specs.declared.field_items.Found.{Found}
 use Rattle.gs_tables.specs.declared.field_items.Found.TheVariants.{None, One, More}
 
@@ -22,6 +22,6 @@ IsFound items None = items ≡ []
 IsFound items (One item) = items ≡ item.now ∷ []
 IsFound items More = IsMany items
 
--- the refusal of option i of a level where it is the same as an earlier one
-abbrev pub same_refusals : LevelName → List OptionRow → ℕ → OptionRow → List LoadFault
-same_refusals level earlier i row = option_to_list (option_map (λ j. Duplicate level j i) (position (λ other. is_same other row) earlier))
+-- the rejection of option i of a level where it is the same as an earlier one
+abbrev pub same_rejections : LevelName → List OptionRow → ℕ → OptionRow → List LoadFault
+same_rejections level earlier i row = option_to_list (option_map (λ j. Duplicate level j i) (position (λ other. is_same other row) earlier))

@@ -1,21 +1,25 @@
-ghost use Rattle.gs_tables.specs.Judged.{AreJudged, IsLevelJudged, by_name};
+ghost use Rattle.gs_tables.specs.JudgedSupport.{AreJudged, IsLevelJudged, by_name};
 
-use gs_document::{LevelName, LoadFault};
-use gs_level::Level;
-use gs_share::first_share;
+use gs_grammar_level::Level;
+use gs_tables_document::{LevelName, LoadFault};
 use std::alloc::Global;
 
-/// Refuses a level that is ambiguous.
+/// Rejects a level that is ambiguous.
 fn judge_level(alloc: Global, name: LevelName, level: &Level) -> Result<(), LoadFault>
     ensures { IsLevelJudged name level.now result }
 {
-    match first_share(alloc, level)? {
+    match level.first_share(alloc)? {
         None => Ok(()),
-        Some(pair) => Err(LoadFault::Ambiguous(name, pair.first, pair.second, pair.text)),
+        Some(pair) => Err(LoadFault::Ambiguous {
+            level: name,
+            i: pair.first,
+            j: pair.second,
+            text: pair.text,
+        }),
     }
 }
 
-/// Refuses the first level that is ambiguous, in the order binary, tag, pure.
+/// Rejects the first level that is ambiguous, in the order binary, tag, pure.
 pub(crate) fn judge_levels(
     alloc: Global,
     binary: &Level,

@@ -1,12 +1,14 @@
 ghost use Rattle.std.specs.Prelude.{◌≡◌, ◌≤◌, SomeIff};
+ghost use Rattle.gs_grammar.specs.Items.{size_of_all};
 ghost use Rattle.gs_grammar.specs.Limits.{most_symbols};
 ghost use Rattle.gs_tables.specs.Founds.{IsFound};
-ghost use Rattle.gs_document.specs.Items.{present};
-ghost use Rattle.gs_rows.specs.Rules.{has_room, is_digits, is_filter, is_free, items_of_field, keeps_gcp, keeps_level, keeps_rest, keeps_serial, longest_of, size_there};
+ghost use Rattle.gs_tables_document.specs.Items.{alone, present};
+ghost use Rattle.gs_tables.specs.Rules.{has_room, is_digits, is_filter, is_free, items_of_field, keeps_gcp, keeps_level, keeps_rest, keeps_serial, longest_of};
+ghost use Rattle.gs_tables.specs.RulesSupport.{size_there};
 
-use gs_document::{Field, FieldItem, LevelName};
+use crate::form::KeyForm;
 use gs_grammar::{Item, MOST_SYMBOLS};
-use gs_rows::KeyForm;
+use gs_tables_document::{Field, FieldItem, LevelName};
 
 /// What is found of the items of a field.
 #[derive(Clone, Copy)]
@@ -47,7 +49,10 @@ fn longest_of(item: &Item) -> usize
         Item::Lit(_) | Item::Fill { a: _, b: _ } => 0,
         Item::Pad { n } | Item::NumPad { bits: _, n } => usize::from(*n),
         Item::Int { max } | Item::Num { bits: _, max } => Item::Int { max: *max }.size(),
-        Item::Esc { lo: _, hi } | Item::Ascii7 { lo: _, hi, bits: _ } => usize::from(*hi),
+        Item::Digits { lo: _, hi }
+        | Item::NumStr { bits: _, hi }
+        | Item::Esc { lo: _, hi }
+        | Item::Ascii7 { lo: _, hi, bits: _ } => usize::from(*hi),
     }
 }
 
@@ -80,19 +85,22 @@ fn has_room(most: usize, item: &Item) -> bool
     longest >= 1 && longest <= most
 }
 
-/// Whether the item is characters, of which the longest value has at most so many.
+/// Whether the item is characters, and not digits alone, of which the longest value has at most so many.
 fn is_free(most: usize, item: &Item) -> bool
     ensures { result ≡ is_free most item.now }
 {
     match item {
-        Item::Pad { n: _ } | Item::NumPad { bits: _, n: _ } => false,
+        Item::Pad { n: _ }
+        | Item::Digits { lo: _, hi: _ }
+        | Item::NumPad { bits: _, n: _ }
+        | Item::NumStr { bits: _, hi: _ } => false,
         _ => has_room(most, item),
     }
 }
 
 /// Whether the prefix has a length that the key leaves room for, in the one item of it.
-#[tactic(auto, unfolding(gs_rows::specs::Rules::keeps_gcp))]
-pub(crate) fn keeps_gcp(form: KeyForm, lead: u64, n: u64, items: &[Option<FieldItem>]) -> bool
+#[tactic(auto, unfolding(crate::specs::Rules::keeps_gcp))]
+pub fn keeps_gcp(form: KeyForm, lead: u64, n: u64, items: &[Option<FieldItem>]) -> bool
     ensures { result ≡ keeps_gcp form lead n (items_of_field Field.Gcp (present items.now)) }
 {
     if n < 1 || n > 12 {
@@ -111,8 +119,8 @@ pub(crate) fn keeps_gcp(form: KeyForm, lead: u64, n: u64, items: &[Option<FieldI
 
 /// Whether the digits or characters of the key that are left beside the prefix stand in one item, or in none where no
 /// digit is left.
-#[tactic(auto, unfolding(gs_rows::specs::Rules::keeps_rest))]
-pub(crate) fn keeps_rest(form: KeyForm, n: u64, items: &[Option<FieldItem>]) -> bool
+#[tactic(auto, unfolding(crate::specs::Rules::keeps_rest))]
+pub fn keeps_rest(form: KeyForm, n: u64, items: &[Option<FieldItem>]) -> bool
     ensures { result ≡ keeps_rest form n (items_of_field Field.Rest (present items.now)) }
 {
     match (form, items_of(Field::Rest, items)) {
@@ -128,8 +136,8 @@ pub(crate) fn keeps_rest(form: KeyForm, n: u64, items: &[Option<FieldItem>]) -> 
 }
 
 /// Whether there is one serial item where there is a serial, with a longest value that it has room for, and else none.
-#[tactic(auto, unfolding(gs_rows::specs::Rules::keeps_serial))]
-pub(crate) fn keeps_serial(room: Option<u8>, items: &[Option<FieldItem>]) -> bool
+#[tactic(auto, unfolding(crate::specs::Rules::keeps_serial))]
+pub fn keeps_serial(room: Option<u8>, items: &[Option<FieldItem>]) -> bool
     ensures { result ≡ keeps_serial room (items_of_field Field.Serial (present items.now)) }
 {
     match (room, items_of(Field::Serial, items)) {
@@ -140,8 +148,9 @@ pub(crate) fn keeps_serial(room: Option<u8>, items: &[Option<FieldItem>]) -> boo
 }
 
 /// The sizes of the items added up, where they are at most `MOST_SYMBOLS`.
-pub(crate) fn size_within_limit(items: &[Option<FieldItem>]) -> Option<usize>
-    ensures { SomeIff result (size_there items.now ≤ most_symbols) (size_there items.now) }
+pub fn size_within_limit(items: &[Option<FieldItem>]) -> Option<usize>
+    ensures { SomeIff result (size_of_all (alone (present items.now)) ≤ most_symbols)
+        (size_of_all (alone (present items.now))) }
 {
     let mut size = 0;
     for entry in items {
@@ -157,7 +166,7 @@ pub(crate) fn size_within_limit(items: &[Option<FieldItem>]) -> Option<usize>
 
 /// Whether the option has what a level asks for beside its kind: the name of an encoding, a filter value and whole words of
 /// 16 bits.
-#[tactic(auto, unfolding(gs_rows::specs::Rules::keeps_level))]
+#[tactic(auto, unfolding(crate::specs::Rules::keeps_level))]
 pub(crate) fn keeps_level(
     level: LevelName,
     encoding: &[u8],

@@ -1,20 +1,14 @@
 ghost use Rattle.std.specs.Prelude.{◌≡◌, bytes_eq};
 ghost use Rattle.std.specs.List.{list_any};
 ghost use Rattle.gs_ai.specs.Tables.{is_key};
-ghost use Rattle.gs_rows.specs.Forms.{serial_at};
-ghost use Rattle.gs_rows.specs.Rules.{are_visible, fits_key, has_key, has_name, is_characters, is_kind, is_lead, is_new_name, is_serial_of};
+ghost use Rattle.gs_tables.specs.Forms.{serial_at};
+ghost use Rattle.gs_tables.specs.Rules.{fits_key, has_key, has_name, is_characters, is_kind, is_lead, is_new_name, is_serial_of};
 
+use crate::form::KeyForm;
+use crate::forms::{are_characters, key_form, tail_of};
 use gs_ai::{AiRow, AiTable, Role};
-use gs_chars::CharSet;
-use gs_document::KindRow;
-use gs_rows::{KeyForm, are_characters, key_form, tail_of};
-
-/// Whether each byte is a visible character.
-pub(crate) fn are_visible(text: &[u8]) -> bool
-    ensures { result ≡ are_visible text.now }
-{
-    text.iter().all(|c| CharSet::Visible.holds(*c))
-}
+use gs_chars::are_visible;
+use gs_tables_document::KindRow;
 
 /// Whether a kind has the name.
 fn is_named(kinds: &[KindRow], name: &[u8]) -> bool
@@ -57,8 +51,8 @@ fn is_characters(ais: &AiTable, code: &[u8]) -> bool
     }
 }
 
-/// Whether a row lists the code.
-fn lists(row: &AiRow, code: &[u8]) -> bool
+/// Whether a row lists the code among its qualifiers.
+pub fn lists(row: &AiRow, code: &[u8]) -> bool
     ensures { result ≡ list_any (bytes_eq code.now) row.now.qualifiers }
 {
     row.qualifiers
@@ -82,7 +76,7 @@ fn is_serial_of(ais: &AiTable, row: &AiRow, form: KeyForm, serial: &[u8]) -> boo
 }
 
 /// Whether the row is that of a key.
-fn is_of_key(row: &AiRow) -> bool
+pub fn is_of_key(row: &AiRow) -> bool
     ensures { result ≡ is_key row.now.role }
 {
     matches!(row.role, Role::Key)
@@ -104,7 +98,7 @@ fn fits_key(ais: &AiTable, row: &AiRow, kind: &KindRow) -> bool
 }
 
 /// Whether the kind keeps the rules of kinds, beside the earlier ones.
-#[tactic(auto, unfolding(gs_rows::specs::Rules::is_kind))]
+#[tactic(auto, unfolding(crate::specs::Rules::is_kind))]
 pub(crate) fn is_kind(ais: &AiTable, earlier: &[KindRow], kind: &KindRow) -> bool
     ensures { result ≡ is_kind ais.now earlier.now kind.now }
 {

@@ -1,18 +1,18 @@
 ghost use Rattle.std.specs.Prelude.{◌≡◌, ℕ, List, Result, length};
-ghost use Rattle.gs_document.specs.declared.fault.LoadFault.{LoadFault};
-ghost use Rattle.gs_document.specs.declared.level_name.LevelName.{LevelName};
-ghost use Rattle.gs_rows.specs.KeptRules.{AreKept};
+ghost use Rattle.gs_tables_document.specs.declared.error.LoadFault.{LoadFault};
+ghost use Rattle.gs_tables_document.specs.declared.level_name.LevelName.{LevelName};
+ghost use Rattle.gs_tables.specs.KeptRules.{AreKept};
 ghost use Rattle.gs_tables.specs.Shapes.{BuiltInAnswer, BuiltInAnswersAreAlike, HasMemory, LoadAnswer, LoadAnswersAreAlike};
-ghost use Rattle.gs_rows.specs.Tables.{IsShaped, TableRows, level_rows};
+ghost use Rattle.gs_tables.specs.Tables.{IsShaped, TableRows, level_rows};
 
-/// All bytes have one answer of `TableSet::load` beside want of memory, and no other but for the text of an ambiguous level.
+/// All bytes have one answer of `TableSet::load` beside out of memory, and no other but for the text of an ambiguous level.
 pub fn bytes_have_one_answer()
     ensures some { (bytes : List ℕ) →
         ((answer : Result TableRows LoadFault) × HasMemory answer × LoadAnswer bytes answer) }
     ensures at_most_one { LoadAnswersAreAlike }
 {}
 
-/// `builtin` has one answer beside want of memory, and no other but for the text of an ambiguous level.
+/// `builtin` has one answer beside out of memory, and no other but for the text of an ambiguous level.
 pub fn built_in_rows_have_one_answer()
     ensures some { (answer : Result TableRows LoadFault) × HasMemory answer × BuiltInAnswer answer }
     ensures at_most_one { BuiltInAnswersAreAlike }

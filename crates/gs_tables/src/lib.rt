@@ -1,7 +1,10 @@
 //! Table sets: the application identifiers, kinds and options that a document or the built-in rows give, and their rules.
 //!
-//! - `TableSet::load` reads a table document (JSON), or tells its first refusal; `builtin` makes the set of the built-in rows.
+//! - `TableSet::load` reads a table document (JSON), or gives its first rejection; `builtin` makes the set of the built-in rows.
 //! - `TableSet::ais`, `kinds`, `level`, `info` and `candidates` lend the parts of a set.
+//! - `KeyForm`, `are_characters` and `characters_of` tell the form of the values of a key and of its serial; `keeps_gcp`, `keeps_rest`,
+//!   `keeps_serial` and `size_within_limit` are the tests of an option's items, `is_of_key` and `lists` those of a key's row; for them
+//!   and `split_items`, which parts items from their fields, gs_class has use too.
 //!
 //! # Example
 //!
@@ -26,18 +29,28 @@
 mod ambiguity;
 mod builtin_set;
 mod field_items;
-mod judging;
+mod form;
+mod forms;
+mod indexed_info;
+mod judgement;
 mod kind_rules;
+mod kinds_levels;
 mod laws;
+mod level_table;
+mod level_tables;
 mod make;
 mod option_rules;
 mod rules;
 mod table_set;
 
 pub use builtin_set::builtin;
-pub use gs_document::{
+pub use field_items::{keeps_gcp, keeps_rest, keeps_serial, size_within_limit};
+pub use form::KeyForm;
+pub use forms::{are_characters, characters_of};
+pub use gs_tables_document::{
     Field, ItemFault, Kind, LevelName, LimitName, LoadFault, OptInfo, SerialAt, read_item,
 };
-pub use gs_rows::{KeyForm, are_characters};
+pub use kind_rules::{is_of_key, lists};
+pub use kinds_levels::split_items;
 pub use laws::{built_in_rows_have_one_answer, bytes_have_one_answer, options_keep_the_rules};
 pub use table_set::TableSet;

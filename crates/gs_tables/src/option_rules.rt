@@ -2,15 +2,17 @@ ghost use Rattle.std.specs.Prelude.{◌≡◌, ◌≤◌, length, position};
 ghost use Rattle.gs_grammar.specs.Items.{size_of_all};
 ghost use Rattle.std.specs.List.{find};
 ghost use Rattle.std.specs.Option.{option_copied};
-ghost use Rattle.gs_rows.specs.Rules.{fits_kind, has_name, keeps_form};
-ghost use Rattle.gs_rows.specs.Tables.{IsFirst, fits, is_bad_item, is_same, items_alone, items_there, option_refusals};
-ghost use Rattle.gs_tables.specs.Founds.{same_refusals};
+ghost use Rattle.gs_tables.specs.Rules.{fits_kind, has_name, keeps_form};
+ghost use Rattle.gs_tables.specs.Tables.{fits, is_bad_item, is_same, items_alone, items_there, option_rejections};
+ghost use Rattle.gs_tables.specs.TablesSupport.{IsFirst};
+ghost use Rattle.gs_tables.specs.Founds.{same_rejections};
 
 use crate::field_items::{keeps_gcp, keeps_level, keeps_rest, keeps_serial, size_within_limit};
-use crate::kind_rules::are_visible;
+use crate::form::KeyForm;
+use crate::forms::{form_at, serial_room};
 use gs_ai::AiTable;
-use gs_document::{FieldItem, KindRow, LevelName, LimitName, LoadFault, OptionRow};
-use gs_rows::{KeyForm, form_at, serial_room};
+use gs_chars::are_visible;
+use gs_tables_document::{FieldItem, KindRow, LevelName, LimitName, LoadFault, OptionRow};
 
 /// The index of the first item that is not there or breaks a bound of the level.
 fn first_bad(bits: bool, items: &[Option<FieldItem>]) -> Option<usize>
@@ -23,7 +25,7 @@ fn first_bad(bits: bool, items: &[Option<FieldItem>]) -> Option<usize>
 }
 
 /// Whether two options have one kind, encoding and prefix length.
-#[tactic(auto, unfolding(gs_rows::specs::Tables::is_same))]
+#[tactic(auto, unfolding(crate::specs::Tables::is_same))]
 fn is_same(a: &OptionRow, b: &OptionRow) -> bool
     ensures { result ≡ is_same a.now b.now }
 {
@@ -87,14 +89,14 @@ fn first_same(rows: &[OptionRow], row: &OptionRow) -> Option<usize>
     rows.iter().position(|other| is_same(other, row))
 }
 
-/// Refuses option `i` where it is the same as an earlier one.
+/// Rejects option `i` where it is the same as an earlier one.
 fn check_unlike(
     level: LevelName,
     earlier: &[OptionRow],
     i: usize,
     row: &OptionRow,
 ) -> Result<(), LoadFault>
-    ensures { IsFirst (same_refusals level earlier.now i row.now) result }
+    ensures { IsFirst (same_rejections level earlier.now i row.now) result }
 {
     match first_same(earlier, row) {
         Some(j) => Err(LoadFault::Duplicate(level, j, i)),
@@ -102,7 +104,7 @@ fn check_unlike(
     }
 }
 
-/// The first refusal of option `i` of a level.
+/// The first rejection of option `i` of a level.
 pub(crate) fn check_option(
     ais: &AiTable,
     kinds: &[KindRow],
@@ -112,7 +114,7 @@ pub(crate) fn check_option(
     row: &OptionRow,
 ) -> Result<(), LoadFault>
     requires { i ≤ length rows.now }
-    ensures { IsFirst (option_refusals ais.now kinds.now level rows.now (i, row.now)) result }
+    ensures { IsFirst (option_rejections ais.now kinds.now level rows.now (i, row.now)) result }
 {
     let items = row.items.items();
     if let Some(k) = first_bad(level.is_bits(), items) {

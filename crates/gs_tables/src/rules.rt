@@ -1,21 +1,23 @@
 ghost use Rattle.std.specs.Prelude.{◌≡◌, ◌==◌, ◌||◌, ◌++◌, not, length, take};
 ghost use Rattle.std.specs.List.{flat_map, enumerate_from};
-ghost use Rattle.gs_rows.specs.Rules.{is_kind};
-ghost use Rattle.gs_document.specs.Documents.{is_bits};
-ghost use Rattle.gs_document.specs.Limits.{most_rows};
-ghost use Rattle.gs_rows.specs.Tables.{IsFirst, has_long, kind_refusals, kinds_refusals, level_refusals, limit_refusals, more_than, option_refusals, refuse_if, rule_refusals};
+ghost use Rattle.gs_tables.specs.Rules.{is_kind};
+ghost use Rattle.gs_tables_document.specs.Documents.{is_bits};
+ghost use Rattle.gs_tables_document.specs.Limits.{most_rows};
+ghost use Rattle.gs_chars.specs.Answers.{error_if};
+ghost use Rattle.gs_tables.specs.Tables.{has_long, kind_rejections, kinds_rejections, level_rejections, limit_rejections, more_than, option_rejections};
+ghost use Rattle.gs_tables.specs.TablesSupport.{IsFirst, rule_rejections};
 
 use crate::kind_rules::is_kind;
 use crate::option_rules::check_option;
 use gs_ai::AiTable;
-use gs_document::{
+use gs_tables_document::{
     Document, KindRow, LevelName, LimitName, LoadFault, MOST_ITEMS, MOST_KINDS, MOST_ROWS,
     OptionRow,
 };
 
-/// Refuses a document of another version.
+/// Rejects a document of another version.
 pub(crate) fn check_version(document: &Document) -> Result<(), LoadFault>
-    ensures { IsFirst (refuse_if (not (document.now.version == 1)) LoadFault.Version) result }
+    ensures { IsFirst (error_if (not (document.now.version == 1)) LoadFault.Version) result }
 {
     if document.version == 1 {
         Ok(())
@@ -39,9 +41,9 @@ fn has_many_ais(document: &Document) -> bool
 }
 
 /// The first of the limits of the numbers of rows that is passed.
-#[tactic(auto, unfolding(gs_rows::specs::Tables::limit_refusals))]
+#[tactic(auto, unfolding(crate::specs::Tables::limit_rejections))]
 pub(crate) fn check_limits(document: &Document) -> Result<(), LoadFault>
-    ensures { IsFirst (limit_refusals document.now) result }
+    ensures { IsFirst (limit_rejections document.now) result }
 {
     let binary = document.binary.items();
     let tag = document.tag.items();
@@ -63,7 +65,7 @@ pub(crate) fn check_limits(document: &Document) -> Result<(), LoadFault>
 
 /// The first kind that breaks a rule.
 fn check_kinds(ais: &AiTable, kinds: &[KindRow]) -> Result<(), LoadFault>
-    ensures { IsFirst (kinds_refusals ais.now kinds.now) result }
+    ensures { IsFirst (kinds_rejections ais.now kinds.now) result }
 {
     for (i, kind) in kinds.iter().enumerate() {
         if !is_kind(ais, &kinds[..i], kind) {
@@ -73,7 +75,7 @@ fn check_kinds(ais: &AiTable, kinds: &[KindRow]) -> Result<(), LoadFault>
     Ok(())
 }
 
-/// The first refusal of the kinds, and of the options of the levels, row by row.
+/// The first rejection of the kinds, and of the options of the levels, row by row.
 pub(crate) fn check_rows(
     ais: &AiTable,
     kinds: &[KindRow],
@@ -81,7 +83,7 @@ pub(crate) fn check_rows(
     tag: &[OptionRow],
     pure: &[OptionRow],
 ) -> Result<(), LoadFault>
-    ensures { IsFirst (rule_refusals ais.now kinds.now binary.now tag.now pure.now) result }
+    ensures { IsFirst (rule_rejections ais.now kinds.now binary.now tag.now pure.now) result }
 {
     check_kinds(ais, kinds)?;
     check_level(ais, kinds, LevelName::Binary, binary)?;
@@ -89,14 +91,14 @@ pub(crate) fn check_rows(
     check_level(ais, kinds, LevelName::Pure, pure)
 }
 
-/// The first refusal of the options of a level, row by row.
+/// The first rejection of the options of a level, row by row.
 fn check_level(
     ais: &AiTable,
     kinds: &[KindRow],
     level: LevelName,
     rows: &[OptionRow],
 ) -> Result<(), LoadFault>
-    ensures { IsFirst (level_refusals ais.now kinds.now level rows.now) result }
+    ensures { IsFirst (level_rejections ais.now kinds.now level rows.now) result }
 {
     for (i, row) in rows.iter().enumerate() {
         check_option(ais, kinds, level, rows, i, row)?;

@@ -1,17 +1,18 @@
 ghost use Rattle.std.specs.Prelude.{◌≡◌};
-ghost use Rattle.gs_tables.specs.Judged.{IsClear, IsLoaded, Judged};
-ghost use Rattle.gs_rows.specs.Tables.{level_rows, IsShaped, IsAnswer, row_refusals, set_of};
-ghost use Rattle.gs_rows.specs.Numbers.{numbers_of};
+ghost use Rattle.gs_tables.specs.Judgements.{IsClear, IsLoaded, Judged};
+ghost use Rattle.gs_tables.specs.Tables.{level_rows, IsShaped, IsAnswer, row_rejections, set_of};
+ghost use Rattle.gs_tables.specs.Numbers.{numbers_of};
 ghost use Rattle.gs_tables.specs.Shapes.{LoadAnswer};
 
-use crate::judging::judged_parts;
+use crate::judgement::judged_parts;
+use crate::level_table::LevelTable;
+use crate::level_tables::{LevelTables, OptionRows};
 use crate::make::make_ais;
 use crate::rules::{check_limits, check_version};
 use gs_ai::AiTable;
 use gs_chars::List;
-use gs_document::{Document, Kind, LevelName, LoadFault, OptInfo, read_document};
-use gs_level::Level;
-use gs_rows::{LevelTable, LevelTables, OptionRows};
+use gs_grammar_level::Level;
+use gs_tables_document::{Document, Kind, LevelName, LoadFault, OptInfo, read_document};
 use std::alloc::Global;
 use std::marker::Model;
 
@@ -35,8 +36,9 @@ impl Drop for TableSet {
 }
 
 impl Model for TableSet {
-    ghost use Rattle.gs_tables.specs.Judged.{IsLoaded};
-    ghost use Rattle.gs_rows.specs.Tables.{TableRows, set_with};
+    ghost use Rattle.gs_tables.specs.Judgements.{IsLoaded};
+    ghost use Rattle.gs_tables.specs.Tables.{TableRows};
+    ghost use Rattle.gs_tables.specs.TablesSupport.{set_with};
 
     ghost Value = { TableRows };
 
@@ -46,9 +48,9 @@ impl Model for TableSet {
 }
 
 impl TableSet {
-    /// The set that a table document gives, or its first refusal. These are tried in this order. `Json`: the bytes are no
+    /// The set that a table document gives, or its first rejection. These are tried in this order. `Json`: the bytes are no
     /// JSON text, or the document or a row has not the form of its kind. `Version`: the version is not 1. `Limit` of the
-    /// numbers of rows: application identifiers, kinds, options, items. `Ai`: the first fault of the application
+    /// numbers of rows: application identifiers, kinds, options, items. `Ai`: the first error of the application
     /// identifiers. `BadKind`: the first kind that breaks a rule. Then option by option of the levels binary, tag, pure:
     /// `BadItem` for its first bad item, `Limit(Size)`, `Mismatch` where it does not fit its kind, `Duplicate` for the first
     /// earlier option of the same kind, encoding and prefix length. Last `Ambiguous`: the first level, in the same order, with
@@ -62,9 +64,9 @@ impl TableSet {
         TableSet::of_rows(alloc, document)
     }
 
-    /// The set of the rows, or their first refusal from the limits on, its levels judged.
+    /// The set of the rows, or their first rejection from the limits on, its levels judged.
     pub(crate) fn of_rows(alloc: Global, document: Document) -> Result<TableSet, LoadFault>
-        ensures { Judged (IsAnswer (row_refusals document) (set_of document)) result }
+        ensures { Judged (IsAnswer (row_rejections document) (set_of document)) result }
     {
         check_limits(&document)?;
         let Document {

@@ -8,8 +8,8 @@ use Rattle.std.proofs.lemmas.List.Elements.{All-cons, All-nil}
 use Rattle.gs_chars.proofs.TruthsAndLists.{same_at}
 use Rattle.gs_chars.specs.Escapes.{hex_value}
 use Rattle.gs_bits.specs.HexText.{FirstBadDigit, bits_of_hex, is_hex_digit}
-use Rattle.gs_bits.specs.declared.faults.HexFault.{HexFault}
-use Rattle.gs_bits.specs.declared.faults.HexFault.TheVariants.{OddDigits, Full, BadDigit}
+use Rattle.gs_bits.specs.declared.errors.HexFault.{HexFault}
+use Rattle.gs_bits.specs.declared.errors.HexFault.TheVariants.{OddDigits, Full, BadDigit}
 use Rattle.gs_bits.proofs.HexBits.{first_bad_same, no_bad_digit}
 use Rattle.gs_grammar.specs.Counts.{Counted, none_of, one_of, two_of}
 use Rattle.gs_grammar.specs.Derivations.{OneDerivation}
@@ -17,16 +17,16 @@ use Rattle.gs_grammar.proofs.DecidedWords.{each_counted}
 use Rattle.gs_grammar.proofs.OneReading.{one_reading}
 use Rattle.gs_ident.specs.Elements.{Elements}
 use Rattle.gs_ident.specs.Links.{canonical_link}
-use Rattle.gs_document.specs.declared.level_name.LevelName.{LevelName}
-use Rattle.gs_document.specs.declared.level_name.LevelName.TheVariants as level
-use Rattle.gs_document.specs.declared.opt_info.OptInfo.{OptInfo}
-use Rattle.gs_tables.specs.Judged.{IsLoaded}
+use Rattle.gs_tables_document.specs.declared.level_name.LevelName.{LevelName}
+use Rattle.gs_tables_document.specs.declared.level_name.LevelName.TheVariants as level
+use Rattle.gs_tables_document.specs.declared.opt_info.OptInfo.{OptInfo}
+use Rattle.gs_tables.specs.Judgements.{IsLoaded}
 use Rattle.gs_tables.specs.Tables.{IsShaped, TableRows, level_rows}
 use Rattle.gs_epc.specs.declared.epc.Epc.{Epc}
-use Rattle.gs_epc.specs.declared.fault.EpcFault.{EpcFault}
-use Rattle.gs_epc.specs.declared.fault.EpcFault.TheVariants.{Hex, NoReading, Memory}
+use Rattle.gs_epc.specs.declared.error.EpcFault.{EpcFault}
+use Rattle.gs_epc.specs.declared.error.EpcFault.TheVariants.{Hex, NoReading, Memory}
 use Rattle.gs_epc.specs.Epcs.{IsOfSet, epc_of, options_of}
-use Rattle.gs_epc.specs.Layout.{IsLaidOut, lay}
+use Rattle.gs_epc.specs.Layout.{IsLaidOut, lay, fields_in}
 use Rattle.gs_epc.specs.Readings.{IsHex, IsHexFault, ReadsAs, ReadsHex, Says}
 use Rattle.gs_epc.proofs.KeptLaws.{fit_kind}
 use Rattle.gs_epc.proofs.ReadingFacts.{hex_answer, of_set, said_of, says}
@@ -38,14 +38,14 @@ use Rattle.gs_translate.specs.declared.reason.Reason.TheVariants.{CannotHold, El
 use Rattle.gs_translate.specs.Answers.{IsAnswer, IsCanonical}
 use Rattle.gs_translate.specs.Conditions.{AsksForOne, AsksForSome}
 use Rattle.gs_translate.specs.Meanings.{IsRead, MeaningOf, Means, MeansEpc, ReadsBracketed, ReadsLink, ReadsRaw, epc_meaning, short, too_long}
-use Rattle.gs_translate.specs.Steps.{HasOne, HasSome}
+use Rattle.gs_translate.specs.StepsSupport.{HasOne, HasSome}
 use Rattle.gs_translate.proofs.PairLaws.{ais_kept, one_bracketed, one_link, one_of_pairs, one_raw, some_bracketed, some_link, some_of_pairs, some_raw}
 use Rattle.gs_translate.proofs.StepLaws.{then_one, then_some}
 
--- the answer is no want of memory
-abbrev IsTold : Result Epc EpcFault → Type 0
-IsTold (Ok epc) = Unit {0}
-IsTold (Err fault) = fault ≢ Memory
+-- the answer is not out of memory
+abbrev IsKnown : Result Epc EpcFault → Type 0
+IsKnown (Ok epc) = Unit {0}
+IsKnown (Err error) = error ≢ Memory
 
 -- ---- at most one answer to the symbols of a level
 
@@ -55,54 +55,54 @@ same_epc set level symbols one other a b =
     let info = same_at (level_rows level set).info a.option b.option a.info b.info a.said b.said same.0 in
     a.fields ∙ ap (λ i. epc_of i a.values) info ∙ ap (epc_of b.info) same.1 ∙ sym b.fields
 
-same_read : (set : TableRows) (level : LevelName) (symbols : List ℕ) (one other : Result Epc EpcFault) → IsTold one → IsTold other → ReadsAs set level symbols one → ReadsAs set level symbols other → one ≡ other
+same_read : (set : TableRows) (level : LevelName) (symbols : List ℕ) (one other : Result Epc EpcFault) → IsKnown one → IsKnown other → ReadsAs set level symbols one → ReadsAs set level symbols other → one ≡ other
 same_read set level symbols (Err Memory) other t u a b = absurd (t refl)
-same_read set level symbols (Err (Hex fault)) other t u a b = absurd a
+same_read set level symbols (Err (Hex error)) other t u a b = absurd a
 same_read set level symbols (Ok epc) (Ok epc') t u a b = ap Ok (same_epc set level symbols epc epc' a b)
 same_read set level symbols (Ok epc) (Err NoReading) t u a b = absurd (b a.read.derivation)
 same_read set level symbols (Ok epc) (Err Memory) t u a b = absurd (u refl)
-same_read set level symbols (Ok epc) (Err (Hex fault)) t u a b = absurd b
+same_read set level symbols (Ok epc) (Err (Hex error)) t u a b = absurd b
 same_read set level symbols (Err NoReading) (Ok epc) t u a b = absurd (a b.read.derivation)
 same_read set level symbols (Err NoReading) (Err NoReading) t u a b = refl
 same_read set level symbols (Err NoReading) (Err Memory) t u a b = absurd (u refl)
-same_read set level symbols (Err NoReading) (Err (Hex fault)) t u a b = absurd b
+same_read set level symbols (Err NoReading) (Err (Hex error)) t u a b = absurd b
 
 -- ---- at most one answer to hexadecimal digits
 
-no_fault : (text : List ℕ) (fault : HexFault) → IsHexFault text fault → IsHex text → ⊥
-no_fault text OddDigits f hex = let even = hex.even in omega arith
-no_fault text Full f hex = let long = f.1 in let short = hex.short in omega arith
-no_fault text (BadDigit place) f hex = no_bad_digit text place hex.digits f.2
+no_error : (text : List ℕ) (error : HexFault) → IsHexFault text error → IsHex text → ⊥
+no_error text OddDigits f hex = let even = hex.even in omega arith
+no_error text Full f hex = let long = f.1 in let short = hex.short in omega arith
+no_error text (BadDigit place) f hex = no_bad_digit text place hex.digits f.2
 
-same_fault : (text : List ℕ) (fault other : HexFault) → IsHexFault text fault → IsHexFault text other → fault ≡ other
-same_fault text OddDigits OddDigits f g = refl
-same_fault text OddDigits Full f g = absurd (let even = g.0 in omega arith)
-same_fault text OddDigits (BadDigit place) f g = absurd (let even = g.0 in omega arith)
-same_fault text Full OddDigits f g = absurd (let even = f.0 in omega arith)
-same_fault text Full Full f g = refl
-same_fault text Full (BadDigit place) f g = absurd (let long = f.1 in let short = g.1 in omega arith)
-same_fault text (BadDigit place) OddDigits f g = absurd (let even = f.0 in omega arith)
-same_fault text (BadDigit place) Full f g = absurd (let short = f.1 in let long = g.1 in omega arith)
-same_fault text (BadDigit place) (BadDigit place') f g = ap BadDigit (first_bad_same text place place' f.2 g.2)
+same_error : (text : List ℕ) (error other : HexFault) → IsHexFault text error → IsHexFault text other → error ≡ other
+same_error text OddDigits OddDigits f g = refl
+same_error text OddDigits Full f g = absurd (let even = g.0 in omega arith)
+same_error text OddDigits (BadDigit place) f g = absurd (let even = g.0 in omega arith)
+same_error text Full OddDigits f g = absurd (let even = f.0 in omega arith)
+same_error text Full Full f g = refl
+same_error text Full (BadDigit place) f g = absurd (let long = f.1 in let short = g.1 in omega arith)
+same_error text (BadDigit place) OddDigits f g = absurd (let even = f.0 in omega arith)
+same_error text (BadDigit place) Full f g = absurd (let short = f.1 in let long = g.1 in omega arith)
+same_error text (BadDigit place) (BadDigit place') f g = ap BadDigit (first_bad_same text place place' f.2 g.2)
 
 -- why the text is no hexadecimal one, or the answer to its bits
 abbrev HexCase : TableRows → List ℕ → Result Epc EpcFault → Type 0
-HexCase set text answer = ((fault : HexFault) × (answer ≡ Err (Hex fault)) × IsHexFault text fault) ⊎ (IsHex text × ReadsAs set level.Binary (bits_of_hex text) answer)
+HexCase set text answer = ((error : HexFault) × (answer ≡ Err (Hex error)) × IsHexFault text error) ⊎ (IsHex text × ReadsAs set level.Binary (bits_of_hex text) answer)
 
-hex_case : (set : TableRows) (text : List ℕ) (answer : Result Epc EpcFault) → IsTold answer → ReadsHex set text answer → HexCase set text answer
+hex_case : (set : TableRows) (text : List ℕ) (answer : Result Epc EpcFault) → IsKnown answer → ReadsHex set text answer → HexCase set text answer
 hex_case set text (Ok epc) t a = inr a
 hex_case set text (Err NoReading) t a = inr a
 hex_case set text (Err Memory) t a = absurd (t refl)
-hex_case set text (Err (Hex fault)) t a = inl (fault, refl, a)
+hex_case set text (Err (Hex error)) t a = inl (error, refl, a)
 
-same_hex : (set : TableRows) (text : List ℕ) (one other : Result Epc EpcFault) → IsTold one → IsTold other → ReadsHex set text one → ReadsHex set text other → one ≡ other
+same_hex : (set : TableRows) (text : List ℕ) (one other : Result Epc EpcFault) → IsKnown one → IsKnown other → ReadsHex set text one → ReadsHex set text other → one ≡ other
 same_hex set text one other t u a b = elim (hex_case set text one t a) as (λ _. one ≡ other) [
   | inl f ↦ elim (hex_case set text other u b) as (λ _. one ≡ other) [
-    | inl g ↦ f.1 ∙ ap (λ fault. Err (Hex fault)) (same_fault text f.0 g.0 f.2 g.2) ∙ sym g.1
-    | inr h ↦ absurd (no_fault text f.0 f.2 h.0)
+    | inl g ↦ f.1 ∙ ap (λ error. Err (Hex error)) (same_error text f.0 g.0 f.2 g.2) ∙ sym g.1
+    | inr h ↦ absurd (no_error text f.0 f.2 h.0)
   ]
   | inr h ↦ elim (hex_case set text other u b) as (λ _. one ≡ other) [
-    | inl g ↦ absurd (no_fault text g.0 g.2 h.0)
+    | inl g ↦ absurd (no_error text g.0 g.2 h.0)
     | inr k ↦ same_read set level.Binary (bits_of_hex text) one other t u h.1 k.1
   ]
 ]
@@ -112,59 +112,59 @@ same_hex set text one other t u a b = elim (hex_case set text one t a) as (λ _.
 same_laid : (set : TableRows) (epc epc' : Epc) (one other : Elements) → epc ≡ epc' → IsLaidOut set epc one → IsLaidOut set epc' other → one ≡ other
 same_laid set epc epc' one other e a b =
     let kind = same_at set.kinds epc.kind epc'.kind a.kind b.kind a.named b.named (ap (λ (x : Epc). x.kind) e) in
-    a.laid ∙ ap (λ (x : Epc). lay set.ais a.kind x.prefix x.rest x.serial) e ∙ ap (λ k. lay set.ais k epc'.prefix epc'.rest epc'.serial) kind ∙ sym b.laid
+    a.laid ∙ ap (λ (x : Epc). lay set.ais a.kind (fields_in x)) e ∙ ap (λ k. lay set.ais k (fields_in epc')) kind ∙ sym b.laid
 
--- a reading that means something is told
-means_told : (set : TableRows) (said : Result Epc EpcFault) (answer : Result Meaning Reason) → MeaningOf set said answer → IsTold said
-means_told set (Ok epc) answer m = tt
-means_told set (Err fault) (Err (NoEpc reason)) m = m.1
-means_told set (Err fault) (Err Long) m = absurd m
-means_told set (Err fault) (Err (Element other)) m = absurd m
-means_told set (Err fault) (Err (Ident other)) m = absurd m
-means_told set (Err fault) (Err NotHttp) m = absurd m
-means_told set (Err fault) (Err NoKeyPath) m = absurd m
-means_told set (Err fault) (Err NoKind) m = absurd m
-means_told set (Err fault) (Err (Extra code)) m = absurd m
-means_told set (Err fault) (Err (Missing name)) m = absurd m
-means_told set (Err fault) (Err NoOption) m = absurd m
-means_told set (Err fault) (Err (CannotHold field why)) m = absurd m
-means_told set (Err fault) (Err NoMemory) m = absurd m
-means_told set (Err fault) (Ok meaning) m = absurd m
+-- a reading that means something is known
+means_known : (set : TableRows) (said : Result Epc EpcFault) (answer : Result Meaning Reason) → MeaningOf set said answer → IsKnown said
+means_known set (Ok epc) answer m = tt
+means_known set (Err error) (Err (NoEpc reason)) m = m.1
+means_known set (Err error) (Err Long) m = absurd m
+means_known set (Err error) (Err (Element other)) m = absurd m
+means_known set (Err error) (Err (Ident other)) m = absurd m
+means_known set (Err error) (Err NotHttp) m = absurd m
+means_known set (Err error) (Err NoKeyPath) m = absurd m
+means_known set (Err error) (Err NoKind) m = absurd m
+means_known set (Err error) (Err (Extra code)) m = absurd m
+means_known set (Err error) (Err (Missing name)) m = absurd m
+means_known set (Err error) (Err NoOption) m = absurd m
+means_known set (Err error) (Err (CannotHold field why)) m = absurd m
+means_known set (Err error) (Err NoMemory) m = absurd m
+means_known set (Err error) (Ok meaning) m = absurd m
 
 same_meaning : (set : TableRows) (said : Result Epc EpcFault) (one other : Result Meaning Reason) → MeaningOf set said one → MeaningOf set said other → one ≡ other
 same_meaning set (Ok epc) (Ok m) (Ok n) a b =
     ap Ok (a.is ∙ ap (epc_meaning epc) (same_laid set epc epc a.elements b.elements refl a.laid b.laid) ∙ sym b.is)
 same_meaning set (Ok epc) (Ok m) (Err reason) a b = absurd b
 same_meaning set (Ok epc) (Err reason) other a b = absurd a
-same_meaning set (Err fault) (Err (NoEpc reason)) (Err (NoEpc reason')) a b = ap (λ (f : EpcFault). Err (NoEpc f)) (a.0 ∙ sym b.0)
-same_meaning set (Err fault) (Err (NoEpc reason)) (Err Long) a b = absurd b
-same_meaning set (Err fault) (Err (NoEpc reason)) (Err (Element other)) a b = absurd b
-same_meaning set (Err fault) (Err (NoEpc reason)) (Err (Ident other)) a b = absurd b
-same_meaning set (Err fault) (Err (NoEpc reason)) (Err NotHttp) a b = absurd b
-same_meaning set (Err fault) (Err (NoEpc reason)) (Err NoKeyPath) a b = absurd b
-same_meaning set (Err fault) (Err (NoEpc reason)) (Err NoKind) a b = absurd b
-same_meaning set (Err fault) (Err (NoEpc reason)) (Err (Extra code)) a b = absurd b
-same_meaning set (Err fault) (Err (NoEpc reason)) (Err (Missing name)) a b = absurd b
-same_meaning set (Err fault) (Err (NoEpc reason)) (Err NoOption) a b = absurd b
-same_meaning set (Err fault) (Err (NoEpc reason)) (Err (CannotHold field why)) a b = absurd b
-same_meaning set (Err fault) (Err (NoEpc reason)) (Err NoMemory) a b = absurd b
-same_meaning set (Err fault) (Err (NoEpc reason)) (Ok meaning) a b = absurd b
-same_meaning set (Err fault) (Err Long) other a b = absurd a
-same_meaning set (Err fault) (Err (Element element)) other a b = absurd a
-same_meaning set (Err fault) (Err (Ident ident)) other a b = absurd a
-same_meaning set (Err fault) (Err NotHttp) other a b = absurd a
-same_meaning set (Err fault) (Err NoKeyPath) other a b = absurd a
-same_meaning set (Err fault) (Err NoKind) other a b = absurd a
-same_meaning set (Err fault) (Err (Extra code)) other a b = absurd a
-same_meaning set (Err fault) (Err (Missing name)) other a b = absurd a
-same_meaning set (Err fault) (Err NoOption) other a b = absurd a
-same_meaning set (Err fault) (Err (CannotHold field why)) other a b = absurd a
-same_meaning set (Err fault) (Err NoMemory) other a b = absurd a
-same_meaning set (Err fault) (Ok meaning) other a b = absurd a
+same_meaning set (Err error) (Err (NoEpc reason)) (Err (NoEpc reason')) a b = ap (λ (f : EpcFault). Err (NoEpc f)) (a.0 ∙ sym b.0)
+same_meaning set (Err error) (Err (NoEpc reason)) (Err Long) a b = absurd b
+same_meaning set (Err error) (Err (NoEpc reason)) (Err (Element other)) a b = absurd b
+same_meaning set (Err error) (Err (NoEpc reason)) (Err (Ident other)) a b = absurd b
+same_meaning set (Err error) (Err (NoEpc reason)) (Err NotHttp) a b = absurd b
+same_meaning set (Err error) (Err (NoEpc reason)) (Err NoKeyPath) a b = absurd b
+same_meaning set (Err error) (Err (NoEpc reason)) (Err NoKind) a b = absurd b
+same_meaning set (Err error) (Err (NoEpc reason)) (Err (Extra code)) a b = absurd b
+same_meaning set (Err error) (Err (NoEpc reason)) (Err (Missing name)) a b = absurd b
+same_meaning set (Err error) (Err (NoEpc reason)) (Err NoOption) a b = absurd b
+same_meaning set (Err error) (Err (NoEpc reason)) (Err (CannotHold field why)) a b = absurd b
+same_meaning set (Err error) (Err (NoEpc reason)) (Err NoMemory) a b = absurd b
+same_meaning set (Err error) (Err (NoEpc reason)) (Ok meaning) a b = absurd b
+same_meaning set (Err error) (Err Long) other a b = absurd a
+same_meaning set (Err error) (Err (Element element)) other a b = absurd a
+same_meaning set (Err error) (Err (Ident ident)) other a b = absurd a
+same_meaning set (Err error) (Err NotHttp) other a b = absurd a
+same_meaning set (Err error) (Err NoKeyPath) other a b = absurd a
+same_meaning set (Err error) (Err NoKind) other a b = absurd a
+same_meaning set (Err error) (Err (Extra code)) other a b = absurd a
+same_meaning set (Err error) (Err (Missing name)) other a b = absurd a
+same_meaning set (Err error) (Err NoOption) other a b = absurd a
+same_meaning set (Err error) (Err (CannotHold field why)) other a b = absurd a
+same_meaning set (Err error) (Err NoMemory) other a b = absurd a
+same_meaning set (Err error) (Ok meaning) other a b = absurd a
 
-means_one : (set : TableRows) (Reads : Result Epc EpcFault → Type 0) → ((one other : Result Epc EpcFault) → IsTold one → IsTold other → Reads one → Reads other → one ≡ other) → HasOne (MeansEpc set Reads)
+means_one : (set : TableRows) (Reads : Result Epc EpcFault → Type 0) → ((one other : Result Epc EpcFault) → IsKnown one → IsKnown other → Reads one → Reads other → one ≡ other) → HasOne (MeansEpc set Reads)
 means_one set Reads same one other a b =
-    let said : a.said ≡ b.said = same a.said b.said (means_told set a.said one a.means) (means_told set b.said other b.means) a.read b.read in
+    let said : a.said ≡ b.said = same a.said b.said (means_known set a.said one a.means) (means_known set b.said other b.means) a.read b.read in
     let means : MeaningOf set a.said other = rw said b.means in
     same_meaning set a.said one other a.means means
 
@@ -190,10 +190,10 @@ one_answer set form text asks = then_one (IsRead set form text) IsCanonical (one
 
 -- ---- an answer to the symbols of a level
 
--- a text says an EPC of the set, or there is a fault that is no want of memory
-data Told (set : TableRows) (Reads : Result Epc EpcFault → Type 0) : Type 0 where
-  says_epc : (epc : Epc) → Reads (Ok epc) → IsOfSet set epc → Told set Reads
-  has_fault : (fault : EpcFault) → fault ≢ Memory → Reads (Err fault) → Told set Reads
+-- a text says an EPC of the set, or there is an error that is not out of memory
+data Known (set : TableRows) (Reads : Result Epc EpcFault → Type 0) : Type 0 where
+  says_epc : (epc : Epc) → Reads (Ok epc) → IsOfSet set epc → Known set Reads
+  has_error : (error : EpcFault) → error ≢ Memory → Reads (Err error) → Known set Reads
 
 -- what is read at a place, or behind the last one anything
 some_info : (infos : List OptInfo) (i : ℕ) → (info : OptInfo) × (info ≡ get_or infos i info)
@@ -201,25 +201,25 @@ some_info [] i = (record { kind = 0; encoding = []; gcp = 0; fields = [] }, refl
 some_info (info ∷ infos) zero = (info, refl)
 some_info (info ∷ infos) (suc i) = some_info infos i
 
-told_one : (set : TableRows) (level : LevelName) (symbols : List ℕ) (option : ℕ) (values : List (List ℕ)) → IsShaped set → OneDerivation (options_of level set) symbols option values → Told set (λ answer. ReadsAs set level symbols answer)
-told_one set level symbols option values shaped one =
+known_one : (set : TableRows) (level : LevelName) (symbols : List ℕ) (option : ℕ) (values : List (List ℕ)) → IsShaped set → OneDerivation (options_of level set) symbols option values → Known set (λ answer. ReadsAs set level symbols answer)
+known_one set level symbols option values shaped one =
     let info = some_info (level_rows level set).info option in
     let said = said_of set level symbols option values (level_rows level set).info info.0 shaped one refl info.1 in
     says_epc (epc_of info.0 values) (says set level symbols option values info.0 (epc_of info.0 values) said one refl) (of_set set level option values info.0 (epc_of info.0 values) said refl)
 
-told_counted : (set : TableRows) (level : LevelName) (symbols : List ℕ) → IsLoaded set → Counted (options_of level set) symbols → Told set (λ answer. ReadsAs set level symbols answer)
-told_counted set level symbols loaded (none_of none) = has_fault NoReading (λ e. cc) none
-told_counted set level symbols loaded (one_of option values one) = told_one set level symbols option values loaded.shaped one
-told_counted set level symbols loaded (two_of two) = absurd (loaded.clear level (record { w = symbols; two = two }))
+known_counted : (set : TableRows) (level : LevelName) (symbols : List ℕ) → IsLoaded set → Counted (options_of level set) symbols → Known set (λ answer. ReadsAs set level symbols answer)
+known_counted set level symbols loaded (none_of none) = has_error NoReading (λ e. cc) none
+known_counted set level symbols loaded (one_of option values one) = known_one set level symbols option values loaded.shaped one
+known_counted set level symbols loaded (two_of two) = absurd (loaded.clear level (record { w = symbols; two = two }))
 
-told_level : (set : TableRows) (level : LevelName) (symbols : List ℕ) → IsLoaded set → Told set (λ answer. ReadsAs set level symbols answer)
-told_level set level symbols loaded = told_counted set level symbols loaded (each_counted (options_of level set) symbols)
+known_level : (set : TableRows) (level : LevelName) (symbols : List ℕ) → IsLoaded set → Known set (λ answer. ReadsAs set level symbols answer)
+known_level set level symbols loaded = known_counted set level symbols loaded (each_counted (options_of level set) symbols)
 
 -- ---- an answer to hexadecimal digits
 
 -- all bytes are digits, or one is the first that is none
-abbrev AreTold : List ℕ → Type 0
-AreTold text = AllPass is_hex_digit text ⊎ ((place : ℕ) × FirstBadDigit text place)
+abbrev AreKnown : List ℕ → Type 0
+AreKnown text = AllPass is_hex_digit text ⊎ ((place : ℕ) × FirstBadDigit text place)
 
 bad_later : (c : ℕ) (text : List ℕ) (place : ℕ) → is_hex_digit c ≡ true → FirstBadDigit text place → FirstBadDigit (c ∷ text) (suc place)
 bad_later c text place digit bad = record {
@@ -228,46 +228,46 @@ bad_later c text place digit bad = record {
   digits_before = All-cons (λ x. is_hex_digit x ≡ true) c (take place text) digit bad.digits_before;
 }
 
-digits_behind : (c : ℕ) (text : List ℕ) (value : Option ℕ) → hex_value c ≡ value → AreTold text → AreTold (c ∷ text)
+digits_behind : (c : ℕ) (text : List ℕ) (value : Option ℕ) → hex_value c ≡ value → AreKnown text → AreKnown (c ∷ text)
 digits_behind c text None e rest = inr (0, record { within = omega arith; bad = e; digits_before = All-nil (λ x. is_hex_digit x ≡ true) })
 digits_behind c text (Some v) e (inl all) = inl (All-cons (λ x. is_hex_digit x ≡ true) c text (ap is_some e) all)
 digits_behind c text (Some v) e (inr bad) = inr (suc bad.0, bad_later c text bad.0 (ap is_some e) bad.1)
 
-digits_told : (text : List ℕ) → AreTold text
-digits_told [] = inl (All-nil (λ x. is_hex_digit x ≡ true))
-digits_told (c ∷ text) = digits_behind c text (hex_value c) refl (digits_told text)
+digits_known : (text : List ℕ) → AreKnown text
+digits_known [] = inl (All-nil (λ x. is_hex_digit x ≡ true))
+digits_known (c ∷ text) = digits_behind c text (hex_value c) refl (digits_known text)
 
-told_bits : (set : TableRows) (text : List ℕ) → IsHex text → Told set (λ answer. ReadsAs set level.Binary (bits_of_hex text) answer) → Told set (λ answer. ReadsHex set text answer)
-told_bits set text hex (says_epc epc read of) = says_epc epc (hex, read) of
-told_bits set text hex (has_fault fault t read) = has_fault fault t (hex_answer set text (bits_of_hex text) (Err fault) hex refl read)
+known_bits : (set : TableRows) (text : List ℕ) → IsHex text → Known set (λ answer. ReadsAs set level.Binary (bits_of_hex text) answer) → Known set (λ answer. ReadsHex set text answer)
+known_bits set text hex (says_epc epc read of) = says_epc epc (hex, read) of
+known_bits set text hex (has_error error t read) = has_error error t (hex_answer set text (bits_of_hex text) (Err error) hex refl read)
 
-told_digits : (set : TableRows) (text : List ℕ) → IsLoaded set → length text % 2 ≡ 0 → length text ≤ 128 → AreTold text → Told set (λ answer. ReadsHex set text answer)
-told_digits set text loaded even few (inl all) = told_bits set text (record { even = even; short = few; digits = all }) (told_level set level.Binary (bits_of_hex text) loaded)
-told_digits set text loaded even few (inr bad) = has_fault (Hex (BadDigit bad.0)) (λ e. cc) (even, few, bad.1)
+known_digits : (set : TableRows) (text : List ℕ) → IsLoaded set → length text % 2 ≡ 0 → length text ≤ 128 → AreKnown text → Known set (λ answer. ReadsHex set text answer)
+known_digits set text loaded even few (inl all) = known_bits set text (record { even = even; short = few; digits = all }) (known_level set level.Binary (bits_of_hex text) loaded)
+known_digits set text loaded even few (inr bad) = has_error (Hex (BadDigit bad.0)) (λ e. cc) (even, few, bad.1)
 
-told_hex : (set : TableRows) (text : List ℕ) → IsLoaded set → Told set (λ answer. ReadsHex set text answer)
-told_hex set text loaded = elim (cases_eq (length text % 2) 0) as (λ _. Told set (λ answer. ReadsHex set text answer)) [
-  | inr odd ↦ has_fault (Hex OddDigits) (λ e. cc) (omega arith)
-  | inl even ↦ elim (leb_tells (length text) 128) as (λ _. Told set (λ answer. ReadsHex set text answer)) [
-    | inl e ↦ told_digits set text loaded even e.1 (digits_told text)
-    | inr e ↦ has_fault (Hex Full) (λ f. cc) (even, e.1)
+known_hex : (set : TableRows) (text : List ℕ) → IsLoaded set → Known set (λ answer. ReadsHex set text answer)
+known_hex set text loaded = elim (cases_eq (length text % 2) 0) as (λ _. Known set (λ answer. ReadsHex set text answer)) [
+  | inr odd ↦ has_error (Hex OddDigits) (λ e. cc) (omega arith)
+  | inl even ↦ elim (leb_tells (length text) 128) as (λ _. Known set (λ answer. ReadsHex set text answer)) [
+    | inl e ↦ known_digits set text loaded even e.1 (digits_known text)
+    | inr e ↦ has_error (Hex Full) (λ f. cc) (even, e.1)
   ]
 ]
 
 -- ---- a meaning of a text
 
-means_some : (set : TableRows) (Reads : Result Epc EpcFault → Type 0) → IsShaped set → Told set Reads → HasSome (MeansEpc set Reads)
-means_some set Reads shaped (has_fault fault t read) = (Err (NoEpc fault), record { said = Err fault; read = read; means = (refl, t) })
+means_some : (set : TableRows) (Reads : Result Epc EpcFault → Type 0) → IsShaped set → Known set Reads → HasSome (MeansEpc set Reads)
+means_some set Reads shaped (has_error error t read) = (Err (NoEpc error), record { said = Err error; read = read; means = (refl, t) })
 means_some set Reads shaped (says_epc epc read of) =
     let kind = fit_kind set epc shaped of in
-    let elements = lay set.ais kind.0 epc.prefix epc.rest epc.serial in
+    let elements = lay set.ais kind.0 (fields_in epc) in
     let laid : IsLaidOut set epc elements = record { kind = kind.0; named = kind.1; laid = refl } in
     (Ok (epc_meaning epc elements), record { said = Ok epc; read = read; means = record { elements = elements; laid = laid; is = refl } })
 
 some_meaning : (set : TableRows) (form : Form) (text : List ℕ) → AsksForSome form set → HasSome (Means set form text)
-some_meaning set form.Hex text loaded = means_some set (ReadsHex set text) loaded.shaped (told_hex set text loaded)
-some_meaning set form.Tag text loaded = means_some set (ReadsAs set level.Tag text) loaded.shaped (told_level set level.Tag text loaded)
-some_meaning set form.Pure text loaded = means_some set (ReadsAs set level.Pure text) loaded.shaped (told_level set level.Pure text loaded)
+some_meaning set form.Hex text loaded = means_some set (ReadsHex set text) loaded.shaped (known_hex set text loaded)
+some_meaning set form.Tag text loaded = means_some set (ReadsAs set level.Tag text) loaded.shaped (known_level set level.Tag text loaded)
+some_meaning set form.Pure text loaded = means_some set (ReadsAs set level.Pure text) loaded.shaped (known_level set level.Pure text loaded)
 some_meaning set form.Raw text shaped = some_of_pairs set (ReadsRaw set text) (some_raw set text (ais_kept set shaped))
 some_meaning set form.Bracketed text shaped = some_of_pairs set (ReadsBracketed set text) (some_bracketed set text (ais_kept set shaped))
 some_meaning set form.Link text asks = some_of_pairs set (ReadsLink set text) (some_link set text)

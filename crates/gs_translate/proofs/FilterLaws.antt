@@ -4,17 +4,17 @@ use Rattle.std.specs.Prelude.{IfSome, Result, Ok, Err}
 use Rattle.std.specs.Option.{option_map}
 use Rattle.gs_ai.specs.declared.pair.Pair.{Pair}
 use Rattle.gs_bits.specs.HexText.{bits_of_hex}
-use Rattle.gs_document.specs.declared.field.Field.TheVariants.{Filter}
-use Rattle.gs_document.specs.declared.level_name.LevelName.{LevelName}
-use Rattle.gs_document.specs.declared.level_name.LevelName.TheVariants as level
+use Rattle.gs_tables_document.specs.declared.field.Field.TheVariants.{Filter}
+use Rattle.gs_tables_document.specs.declared.level_name.LevelName.{LevelName}
+use Rattle.gs_tables_document.specs.declared.level_name.LevelName.TheVariants as level
 use Rattle.gs_epc.specs.declared.epc.Epc.{Epc}
-use Rattle.gs_epc.specs.declared.fault.EpcFault.{EpcFault}
+use Rattle.gs_epc.specs.declared.error.EpcFault.{EpcFault}
 use Rattle.gs_epc.specs.Epcs.{value_at}
 use Rattle.gs_epc.specs.Filters.{IsFilter}
 use Rattle.gs_epc.specs.Readings.{ReadsAs, ReadsHex, Says}
 use Rattle.gs_epc.proofs.ReadingFacts.{IsSaid, filter_of_said}
 use Rattle.gs_grammar.specs.Words.{decimal_value}
-use Rattle.gs_ident.specs.declared.faults.IdentFault.{IdentFault}
+use Rattle.gs_ident.specs.declared.errors.IdentFault.{IdentFault}
 use Rattle.gs_ident.specs.Elements.{Elements}
 use Rattle.gs_ident.specs.Identities.{identity_of_pairs}
 use Rattle.gs_tables.specs.Tables.{IsShaped, TableRows}
@@ -24,7 +24,7 @@ use Rattle.gs_translate.specs.declared.meaning.Meaning.{Meaning}
 use Rattle.gs_translate.specs.declared.reason.Reason.{Reason}
 use Rattle.gs_translate.specs.declared.reason.Reason.TheVariants.{Ident}
 use Rattle.gs_translate.specs.Meanings.{IsRead, identity_meaning, MeaningOf, Means, MeansEpc, MeansPairs, ReadsBracketed, ReadsLink, ReadsRaw, identified, short, too_long}
-use Rattle.gs_translate.specs.Steps.{goes_on, refuses}
+use Rattle.gs_translate.specs.Steps.{goes_on, rejects}
 use Rattle.gs_translate.specs.Targets.{FitsFilter, kept}
 
 -- ---- tags and EPC URIs
@@ -57,7 +57,7 @@ Fits Reads = (epc : Epc) → Reads (Ok epc) → FitsFilter epc.filter
 
 meaning_fits : (set : TableRows) (said : Result Epc EpcFault) (meaning : Meaning) → ((epc : Epc) → said ≡ Ok epc → FitsFilter epc.filter) → MeaningOf set said (Ok meaning) → FitsFilter meaning.filter
 meaning_fits set (Ok epc) meaning fits m = subst (λ (x : Meaning). FitsFilter x.filter) (sym m.is) (fits epc refl)
-meaning_fits set (Err fault) meaning fits m = absurd m
+meaning_fits set (Err error) meaning fits m = absurd m
 
 epc_fits : (set : TableRows) (Reads : Result Epc EpcFault → Type 0) (meaning : Meaning) → Fits Reads → MeansEpc set Reads (Ok meaning) → FitsFilter meaning.filter
 epc_fits set Reads meaning fits m = meaning_fits set m.said meaning (λ epc e. fits epc (subst Reads e m.read)) m.means
@@ -66,10 +66,10 @@ epc_fits set Reads meaning fits m = meaning_fits set m.said meaning (λ epc e. f
 
 identified_fits : (made : Result Elements IdentFault) (meaning : Meaning) → Ok meaning ≡ identified made → FitsFilter meaning.filter
 identified_fits (Ok identity) meaning e = let same : meaning ≡ identity_meaning identity = let f : Ok meaning ≡ Ok (identity_meaning identity) = e in cc in rw same tt
-identified_fits (Err fault) meaning e = absurd (let f : Ok meaning ≡ Err (Ident fault) = e in cc)
+identified_fits (Err error) meaning e = absurd (let f : Ok meaning ≡ Err (Ident error) = e in cc)
 
 pairs_fit : (set : TableRows) (Reads : Result (List Pair) Reason → Type 0) (meaning : Meaning) → MeansPairs set Reads (Ok meaning) → FitsFilter meaning.filter
-pairs_fit set Reads meaning (refuses fault read e) = absurd (let f : Ok meaning ≡ Err fault = e in cc)
+pairs_fit set Reads meaning (rejects error read e) = absurd (let f : Ok meaning ≡ Err error = e in cc)
 pairs_fit set Reads meaning (goes_on pairs read e) = identified_fits (identity_of_pairs set.ais pairs) meaning e
 
 -- ---- a text

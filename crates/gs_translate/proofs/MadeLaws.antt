@@ -5,25 +5,26 @@ use Rattle.std.proofs.lemmas.List.Elements.{All-cons, All-nil}
 use Rattle.gs_ai.specs.declared.pair.Pair.{Pair}
 use Rattle.gs_ai.specs.declared.row.AiRow.{AiRow}
 use Rattle.gs_bits.specs.HexText.{bits_of_hex}
-use Rattle.gs_dlink.specs.declared.fault.LinkFault.TheVariants.{NotHttp, NoKeyPath}
+use Rattle.gs_dlink.specs.declared.error.LinkFault.TheVariants.{NotHttp, NoKeyPath}
 use Rattle.gs_dlink.specs.Answers.{IsLink, by_authority, by_key_path, is_rooted, link_answer, target_answer}
 use Rattle.gs_dlink.specs.Paths.{key_path}
 use Rattle.gs_dlink.specs.Uris.{Written, authority_end, path_of, query_of, query_pairs, segments}
-use Rattle.gs_dlink.proofs.Judged.{written_in_order}
-use Rattle.gs_document.specs.declared.level_name.LevelName.{LevelName}
-use Rattle.gs_document.specs.declared.level_name.LevelName.TheVariants as level
-use Rattle.gs_element.specs.Bracketed.{IsBracketed, IsBracketedElement}
+use Rattle.gs_dlink.proofs.JudgementLemmas.{written_in_order}
+use Rattle.gs_tables_document.specs.declared.level_name.LevelName.{LevelName}
+use Rattle.gs_tables_document.specs.declared.level_name.LevelName.TheVariants as level
+use Rattle.gs_element.specs.BracketedTexts.{IsBracketed, IsBracketedElement}
 use Rattle.gs_element.specs.Joins.{Form as ElementForm, Joined}
 use Rattle.gs_element.specs.Raw.{IsRaw, IsRawElement, body_of}
 use Rattle.gs_epc.specs.declared.epc.Epc.{Epc}
-use Rattle.gs_epc.specs.declared.fault.EpcFault.{EpcFault}
+use Rattle.gs_epc.specs.declared.error.EpcFault.{EpcFault}
 use Rattle.gs_epc.specs.Epcs.{IsOfSet}
-use Rattle.gs_epc.specs.Layout.{IsLaidOut, key_pair, lay, serial_pairs}
+use Rattle.gs_epc.specs.Layout.{IsLaidOut, key_pair, lay, fields_in}
+use Rattle.gs_epc.specs.LayoutSupport.{serial_pairs}
 use Rattle.gs_epc.specs.Readings.{ReadsAs, ReadsHex, Says}
 use Rattle.gs_epc.proofs.KeptLaws.{fit_kind}
 use Rattle.gs_epc.proofs.LayoutLaws.{laid_identity, laid_in_order}
 use Rattle.gs_epc.proofs.ReadingFacts.{IsSaid, of_set}
-use Rattle.gs_ident.specs.declared.faults.IdentFault.{IdentFault}
+use Rattle.gs_ident.specs.declared.errors.IdentFault.{IdentFault}
 use Rattle.gs_ident.specs.Elements.{Elements}
 use Rattle.gs_ident.specs.Identities.{IsInOrder, IsMadeWith, identity_of_pairs}
 use Rattle.gs_ident.proofs.IdentityLemmas.{made_with}
@@ -34,7 +35,7 @@ use Rattle.gs_translate.specs.declared.meaning.Meaning.{Meaning}
 use Rattle.gs_translate.specs.declared.reason.Reason.{Reason}
 use Rattle.gs_translate.specs.declared.reason.Reason.TheVariants.{Ident}
 use Rattle.gs_translate.specs.Meanings.{IsRead, MeaningOf, Means, MeansEpc, MeansPairs, ReadsBracketed, ReadsLink, ReadsRaw, identified, identity_meaning, short, too_long}
-use Rattle.gs_translate.specs.Steps.{goes_on, refuses}
+use Rattle.gs_translate.specs.Steps.{goes_on, rejects}
 use Rattle.gs_translate.proofs.PairLaws.{ais_kept}
 
 -- ---- pairs that are read are in order
@@ -76,10 +77,10 @@ identified_made : (table : List AiRow) (pairs : List Pair) (made : Result Elemen
 identified_made table pairs (Ok identity) meaning all own e =
     let same : meaning ≡ identity_meaning identity = let f : Ok meaning ≡ Ok (identity_meaning identity) = e in cc in
     subst (λ (x : Meaning). IsMadeWith table x.identity) (sym same) (made_with table pairs identity all own)
-identified_made table pairs (Err fault) meaning all own e = absurd (let f : Ok meaning ≡ Err (Ident fault) = e in cc)
+identified_made table pairs (Err error) meaning all own e = absurd (let f : Ok meaning ≡ Err (Ident error) = e in cc)
 
 pairs_made : (set : TableRows) (Reads : Result (List Pair) Reason → Type 0) (meaning : Meaning) → ((pairs : List Pair) → Reads (Ok pairs) → All (IsInOrder set.ais) pairs) → MeansPairs set Reads (Ok meaning) → IsMadeWith set.ais meaning.identity
-pairs_made set Reads meaning all (refuses fault read e) = absurd (let f : Ok meaning ≡ Err fault = e in cc)
+pairs_made set Reads meaning all (rejects error read e) = absurd (let f : Ok meaning ≡ Err error = e in cc)
 pairs_made set Reads meaning all (goes_on pairs read e) = identified_made set.ais pairs (identity_of_pairs set.ais pairs) meaning (all pairs read) refl e
 
 -- ---- the identity of an EPC
@@ -101,15 +102,15 @@ laid_made set epc elements shaped of laid =
     let kind = fit_kind set epc shaped of in
     let both : Some laid.kind ≡ Some kind.0 = sym laid.named ∙ kind.1 in
     let same : laid.kind ≡ kind.0 = cc in
-    let is : elements ≡ lay set.ais kind.0 epc.prefix epc.rest epc.serial = laid.laid ∙ ap (λ k. lay set.ais k epc.prefix epc.rest epc.serial) same in
+    let is : elements ≡ lay set.ais kind.0 (fields_in epc) = laid.laid ∙ ap (λ k. lay set.ais k (fields_in epc)) same in
     let rules = ais_kept set shaped in
-    let pairs = key_pair set.ais kind.0 epc.prefix epc.rest epc.serial ∷ serial_pairs kind.0.serial epc.serial in
-    let made = made_with set.ais pairs (lay set.ais kind.0 epc.prefix epc.rest epc.serial) (laid_in_order set.ais kind.0 epc.prefix epc.rest epc.serial kind.2 rules) (laid_identity set.ais kind.0 epc.prefix epc.rest epc.serial kind.2 rules) in
+    let pairs = key_pair set.ais kind.0 (fields_in epc) ∷ serial_pairs kind.0.serial epc.serial in
+    let made = made_with set.ais pairs (lay set.ais kind.0 (fields_in epc)) (laid_in_order set.ais kind.0 (fields_in epc) kind.2 rules) (laid_identity set.ais kind.0 (fields_in epc) kind.2 rules) in
     subst (λ (e : Elements). IsMadeWith set.ais e) (sym is) made
 
 meaning_made : (set : TableRows) (said : Result Epc EpcFault) (meaning : Meaning) → IsShaped set → ((epc : Epc) → said ≡ Ok epc → IsOfSet set epc) → MeaningOf set said (Ok meaning) → IsMadeWith set.ais meaning.identity
 meaning_made set (Ok epc) meaning shaped of m = subst (λ (x : Meaning). IsMadeWith set.ais x.identity) (sym m.is) (laid_made set epc m.elements shaped (of epc refl) m.laid)
-meaning_made set (Err fault) meaning shaped of m = absurd m
+meaning_made set (Err error) meaning shaped of m = absurd m
 
 epc_made : (set : TableRows) (Reads : Result Epc EpcFault → Type 0) (meaning : Meaning) → IsShaped set → ((epc : Epc) → Reads (Ok epc) → IsOfSet set epc) → MeansEpc set Reads (Ok meaning) → IsMadeWith set.ais meaning.identity
 epc_made set Reads meaning shaped of m = meaning_made set m.said meaning shaped (λ epc e. of epc (subst Reads e m.read)) m.means

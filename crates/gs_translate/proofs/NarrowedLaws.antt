@@ -9,10 +9,9 @@ use Rattle.gs_ai.specs.Values.{has_code}
 use Rattle.gs_ai.proofs.RowLemmas.{and_left, and_right}
 use Rattle.gs_ai.proofs.TableLemmas.{key_by_row}
 use Rattle.gs_chars.proofs.TruthsAndLists.{equal_bytes, false_from_not, same_bytes, true_or_false}
-use Rattle.gs_document.specs.declared.kind.SerialAt.{SerialAt}
-use Rattle.gs_document.specs.declared.kind.SerialAt.TheVariants.{Nowhere, Tail, Ai}
-use Rattle.gs_epc.specs.Layout.{unless_none}
-use Rattle.gs_epc.proofs.LayoutElements.{IsKeyPair, alone_made, both_made, is_key_pair}
+use Rattle.gs_tables_document.specs.declared.kind.SerialAt.{SerialAt}
+use Rattle.gs_tables_document.specs.declared.kind.SerialAt.TheVariants.{Nowhere, Tail, Ai}
+use Rattle.gs_ident.proofs.KeyPairs.{IsKeyPair, alone_made, both_made, is_key_pair}
 use Rattle.gs_ident.specs.Elements.{Elements, is_coded, key_alone, pairs_of, with_qualifier}
 use Rattle.gs_ident.specs.Identities.{IsInOrder, IsMadeWith, counted, elements_of, identity_of_pairs, listed, pair_with, stands_for_none}
 use Rattle.gs_ident.proofs.IdentityLemmas.{Made, made_facts, made_with}
@@ -150,7 +149,7 @@ module _ (table : List AiRow) (identity : Elements) (rules : KeepsRules table) (
   -- the key with a pair of the identity that is listed
   both_are_made : (serial : Pair) → IsInOrder table serial → stands_for_none table serial ≡ false → list_any (bytes_eq serial.code) own_row.row.qualifiers ≡ true → IsMadeWith table (record { key = facts.key; qualifiers = serial ∷ []; attributes = [] })
   both_are_made serial in_order counts there =
-      let alone : unless_none table serial ≡ serial ∷ [] = rw counts refl in
+      let alone : counted table (serial ∷ []) ≡ serial ∷ [] = rw counts refl in
       let made_of : identity_of_pairs table (facts.key ∷ serial ∷ []) ≡ Ok (record { key = facts.key; qualifiers = serial ∷ []; attributes = [] }) =
       both_made table own_row.row.qualifiers facts.key own_row.is serial there ∙ ap (λ (q : List Pair). Ok (record { key = facts.key; qualifiers = q; attributes = [] })) alone in
       made_with table (facts.key ∷ serial ∷ []) (record { key = facts.key; qualifiers = serial ∷ []; attributes = [] })

@@ -1,8 +1,8 @@
 -- A text has at most one translation, and one.
 use Rattle.std.proofs.Common.{◌≡◌, ℕ, List, Ok, refl, sym, ◌∙◌}
-use Rattle.gs_document.specs.declared.level_name.LevelName.{LevelName}
-use Rattle.gs_document.specs.declared.level_name.LevelName.TheVariants as level
-use Rattle.gs_element.specs.Bracketed.{bracketed_text}
+use Rattle.gs_tables_document.specs.declared.level_name.LevelName.{LevelName}
+use Rattle.gs_tables_document.specs.declared.level_name.LevelName.TheVariants as level
+use Rattle.gs_element.specs.BracketedTexts.{bracketed_text}
 use Rattle.gs_element.specs.Raw.{raw_text}
 use Rattle.gs_ident.specs.Elements.{pairs_of}
 use Rattle.gs_ident.specs.Links.{canonical_link, spelled}
@@ -15,7 +15,7 @@ use Rattle.gs_translate.specs.declared.target.Target.{Target}
 use Rattle.gs_translate.specs.declared.target.Target.TheVariants.{Hex, Tag, Pure, Raw, Bracketed, Link, Canon}
 use Rattle.gs_translate.specs.Conditions.{AsksForOne, AsksForSome}
 use Rattle.gs_translate.specs.Meanings.{IsRead}
-use Rattle.gs_translate.specs.Steps.{HasOne, HasSome}
+use Rattle.gs_translate.specs.StepsSupport.{HasOne, HasSome}
 use Rattle.gs_translate.specs.Targets.{epc_for, kept}
 use Rattle.gs_translate.specs.Translations.{IsOfLevel, IsSpelling, IsTranslation, IsWritten}
 use Rattle.gs_translate.proofs.AnswerLaws.{one_read, some_read}

@@ -2,31 +2,33 @@
 use Rattle.std.proofs.Common.{◌≡◌, ◌⊎◌, inl, inr, ℕ, List, [], ◌∷◌, map, refl, sym, ◌∙◌, ap, arith}
 use Rattle.std.specs.Prelude.{◌≢◌, Option, Some, Result, Ok, Err, MatchResult}
 use Rattle.gs_chars.proofs.TruthsAndLists.{none_behind, none_in_front}
-use Rattle.gs_ai.specs.declared.faults.ElementFault.{ElementFault}
+use Rattle.gs_ai.specs.declared.errors.ElementFault.{ElementFault}
 use Rattle.gs_ai.specs.declared.pair.Pair.{Pair}
-use Rattle.gs_ai.specs.Tables.{KeepsRules, table_faults}
+use Rattle.gs_ai.specs.Tables.{KeepsRules, table_errors}
 use Rattle.gs_ai.proofs.RuleLemmas.{rules_kept}
-use Rattle.gs_dlink.specs.declared.fault.LinkFault.{LinkFault}
-use Rattle.gs_dlink.specs.declared.fault.LinkFault.TheVariants as link
-use Rattle.gs_dlink.specs.Answers.{IsLink, link_fault}
+use Rattle.gs_dlink.specs.declared.error.LinkFault.{LinkFault}
+use Rattle.gs_dlink.specs.declared.error.LinkFault.TheVariants as link
+use Rattle.gs_dlink.specs.Answers.{IsLink, link_error}
 use Rattle.gs_dlink.proofs.AnswerLaws as dlink
-use Rattle.gs_document.specs.declared.document.Document.{Document}
-use Rattle.gs_document.specs.declared.fault.LoadFault.TheVariants.{Ai}
-use Rattle.gs_element.specs.declared.faults.ElementsFault.{ElementsFault}
-use Rattle.gs_element.specs.declared.faults.ElementsFault.TheVariants.{Element as WrongElement, Memory as NoMemory}
-use Rattle.gs_element.specs.Bracketed.{IsBracketed, IsBracketedElement, IsBracketedFault, bracketed_fault}
-use Rattle.gs_element.specs.Raw.{IsRaw, IsRawElement, IsRawFault, body_of, raw_fault}
+use Rattle.gs_tables_document.specs.declared.document.Document.{Document}
+use Rattle.gs_tables_document.specs.declared.error.LoadFault.TheVariants.{Ai}
+use Rattle.gs_element.specs.declared.errors.ElementsFault.{ElementsFault}
+use Rattle.gs_element.specs.declared.errors.ElementsFault.TheVariants.{Element as WrongElement, Memory as NoMemory}
+use Rattle.gs_element.specs.BracketedTexts.{IsBracketed, IsBracketedElement, IsBracketedError, bracketed_error}
+use Rattle.gs_element.specs.Raw.{IsRaw, IsRawElement, IsRawError, body_of, raw_error}
 use Rattle.gs_element.proofs.BodyLemmas.{body_shorter}
-use Rattle.gs_element.proofs.BracketLemmas.{bracketed_told}
-use Rattle.gs_element.proofs.JoinLemmas.{answered, no_fault, one_fault, one_list}
-use Rattle.gs_element.proofs.RawLemmas.{raw_told}
+use Rattle.gs_element.proofs.BracketLemmas.{bracketed_known}
+use Rattle.gs_element.proofs.JoinLemmas.{answered, no_error, one_error, one_list}
+use Rattle.gs_element.proofs.RawLemmas.{raw_known}
 use Rattle.gs_ident.specs.Identities.{identity_of_pairs}
-use Rattle.gs_tables.specs.Tables.{IsShaped, TableRows, row_refusals}
+use Rattle.gs_tables.specs.Tables.{IsShaped, TableRows, row_rejections}
 use Rattle.gs_translate.specs.declared.meaning.Meaning.{Meaning}
 use Rattle.gs_translate.specs.declared.reason.Reason.{Reason}
 use Rattle.gs_translate.specs.declared.reason.Reason.TheVariants.{Element, NoKeyPath, NotHttp}
-use Rattle.gs_translate.specs.Meanings.{IsIdentified, MeansPairs, OfElement, OfLink, ReadsBracketed, ReadsLink, ReadsRaw, elements_reason, identified, link_reason}
-use Rattle.gs_translate.specs.Steps.{HasOne, HasSome, UnlessMemory, refuses}
+use Rattle.gs_translate.specs.Meanings.{IsIdentified, MeansPairs, OfElement, OfLink, ReadsBracketed, ReadsLink, ReadsRaw, identified, link_reason}
+use Rattle.gs_translate.specs.MeaningsSupport.{elements_reason}
+use Rattle.gs_translate.specs.Steps.{UnlessMemory, rejects}
+use Rattle.gs_translate.specs.StepsSupport.{HasOne, HasSome}
 use Rattle.gs_translate.proofs.StepLaws.{then_one, then_some}
 
 -- ---- the application identifiers of a set keep their rules
@@ -35,12 +37,12 @@ none_mapped : {X Y : Type 0} (f : X → Y) (xs : List X) → map f xs ≡ [] →
 none_mapped f [] e = refl
 none_mapped f (x ∷ xs) e = absurd (let g : f x ∷ map f xs ≡ [] = e in cc)
 
-no_faults : (document : Document) → row_refusals document ≡ [] → table_faults document.ais ≡ []
-unfolding row_refusals
-no_faults document none = none_mapped Ai (table_faults document.ais) (none_in_front _ _ (none_behind _ _ none))
+no_errors : (document : Document) → row_rejections document ≡ [] → table_errors document.ais ≡ []
+unfolding row_rejections
+no_errors document none = none_mapped Ai (table_errors document.ais) (none_in_front _ _ (none_behind _ _ none))
 
 pub ais_kept : (set : TableRows) → IsShaped set → KeepsRules set.ais
-ais_kept set shaped = rw shaped.made (rules_kept shaped.document.ais (no_faults shaped.document shaped.in_order))
+ais_kept set shaped = rw shaped.made (rules_kept shaped.document.ais (no_errors shaped.document shaped.in_order))
 
 -- ---- at most one reading
 
@@ -50,51 +52,51 @@ one_of_two Are IsWhy are why apart (Ok a) (Err b) j k = absurd (apart a b j k)
 one_of_two Are IsWhy are why apart (Err a) (Ok b) j k = absurd (apart b a k j)
 one_of_two Are IsWhy are why apart (Err a) (Err b) j k = ap Err (why a b j k)
 
-one_of_element : (IsFault : ElementFault → Type 0) → HasOne IsFault → HasOne (OfElement IsFault)
-one_of_element IsFault one a b f g = f.1 ∙ ap Element (one f.0 g.0 f.2 g.2) ∙ sym g.1
+one_of_element : (IsError : ElementFault → Type 0) → HasOne IsError → HasOne (OfElement IsError)
+one_of_element IsError one a b f g = f.1 ∙ ap Element (one f.0 g.0 f.2 g.2) ∙ sym g.1
 
 module _ (set : TableRows) (text : List ℕ) (rules : KeepsRules set.ais) where
   pub one_raw : HasOne (ReadsRaw set text)
   one_raw =
-      let told = raw_told set.ais rules in
-      one_of_two (IsRaw set.ais text) (OfElement (IsRawFault set.ais text))
-      (λ a b j k. one_list (IsRawElement set.ais) (raw_fault set.ais) told a b (body_of text) j k)
-      (one_of_element (IsRawFault set.ais text) (λ a b f g. one_fault (IsRawElement set.ais) (raw_fault set.ais) told text (body_of text) a b f g))
-      (λ pairs why j w. no_fault (IsRawElement set.ais) (raw_fault set.ais) told pairs text (body_of text) w.0 j w.2)
+      let known = raw_known set.ais rules in
+      one_of_two (IsRaw set.ais text) (OfElement (IsRawError set.ais text))
+      (λ a b j k. one_list (IsRawElement set.ais) (raw_error set.ais) known a b (body_of text) j k)
+      (one_of_element (IsRawError set.ais text) (λ a b f g. one_error (IsRawElement set.ais) (raw_error set.ais) known text (body_of text) a b f g))
+      (λ pairs why j w. no_error (IsRawElement set.ais) (raw_error set.ais) known pairs text (body_of text) w.0 j w.2)
 
   pub one_bracketed : HasOne (ReadsBracketed set text)
   one_bracketed =
-      let told = bracketed_told set.ais rules in
-      one_of_two (IsBracketed set.ais text) (OfElement (IsBracketedFault set.ais text))
-      (λ a b j k. one_list (IsBracketedElement set.ais) (bracketed_fault set.ais) told a b text j k)
-      (one_of_element (IsBracketedFault set.ais text) (λ a b f g. one_fault (IsBracketedElement set.ais) (bracketed_fault set.ais) told text text a b f g))
-      (λ pairs why j w. no_fault (IsBracketedElement set.ais) (bracketed_fault set.ais) told pairs text text w.0 j w.2)
+      let known = bracketed_known set.ais rules in
+      one_of_two (IsBracketed set.ais text) (OfElement (IsBracketedError set.ais text))
+      (λ a b j k. one_list (IsBracketedElement set.ais) (bracketed_error set.ais) known a b text j k)
+      (one_of_element (IsBracketedError set.ais text) (λ a b f g. one_error (IsBracketedElement set.ais) (bracketed_error set.ais) known text text a b f g))
+      (λ pairs why j w. no_error (IsBracketedElement set.ais) (bracketed_error set.ais) known pairs text text w.0 j w.2)
 
 one_of_link : (found : Option LinkFault) → HasOne (OfLink found)
 one_of_link found a b f g =
     let same : Some f.0 ≡ Some g.0 = sym f.2 ∙ g.2 in
-    let fault : f.0 ≡ g.0 = cc in
-    f.3 ∙ ap link_reason fault ∙ sym g.3
+    let error : f.0 ≡ g.0 = cc in
+    f.3 ∙ ap link_reason error ∙ sym g.3
 
 pub one_link : (set : TableRows) (text : List ℕ) → HasOne (ReadsLink set text)
 one_link set text =
-    one_of_two (IsLink set.ais text) (OfLink (link_fault set.ais text)) (dlink.one_list set.ais text) (one_of_link (link_fault set.ais text))
-    (λ pairs why j w. dlink.no_fault set.ais text pairs w.0 j w.2)
+    one_of_two (IsLink set.ais text) (OfLink (link_error set.ais text)) (dlink.one_list set.ais text) (one_of_link (link_error set.ais text))
+    (λ pairs why j w. dlink.no_error set.ais text pairs w.0 j w.2)
 
 -- ---- a reading
 
-some_of_two : (Are : List Pair → Type 0) (IsFault : ElementFault → Type 0) → HasSome Are ⊎ HasSome IsFault → HasSome (λ answer. MatchResult answer Are (OfElement IsFault))
-some_of_two Are IsFault (inl a) = (Ok a.0, a.1)
-some_of_two Are IsFault (inr f) = (Err (Element f.0), (f.0, refl, f.1))
+some_of_two : (Are : List Pair → Type 0) (IsError : ElementFault → Type 0) → HasSome Are ⊎ HasSome IsError → HasSome (λ answer. MatchResult answer Are (OfElement IsError))
+some_of_two Are IsError (inl a) = (Ok a.0, a.1)
+some_of_two Are IsError (inr f) = (Err (Element f.0), (f.0, refl, f.1))
 
 module _ (set : TableRows) (text : List ℕ) (rules : KeepsRules set.ais) where
   pub some_raw : HasSome (ReadsRaw set text)
-  some_raw = some_of_two (IsRaw set.ais text) (IsRawFault set.ais text) (answered (IsRawElement set.ais) (raw_fault set.ais) (raw_told set.ais rules) text (body_of text) (body_shorter text))
+  some_raw = some_of_two (IsRaw set.ais text) (IsRawError set.ais text) (answered (IsRawElement set.ais) (raw_error set.ais) (raw_known set.ais rules) text (body_of text) (body_shorter text))
 
   pub some_bracketed : HasSome (ReadsBracketed set text)
-  some_bracketed = some_of_two (IsBracketed set.ais text) (IsBracketedFault set.ais text) (answered (IsBracketedElement set.ais) (bracketed_fault set.ais) (bracketed_told set.ais rules) text text (omega arith))
+  some_bracketed = some_of_two (IsBracketed set.ais text) (IsBracketedError set.ais text) (answered (IsBracketedElement set.ais) (bracketed_error set.ais) (bracketed_known set.ais rules) text text (omega arith))
 
-some_of_link : (set : TableRows) (text : List ℕ) → HasSome (IsLink set.ais text) ⊎ ((fault : LinkFault) × (fault ≢ link.Memory) × (link_fault set.ais text ≡ Some fault)) → HasSome (ReadsLink set text)
+some_of_link : (set : TableRows) (text : List ℕ) → HasSome (IsLink set.ais text) ⊎ ((error : LinkFault) × (error ≢ link.Memory) × (link_error set.ais text ≡ Some error)) → HasSome (ReadsLink set text)
 some_of_link set text (inl a) = (Ok a.0, a.1)
 some_of_link set text (inr f) = (Err (link_reason f.0), (f.0, f.1, f.2, refl))
 
@@ -114,14 +116,14 @@ some_of_pairs set Reads some = then_some Reads (IsIdentified set) some (λ pairs
 
 -- ---- why none are read
 
--- a refusal of a reader of element strings is that of the text
-pub elements_refused : (set : TableRows) (Are : List Pair → Type 0) (IsFault : ElementFault → Type 0) (Refuses : ElementsFault → Type 0) (fault : ElementsFault) → ((f : ElementFault) → Refuses (WrongElement f) → IsFault f) → Refuses fault → UnlessMemory {X = Meaning} (Err (elements_reason fault)) (MeansPairs set (λ answer. MatchResult answer Are (OfElement IsFault)) (Err (elements_reason fault)))
-elements_refused set Are IsFault Refuses (WrongElement fault) f r = refuses (Element fault) (fault, refl, f fault r) refl
-elements_refused set Are IsFault Refuses NoMemory f r = tt
+-- a rejection of a reader of element strings is that of the text
+pub elements_rejected : (set : TableRows) (Are : List Pair → Type 0) (IsError : ElementFault → Type 0) (Rejects : ElementsFault → Type 0) (error : ElementsFault) → ((f : ElementFault) → Rejects (WrongElement f) → IsError f) → Rejects error → UnlessMemory {X = Meaning} (Err (elements_reason error)) (MeansPairs set (λ answer. MatchResult answer Are (OfElement IsError)) (Err (elements_reason error)))
+elements_rejected set Are IsError Rejects (WrongElement error) f r = rejects (Element error) (error, refl, f error r) refl
+elements_rejected set Are IsError Rejects NoMemory f r = tt
 
--- a refusal of the reader of links is that of the text
-pub link_refused : (set : TableRows) (text : List ℕ) (fault : LinkFault) → (fault ≢ link.Memory → link_fault set.ais text ≡ Some fault) → UnlessMemory {X = Meaning} (Err (link_reason fault)) (MeansPairs set (ReadsLink set text) (Err (link_reason fault)))
-link_refused set text link.NotHttp f = refuses NotHttp (link.NotHttp, (λ e. cc), f (λ e. cc), refl) refl
-link_refused set text link.NoKeyPath f = refuses NoKeyPath (link.NoKeyPath, (λ e. cc), f (λ e. cc), refl) refl
-link_refused set text (link.Element fault) f = refuses (Element fault) (link.Element fault, (λ e. cc), f (λ e. cc), refl) refl
-link_refused set text link.Memory f = tt
+-- a rejection of the reader of links is that of the text
+pub link_rejected : (set : TableRows) (text : List ℕ) (error : LinkFault) → (error ≢ link.Memory → link_error set.ais text ≡ Some error) → UnlessMemory {X = Meaning} (Err (link_reason error)) (MeansPairs set (ReadsLink set text) (Err (link_reason error)))
+link_rejected set text link.NotHttp f = rejects NotHttp (link.NotHttp, (λ e. cc), f (λ e. cc), refl) refl
+link_rejected set text link.NoKeyPath f = rejects NoKeyPath (link.NoKeyPath, (λ e. cc), f (λ e. cc), refl) refl
+link_rejected set text (link.Element error) f = rejects (Element error) (link.Element error, (λ e. cc), f (λ e. cc), refl) refl
+link_rejected set text link.Memory f = tt

@@ -3,9 +3,9 @@ use Rattle.std.proofs.Common.{◌≡◌, ℕ, Bool, true, false, List, Option, S
 use Rattle.std.specs.Prelude.{Result, codes}
 use Rattle.gs_ai.specs.declared.pair.Pair.{Pair}
 use Rattle.gs_dlink.proofs.WrittenLinks.{canonical_stem_ok, link_read}
-use Rattle.gs_document.specs.declared.kind.Kind.{Kind}
+use Rattle.gs_tables_document.specs.declared.kind.Kind.{Kind}
 use Rattle.gs_element.proofs.WritingLemmas.{bracketed_read, raw_read}
-use Rattle.gs_element.specs.Bracketed.{bracketed_text}
+use Rattle.gs_element.specs.BracketedTexts.{bracketed_text}
 use Rattle.gs_element.specs.Raw.{raw_text}
 use Rattle.gs_ident.specs.Elements.{Elements, pairs_of}
 use Rattle.gs_ident.specs.Identities.{IsMadeWith}
@@ -19,7 +19,7 @@ use Rattle.gs_translate.specs.declared.reason.Reason.{Reason}
 use Rattle.gs_translate.specs.declared.target.Target.{Target}
 use Rattle.gs_translate.specs.declared.target.Target.TheVariants.{Hex, Tag, Pure, Raw, Bracketed, Link, Canon}
 use Rattle.gs_translate.specs.Meanings.{IsRead, MeansPairs, ReadsBracketed, ReadsLink, ReadsRaw, identified, identity_meaning}
-use Rattle.gs_translate.specs.Steps.{goes_on, refuses}
+use Rattle.gs_translate.specs.Steps.{goes_on, rejects}
 use Rattle.gs_translate.specs.Targets.{has_key, kept, narrowed}
 use Rattle.gs_translate.specs.Translations.{AreInOrder, IsOfPairs, IsSpelling, IsTranslation, MeansIdentity}
 use Rattle.gs_translate.proofs.MadeLaws.{made_of_read}
@@ -79,7 +79,7 @@ module _ (set : TableRows) (prefixes : List PrefixEntry) (options : Options) (sh
   spelling_again Canon answer of s = record { meaning = identity_meaning identity; means = canon_means answer (let e : Ok answer ≡ Ok (canonical_link identity) = s in cc); same = refl }
 
 pub means_again : (set : TableRows) (prefixes : List PrefixEntry) (options : Options) (from : Form) (to : Target) (text answer : List ℕ) (source : Meaning) → IsShaped set → AreInOrder options → IsOfPairs to → IsRead set from text (Ok source) → IsTranslation set prefixes options from to text (Ok answer) → MeansIdentity set to answer (kept set options.keys_only source).identity
-means_again set prefixes options from to text answer source shaped in_order of read (refuses fault first e) = absurd (let f : Ok answer ≡ Err fault = e in cc)
+means_again set prefixes options from to text answer source shaped in_order of read (rejects error first e) = absurd (let f : Ok answer ≡ Err error = e in cc)
 means_again set prefixes options from to text answer source shaped in_order of read (goes_on own first spelling) =
     let same : own ≡ source = same_meaning set from text own source shaped first read in
     let moved : IsSpelling set prefixes options to (kept set options.keys_only source) (Ok answer) = subst (λ (m : Meaning). IsSpelling set prefixes options to (kept set options.keys_only m) (Ok answer)) same spelling in

@@ -14,7 +14,7 @@ use Rattle.gs_translate.specs.declared.target.Target.TheVariants.{Canon}
 use Rattle.gs_translate.specs.Answers.{IsAnswer, IsCanonical}
 use Rattle.gs_translate.specs.Conditions.{AsksForOne}
 use Rattle.gs_translate.specs.Meanings.{IsRead}
-use Rattle.gs_translate.specs.Steps.{goes_on, refuses}
+use Rattle.gs_translate.specs.Steps.{goes_on, rejects}
 use Rattle.gs_translate.specs.Targets.{kept}
 use Rattle.gs_translate.specs.Translations.{IsTranslation, NameOne}
 use Rattle.gs_translate.proofs.AnswerLaws.{one_read}
@@ -37,7 +37,7 @@ record Answered (set : TableRows) (form : Form) (text link : List ℕ) : Type 0 
   is : link ≡ canonical_link meaning.identity
 
 answered : (set : TableRows) (form : Form) (text link : List ℕ) → IsAnswer set form text (Ok link) → Answered set form text link
-answered set form text link (refuses fault read e) = absurd (let f : Ok link ≡ Err fault = e in cc)
+answered set form text link (rejects error read e) = absurd (let f : Ok link ≡ Err error = e in cc)
 answered set form text link (goes_on meaning read e) = record { meaning = meaning; read = read; is = let f : Ok link ≡ Ok (canonical_link meaning.identity) = e in cc }
 
 pub same_meaning : (set : TableRows) (form : Form) (text : List ℕ) (one two : Meaning) → IsShaped set → IsRead set form text (Ok one) → IsRead set form text (Ok two) → one ≡ two
@@ -63,11 +63,11 @@ all_kept set true meaning e = absurd (cc)
 all_kept set false meaning e = refl
 
 spelled_so : (set : TableRows) (prefixes : List PrefixEntry) (options : Options) (form : Form) (text : List ℕ) (answer : Result (List ℕ) Reason) → options.keys_only ≡ false → IsTranslation set prefixes options form Canon text answer → IsAnswer set form text answer
-spelled_so set prefixes options form text answer all (refuses fault read e) = refuses fault read e
+spelled_so set prefixes options form text answer all (rejects error read e) = rejects error read e
 spelled_so set prefixes options form text answer all (goes_on meaning read e) = goes_on meaning read (subst (λ (m : Meaning). IsCanonical m answer) (all_kept set options.keys_only meaning all) e)
 
 answered_so : (set : TableRows) (prefixes : List PrefixEntry) (options : Options) (form : Form) (text : List ℕ) (answer : Result (List ℕ) Reason) → options.keys_only ≡ false → IsAnswer set form text answer → IsTranslation set prefixes options form Canon text answer
-answered_so set prefixes options form text answer all (refuses fault read e) = refuses fault read e
+answered_so set prefixes options form text answer all (rejects error read e) = rejects error read e
 answered_so set prefixes options form text answer all (goes_on meaning read e) = goes_on meaning read (subst (λ (m : Meaning). IsCanonical m answer) (sym (all_kept set options.keys_only meaning all)) e)
 
 pub canonical_translation : (set : TableRows) (prefixes : List PrefixEntry) (options : Options) (form : Form) (text : List ℕ) (answer : Result (List ℕ) Reason) → options.keys_only ≡ false → IsTranslation set prefixes options form Canon text answer ↔ IsAnswer set form text answer

@@ -1,21 +1,21 @@
--- An EPC is written in a level, or is refused for a reason.
+-- An EPC is written in a level, or is rejected for a reason.
 use Rattle.std.proofs.Common.{◌≡◌, ◌⊎◌, ℕ, zero, suc, ◌<◌, Bool, true, false, List, Option, Some, None, Ok, Err, slice_get, length, refl, sym, ap, ◌∙◌, inl, inr, arith}
 use Rattle.std.proofs.lemmas.Bool.{cases_eq}
 use Rattle.std.proofs.lemmas.Option.{slice_get_within}
-use Rattle.gs_document.specs.declared.field.Field.{Field}
-use Rattle.gs_document.specs.declared.level_name.LevelName.{LevelName}
-use Rattle.gs_document.specs.declared.opt_info.OptInfo.{OptInfo}
-use Rattle.gs_grammar.specs.declared.fault.Why.{Why}
-use Rattle.gs_grammar.specs.declared.fault.Why.TheVariants.{Length}
+use Rattle.gs_tables_document.specs.declared.field.Field.{Field}
+use Rattle.gs_tables_document.specs.declared.level_name.LevelName.{LevelName}
+use Rattle.gs_tables_document.specs.declared.opt_info.OptInfo.{OptInfo}
+use Rattle.gs_grammar.specs.declared.error.Why.{Why}
+use Rattle.gs_grammar.specs.declared.error.Why.TheVariants.{Length}
 use Rattle.gs_grammar.specs.declared.item.Item.{Item}
-use Rattle.gs_grammar.specs.Writing.{AreHeldBefore, IsFirstRefusal, why_not, written}
+use Rattle.gs_grammar.specs.WrittenWords.{AreHeldBefore, IsFirstRejection, why_not, written}
 use Rattle.gs_tables.specs.Tables.{TableRows, level_rows}
 use Rattle.gs_epc.specs.declared.epc.Epc.{Epc}
-use Rattle.gs_epc.specs.declared.write_fault.EpcWriteFault.TheVariants as write
+use Rattle.gs_epc.specs.declared.write_error.EpcWriteFault.TheVariants as write
 use Rattle.gs_epc.specs.Candidates.{Candidate, is_candidate, left_out, values_for}
 use Rattle.gs_epc.specs.Epcs.{options_of}
-use Rattle.gs_epc.specs.Writes.{HoldsAll, NoneHoldsBefore, Refuses, Writes, field_at, text_on}
-use Rattle.gs_translate.specs.Steps.{HasSome}
+use Rattle.gs_epc.specs.Writes.{HoldsAll, NoneHoldsBefore, Rejects, Writes, field_at, text_on}
+use Rattle.gs_translate.specs.StepsSupport.{HasSome}
 use Rattle.gs_translate.specs.Translations.{IsWritten, write_reason}
 use Rattle.gs_translate.proofs.OneWriting.{Says, not_says, says_of, same_info, same_items}
 
@@ -28,7 +28,7 @@ one_or_none None = inr refl
 
 -- the first items hold their values, or one of them is the first that does not
 abbrev Judged : List Item → List (List ℕ) → ℕ → Type 0
-Judged items values n = AreHeldBefore items values n ⊎ ((k : ℕ) × (why : Why) × IsFirstRefusal items values k why)
+Judged items values n = AreHeldBefore items values n ⊎ ((k : ℕ) × (why : Why) × IsFirstRejection items values k why)
 
 module _ (items : List Item) (values : List (List ℕ)) where
   one_more : (n : ℕ) → AreHeldBefore items values n → ((item : Item) (value : List ℕ) → slice_get items n ≡ Some item → slice_get values n ≡ Some value → why_not item value ≡ None) → AreHeldBefore items values (suc n)
@@ -57,18 +57,18 @@ module _ (items : List Item) (values : List (List ℕ)) where
     where
       next : Judged items values n → Judged items values (suc n)
       next (inl held) = judge_here n held (one_or_none (slice_get items n)) (one_or_none (slice_get values n))
-      next (inr refused) = inr refused
+      next (inr rejected) = inr rejected
 
 -- ---- the options of a level
 
 module _ (set : TableRows) (level : LevelName) (epc : Epc) where
   -- a candidate holds every field, or does not hold one
-  try_candidate : (i : ℕ) (candidate : Candidate set level epc i) → HoldsAll set level epc candidate ⊎ ((field : Field) × (why : Why) × Refuses set level epc candidate field why)
+  try_candidate : (i : ℕ) (candidate : Candidate set level epc i) → HoldsAll set level epc candidate ⊎ ((field : Field) × (why : Why) × Rejects set level epc candidate field why)
   try_candidate i candidate = by (judged candidate.items (values_for level epc candidate.info) (length candidate.items)) (one_or_none (left_out candidate.info.fields epc))
     where
       by : Judged candidate.items (values_for level epc candidate.info) (length candidate.items) → ((field : Field) × (left_out candidate.info.fields epc ≡ Some field)) ⊎ (left_out candidate.info.fields epc ≡ None)
-          → HoldsAll set level epc candidate ⊎ ((field : Field) × (why : Why) × Refuses set level epc candidate field why)
-      by (inr refused) left = inr (field_at candidate.info.fields refused.0, refused.1, inl (record { k = refused.0; first = refused.2; stands_for = refl }))
+          → HoldsAll set level epc candidate ⊎ ((field : Field) × (why : Why) × Rejects set level epc candidate field why)
+      by (inr rejected) left = inr (field_at candidate.info.fields rejected.0, rejected.1, inl (record { k = rejected.0; first = rejected.2; stands_for = refl }))
       by (inl held) (inl left) = inr (left.0, Length, inr (record { held = held; left = left.1; size = refl }))
       by (inl held) (inr none) = inl (record { held = held; whole = none })
 
@@ -89,13 +89,13 @@ module _ (set : TableRows) (level : LevelName) (epc : Epc) where
       by (inl items) (inr none) = inr (λ candidate. let both : None ≡ Some candidate.info = sym none ∙ candidate.said in cc)
       by (inl items) (inl info) = passes items.0 info.0 (is_candidate level epc info.0) items.1 info.1 refl
 
-  -- the last candidate before n refuses, and none before n holds every field
+  -- the last candidate before n rejects, and none before n holds every field
   record Refused (n : ℕ) : Type 0 where
     option : ℕ
     candidate : Candidate set level epc option
     field : Field
     why : Why
-    refuses : Refuses set level epc candidate field why
+    rejects : Rejects set level epc candidate field why
     last : (i : ℕ) → option < i → i < n → Candidate set level epc i → ⊥
     none : NoneHoldsBefore set level epc n
 
@@ -103,31 +103,31 @@ module _ (set : TableRows) (level : LevelName) (epc : Epc) where
   data Tried (n : ℕ) : Type 0 where
     writes : (text : List ℕ) → Writes set level epc text → Tried n
     no_candidate : ((i : ℕ) → i < n → Candidate set level epc i → ⊥) → Tried n
-    refused : Refused n → Tried n
+    rejected : Refused n → Tried n
 
-  -- a candidate of which a refusal speaks does not hold every field
-  not_all : (i j : ℕ) (one : Candidate set level epc i) (other : Candidate set level epc j) (field : Field) (why : Why) → i ≡ j → Refuses set level epc one field why → HoldsAll set level epc other → ⊥
-  not_all i j one other field why same refuses holds =
+  -- a candidate of which a rejection speaks does not hold every field
+  not_all : (i j : ℕ) (one : Candidate set level epc i) (other : Candidate set level epc j) (field : Field) (why : Why) → i ≡ j → Rejects set level epc one field why → HoldsAll set level epc other → ⊥
+  not_all i j one other field why same rejects holds =
       let items = same_items set level epc i j one other same in
       let info = same_info set level epc i j one other same in
-      let says = says_of set level epc i one field why refuses in
+      let says = says_of set level epc i one field why rejects in
       let moved : Says other.items (values_for level epc other.info) other.info.fields (left_out other.info.fields epc) field why = rw (← items, ← info) says in
       not_says other.items (values_for level epc other.info) other.info.fields (left_out other.info.fields epc) field why moved holds.held holds.whole
 
   none_before : (n : ℕ) → Tried n → ((text : List ℕ) × Writes set level epc text) ⊎ NoneHoldsBefore set level epc n
   none_before n (writes text w) = inl (text, w)
   none_before n (no_candidate none) = inr (λ i candidate less holds. none i less candidate)
-  none_before n (refused r) = inr r.none
+  none_before n (rejected r) = inr r.none
 
-  with_candidate : (n : ℕ) (candidate : Candidate set level epc n) → NoneHoldsBefore set level epc n → HoldsAll set level epc candidate ⊎ ((field : Field) × (why : Why) × Refuses set level epc candidate field why) → Tried (suc n)
+  with_candidate : (n : ℕ) (candidate : Candidate set level epc n) → NoneHoldsBefore set level epc n → HoldsAll set level epc candidate ⊎ ((field : Field) × (why : Why) × Rejects set level epc candidate field why) → Tried (suc n)
   with_candidate n candidate none (inl holds) =
       writes (text_on level (written candidate.items (values_for level epc candidate.info))) (record { option = n; candidate = candidate; holds = holds; first = none; text_is = refl })
-  with_candidate n candidate none (inr r) = refused (record {
+  with_candidate n candidate none (inr r) = rejected (record {
     option = n;
     candidate = candidate;
     field = r.0;
     why = r.1;
-    refuses = r.2;
+    rejects = r.2;
     last = λ i more less other. (let a = more in let b = less in omega arith);
     none = λ i other less holds. elim (cases_eq n i) as (λ _. ⊥) [
       | inl same ↦ not_all n i candidate other r.0 r.1 same r.2 holds
@@ -141,12 +141,12 @@ module _ (set : TableRows) (level : LevelName) (epc : Epc) where
     | inl same ↦ absent (rw same candidate)
     | inr differs ↦ none i (omega arith) candidate
   ])
-  without_candidate n absent (refused r) = refused (record {
+  without_candidate n absent (rejected r) = rejected (record {
     option = r.option;
     candidate = r.candidate;
     field = r.field;
     why = r.why;
-    refuses = r.refuses;
+    rejects = r.rejects;
     last = λ i more less candidate. elim (cases_eq n i) as (λ _. ⊥) [
       | inl same ↦ absent (rw same candidate)
       | inr differs ↦ r.last i more (omega arith) candidate
@@ -175,7 +175,7 @@ module _ (set : TableRows) (level : LevelName) (epc : Epc) where
   some_of : Tried (length (options_of level set)) → HasSome (IsWritten set level epc)
   some_of (writes text w) = (Ok text, w)
   some_of (no_candidate none) = (Err (write_reason write.NoOption), (write.NoOption, (λ e. cc), (λ i candidate. none i (within i candidate) candidate), refl))
-  some_of (refused r) = (
+  some_of (rejected r) = (
     Err (write_reason (write.CannotHold r.field r.why)),
     (
       write.CannotHold r.field r.why,
@@ -183,7 +183,7 @@ module _ (set : TableRows) (level : LevelName) (epc : Epc) where
       record {
         option = r.option;
         candidate = r.candidate;
-        refuses = r.refuses;
+        rejects = r.rejects;
         last = λ i more candidate. r.last i more (within i candidate) candidate;
         none = λ n i candidate less holds. r.none i candidate (within i candidate) holds;
       },

@@ -12,17 +12,17 @@ use Rattle.gs_ai.specs.declared.row.AiRow.{AiRow}
 use Rattle.gs_ai.specs.Values.{has_code}
 use Rattle.gs_ai.proofs.RowLemmas.{and_left, and_right}
 use Rattle.gs_chars.proofs.TruthsAndLists.{equal_bytes, false_from_not, place_left, place_right, true_or_false}
-use Rattle.gs_document.specs.declared.kind.Kind.{Kind}
-use Rattle.gs_document.specs.declared.kind.SerialAt.{SerialAt}
-use Rattle.gs_document.specs.declared.kind.SerialAt.TheVariants.{Nowhere, Tail, Ai}
-use Rattle.gs_document.specs.declared.level_name.LevelName.{LevelName}
-use Rattle.gs_document.specs.declared.level_name.LevelName.TheVariants as level
+use Rattle.gs_tables_document.specs.declared.kind.Kind.{Kind}
+use Rattle.gs_tables_document.specs.declared.kind.SerialAt.{SerialAt}
+use Rattle.gs_tables_document.specs.declared.kind.SerialAt.TheVariants.{Nowhere, Tail, Ai}
+use Rattle.gs_tables_document.specs.declared.level_name.LevelName.{LevelName}
+use Rattle.gs_tables_document.specs.declared.level_name.LevelName.TheVariants as level
 use Rattle.gs_epc.specs.declared.epc.Epc.{Epc}
-use Rattle.gs_epc.specs.declared.fault.EpcFault.{EpcFault}
+use Rattle.gs_epc.specs.declared.error.EpcFault.{EpcFault}
 use Rattle.gs_epc.specs.Candidates.{Candidate, HasFilterOn}
-use Rattle.gs_epc.specs.Layout.{IsLaidOut}
+use Rattle.gs_epc.specs.Layout.{IsLaidOut, KeyFields}
 use Rattle.gs_epc.specs.Readings.{ReadsAs, ReadsHex}
-use Rattle.gs_epc.specs.Taking.{IsOfKind, KeyFields, epc_at, epc_of_key, take_apart}
+use Rattle.gs_epc.specs.KeyParts.{IsOfKind, epc_at, epc_of_key, take_apart}
 use Rattle.gs_epc.specs.Writes.{ReadsText, Writes, same_fields}
 use Rattle.gs_epc.proofs.LaidLaws.{laid_again}
 use Rattle.gs_epc.proofs.LaidSets.{no_pairs}
@@ -34,7 +34,7 @@ use Rattle.gs_ident.proofs.CodeOrder.{own_ascending}
 use Rattle.gs_ident.proofs.IdentityLemmas.{made_facts}
 use Rattle.gs_ident.proofs.PairLemmas.{each_from_all, found_each, not_found}
 use Rattle.gs_prefix.specs.declared.entry.PrefixEntry.{PrefixEntry}
-use Rattle.gs_tables.specs.Judged.{IsLoaded}
+use Rattle.gs_tables.specs.Judgements.{IsLoaded}
 use Rattle.gs_tables.specs.KeptRules.{KeptKind}
 use Rattle.gs_tables.specs.Tables.{IsShaped, TableRows}
 use Rattle.gs_translate.specs.declared.field_name.FieldName.TheVariants.{Filter, Serial}
@@ -46,8 +46,8 @@ use Rattle.gs_translate.specs.declared.reason.Reason.TheVariants.{Extra, Missing
 use Rattle.gs_translate.specs.declared.target.Target.{Target}
 use Rattle.gs_translate.specs.declared.target.Target.TheVariants.{Hex, Tag, Pure, Raw, Bracketed, Link, Canon}
 use Rattle.gs_translate.specs.Meanings.{IsRead, MeansEpc, epc_meaning}
-use Rattle.gs_translate.specs.Steps.{goes_on, refuses}
-use Rattle.gs_translate.specs.Targets.{FitsFilter, and_then, else_refused, encoding_for, epc_for, extra_pair, filter_for, has_key, is_serial, kept, kind_for, lacks_filter, length_for, unless_extra, with_tag}
+use Rattle.gs_translate.specs.Steps.{goes_on, rejects}
+use Rattle.gs_translate.specs.Targets.{FitsFilter, and_then, else_rejected, encoding_for, epc_for, extra_pair, filter_for, has_key, is_serial, kept, kind_for, lacks_filter, length_for, unless_extra, with_tag}
 use Rattle.gs_translate.specs.Translations.{AreInOrder, IsOfLevel, IsSpelling, IsTranslation, MeansIdentity}
 use Rattle.gs_translate.proofs.FilterLaws.{filter_fits, kept_fits}
 use Rattle.gs_translate.proofs.MadeLaws.{made_of_read}
@@ -61,7 +61,7 @@ both_steps : {A B : Type 0} (first : Result A Reason) (next : A → Result B Rea
 both_steps (Ok a) next b e = (a, refl, e)
 both_steps (Err reason) next b e = absurd (let f : Err reason ≡ Ok b = e in cc)
 
-is_there : {X : Type 0} (reason : Reason) (found : Option X) (x : X) → else_refused reason found ≡ Ok x → found ≡ Some x
+is_there : {X : Type 0} (reason : Reason) (found : Option X) (x : X) → else_rejected reason found ≡ Ok x → found ≡ Some x
 is_there reason (Some y) x e = let f : Ok y ≡ Ok x = e in cc
 is_there reason None x e = absurd (let f : Err reason ≡ Ok x = e in cc)
 
@@ -81,8 +81,8 @@ record IsOfKindAt (set : TableRows) (identity : Elements) (kind : ℕ) : Type 0 
 kind_found : (set : TableRows) (identity : Elements) (kind : ℕ) → kind_for set identity ≡ Ok kind → IsOfKindAt set identity kind
 kind_found set identity kind e =
     let test = has_key identity.key.code in
-    let place = both_steps (else_refused NoKind (position test set.kinds)) (λ i. and_then (else_refused NoKind (slice_get set.kinds i)) (unless_extra identity i)) kind e in
-    let row = both_steps (else_refused NoKind (slice_get set.kinds place.0)) (unless_extra identity place.0) kind place.2 in
+    let place = both_steps (else_rejected NoKind (position test set.kinds)) (λ i. and_then (else_rejected NoKind (slice_get set.kinds i)) (unless_extra identity i)) kind e in
+    let row = both_steps (else_rejected NoKind (slice_get set.kinds place.0)) (unless_extra identity place.0) kind place.2 in
     let named : slice_get set.kinds place.0 ≡ Some row.0 = is_there NoKind (slice_get set.kinds place.0) row.0 row.1 in
     let none = none_extra place.0 kind (extra_pair row.0.serial identity) row.2 in
     let passes = (position-Some test set.kinds place.0 row.0 (is_there NoKind (position test set.kinds) place.0 place.1)).1 in
@@ -173,9 +173,9 @@ record IsTaken (set : TableRows) (name : LevelName) (identity : Elements) (epc :
 
 taken_of : (set : TableRows) (prefixes : List PrefixEntry) (options : Options) (name : LevelName) (meaning : Meaning) (epc : Epc) → FitsFilter options.filter → FitsFilter meaning.filter → epc_for set prefixes options name meaning ≡ Ok epc → IsTaken set name meaning.identity epc
 taken_of set prefixes options name meaning epc own fits e =
-    let kind = both_steps (kind_for set meaning.identity) (λ k. and_then (length_for set prefixes options meaning k) (λ n. and_then (else_refused (Missing Serial) (epc_at set k meaning.identity n)) (with_tag options name meaning))) epc e in
-    let n = both_steps (length_for set prefixes options meaning kind.0) (λ n. and_then (else_refused (Missing Serial) (epc_at set kind.0 meaning.identity n)) (with_tag options name meaning)) epc kind.2 in
-    let fields = both_steps (else_refused (Missing Serial) (epc_at set kind.0 meaning.identity n.0)) (with_tag options name meaning) epc n.2 in
+    let kind = both_steps (kind_for set meaning.identity) (λ k. and_then (length_for set prefixes options meaning k) (λ n. and_then (else_rejected (Missing Serial) (epc_at set k meaning.identity n)) (with_tag options name meaning))) epc e in
+    let n = both_steps (length_for set prefixes options meaning kind.0) (λ n. and_then (else_rejected (Missing Serial) (epc_at set kind.0 meaning.identity n)) (with_tag options name meaning)) epc kind.2 in
+    let fields = both_steps (else_rejected (Missing Serial) (epc_at set kind.0 meaning.identity n.0)) (with_tag options name meaning) epc n.2 in
     let tagged : Epc = record fields.0 { encoding = encoding_for options meaning; filter = filter_for options meaning } in
     let tag = unless_lacking (lacks_filter name (filter_for options meaning)) tagged epc fields.2 in
     let has = has_filter name (filter_for options meaning) tag.0 (fits_or meaning.filter options.filter fits own) in
@@ -243,12 +243,12 @@ module _ (set : TableRows) (prefixes : List PrefixEntry) (options : Options) (fr
 
   -- the spelling is that of what is kept of the source
   spelling_kept : (to : Target) → IsTranslation set prefixes options from to text (Ok answer) → IsSpelling set prefixes options to narrow (Ok answer)
-  spelling_kept to (refuses fault first e) = absurd (let f : Ok answer ≡ Err fault = e in cc)
+  spelling_kept to (rejects error first e) = absurd (let f : Ok answer ≡ Err error = e in cc)
   spelling_kept to (goes_on own first spelling) =
       subst (λ (m : Meaning). IsSpelling set prefixes options to (kept set options.keys_only m) (Ok answer)) (same_meaning set from text own source loaded.shaped first read) spelling
 
   said_again : (name : LevelName) → IsOfLevel set prefixes options name narrow (Ok answer) → SaysAgain set name answer narrow.identity
-  said_again name (refuses fault first e) = absurd (let f : Ok answer ≡ Err fault = e in cc)
+  said_again name (rejects error first e) = absurd (let f : Ok answer ≡ Err error = e in cc)
   said_again name (goes_on epc first writes) = says_again set name narrow.identity epc answer loaded made (taken_of set prefixes options name narrow epc in_order.filter fits (sym first)) writes
 
   meant : (to : Target) → IsTranslation set prefixes options from to text (Ok answer) → MeansIdentity set to answer narrow.identity

@@ -1,6 +1,10 @@
 pub mod Steps
+pub mod StepsSupport
 pub mod Meanings
+pub mod MeaningsSupport
 pub mod Answers
+pub mod Reasons
 pub mod Targets
+pub mod TargetsSupport
 pub mod Translations
 pub mod Conditions

@@ -1,22 +1,20 @@
 -- What a text of a form means: TDS 2.0, sections 6 and 12 (URIs), 14 (tag bits) and 7 (keys); GS1 General Specifications,
 -- sections 7.8 and 4 (element strings); GS1 Digital Link URI Syntax, section 3 (links).
 use Rattle.std.specs.Prelude.{◌≡◌, ◌≢◌, ℕ, ◌<◌, ◌≤◌, List, [], length, Option, Some, None, Result, Ok, Err, MatchResult}
-use Rattle.gs_ai.specs.declared.faults.ElementFault.{ElementFault}
+use Rattle.gs_ai.specs.declared.errors.ElementFault.{ElementFault}
 use Rattle.gs_ai.specs.declared.pair.Pair.{Pair}
-use Rattle.gs_document.specs.declared.level_name.LevelName.TheVariants as level
-use Rattle.gs_dlink.specs.declared.fault.LinkFault.{LinkFault}
-use Rattle.gs_dlink.specs.declared.fault.LinkFault.TheVariants as link
-use Rattle.gs_dlink.specs.Answers.{IsLink, link_fault}
-use Rattle.gs_element.specs.declared.faults.ElementsFault.{ElementsFault}
-use Rattle.gs_element.specs.declared.faults.ElementsFault.TheVariants.{Element as WrongElement, Memory as NoMemory}
-use Rattle.gs_element.specs.Bracketed.{IsBracketed, IsBracketedFault}
-use Rattle.gs_element.specs.Raw.{IsRaw, IsRawFault}
+use Rattle.gs_tables_document.specs.declared.level_name.LevelName.TheVariants as level
+use Rattle.gs_dlink.specs.declared.error.LinkFault.{LinkFault}
+use Rattle.gs_dlink.specs.declared.error.LinkFault.TheVariants as link
+use Rattle.gs_dlink.specs.Answers.{IsLink, link_error}
+use Rattle.gs_element.specs.BracketedTexts.{IsBracketed, IsBracketedError}
+use Rattle.gs_element.specs.Raw.{IsRaw, IsRawError}
 use Rattle.gs_epc.specs.declared.epc.Epc.{Epc}
-use Rattle.gs_epc.specs.declared.fault.EpcFault.{EpcFault}
-use Rattle.gs_epc.specs.declared.fault.EpcFault.TheVariants.{Memory}
+use Rattle.gs_epc.specs.declared.error.EpcFault.{EpcFault}
+use Rattle.gs_epc.specs.declared.error.EpcFault.TheVariants.{Memory}
 use Rattle.gs_epc.specs.Layout.{IsLaidOut}
 use Rattle.gs_epc.specs.Readings.{ReadsAs, ReadsHex}
-use Rattle.gs_ident.specs.declared.faults.IdentFault.{IdentFault}
+use Rattle.gs_ident.specs.declared.errors.IdentFault.{IdentFault}
 use Rattle.gs_ident.specs.Elements.{Elements}
 use Rattle.gs_ident.specs.Identities.{identity_of_pairs}
 use Rattle.gs_tables.specs.Tables.{TableRows}
@@ -29,24 +27,24 @@ use Rattle.gs_translate.specs.Steps.{Then}
 
 -- ---- of what a tag or an EPC URI says
 
--- the meaning of an EPC that names these elements
+-- trusted, own: the meaning of an EPC that names these elements
 abbrev pub epc_meaning : Epc → Elements → Meaning
 epc_meaning epc elements =
     record { identity = elements; gcp = Some epc.gcp; filter = epc.filter; encoding = epc.encoding }
 
--- the meaning is that of the EPC, and names the elements that its key is laid out by
+-- trusted, own: the meaning is that of the EPC, and names the elements that its key is laid out by
 pub record IsMeaning (set : TableRows) (epc : Epc) (meaning : Meaning) : Type 0 where
   pub elements : Elements
   pub laid : IsLaidOut set epc elements
   pub is : meaning ≡ epc_meaning epc elements
 
--- the meaning of what a tag or an EPC URI says, or why it says none
+-- trusted, own: the meaning of what a tag or an EPC URI says, or why it says none
 abbrev pub MeaningOf : TableRows → Result Epc EpcFault → Result Meaning Reason → Type 0
 MeaningOf set (Ok epc) (Ok meaning) = IsMeaning set epc meaning
-MeaningOf set (Err fault) (Err (NoEpc reason)) = (reason ≡ fault) × (fault ≢ Memory)
+MeaningOf set (Err error) (Err (NoEpc reason)) = (reason ≡ error) × (error ≢ Memory)
 MeaningOf set _ _ = ⊥
 
--- the meaning of a text by the EPC that it says
+-- trusted, own: the meaning of a text by the EPC that it says
 pub record MeansEpc (set : TableRows) (Reads : Result Epc EpcFault → Type 0) (answer : Result Meaning Reason)
     : Type 0 where
   pub said : Result Epc EpcFault
@@ -55,60 +53,57 @@ pub record MeansEpc (set : TableRows) (Reads : Result Epc EpcFault → Type 0) (
 
 -- ---- of pairs
 
--- the reason by which a reader of element strings refuses a text
-abbrev pub elements_reason : ElementsFault → Reason
-elements_reason (WrongElement fault) = Element fault
-elements_reason NoMemory = OutOfMemory
-
--- the reason is a fault of an element
+-- trusted, own: the reason is an error of an element
 abbrev pub OfElement : (ElementFault → Type 0) → Reason → Type 0
-OfElement IsFault reason = (fault : ElementFault) × (reason ≡ Element fault) × IsFault fault
+OfElement IsError reason = (error : ElementFault) × (reason ≡ Element error) × IsError error
 
--- the pairs of an element string as a reader of symbols gives it, or why it has none
+-- trusted, own: the pairs of an element string as a reader of symbols gives it, or why it has none
 abbrev pub ReadsRaw : TableRows → List ℕ → Result (List Pair) Reason → Type 0
-ReadsRaw set text answer = MatchResult answer (IsRaw set.ais text) (OfElement (IsRawFault set.ais text))
+ReadsRaw set text answer = MatchResult answer (IsRaw set.ais text) (OfElement (IsRawError set.ais text))
 
--- the pairs of an element string as it is printed below a symbol, or why it has none
+-- trusted, own: the pairs of an element string as it is printed below a symbol, or why it has none
 abbrev pub ReadsBracketed : TableRows → List ℕ → Result (List Pair) Reason → Type 0
 ReadsBracketed set text answer =
-    MatchResult answer (IsBracketed set.ais text) (OfElement (IsBracketedFault set.ais text))
+    MatchResult answer (IsBracketed set.ais text) (OfElement (IsBracketedError set.ais text))
 
--- the reason by which the reader of links refuses a text
+-- trusted, own: the reason by which the reader of links rejects a text
 abbrev pub link_reason : LinkFault → Reason
 link_reason link.NotHttp = NotHttp
 link_reason link.NoKeyPath = NoKeyPath
-link_reason (link.Element fault) = Element fault
+link_reason (link.Element error) = Element error
 link_reason link.Memory = OutOfMemory
 
--- the reason is the fault of a link
+-- trusted, own: the reason is the error of a link
 abbrev pub OfLink : Option LinkFault → Reason → Type 0
 OfLink found reason =
-    (fault : LinkFault) × (fault ≢ link.Memory) × (found ≡ Some fault) × (reason ≡ link_reason fault)
+    (error : LinkFault) × (error ≢ link.Memory) × (found ≡ Some error) × (reason ≡ link_reason error)
 
--- the pairs that a link names, or why it names none
+-- trusted, own: the pairs that a link names, or why it names none
 abbrev pub ReadsLink : TableRows → List ℕ → Result (List Pair) Reason → Type 0
-ReadsLink set text answer = MatchResult answer (IsLink set.ais text) (OfLink (link_fault set.ais text))
+ReadsLink set text answer = MatchResult answer (IsLink set.ais text) (OfLink (link_error set.ais text))
 
--- the meaning of an identity that no EPC names: there is neither a prefix length nor a filter value nor an encoding
+-- trusted, own: the meaning of an identity that no EPC names: there is neither a prefix length nor a filter value nor an
+-- encoding
 abbrev pub identity_meaning : Elements → Meaning
 identity_meaning identity = record { identity = identity; gcp = None; filter = None; encoding = [] }
 
--- the meaning of the identity of pairs, or why they have none
+-- trusted, own: the meaning of the identity of pairs, or why they have none
 abbrev pub identified : Result Elements IdentFault → Result Meaning Reason
 identified (Ok identity) = Ok (identity_meaning identity)
-identified (Err fault) = Err (Ident fault)
+identified (Err error) = Err (Ident error)
 
--- the meaning of pairs is their identity, or why they have none
+-- trusted, own: the meaning of pairs is their identity, or why they have none
 abbrev pub IsIdentified : TableRows → List Pair → Result Meaning Reason → Type 0
 IsIdentified set pairs answer = answer ≡ identified (identity_of_pairs set.ais pairs)
 
--- the meaning of a text by the pairs that are read of it: why none are read comes first
+-- trusted, own: the meaning of a text by the pairs that are read of it: why none are read comes first
 abbrev pub MeansPairs : TableRows → (Result (List Pair) Reason → Type 0) → Result Meaning Reason → Type 0
 MeansPairs set Reads answer = Then Reads (IsIdentified set) answer
 
 -- ---- of a text
 
--- the meaning of a text of a form, or why it has none
+-- trusted, TDS 2.0, sections 6, 7, 12 and 14; GS1 General Specifications, sections 4 and 7.8; GS1 Digital Link URI Syntax,
+-- section 3: the meaning of a text of a form, or why it has none
 abbrev pub Means : TableRows → Form → List ℕ → Result Meaning Reason → Type 0
 Means set Hex text answer = MeansEpc set (ReadsHex set text) answer
 Means set Tag text answer = MeansEpc set (ReadsAs set level.Tag text) answer
@@ -117,11 +112,11 @@ Means set Raw text answer = MeansPairs set (ReadsRaw set text) answer
 Means set Bracketed text answer = MeansPairs set (ReadsBracketed set text) answer
 Means set Link text answer = MeansPairs set (ReadsLink set text) answer
 
--- the most bytes of a text that is read
+-- trusted, own: the most bytes of a text that is read
 abbrev pub longest_text : ℕ
 longest_text = 2048
 
--- A text of more than 2,048 bytes is refused as long; of any other it is the meaning, or why it has none.
+-- trusted, own: A text of more than 2,048 bytes is rejected as long; of any other it is the meaning, or why it has none.
 pub data IsRead (set : TableRows) (form : Form) (text : List ℕ) (answer : Result Meaning Reason)
     : Type 0 where
   too_long : longest_text < length text → answer ≡ Err Long → IsRead set form text answer

@@ -6,16 +6,14 @@ use Rattle.std.specs.Option.{option_map_or, option_or}
 use Rattle.gs_ai.specs.declared.pair.Pair.{Pair}
 use Rattle.gs_ai.specs.Tables.{is_empty}
 use Rattle.gs_chars.specs.Characters.{is_digit}
-use Rattle.gs_document.specs.declared.kind.Kind.{Kind}
-use Rattle.gs_document.specs.declared.kind.SerialAt.{SerialAt}
-use Rattle.gs_document.specs.declared.kind.SerialAt.TheVariants.{Nowhere, Tail, Ai}
-use Rattle.gs_document.specs.declared.level_name.LevelName.{LevelName}
-use Rattle.gs_document.specs.declared.level_name.LevelName.TheVariants.{Binary, Tag, Pure}
-use Rattle.gs_document.specs.declared.opt_info.OptInfo.{OptInfo}
+use Rattle.gs_tables_document.specs.declared.kind.Kind.{Kind}
+use Rattle.gs_tables_document.specs.declared.kind.SerialAt.{SerialAt}
+use Rattle.gs_tables_document.specs.declared.kind.SerialAt.TheVariants.{Nowhere, Tail, Ai}
+use Rattle.gs_tables_document.specs.declared.level_name.LevelName.{LevelName}
+use Rattle.gs_tables_document.specs.declared.level_name.LevelName.TheVariants.{Binary, Tag, Pure}
+use Rattle.gs_tables_document.specs.declared.opt_info.OptInfo.{OptInfo}
 use Rattle.gs_epc.specs.declared.epc.Epc.{Epc}
-use Rattle.gs_epc.specs.declared.write_fault.FieldsFault.{FieldsFault}
-use Rattle.gs_epc.specs.declared.write_fault.FieldsFault.TheVariants.{MissingSerial, Memory as NoMemory}
-use Rattle.gs_epc.specs.Taking.{epc_at, value_from_prefix}
+use Rattle.gs_epc.specs.KeyParts.{epc_at, value_from_prefix}
 use Rattle.gs_ident.specs.Elements.{Elements, key_alone, with_qualifier}
 use Rattle.gs_prefix.specs.declared.entry.PrefixEntry.{PrefixEntry}
 use Rattle.gs_prefix.specs.Lengths.{prefix_length}
@@ -24,15 +22,15 @@ use Rattle.gs_translate.specs.declared.field_name.FieldName.TheVariants.{Gcp, Se
 use Rattle.gs_translate.specs.declared.meaning.Meaning.{Meaning}
 use Rattle.gs_translate.specs.declared.options.Options.{Options}
 use Rattle.gs_translate.specs.declared.reason.Reason.{Reason}
-use Rattle.gs_translate.specs.declared.reason.Reason.TheVariants.{NoKind, Extra, Missing, NoOption, Memory}
+use Rattle.gs_translate.specs.declared.reason.Reason.TheVariants.{NoKind, Extra, Missing, NoOption}
 
 -- ---- the kind of a key
 
--- the key of the kind has the code
+-- trusted, own: the key of the kind has the code
 abbrev pub has_key : List ℕ → Kind → Bool
 has_key code kind = bytes_eq code kind.key
 
--- the pair is the serial, which has an element of its own
+-- trusted, own: the pair is the serial, which has an element of its own
 abbrev pub is_serial : SerialAt → Pair → Bool
 is_serial (Ai code) pair = bytes_eq code pair.code
 is_serial Nowhere pair = false
@@ -40,96 +38,97 @@ is_serial Tail pair = false
 
 -- ---- narrowing
 
--- the key, with its serial where that has an element of its own; such an element is a qualifier
+-- trusted, own: the key, with its serial where that has an element of its own; such an element is a qualifier
 abbrev pub key_and_serial : SerialAt → Elements → Elements
 key_and_serial (Ai code) identity = with_qualifier code identity
 key_and_serial Nowhere identity = key_alone identity
 key_and_serial Tail identity = key_alone identity
 
--- an identity of which only the key is kept, by the kind of the key; the key alone where it is of no kind
+-- trusted, own: an identity of which only the key is kept, by the kind of the key; the key alone where it is of no kind
 abbrev pub narrowed : TableRows → Elements → Elements
 narrowed set identity =
     option_map_or (λ (kind : Kind). key_and_serial kind.serial identity) (find (has_key identity.key.code) set.kinds) (key_alone identity)
 
--- the meaning, narrowed where only keys are kept
+-- trusted, own: the meaning, narrowed where only keys are kept
 abbrev pub kept : TableRows → Bool → Meaning → Meaning
 kept set true meaning = record meaning { identity = narrowed set meaning.identity }
 kept set false meaning = meaning
 
--- ---- refusals in steps
+-- ---- rejections in steps
 
--- what is there, or the reason where there is nothing
-abbrev pub else_refused : {X : Type 0} → Reason → Option X → Result X Reason
-else_refused reason found = option_map_or Ok found (Err reason)
+-- trusted, own: what is there, or the reason where there is nothing
+abbrev pub else_rejected : {X : Type 0} → Reason → Option X → Result X Reason
+else_rejected reason found = option_map_or Ok found (Err reason)
 
--- the step behind an answer, which is made unless that refuses
+-- trusted, own: the step behind an answer, which is made unless that rejects
 abbrev pub and_then : {A B : Type 0} → Result A Reason → (A → Result B Reason) → Result B Reason
 and_then (Ok a) next = next a
 and_then (Err reason) next = Err reason
 
 -- ---- the key
 
--- the first pair that no EPC says: neither the key nor the serial
+-- trusted, own: the first pair that no EPC says: neither the key nor the serial
 abbrev pub extra_pair : SerialAt → Elements → Option Pair
 extra_pair serial identity = find (λ pair. not (is_serial serial pair)) (identity.qualifiers ++ identity.attributes)
 
--- the index, unless the identity has a pair that no EPC of the kind says
+-- trusted, own: the index, unless the identity has a pair that no EPC of the kind says
 abbrev pub unless_extra : Elements → ℕ → Kind → Result ℕ Reason
 unless_extra identity i kind = option_map_or (λ (pair : Pair). Err (Extra pair.code)) (extra_pair kind.serial identity) (Ok i)
 
--- the kind of the key, by its index
+-- trusted, own: the kind of the key, by its index
 abbrev pub kind_for : TableRows → Elements → Result ℕ Reason
 kind_for set identity =
-    and_then (else_refused NoKind (position (has_key identity.key.code) set.kinds)) (λ i.
-    and_then (else_refused NoKind (slice_get set.kinds i)) (unless_extra identity i))
+    and_then (else_rejected NoKind (position (has_key identity.key.code) set.kinds)) (λ i.
+    and_then (else_rejected NoKind (slice_get set.kinds i)) (unless_extra identity i))
 
 -- ---- the length of the company prefix
 
--- the digits in which the value of the key goes on from the company prefix, up to the first byte that is no digit
+-- trusted, own: the digits in which the value of the key goes on from the company prefix, up to the first byte that is no
+-- digit
 abbrev pub digits_from_prefix : TableRows → ℕ → List ℕ → List ℕ
 digits_from_prefix set kind value = take_while is_digit (value_from_prefix set kind value)
 
--- the length that the text tells, else that of the options, else that of the list
+-- trusted, own: the length that the text gives, else that of the options, else that of the list
 abbrev pub known_length : TableRows → List PrefixEntry → Options → Meaning → ℕ → Option ℕ
 known_length set prefixes options meaning kind =
     option_or meaning.gcp (option_or options.gcp (prefix_length prefixes (digits_from_prefix set kind meaning.identity.key.value)))
 
--- an option is of the kind and the length
+-- trusted, own: an option is of the kind and the length
 abbrev pub is_option_of : ℕ → ℕ → OptInfo → Bool
 is_option_of kind n info = (info.kind == kind) && (info.gcp == n)
 
--- an option of any level is of the kind and the length
+-- trusted, own: an option of any level is of the kind and the length
 abbrev pub has_option : TableRows → ℕ → ℕ → Bool
 has_option set kind n =
     list_any (is_option_of kind n) set.binary.info || list_any (is_option_of kind n) set.tag.info || list_any (is_option_of kind n) set.pure.info
 
--- the length of the company prefix, of which there is an option
+-- trusted, own: the length of the company prefix, of which there is an option
 abbrev pub length_for : TableRows → List PrefixEntry → Options → Meaning → ℕ → Result ℕ Reason
 length_for set prefixes options meaning kind =
-    and_then (else_refused (Missing Gcp) (known_length set prefixes options meaning kind)) (λ n.
+    and_then (else_rejected (Missing Gcp) (known_length set prefixes options meaning kind)) (λ n.
     if has_option set kind n then Ok n else Err NoOption)
 
 -- ---- what a tag says beside its key
 
--- a filter value, where there is one, is one of 0 to 7
+-- trusted, own: a filter value, where there is one, is one of 0 to 7
 abbrev pub FitsFilter : Option ℕ → Type 0
 FitsFilter filter = IfSome filter (λ number. number ≤ 7)
 
--- the filter value that the text tells, else that of the options
+-- trusted, own: the filter value that the text gives, else that of the options
 abbrev pub filter_for : Options → Meaning → Option ℕ
 filter_for options meaning = option_or meaning.filter options.filter
 
--- a filter value is lacking; a pure identity needs none
+-- trusted, own: a filter value is lacking; a pure identity needs none
 abbrev pub lacks_filter : LevelName → Option ℕ → Bool
 lacks_filter Pure filter = false
 lacks_filter Tag filter = is_none filter
 lacks_filter Binary filter = is_none filter
 
--- the encoding of the options, else that of the text
+-- trusted, own: the encoding of the options, else that of the text
 abbrev pub encoding_for : Options → Meaning → List ℕ
 encoding_for options meaning = if is_empty options.encoding then meaning.encoding else options.encoding
 
--- the EPC with the encoding and the filter value of a tag
+-- trusted, own: the EPC with the encoding and the filter value of a tag
 abbrev pub with_tag : Options → LevelName → Meaning → Epc → Result Epc Reason
 with_tag options level meaning epc =
     if lacks_filter level (filter_for options meaning) then Err (Missing Filter)
@@ -137,16 +136,11 @@ with_tag options level meaning epc =
 
 -- ---- the EPC
 
--- the reason by which an identity is not taken apart
-abbrev pub fields_reason : FieldsFault → Reason
-fields_reason MissingSerial = Missing Serial
-fields_reason NoMemory = Memory
-
--- What is written of a meaning as a tag or an EPC URI, or the first reason why it is not: there is no kind of the key; a pair
--- is neither the key nor the serial; the length of the company prefix is missing; no option of any level has it; the serial is
--- missing; a filter value is missing.
+-- trusted, TDS 2.0, section 7; the order is own: What is written of a meaning as a tag or an EPC URI, or the first reason
+-- why it is not: there is no kind of the key; a pair is neither the key nor the serial; the length of the company prefix is
+-- missing; no option of any level has it; the serial is missing; a filter value is missing.
 abbrev pub epc_for : TableRows → List PrefixEntry → Options → LevelName → Meaning → Result Epc Reason
 epc_for set prefixes options level meaning =
     and_then (kind_for set meaning.identity) (λ kind.
     and_then (length_for set prefixes options meaning kind) (λ n.
-    and_then (else_refused (Missing Serial) (epc_at set kind meaning.identity n)) (with_tag options level meaning)))
+    and_then (else_rejected (Missing Serial) (epc_at set kind meaning.identity n)) (with_tag options level meaning)))

@@ -1,13 +1,13 @@
 -- The translation of a text: one spelling in the form that is asked for, or the first reason why there is none.
 use Rattle.std.specs.Prelude.{◌≡◌, ◌≢◌, true, ℕ, List, Result, Ok, Err, MatchResult}
 use Rattle.gs_dlink.specs.Stems.{stem_ok}
-use Rattle.gs_document.specs.declared.level_name.LevelName.{LevelName}
-use Rattle.gs_document.specs.declared.level_name.LevelName.TheVariants as level
-use Rattle.gs_element.specs.Bracketed.{bracketed_text}
+use Rattle.gs_tables_document.specs.declared.level_name.LevelName.{LevelName}
+use Rattle.gs_tables_document.specs.declared.level_name.LevelName.TheVariants as level
+use Rattle.gs_element.specs.BracketedTexts.{bracketed_text}
 use Rattle.gs_element.specs.Raw.{raw_text}
 use Rattle.gs_epc.specs.declared.epc.Epc.{Epc}
-use Rattle.gs_epc.specs.declared.write_fault.EpcWriteFault.{EpcWriteFault}
-use Rattle.gs_epc.specs.declared.write_fault.EpcWriteFault.TheVariants as write
+use Rattle.gs_epc.specs.declared.write_error.EpcWriteFault.{EpcWriteFault}
+use Rattle.gs_epc.specs.declared.write_error.EpcWriteFault.TheVariants as write
 use Rattle.gs_epc.specs.Writes.{Writes, WritesAs}
 use Rattle.gs_ident.specs.Elements.{Elements, pairs_of}
 use Rattle.gs_ident.specs.Links.{spelled}
@@ -26,36 +26,36 @@ use Rattle.gs_translate.specs.Meanings.{IsRead, Means}
 use Rattle.gs_translate.specs.Steps.{Then}
 use Rattle.gs_translate.specs.Targets.{FitsFilter, epc_for, kept}
 
--- what options keep: a filter value of 0 to 7, and a stem that a link may have
+-- trusted, own: what options keep: a filter value of 0 to 7, and a stem that a link may have
 pub record AreInOrder (options : Options) : Type 0 where
   pub filter : FitsFilter options.filter
   pub stem : stem_ok options.stem ≡ true
 
 -- ---- tags and EPC URIs
 
--- the reason by which an EPC is not written
+-- trusted, own: the reason by which an EPC is not written
 abbrev pub write_reason : EpcWriteFault → Reason
 write_reason write.NoOption = NoOption
 write_reason (write.CannotHold field why) = CannotHold field why
 write_reason write.Memory = Memory
 
--- the reason is why no option of the level writes the EPC
+-- trusted, own: the reason is why no option of the level writes the EPC
 abbrev pub OfWriting : TableRows → LevelName → Epc → Reason → Type 0
 OfWriting set level epc reason =
-    (fault : EpcWriteFault) × (fault ≢ write.Memory) × WritesAs set level epc (Err fault) × (reason ≡ write_reason fault)
+    (error : EpcWriteFault) × (error ≢ write.Memory) × WritesAs set level epc (Err error) × (reason ≡ write_reason error)
 
--- the text of the first option that holds the EPC, or why there is none
+-- trusted, own: the text of the first option that holds the EPC, or why there is none
 abbrev pub IsWritten : TableRows → LevelName → Epc → Result (List ℕ) Reason → Type 0
 IsWritten set level epc answer = MatchResult answer (Writes set level epc) (OfWriting set level epc)
 
--- the text of a level of what a text means, or the first reason why there is none
+-- trusted, own: the text of a level of what a text means, or the first reason why there is none
 abbrev pub IsOfLevel : TableRows → List PrefixEntry → Options → LevelName → Meaning → Result (List ℕ) Reason → Type 0
 IsOfLevel set prefixes options level meaning answer =
     Then (λ epc. epc ≡ epc_for set prefixes options level meaning) (IsWritten set level) answer
 
 -- ---- each form
 
--- the one spelling of a meaning in the form that is asked for, or the first reason why there is none
+-- trusted, own: the one spelling of a meaning in the form that is asked for, or the first reason why there is none
 abbrev pub IsSpelling : TableRows → List PrefixEntry → Options → Target → Meaning → Result (List ℕ) Reason → Type 0
 IsSpelling set prefixes options Hex meaning answer = IsOfLevel set prefixes options level.Binary meaning answer
 IsSpelling set prefixes options Tag meaning answer = IsOfLevel set prefixes options level.Tag meaning answer
@@ -65,20 +65,37 @@ IsSpelling set prefixes options Bracketed meaning answer = answer ≡ Ok (bracke
 IsSpelling set prefixes options Link meaning answer = answer ≡ Ok (spelled options.stem meaning.identity)
 IsSpelling set prefixes options Canon meaning answer = IsCanonical meaning answer
 
--- The translation of a text of a form: why it is refused, else the spelling of what it means, narrowed where only keys are
--- kept.
+-- trusted, TDS 2.0, sections 6, 7, 12 and 14; GS1 General Specifications, sections 4 and 7.8; GS1 Digital Link URI Syntax,
+-- sections 4 and 5; the reasons are own: The translation of a text of a form: why it is rejected, else the spelling of what
+-- it means, narrowed where only keys are kept.
 abbrev pub IsTranslation : TableRows → List PrefixEntry → Options → Form → Target → List ℕ → Result (List ℕ) Reason → Type 0
 IsTranslation set prefixes options from to text answer =
     Then (IsRead set from text) (λ meaning. IsSpelling set prefixes options to (kept set options.keys_only meaning)) answer
 
+-- trusted, own: what texts are translated by, and from which form to which
+pub record Translating : Type 0 where
+  pub set : TableRows
+  pub prefixes : List PrefixEntry
+  pub options : Options
+  pub from : Form
+  pub to : Target
+
+-- trusted, own: that by these tables, prefixes and options, from this form to that
+abbrev pub translating_by : TableRows → List PrefixEntry → Options → Form → Target → Translating
+translating_by set prefixes options from to = record { set = set; prefixes = prefixes; options = options; from = from; to = to }
+
+-- trusted, own: the translation of a text by that
+abbrev pub IsTranslated : Translating → List ℕ → Result (List ℕ) Reason → Type 0
+IsTranslated t text answer = IsTranslation t.set t.prefixes t.options t.from t.to text answer
+
 -- ---- what laws say of texts
 
--- two texts that mean something name the same elements
+-- trusted, own: two texts that mean something name the same elements
 abbrev pub NameOne : TableRows → Form → List ℕ → Form → List ℕ → Type 0
 NameOne set form text other given =
     (one two : Meaning) → IsRead set form text (Ok one) → IsRead set other given (Ok two) → one.identity ≡ two.identity
 
--- the form in which a target is read: a canonical link is a link
+-- trusted, own: the form in which a target is read: a canonical link is a link
 abbrev pub form_of : Target → Form
 form_of Hex = form.Hex
 form_of Tag = form.Tag
@@ -88,7 +105,7 @@ form_of Bracketed = form.Bracketed
 form_of Link = form.Link
 form_of Canon = form.Link
 
--- element strings and links: the targets that are written of an identity as it is
+-- trusted, own: element strings and links: the targets that are written of an identity as it is
 abbrev pub IsOfPairs : Target → Type 0
 IsOfPairs Hex = ⊥
 IsOfPairs Tag = ⊥
@@ -98,7 +115,7 @@ IsOfPairs Bracketed = Unit {0}
 IsOfPairs Link = Unit {0}
 IsOfPairs Canon = Unit {0}
 
--- the text means this identity in the form of the target, however long it is
+-- trusted, own: the text means this identity in the form of the target, however long it is
 pub record MeansIdentity (set : TableRows) (to : Target) (text : List ℕ) (identity : Elements) : Type 0 where
   pub meaning : Meaning
   pub means : Means set (form_of to) text (Ok meaning)

@@ -27,7 +27,7 @@ fn meaning_of_pairs(alloc: Global, set: &TableSet, pairs: Vec<Pair>) -> Result<M
             encoding: Text::new(alloc),
         }),
         Err(IdentFault::Memory) => Err(Reason::Memory),
-        Err(fault) => Err(Reason::Ident(fault)),
+        Err(error) => Err(Reason::Ident(error)),
     }
 }
 

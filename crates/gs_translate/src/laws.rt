@@ -1,5 +1,5 @@
 ghost use Rattle.std.specs.Prelude.{◌≡◌, ℕ, List, Result};
-ghost use Rattle.gs_tables.specs.Judged.{IsLoaded};
+ghost use Rattle.gs_tables.specs.Judgements.{IsLoaded};
 ghost use Rattle.gs_tables.specs.Tables.{TableRows};
 ghost use Rattle.gs_translate.specs.declared.form.Form.{Form};
 ghost use Rattle.gs_translate.specs.declared.meaning.Meaning.{Meaning};
@@ -7,9 +7,9 @@ ghost use Rattle.gs_translate.specs.declared.reason.Reason.{Reason};
 ghost use Rattle.gs_translate.specs.Answers.{IsAnswer};
 ghost use Rattle.gs_translate.specs.Conditions.{AsksForOne, AsksForSome};
 ghost use Rattle.gs_translate.specs.Meanings.{IsRead};
-ghost use Rattle.gs_translate.specs.Steps.{HasOne, HasSome};
+ghost use Rattle.gs_translate.specs.StepsSupport.{HasOne, HasSome};
 
-/// A text means at most one thing in a form, and it means something or is refused, by tables that keep what the form asks for.
+/// A text means at most one thing in a form, and it means something or is rejected, by tables that keep what the form asks for.
 /// Tables that are loaded keep it for every form.
 pub fn each_text_has_one_meaning()
     ensures at_most_one { (set : TableRows) (form : Form) (text : List ℕ) → AsksForOne form set

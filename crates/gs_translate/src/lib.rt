@@ -4,7 +4,8 @@
 //! with brackets, and GS1 Digital Links.
 //!
 //! - `read` tells what a text means, or the first reason why it means nothing.
-//! - `answer` gives the canonical link of that, and `translate` its one spelling in a form that is asked for.
+//! - `translate` gives the one spelling of that in a form that is asked for, and `Translator` does so for one text after another.
+//! - `reason_text` is the text of a reason; `append_reason` appends it, and `append_ident` that of elements that have no identity.
 //!
 //! # Example
 //!
@@ -25,29 +26,34 @@
 //!   names two things, and is rejected.
 #![tactic(auto)]
 
-mod answering;
 mod elements;
 mod field_name;
 mod form;
+mod hold_text;
 mod laws;
 mod meaning;
-mod narrowing;
+mod narrower;
 mod options;
-mod reading;
+mod reader;
 mod reason;
+mod reason_texts;
 mod spelling;
-mod tagging;
+mod tag_fields;
 mod target;
-mod translating;
+mod translation;
 mod translation_laws;
+mod translator;
+mod words;
 mod write_reasons;
 
-pub use answering::answer;
 pub use field_name::FieldName;
 pub use form::Form;
 pub use meaning::Meaning;
 pub use options::Options;
-pub use reading::read;
+pub use reader::read;
 pub use reason::Reason;
+pub use reason_texts::{append_ident, append_reason, reason_text};
 pub use target::Target;
-pub use translating::translate;
+pub use translation::translate;
+pub use translator::Translator;
+pub use words::{append_number, append_numbered, append_word};

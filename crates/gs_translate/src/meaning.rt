@@ -2,7 +2,7 @@ ghost use Rattle.std.specs.Prelude.{◌≡◌, true};
 ghost use Rattle.gs_ident.specs.Identities.{IsMadeWith};
 ghost use Rattle.gs_translate.specs.Targets.{kept};
 
-use crate::narrowing::narrowed;
+use crate::narrower::narrowed;
 use gs_chars::Text;
 use gs_ident::Identity;
 use gs_tables::TableSet;
@@ -11,9 +11,9 @@ use gs_tables::TableSet;
 pub struct Meaning {
     /// The identity that it names.
     pub identity: Identity,
-    /// How many digits the GS1 Company Prefix has, where the form tells it.
+    /// How many digits the GS1 Company Prefix has, where the form gives it.
     pub gcp: Option<u8>,
-    /// The filter value, where the form tells it.
+    /// The filter value, where the form gives it.
     pub filter: Option<u8>,
     /// The name of the encoding, empty where the form has none.
     pub encoding: Text,

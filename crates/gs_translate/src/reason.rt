@@ -8,12 +8,12 @@ use gs_grammar::Why;
 use gs_ident::IdentFault;
 use gs_tables::Field;
 
-/// Why a text is refused.
+/// Why a text is rejected.
 #[derive(Drop)]
 pub enum Reason {
     /// The text has more than 2,048 bytes.
     Long,
-    /// The text says no EPC, for this reason, which is never want of memory.
+    /// The text says no EPC, for this reason, which is never out of memory.
     Epc(EpcFault),
     /// An element of the text is not in order: where, and why.
     Element(ElementFault),
@@ -21,7 +21,7 @@ pub enum Reason {
     NotHttp,
     /// The path of the link ends in no key with its qualifiers.
     NoKeyPath,
-    /// The elements of the text have no identity, for this reason, which is never want of memory.
+    /// The elements of the text have no identity, for this reason, which is never out of memory.
     Ident(IdentFault),
     /// The tables have no kind of EPC for the key.
     NoKind,
@@ -33,7 +33,7 @@ pub enum Reason {
     NoOption,
     /// No such option holds every field. The last one does not hold this field, for this reason.
     CannotHold(Field, Why),
-    /// Want of memory.
+    /// Out of memory.
     Memory,
 }
 
@@ -43,20 +43,20 @@ impl From<Memory> for Reason {
 
     ghost from_gives = { λ _ e. e ≡ WantOfMemory };
 
-    fn from(_refused: Memory) -> Reason {
+    fn from(_rejected: Memory) -> Reason {
         Reason::Memory
     }
 }
 
 impl From<ElementsFault> for Reason {
     ghost use Rattle.std.specs.Prelude.{◌≡◌};
-    ghost use Rattle.gs_translate.specs.Meanings.{elements_reason};
+    ghost use Rattle.gs_translate.specs.MeaningsSupport.{elements_reason};
 
-    ghost from_gives = { λ fault reason. reason ≡ elements_reason fault };
+    ghost from_gives = { λ error reason. reason ≡ elements_reason error };
 
-    fn from(fault: ElementsFault) -> Reason {
-        match fault {
-            ElementsFault::Element(fault) => Reason::Element(fault),
+    fn from(error: ElementsFault) -> Reason {
+        match error {
+            ElementsFault::Element(error) => Reason::Element(error),
             ElementsFault::Memory => Reason::Memory,
         }
     }
@@ -66,13 +66,13 @@ impl From<LinkFault> for Reason {
     ghost use Rattle.std.specs.Prelude.{◌≡◌};
     ghost use Rattle.gs_translate.specs.Meanings.{link_reason};
 
-    ghost from_gives = { λ fault reason. reason ≡ link_reason fault };
+    ghost from_gives = { λ error reason. reason ≡ link_reason error };
 
-    fn from(fault: LinkFault) -> Reason {
-        match fault {
+    fn from(error: LinkFault) -> Reason {
+        match error {
             LinkFault::NotHttp => Reason::NotHttp,
             LinkFault::NoKeyPath => Reason::NoKeyPath,
-            LinkFault::Element(fault) => Reason::Element(fault),
+            LinkFault::Element(error) => Reason::Element(error),
             LinkFault::Memory => Reason::Memory,
         }
     }

@@ -1,6 +1,5 @@
 ghost use Rattle.std.specs.Prelude.{◌≡◌};
 ghost use Rattle.gs_epc.specs.Candidates.{HasFilterOn};
-ghost use Rattle.gs_epc.specs.Writes.{WritesAs};
 ghost use Rattle.gs_ident.specs.Identities.{IsMadeWith};
 ghost use Rattle.gs_translate.specs.Steps.{UnlessMemory};
 ghost use Rattle.gs_translate.specs.Targets.{FitsFilter};
@@ -9,33 +8,16 @@ ghost use Rattle.gs_translate.specs.Translations.{AreInOrder, IsOfLevel, IsSpell
 use crate::meaning::Meaning;
 use crate::options::Options;
 use crate::reason::Reason;
-use crate::tagging::epc_for;
+use crate::tag_fields::epc_for;
 use crate::target::Target;
 use gs_chars::Text;
 use gs_dlink::write_link;
 use gs_element::{write_bracketed, write_raw};
-use gs_epc::{Epc, EpcWriteFault, write_hex, write_pure, write_tag};
+use gs_epc::{Epc, write_level};
 use gs_ident::canonical;
 use gs_prefix::PrefixList;
 use gs_tables::{LevelName, TableSet};
 use std::alloc::Global;
-
-/// The text of an EPC in a level.
-fn write_level(
-    alloc: Global,
-    set: &TableSet,
-    level: LevelName,
-    epc: &Epc,
-) -> Result<Text, EpcWriteFault>
-    requires { HasFilterOn level epc.now.filter }
-    ensures { WritesAs set.now level epc.now result }
-{
-    match level {
-        LevelName::Binary => write_hex(alloc, set, epc),
-        LevelName::Tag => write_tag(alloc, set, epc),
-        LevelName::Pure => write_pure(alloc, set, epc),
-    }
-}
 
 /// The text of an EPC in a level, or why there is none.
 fn write_epc(alloc: Global, set: &TableSet, level: LevelName, epc: &Epc) -> Result<Text, Reason>

@@ -7,7 +7,7 @@ pub enum Target {
     Tag,
     /// Pure identity URIs (TDS 2.0, section 6).
     Pure,
-    /// Element strings without anything in front (GS1 General Specifications, section 7.8).
+    /// Element strings without anything at the start (GS1 General Specifications, section 7.8).
     Raw,
     /// Element strings as they are printed below a symbol (GS1 General Specifications, section 4, human readable
     /// interpretation).

@@ -1,6 +1,6 @@
 ghost use Rattle.std.specs.Prelude.{◌≡◌, ◌↔◌, ℕ, false, List, Ok, Result};
 ghost use Rattle.gs_prefix.specs.declared.entry.PrefixEntry.{PrefixEntry};
-ghost use Rattle.gs_tables.specs.Judged.{IsLoaded};
+ghost use Rattle.gs_tables.specs.Judgements.{IsLoaded};
 ghost use Rattle.gs_tables.specs.Tables.{IsShaped, TableRows};
 ghost use Rattle.gs_translate.specs.declared.form.Form.{Form};
 ghost use Rattle.gs_translate.specs.declared.meaning.Meaning.{Meaning};
@@ -10,7 +10,7 @@ ghost use Rattle.gs_translate.specs.declared.target.Target.{Target};
 ghost use Rattle.gs_translate.specs.Answers.{IsAnswer};
 ghost use Rattle.gs_translate.specs.Conditions.{AsksForOne, AsksForSome};
 ghost use Rattle.gs_translate.specs.Meanings.{IsRead};
-ghost use Rattle.gs_translate.specs.Steps.{HasOne, HasSome};
+ghost use Rattle.gs_translate.specs.StepsSupport.{HasOne, HasSome};
 ghost use Rattle.gs_translate.specs.Targets.{kept};
 ghost use Rattle.gs_translate.specs.Translations.{AreInOrder, IsOfPairs, IsTranslation, MeansIdentity, NameOne};
 

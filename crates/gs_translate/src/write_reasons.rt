@@ -4,12 +4,12 @@ use gs_epc::{EpcWriteFault, FieldsFault};
 
 impl From<FieldsFault> for Reason {
     ghost use Rattle.std.specs.Prelude.{◌≡◌};
-    ghost use Rattle.gs_translate.specs.Targets.{fields_reason};
+    ghost use Rattle.gs_translate.specs.TargetsSupport.{fields_reason};
 
-    ghost from_gives = { λ fault reason. reason ≡ fields_reason fault };
+    ghost from_gives = { λ error reason. reason ≡ fields_reason error };
 
-    fn from(fault: FieldsFault) -> Reason {
-        match fault {
+    fn from(error: FieldsFault) -> Reason {
+        match error {
             FieldsFault::MissingSerial => Reason::Missing(FieldName::Serial),
             FieldsFault::Memory => Reason::Memory,
         }
@@ -20,10 +20,10 @@ impl From<EpcWriteFault> for Reason {
     ghost use Rattle.std.specs.Prelude.{◌≡◌};
     ghost use Rattle.gs_translate.specs.Translations.{write_reason};
 
-    ghost from_gives = { λ fault reason. reason ≡ write_reason fault };
+    ghost from_gives = { λ error reason. reason ≡ write_reason error };
 
-    fn from(fault: EpcWriteFault) -> Reason {
-        match fault {
+    fn from(error: EpcWriteFault) -> Reason {
+        match error {
             EpcWriteFault::NoOption => Reason::NoOption,
             EpcWriteFault::CannotHold(field, why) => Reason::CannotHold(field, why),
             EpcWriteFault::Memory => Reason::Memory,

@@ -1,16 +1,16 @@
-//! `tdl` translates GS1 identities: each line of the input is answered by the canonical link of what it names.
+//! The process: its arguments, the standard streams, the files and the door of the system, handed to `run`, and the status as its number.
 #![tactic(auto)]
 
-use gs_program::{Status, run, words_behind};
-use gs_system::{HostFiles, StdinSource, StdoutSink, TcpDoor};
+use gs_port_system::{HostFiles, StdinSource, StdoutSink, TcpDoor};
 use std::process::ExitCode;
 use std::{env, io};
+use tdl_run::{Status, run, without_program_name};
 
-/// The status where the words cannot be had.
-const NO_WORDS: u8 = 8;
+/// The status where the arguments cannot be had.
+const NO_ARGUMENTS: u8 = 8;
 
-/// The name that the program was called by, and the words behind it.
-fn all_words(rt: &HostRuntime) -> io::Result<Vec<String>> {
+/// The name that the program was called by, and the arguments behind it.
+fn all_arguments(rt: &HostRuntime) -> io::Result<Vec<String>> {
     let mut words = Vec::new(rt.alloc());
     for word in env::args(rt)? {
         words.push(word)?;
@@ -19,20 +19,20 @@ fn all_words(rt: &HostRuntime) -> io::Result<Vec<String>> {
 }
 
 fn main(rt: HostRuntime) -> ExitCode {
-    let words = match all_words(&rt) {
+    let words = match all_arguments(&rt) {
         Ok(words) => words,
-        Err(refusal) if refusal.kind() == io::ErrorKind::OutOfMemory => {
+        Err(rejection) if rejection.kind() == io::ErrorKind::OutOfMemory => {
             return Status::Memory.exit_code();
         }
-        Err(_) => return ExitCode::from(NO_WORDS),
+        Err(_) => return ExitCode::from(NO_ARGUMENTS),
     };
-    let mut files = HostFiles::new(rt);
+    let mut files = HostFiles::new(rt.alloc(), rt);
     let mut input = StdinSource::new(rt.stdin());
     let mut output = StdoutSink::new(rt.stdout());
     let mut door = TcpDoor::new(rt);
     run(
         rt.alloc(),
-        words_behind(words.as_slice()),
+        without_program_name(words.as_slice()),
         &mut files,
         &mut input,
         &mut output,

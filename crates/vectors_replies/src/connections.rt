@@ -12,7 +12,7 @@ use gs_chars::Text;
 use gs_http::{Served, serve_one};
 use gs_port::{MemSink, MemSource, Pair};
 use std::alloc::Global;
-use vector_cases::{Answer, Done, Line, Refusal, bytes_at, number, section, sink_of, source_of};
+use vectors_cases::{Answer, Done, Line, Rejection, bytes_at, number, section, sink_of, source_of};
 
 /// How serving ends. Apart from what becomes of it, since it promises much.
 fn served(
@@ -71,7 +71,7 @@ fn at_cut(alloc: Global, table: &AiTable, site: &Site, bytes: &[u8], cut: usize)
 }
 
 /// Whether an outcome is another than this one.
-fn differs(outcome: Answer, whole: &str) -> Result<bool, Refusal> {
+fn differs(outcome: Answer, whole: &str) -> Result<bool, Rejection> {
     let outcome = outcome?;
     Ok(outcome.as_str() != whole)
 }
@@ -109,7 +109,7 @@ pub fn over_cuts(
 }
 
 /// So many copies of a head.
-fn repeated(alloc: Global, count: u64, head: &[u8]) -> Result<Vec<u8>, Refusal> {
+fn repeated(alloc: Global, count: u64, head: &[u8]) -> Result<Vec<u8>, Rejection> {
     let mut bytes = Vec::new(alloc);
     for _ in 0..count {
         bytes.extend_from_slice(head)?;

@@ -8,7 +8,7 @@ use gs_ai::AiTable;
 use gs_chars::Text;
 use gs_http::reply;
 use std::alloc::Global;
-use vector_cases::{Done, Line, bytes_at};
+use vectors_cases::{Done, Line, bytes_at};
 
 /// Answers a call of `reply`.
 pub fn replied(

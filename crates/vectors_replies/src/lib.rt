@@ -1,39 +1,49 @@
 //! The public calls of gs_http, as cases of vectors name them: the replies to heads of requests and to whole connections, over
-//! stores of links. The head of vector_cases says how a case and an answer are written.
+//! stores of links. The head of vectors_cases says how a case and an answer are written.
 #![tactic(auto)]
 
 mod connections;
 mod heads;
+mod languages;
 mod site;
 
 use crate::connections::{many, over_cuts, serve};
 use crate::heads::replied;
+use crate::languages::ranges;
 use crate::site::{Site, site_of};
 use gs_ai::AiTable;
 use gs_chars::Text;
 use std::alloc::Global;
-use vector_cases::{Answer, Done, Line, Refusal, bytes_at, named};
+use vectors_cases::{Answer, Done, Line, Rejection, bytes_at, named};
 
+/// A call that answers from a site.
 #[derive(Clone, Copy)]
-enum Call {
+enum SiteCall {
     Cuts,
     Many,
     Reply,
     Serve,
 }
 
-const CALLS: [(&str, Call); 4] = [
-    ("cuts", Call::Cuts),
-    ("many", Call::Many),
-    ("reply", Call::Reply),
-    ("serve", Call::Serve),
+#[derive(Clone, Copy)]
+enum Call {
+    Ranges,
+    Site(SiteCall),
+}
+
+const CALLS: [(&str, Call); 5] = [
+    ("cuts", Call::Site(SiteCall::Cuts)),
+    ("language_ranges", Call::Ranges),
+    ("many", Call::Site(SiteCall::Many)),
+    ("reply", Call::Site(SiteCall::Reply)),
+    ("serve", Call::Site(SiteCall::Serve)),
 ];
 
 /// The resolver description file of a call, a hyphen where it takes none.
-fn description(call: Call, args: &[Text]) -> &[u8] {
+fn description(call: SiteCall, args: &[Text]) -> &[u8] {
     match call {
-        Call::Reply => bytes_at(args, 1),
-        Call::Cuts | Call::Many | Call::Serve => b"-",
+        SiteCall::Reply => bytes_at(args, 1),
+        SiteCall::Cuts | SiteCall::Many | SiteCall::Serve => b"-",
     }
 }
 
@@ -43,24 +53,30 @@ fn write_from(
     line: &mut Line,
     ais: &AiTable,
     site: &Site,
-    call: Call,
+    call: SiteCall,
     args: &[Text],
 ) -> Done {
     match call {
-        Call::Cuts => over_cuts(alloc, line, ais, site, bytes_at(args, 1)),
-        Call::Many => many(alloc, line, ais, site, args),
-        Call::Reply => replied(alloc, line, ais, site, args),
-        Call::Serve => serve(alloc, line, ais, site, args),
+        SiteCall::Cuts => over_cuts(alloc, line, ais, site, bytes_at(args, 1)),
+        SiteCall::Many => many(alloc, line, ais, site, args),
+        SiteCall::Reply => replied(alloc, line, ais, site, args),
+        SiteCall::Serve => serve(alloc, line, ais, site, args),
     }
+}
+
+/// Writes the answer to a call over a site.
+fn write_at(alloc: Global, line: &mut Line, ais: &AiTable, call: SiteCall, args: &[Text]) -> Done {
+    let site = site_of(alloc, ais, bytes_at(args, 0), description(call, args))?;
+    write_from(alloc, line, ais, &site, call, args)
 }
 
 /// Writes the answer to a call of gs_http.
 fn write(alloc: Global, line: &mut Line, ais: &AiTable, call: &[u8], args: &[Text]) -> Done {
-    let Some(call) = named(&CALLS, call) else {
-        return Err(Refusal::NoCase);
-    };
-    let site = site_of(alloc, ais, bytes_at(args, 0), description(call, args))?;
-    write_from(alloc, line, ais, &site, call, args)
+    match named(&CALLS, call) {
+        Some(Call::Ranges) => ranges(alloc, line, args),
+        Some(Call::Site(call)) => write_at(alloc, line, ais, call, args),
+        None => Err(Rejection::NoCase),
+    }
 }
 
 /// The answer to a call of gs_http, over these application identifiers.

@@ -7,7 +7,7 @@ use gs_http::Settings;
 use gs_links::Store;
 use gs_linkset::LinkDoc;
 use std::alloc::Global;
-use vector_cases::{Refusal, named};
+use vectors_cases::{Rejection, named};
 
 /// What `gs1:` stands for.
 const VOC: &[u8] = b"https://ref.gs1.org/voc/";
@@ -20,7 +20,11 @@ const LOTS: &[u8] =
 const PLACE: &[u8] =
     br#"{"linkset":[{"anchor":"/414/0614141000012","gs1:defaultLink":[{"href":"https://a.example/1"},{"href":"https://a.example/2"}]}]}"#;
 
-const LINKSETS: [(&str, &[u8]); 2] = [("lots", LOTS), ("place", PLACE)];
+/// A trade item with default links in English and in German, and a lot of it with two in one language and one without.
+const LANGUAGES: &[u8] =
+    br#"{"linkset":[{"anchor":"/01/09506000134352","gs1:defaultLink":[{"href":"https://example.com/en","hreflang":["en"]},{"href":"https://example.com/de","hreflang":["de","de-AT"]}]},{"anchor":"/01/09506000134352/10/ABC","gs1:defaultLink":[{"href":"https://example.com/1","hreflang":["fr-CA"]},{"href":"https://example.com/2","hreflang":["FR"]},{"href":"https://example.com/3"}]}]}"#;
+
+const LINKSETS: [(&str, &[u8]); 3] = [("languages", LANGUAGES), ("lots", LOTS), ("place", PLACE)];
 
 /// The links and the settings that requests are answered from.
 #[derive(Drop)]
@@ -35,23 +39,23 @@ fn linkset_of(name: &[u8]) -> &[u8] {
 }
 
 /// The linkset of a text.
-fn doc_of(alloc: Global, text: &[u8]) -> Result<LinkDoc, Refusal> {
+fn doc_of(alloc: Global, text: &[u8]) -> Result<LinkDoc, Rejection> {
     match gs_linkset::read(alloc, text) {
         Ok(doc) => Ok(doc),
-        Err(_) => Err(Refusal::NoCase),
+        Err(_) => Err(Rejection::NoCase),
     }
 }
 
 /// The store of a linkset.
-fn store_of(alloc: Global, table: &AiTable, text: &[u8]) -> Result<Store, Refusal> {
+fn store_of(alloc: Global, table: &AiTable, text: &[u8]) -> Result<Store, Rejection> {
     match Store::load(alloc, table, VOC, doc_of(alloc, text)?) {
         Ok(store) => Ok(store),
-        Err(_) => Err(Refusal::NoCase),
+        Err(_) => Err(Rejection::NoCase),
     }
 }
 
 /// The description, none where it is a hyphen.
-fn described(alloc: Global, describe: &[u8]) -> Result<Option<Text>, Refusal> {
+fn described(alloc: Global, describe: &[u8]) -> Result<Option<Text>, Rejection> {
     if describe == b"-".as_slice() {
         return Ok(None);
     }
@@ -59,7 +63,7 @@ fn described(alloc: Global, describe: &[u8]) -> Result<Option<Text>, Refusal> {
 }
 
 /// The settings with this description, or with none where it is a hyphen.
-fn settings_of(alloc: Global, describe: &[u8]) -> Result<Settings, Refusal> {
+fn settings_of(alloc: Global, describe: &[u8]) -> Result<Settings, Rejection> {
     let describe = described(alloc, describe)?;
     let voc = Text::from_bytes(alloc, VOC)?;
     Ok(Settings { voc, describe })
@@ -71,7 +75,7 @@ pub fn site_of(
     table: &AiTable,
     store: &[u8],
     describe: &[u8],
-) -> Result<Site, Refusal> {
+) -> Result<Site, Rejection> {
     let settings = settings_of(alloc, describe)?;
     // the store last, since its drop is long and would be written out at each exit behind it
     let store = store_of(alloc, table, linkset_of(store))?;

@@ -1,8 +1,8 @@
 -- What an answerer says that gives each text back.
 use Rattle.std.specs.Prelude.{◌≡◌, ◌⊎◌, ℕ, ◌<◌, ◌≤◌, List, codes, length}
-use Rattle.gs_lines.specs.Outputs.{LineAnswer}
-use Rattle.gs_lines.specs.Outputs.LineAnswer.{accepted, refused}
+use Rattle.tdl_lines.specs.Outputs.{LineAnswer}
+use Rattle.tdl_lines.specs.Outputs.LineAnswer.{accepted, rejected}
 
 -- a text above 2,048 bytes is long, and each other is accepted as it is
 abbrev pub IsEcho : List ℕ → LineAnswer → Type 0
-IsEcho text answer = ((2048 < length text) × (answer ≡ refused (codes "long"))) ⊎ ((length text ≤ 2048) × (answer ≡ accepted text))
+IsEcho text answer = ((2048 < length text) × (answer ≡ rejected (codes "long"))) ⊎ ((length text ≤ 2048) × (answer ≡ accepted text))

@@ -9,10 +9,10 @@ ghost use Rattle.std.specs.Prelude.{◌≡◌, false, true, is_some};
 
 use crate::outside::add_taken;
 use gs_chars::Text;
-use gs_memory::MemDoor;
 use gs_port::{AcceptAnswer, Conn, Door, MemSink, MemSource, OpenAnswer, Pair, ReadAnswer};
+use gs_port_memory::MemDoor;
 use std::alloc::Global;
-use vector_cases::{Done, Line, door_of, section, sink_of, source_of};
+use vectors_cases::{Done, Line, door_of, section, sink_of, source_of};
 
 /// Writes what a turn answers.
 fn add_turn<C: Conn>(line: &mut Line, conn: &mut C)

@@ -5,10 +5,10 @@
 
 use crate::outside::add_moved;
 use gs_chars::Text;
-use gs_memory::MemFiles;
 use gs_port::{FileFault, Files, OpenAnswer, read_file};
+use gs_port_memory::MemFiles;
 use std::alloc::Global;
-use vector_cases::{Done, Line, Refusal, bytes_at, files_of, number, section, text_of};
+use vectors_cases::{Done, Line, Rejection, bytes_at, files_of, number, section, text_of};
 
 /// Writes what an open answers, and what a read moves then.
 fn add_opened(line: &mut Line, files: &mut MemFiles, name: &str) {
@@ -26,9 +26,9 @@ fn add_opened(line: &mut Line, files: &mut MemFiles, name: &str) {
 
 /// Answers a call of `open`.
 pub fn open(alloc: Global, line: &mut Line, args: &[Text]) -> Done {
-    let told = section(args, 0)?;
+    let known = section(args, 0)?;
     let names = section(args, 1)?;
-    let mut files = files_of(alloc, told)?;
+    let mut files = files_of(alloc, known)?;
     for name in names {
         add_opened(line, &mut files, text_of(name.as_bytes())?);
     }
@@ -51,12 +51,12 @@ fn add_read(line: &mut Line, read: Result<Text, FileFault>) {
     }
 }
 
-/// Writes what reading a file, whose name and most bytes are told, answers.
-fn add_one(alloc: Global, line: &mut Line, files: &mut MemFiles, told: &[Text]) -> Done {
-    let name = text_of(bytes_at(told, 0))?;
-    let max = number(told, 1)?;
+/// Writes what reading a file, whose name and most bytes are known, answers.
+fn add_one(alloc: Global, line: &mut Line, files: &mut MemFiles, known: &[Text]) -> Done {
+    let name = text_of(bytes_at(known, 0))?;
+    let max = number(known, 1)?;
     if max > 16_777_216 {
-        return Err(Refusal::NoCase);
+        return Err(Rejection::NoCase);
     }
     add_read(line, read_file(alloc, files, name, max as usize));
     Ok(())
@@ -64,9 +64,9 @@ fn add_one(alloc: Global, line: &mut Line, files: &mut MemFiles, told: &[Text]) 
 
 /// Answers a call of `read_file`.
 pub fn read_files(alloc: Global, line: &mut Line, args: &[Text]) -> Done {
-    let told = section(args, 0)?;
+    let known = section(args, 0)?;
     let wanted = section(args, 1)?;
-    let mut files = files_of(alloc, told)?;
+    let mut files = files_of(alloc, known)?;
     for one in wanted.chunks(2) {
         add_one(alloc, line, &mut files, one)?;
     }

@@ -1,16 +1,16 @@
-//! Calls of gs_lines over objects in memory, with each text that is not long as its own answer.
+//! Calls of tdl_lines over objects in memory, with each text that is not long as its own answer.
 //!
 //! - `answer_lines LIMIT / CUT FAILS BYTES / CUT FAILS`: the status, what the output holds, and what is left of the input.
 //! - `print_line LINE / CUT FAILS`: the status, and what the output holds.
 
-ghost use Rattle.std.specs.Prelude.{◌<◌, ◌^◌};
+ghost use Rattle.std.specs.Prelude.{◌<◌, ◌^◌, IfOk};
 
 use crate::runs::{add_outcome, add_status};
 use gs_chars::{Memory, Text};
-use gs_lines::{Answerer, Status, answer_lines, print_line};
 use gs_port::{MemSink, MemSource};
 use std::alloc::Global;
-use vector_cases::{Done, Line, Refusal, bytes_at, named, number, section, sink_of, source_of};
+use tdl_lines::{Answerer, Status, answer_lines, print_line};
+use vectors_cases::{Done, Line, Rejection, bytes_at, named, number, section, sink_of, source_of};
 
 /// Accepts each text of at most 2,048 bytes, and answers it by itself; of any other it says that it is long.
 struct Echo;
@@ -55,13 +55,24 @@ const CALLS: [(&str, Call); 2] = [
     ("print_line", Call::PrintLine),
 ];
 
-/// Answers a call of gs_lines.
+/// Answers a call of tdl_lines.
 pub fn answer(alloc: Global, line: &mut Line, call: &[u8], args: &[Text]) -> Done {
     match named(&CALLS, call) {
         Some(Call::AnswerLines) => answered(alloc, line, args),
         Some(Call::PrintLine) => printed(alloc, line, args),
-        None => Err(Refusal::NoCase),
+        None => Err(Rejection::NoCase),
     }
+}
+
+/// The number of an argument, which is the most bytes that are answered.
+pub fn limit_at(args: &[Text], i: usize) -> Result<u64, Rejection>
+    ensures { IfOk result (λ limit. limit < 2 ^ 63) }
+{
+    let limit = number(args, i)?;
+    if limit > 4_294_967_296 {
+        return Err(Rejection::NoCase);
+    }
+    Ok(limit)
 }
 
 /// How the answering of lines ends. Apart from what becomes of it, since it promises much.
@@ -72,10 +83,7 @@ fn status_of(alloc: Global, input: &mut MemSource, output: &mut MemSink, limit: 
 }
 
 fn answered(alloc: Global, line: &mut Line, args: &[Text]) -> Done {
-    let limit = number(args, 0)?;
-    if limit > 4_294_967_296 {
-        return Err(Refusal::NoCase);
-    }
+    let limit = limit_at(args, 0)?;
     let from = section(args, 1)?;
     let to = section(args, 2)?;
     let mut input = source_of(alloc, from)?;

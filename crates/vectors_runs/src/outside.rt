@@ -13,7 +13,7 @@ use crate::files::{open, read_files};
 use gs_chars::Text;
 use gs_port::{MemSink, MemSource, ReadAnswer, Sink, Source, WriteAnswer, write_whole};
 use std::alloc::Global;
-use vector_cases::{Done, Line, Refusal, behind, bytes_at, cut_of, named, numbers_of, sink_of};
+use vectors_cases::{Done, Line, Rejection, behind, bytes_at, cut_of, named, numbers_of, sink_of};
 
 #[derive(Clone, Copy)]
 enum Call {
@@ -46,11 +46,11 @@ pub fn answer(alloc: Global, line: &mut Line, call: &[u8], args: &[Text]) -> Don
         Some(Call::ReadFile) => read_files(alloc, line, args),
         Some(Call::Write) => write(alloc, line, args),
         Some(Call::WriteWhole) => written_whole(alloc, line, args),
-        None => Err(Refusal::NoCase),
+        None => Err(Rejection::NoCase),
     }
 }
 
-/// Writes what a read answers: the bytes that it moved to the front of the block, or that it failed.
+/// Writes what a read answers: the bytes that it moved to the start of the block, or that it failed.
 pub fn add_moved(line: &mut Line, moved: ReadAnswer, block: &[u8]) {
     match moved {
         ReadAnswer::Got(n) => line.bytes(&block[..n.min(block.len())]),

@@ -3,11 +3,11 @@
 ghost use Rattle.std.specs.Prelude.{◌≡◌, IfOk, false, is_some};
 
 use gs_chars::Text;
-use gs_memory::{MemDoor, MemFiles};
 use gs_port::{MemSink, MemSource};
-use gs_program::{Status, run};
+use gs_port_memory::{MemDoor, MemFiles};
 use std::alloc::Global;
-use vector_cases::{Refusal, door_of, files_of, section, sink_of, source_of};
+use tdl_run::{Status, run};
+use vectors_cases::{Rejection, door_of, files_of, section, sink_of, source_of};
 
 /// What a run is over.
 pub struct RunObjects {
@@ -46,14 +46,14 @@ impl RunObjects {
 }
 
 /// A door at which no connection waits.
-pub fn no_door(alloc: Global) -> Result<MemDoor, Refusal>
+pub fn no_door(alloc: Global) -> Result<MemDoor, Rejection>
     ensures { IfOk result (λ door. is_some door.current ≡ false) }
 {
     Ok(MemDoor::new(alloc, Vec::new(alloc), 1, Vec::new(alloc))?)
 }
 
-/// The door of a run, at which no connection waits where none is told.
-fn door_behind(alloc: Global, args: &[Text]) -> Result<MemDoor, Refusal>
+/// The door of a run, at which no connection waits where none is known.
+fn door_behind(alloc: Global, args: &[Text]) -> Result<MemDoor, Rejection>
     ensures { IfOk result (λ door. is_some door.current ≡ false) }
 {
     match section(args, 4) {
@@ -62,15 +62,15 @@ fn door_behind(alloc: Global, args: &[Text]) -> Result<MemDoor, Refusal>
     }
 }
 
-fn files_at(alloc: Global, args: &[Text]) -> Result<MemFiles, Refusal> {
+fn files_at(alloc: Global, args: &[Text]) -> Result<MemFiles, Rejection> {
     files_of(alloc, section(args, 1)?)
 }
 
-fn input_at(alloc: Global, args: &[Text]) -> Result<MemSource, Refusal> {
+fn input_at(alloc: Global, args: &[Text]) -> Result<MemSource, Rejection> {
     source_of(alloc, section(args, 2)?)
 }
 
-fn output_at(alloc: Global, args: &[Text]) -> Result<MemSink, Refusal> {
+fn output_at(alloc: Global, args: &[Text]) -> Result<MemSink, Rejection> {
     sink_of(alloc, section(args, 3)?)
 }
 
@@ -80,7 +80,7 @@ pub fn objects_over(
     args: &[Text],
     input: MemSource,
     door: MemDoor,
-) -> Result<RunObjects, Refusal>
+) -> Result<RunObjects, Rejection>
     requires { is_some door.current ≡ false }
     ensures { IfOk result (λ objects. is_some objects.door.current ≡ false) }
 {
@@ -95,7 +95,7 @@ pub fn objects_over(
 }
 
 /// The objects of a run.
-pub fn objects_of(alloc: Global, args: &[Text]) -> Result<RunObjects, Refusal>
+pub fn objects_of(alloc: Global, args: &[Text]) -> Result<RunObjects, Rejection>
     ensures { IfOk result (λ objects. is_some objects.door.current ≡ false) }
 {
     let input = input_at(alloc, args)?;

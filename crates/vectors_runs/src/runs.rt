@@ -1,4 +1,4 @@
-//! Calls of gs_program over objects in memory.
+//! Calls of tdl_run over objects in memory. Those of `answer_lines` stand in translated_lines.rt.
 //!
 //! - `run WORD.. / FAILS NAME BYTES .. / CUT FAILS BYTES / CUT FAILS`: a whole run with these words, over these files, this
 //!   input and an empty output, of which a read and a write move at most CUT bytes, and whose calls of the numbers FAILS fail:
@@ -11,37 +11,48 @@ ghost use Rattle.std.specs.Prelude.{◌≡◌, IfOk, false, is_some};
 
 use crate::connections::add_finished;
 use crate::run_objects::{RunObjects, no_door, objects_of, objects_over};
+use crate::translated_lines::{answered, answered_copies};
 use gs_chars::Text;
 use gs_port::{MemSink, MemSource, ReadAnswer, Source};
-use gs_program::Status;
+use gs_tables::TableSet;
 use std::alloc::Global;
-use vector_cases::{
-    Done, Line, Refusal, bytes_at, cut_of, named, number, push, said, section, text_of,
+use tdl_run::Status;
+use vectors_cases::{
+    Done, Line, Rejection, bytes_at, cut_of, named, number, push, said, section, text_of,
 };
 
 #[derive(Clone, Copy)]
 enum Call {
+    AnswerCopies,
+    AnswerLines,
     Repeated,
     Run,
 }
 
-const CALLS: [(&str, Call); 2] = [("repeated", Call::Repeated), ("run", Call::Run)];
+const CALLS: [(&str, Call); 4] = [
+    ("answer_copies", Call::AnswerCopies),
+    ("answer_lines", Call::AnswerLines),
+    ("repeated", Call::Repeated),
+    ("run", Call::Run),
+];
 
-/// Answers a call of gs_program.
-pub fn answer(alloc: Global, line: &mut Line, call: &[u8], args: &[Text]) -> Done {
+/// Answers a call of tdl_run.
+pub fn answer(alloc: Global, line: &mut Line, set: &TableSet, call: &[u8], args: &[Text]) -> Done {
     match named(&CALLS, call) {
+        Some(Call::AnswerCopies) => answered_copies(alloc, line, set, args),
+        Some(Call::AnswerLines) => answered(alloc, line, set, args),
         Some(Call::Repeated) => repeated(alloc, line, args),
         Some(Call::Run) => ran(alloc, line, args),
-        None => Err(Refusal::NoCase),
+        None => Err(Rejection::NoCase),
     }
 }
 
-fn string_of(alloc: Global, word: &[u8]) -> Result<String, Refusal> {
+fn string_of(alloc: Global, word: &[u8]) -> Result<String, Rejection> {
     said(alloc, text_of(word)?)
 }
 
 /// The words of a run.
-fn words_at(alloc: Global, args: &[Text]) -> Result<Vec<String>, Refusal> {
+fn words_at(alloc: Global, args: &[Text]) -> Result<Vec<String>, Rejection> {
     let words = section(args, 0)?;
     let mut strings = Vec::new(alloc);
     for word in words {
@@ -51,7 +62,7 @@ fn words_at(alloc: Global, args: &[Text]) -> Result<Vec<String>, Refusal> {
 }
 
 /// What is left of an input.
-fn left_of(alloc: Global, input: &mut MemSource) -> Result<Vec<u8>, Refusal> {
+fn left_of(alloc: Global, input: &mut MemSource) -> Result<Vec<u8>, Rejection> {
     let mut left = Vec::new(alloc);
     for _ in 0..1_000_000 {
         let mut block = [0; 64];
@@ -84,8 +95,8 @@ pub fn add_outcome(
     Ok(())
 }
 
-/// Writes what became of a run: its outcome and, where a door is told, its finished connections.
-fn add_told(
+/// Writes what became of a run: its outcome and, where a door is known, its finished connections.
+fn add_known(
     alloc: Global,
     line: &mut Line,
     args: &[Text],
@@ -103,17 +114,17 @@ fn ran(alloc: Global, line: &mut Line, args: &[Text]) -> Done {
     let words = words_at(alloc, args)?;
     let mut objects = objects_of(alloc, args)?;
     let status = objects.run(alloc, &words);
-    add_told(alloc, line, args, status, &mut objects)
+    add_known(alloc, line, args, status, &mut objects)
 }
 
 /// Appends a line and a line feed.
-fn push_line(bytes: &mut Vec<u8>, line: &[u8]) -> Result<(), Refusal> {
+fn push_line(bytes: &mut Vec<u8>, line: &[u8]) -> Result<(), Rejection> {
     bytes.extend_from_slice(line)?;
     Ok(bytes.push(b'\n')?)
 }
 
 /// So many copies of a line, each with a line feed.
-fn copies(alloc: Global, line: &[u8], count: u64) -> Result<Vec<u8>, Refusal> {
+fn copies(alloc: Global, line: &[u8], count: u64) -> Result<Vec<u8>, Rejection> {
     let mut bytes = Vec::new(alloc);
     for _ in 0..count {
         push_line(&mut bytes, line)?;
@@ -133,7 +144,7 @@ fn lines_equal(bytes: &[u8], line: &[u8]) -> u64 {
 }
 
 /// Writes the status, the length of an output, how many of its lines are equal to the first, and that line.
-fn add_counted(line: &mut Line, status: Status, output: &[u8]) {
+pub fn add_counted(line: &mut Line, status: Status, output: &[u8]) {
     let first = output.split(|c| *c == b'\n').next().unwrap_or_default();
     line.debug(status);
     line.debug(output.len());
@@ -142,18 +153,17 @@ fn add_counted(line: &mut Line, status: Status, output: &[u8]) {
 }
 
 /// The input of copies of a line.
-fn input_of_copies(alloc: Global, args: &[Text]) -> Result<MemSource, Refusal> {
-    let lines = section(args, 2)?;
+pub fn copies_of(alloc: Global, lines: &[Text]) -> Result<MemSource, Rejection> {
     let cut = cut_of(lines, 0)?;
     let bytes = copies(alloc, bytes_at(lines, 1), number(lines, 2)?)?;
     Ok(MemSource::new(alloc, bytes, cut, Vec::new(alloc)))
 }
 
 /// The objects of a run over copies of a line.
-fn objects_of_copies(alloc: Global, args: &[Text]) -> Result<RunObjects, Refusal>
+fn objects_of_copies(alloc: Global, args: &[Text]) -> Result<RunObjects, Rejection>
     ensures { IfOk result (λ objects. is_some objects.door.current ≡ false) }
 {
-    let input = input_of_copies(alloc, args)?;
+    let input = copies_of(alloc, section(args, 2)?)?;
     let door = no_door(alloc)?;
     objects_over(alloc, args, input, door)
 }

@@ -2,15 +2,15 @@
 //!
 //! - `read_link TEXT`, `read_target TEXT`: the codes and values in turn, or what is wrong and the place of it.
 //! - `stem_ok STEM`: whether a link may be written under it.
-//! - `write_link STEM CODE VALUE ..`: the link of the identity of the pairs under the stem, or the refusal.
+//! - `write_link STEM CODE VALUE ..`: the link of the identity of the pairs under the stem, or the rejection.
 
-use crate::elements::{add_fault, add_listed};
+use crate::elements::{add_error, add_listed};
 use crate::identities::made;
 use gs_ai::{AiTable, Pair};
 use gs_chars::Text;
 use gs_dlink::{LinkFault, read_link, read_target, stem_ok, write_link};
 use std::alloc::Global;
-use vector_cases::{Done, Line, Refusal, behind, bytes_at, named};
+use vectors_cases::{Done, Line, Rejection, behind, bytes_at, named};
 
 #[derive(Clone, Copy)]
 enum Call {
@@ -35,7 +35,7 @@ pub fn answer(alloc: Global, line: &mut Line, table: &AiTable, call: &[u8], args
         Some(Call::ReadTarget) => add_read(line, read_target(alloc, table, text)),
         Some(Call::StemOk) => line.debug(stem_ok(text)),
         Some(Call::WriteLink) => return written(alloc, line, table, text, behind(args, 1)),
-        None => return Err(Refusal::NoCase),
+        None => return Err(Rejection::NoCase),
     }
     Ok(())
 }
@@ -44,20 +44,20 @@ pub fn answer(alloc: Global, line: &mut Line, table: &AiTable, call: &[u8], args
 fn add_read(line: &mut Line, read: Result<Vec<Pair>, LinkFault>) {
     match read {
         Ok(pairs) => add_listed(line, pairs.as_slice()),
-        Err(LinkFault::Element(fault)) => add_fault(line, fault),
+        Err(LinkFault::Element(error)) => add_error(line, error),
         Err(LinkFault::Memory) => line.want_memory(),
-        Err(fault) => line.debug(fault),
+        Err(error) => line.debug(error),
     }
 }
 
 fn written(alloc: Global, line: &mut Line, table: &AiTable, stem: &[u8], words: &[Text]) -> Done {
     if !stem_ok(stem) {
-        return Err(Refusal::NoCase);
+        return Err(Rejection::NoCase);
     }
     match made(alloc, line, table, words) {
         Ok(Some(identity)) => line.text_made(write_link(alloc, stem, &identity)),
         Ok(None) => {}
-        Err(refusal) => return Err(refusal),
+        Err(rejection) => return Err(rejection),
     }
     Ok(())
 }

@@ -2,14 +2,14 @@
 //!
 //! - `read_raw TEXT`, `read_bracketed TEXT`: the codes and values in turn, `none` where there are none, or what is wrong and the
 //!   place of it.
-//! - `write_raw CODE VALUE ..`, `write_bracketed CODE VALUE ..`: the text of the identity of the pairs, or the refusal.
+//! - `write_raw CODE VALUE ..`, `write_bracketed CODE VALUE ..`: the text of the identity of the pairs, or the rejection.
 
 use crate::identities::made;
 use gs_ai::{AiTable, ElementFault, Pair};
 use gs_chars::Text;
 use gs_element::{ElementsFault, read_bracketed, read_raw, write_bracketed, write_raw};
 use std::alloc::Global;
-use vector_cases::{Done, Line, Refusal, bytes_at, named};
+use vectors_cases::{Done, Line, Rejection, bytes_at, named};
 
 #[derive(Clone, Copy)]
 enum Call {
@@ -34,7 +34,7 @@ pub fn answer(alloc: Global, line: &mut Line, table: &AiTable, call: &[u8], args
         Some(Call::ReadRaw) => add_read(line, read_raw(alloc, table, text)),
         Some(Call::WriteBracketed) => return bracketed_written(alloc, line, table, args),
         Some(Call::WriteRaw) => return raw_written(alloc, line, table, args),
-        None => return Err(Refusal::NoCase),
+        None => return Err(Rejection::NoCase),
     }
     Ok(())
 }
@@ -43,15 +43,15 @@ pub fn answer(alloc: Global, line: &mut Line, table: &AiTable, call: &[u8], args
 fn add_read(line: &mut Line, read: Result<Vec<Pair>, ElementsFault>) {
     match read {
         Ok(pairs) => add_listed(line, pairs.as_slice()),
-        Err(ElementsFault::Element(fault)) => add_fault(line, fault),
+        Err(ElementsFault::Element(error)) => add_error(line, error),
         Err(ElementsFault::Memory) => line.want_memory(),
     }
 }
 
 /// Writes what is wrong, and the place of it.
-pub fn add_fault(line: &mut Line, fault: ElementFault) {
-    line.debug(fault.why);
-    line.debug(fault.at);
+pub fn add_error(line: &mut Line, error: ElementFault) {
+    line.debug(error.why);
+    line.debug(error.at);
 }
 
 /// Writes a code and its value.
@@ -79,7 +79,7 @@ fn raw_written(alloc: Global, line: &mut Line, table: &AiTable, words: &[Text]) 
     match made(alloc, line, table, words) {
         Ok(Some(identity)) => line.text_made(write_raw(alloc, table, &identity)),
         Ok(None) => {}
-        Err(refusal) => return Err(refusal),
+        Err(rejection) => return Err(rejection),
     }
     Ok(())
 }
@@ -88,7 +88,7 @@ fn bracketed_written(alloc: Global, line: &mut Line, table: &AiTable, words: &[T
     match made(alloc, line, table, words) {
         Ok(Some(identity)) => line.text_made(write_bracketed(alloc, &identity)),
         Ok(None) => {}
-        Err(refusal) => return Err(refusal),
+        Err(rejection) => return Err(rejection),
     }
     Ok(())
 }

@@ -1,9 +1,9 @@
 //! Calls of gs_epc, by the built-in tables, or by those of a document.
 //!
 //! - `read_hex TEXT`, `read_tag TEXT`, `read_pure TEXT`: the kind, encoding, filter value, prefix length, prefix, rest and
-//!   serial, or the fault.
+//!   serial, or the error.
 //! - `identity_of FORM TEXT`, with FORM `hex`, `tag` or `pure`: the canonical link of the identity of what is read, or the
-//!   fault.
+//!   error.
 //! - `by DOC FORM TEXT`: the same by the tables of a document.
 //!
 //! The calls that write and that take apart stand in epc_writing.
@@ -11,14 +11,14 @@
 ghost use Rattle.std.specs.Prelude.{IfOk};
 ghost use Rattle.gs_epc.specs.Epcs.{IsOfSet};
 
-use crate::epc_writing::{Level, taken_apart, written};
+use crate::epc_writer::{Level, taken_apart, written};
 use crate::tables::set_of;
 use gs_chars::Text;
 use gs_epc::{Epc, EpcFault, identity_of, read_hex, read_pure, read_tag};
 use gs_ident::canonical;
 use gs_tables::TableSet;
 use std::alloc::Global;
-use vector_cases::{Done, Line, Refusal, behind, bytes_at, named};
+use vectors_cases::{Done, Line, Rejection, behind, bytes_at, named};
 
 #[derive(Clone, Copy)]
 enum Call {
@@ -54,21 +54,21 @@ pub fn answer(alloc: Global, line: &mut Line, set: &TableSet, call: &[u8], args:
         Some(Call::ReadPure) => add_read(line, set, read_pure(alloc, set, text)),
         Some(Call::ReadTag) => add_read(line, set, read_tag(alloc, set, text)),
         Some(Call::Write(level)) => written(alloc, line, set, level, args),
-        None => Err(Refusal::NoCase),
+        None => Err(Rejection::NoCase),
     }
 }
 
-fn add_fault(line: &mut Line, fault: EpcFault) {
-    match fault {
+fn add_error(line: &mut Line, error: EpcFault) {
+    match error {
         EpcFault::Memory => line.want_memory(),
-        fault => line.debug(fault),
+        error => line.debug(error),
     }
 }
 
 fn add_read(line: &mut Line, set: &TableSet, read: Result<Epc, EpcFault>) -> Done {
     match read {
         Ok(epc) => return add_epc(line, set, &epc),
-        Err(fault) => add_fault(line, fault),
+        Err(error) => add_error(line, error),
     }
     Ok(())
 }
@@ -76,7 +76,7 @@ fn add_read(line: &mut Line, set: &TableSet, read: Result<Epc, EpcFault>) -> Don
 /// Writes what an EPC says.
 pub fn add_epc(line: &mut Line, set: &TableSet, epc: &Epc) -> Done {
     let Some(kind) = set.kinds().get(epc.kind) else {
-        return Err(Refusal::NoCase);
+        return Err(Rejection::NoCase);
     };
     line.bytes(kind.name.as_bytes());
     line.bytes(epc.encoding.as_bytes());
@@ -108,7 +108,7 @@ fn add_link(alloc: Global, line: &mut Line, set: &TableSet, args: &[Text]) -> Do
             let identity = identity_of(alloc, set, &epc)?;
             line.text_made(canonical(alloc, &identity));
         }
-        Err(fault) => add_fault(line, fault),
+        Err(error) => add_error(line, error),
     }
     Ok(())
 }

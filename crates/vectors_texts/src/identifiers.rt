@@ -1,12 +1,12 @@
 //! Calls of gs_ai, by the built-in table of application identifiers unless rows are given.
 //!
 //! - `part TEXT`, `role TEXT`: what is written so, `Other` where it is none.
-//! - `value_ok CODE VALUE`, `row_value_ok CODE VALUE`, the latter by the row of the code: `Ok`, or the fault.
+//! - `value_ok CODE VALUE`, `row_value_ok CODE VALUE`, the latter by the row of the code: `Ok`, or the error.
 //! - `find CODE`, `begins TEXT`: the index of the row, or `None`. `is_key CODE`.
 //! - `predefined CODE`: the length of code and value together by the row of the code, or `None`.
 //! - `row CODE`: its parts, role, qualifiers, whether it is short, and its text for none.
 //! - `copy CODE VALUE`: the pair.
-//! - `table ROW..`: the number of rows, or the fault. A ROW is `CODE/PART+PART/ROLE/CODE+CODE/SHORT/NONE`, where what stands
+//! - `table ROW..`: the number of rows, or the error. A ROW is `CODE/PART+PART/ROLE/CODE+CODE/SHORT/NONE`, where what stands
 //!   behind the role may be left out and SHORT is `short` or empty.
 
 use crate::elements::add_pair;
@@ -14,7 +14,7 @@ use crate::identities::pair_of;
 use gs_ai::{AiFault, AiRow, AiTable, Part, Role, ValueFault};
 use gs_chars::{List, Text};
 use std::alloc::Global;
-use vector_cases::{Done, Line, Refusal, bytes_at, named, push, text_of};
+use vectors_cases::{Done, Line, Rejection, bytes_at, named, push, text_of};
 
 #[derive(Clone, Copy)]
 enum Call {
@@ -61,14 +61,14 @@ pub fn answer(alloc: Global, line: &mut Line, table: &AiTable, call: &[u8], args
         Some(Call::Predefined) => return predefined(line, table, text),
         Some(Call::RowValueOk) => return row_value_ok(line, table, text, value),
         Some(Call::Table) => return table_of(alloc, line, args),
-        None => return Err(Refusal::NoCase),
+        None => return Err(Rejection::NoCase),
     }
     Ok(())
 }
 
 fn predefined(line: &mut Line, table: &AiTable, code: &[u8]) -> Done {
     let Some(row) = table.find(code) else {
-        return Err(Refusal::NoCase);
+        return Err(Rejection::NoCase);
     };
     line.debug(table.predefined(row));
     Ok(())
@@ -77,13 +77,13 @@ fn predefined(line: &mut Line, table: &AiTable, code: &[u8]) -> Done {
 fn add_judgement(line: &mut Line, judged: Result<(), ValueFault>) {
     match judged {
         Ok(()) => line.plain("Ok"),
-        Err(fault) => line.debug(fault),
+        Err(error) => line.debug(error),
     }
 }
 
 fn row_value_ok(line: &mut Line, table: &AiTable, code: &[u8], value: &[u8]) -> Done {
     let Some(row) = table.find(code) else {
-        return Err(Refusal::NoCase);
+        return Err(Rejection::NoCase);
     };
     add_judgement(line, table.row_value_ok(row, value));
     Ok(())
@@ -137,7 +137,7 @@ fn copy(alloc: Global, line: &mut Line, code: &[u8], value: &[u8]) -> Done {
     Ok(())
 }
 
-fn parts_of(alloc: Global, words: &str) -> Result<List<Part>, Refusal> {
+fn parts_of(alloc: Global, words: &str) -> Result<List<Part>, Rejection> {
     let mut parts = Vec::new(alloc);
     for word in words.split('+') {
         if !word.is_empty() {
@@ -148,11 +148,11 @@ fn parts_of(alloc: Global, words: &str) -> Result<List<Part>, Refusal> {
 }
 
 /// The code of a word.
-fn code_of(alloc: Global, word: &str) -> Result<Text, Refusal> {
+fn code_of(alloc: Global, word: &str) -> Result<Text, Rejection> {
     Ok(Text::from_bytes(alloc, word.as_bytes())?)
 }
 
-fn codes_of(alloc: Global, words: &str) -> Result<List<Text>, Refusal> {
+fn codes_of(alloc: Global, words: &str) -> Result<List<Text>, Rejection> {
     let mut codes = Vec::new(alloc);
     for word in words.split('+') {
         if !word.is_empty() {
@@ -173,18 +173,18 @@ fn field(word: &str, i: usize) -> &str {
 }
 
 /// The code of a row and its text for none.
-fn texts_of_row(alloc: Global, word: &str) -> Result<(Text, Text), Refusal> {
+fn texts_of_row(alloc: Global, word: &str) -> Result<(Text, Text), Rejection> {
     let code = code_of(alloc, field(word, 0))?;
     Ok((code, code_of(alloc, field(word, 5))?))
 }
 
 /// The parts and the qualifiers of a row.
-fn lists_of_row(alloc: Global, word: &str) -> Result<(List<Part>, List<Text>), Refusal> {
+fn lists_of_row(alloc: Global, word: &str) -> Result<(List<Part>, List<Text>), Rejection> {
     let parts = parts_of(alloc, field(word, 1))?;
     Ok((parts, codes_of(alloc, field(word, 3))?))
 }
 
-fn row_of(alloc: Global, word: &[u8]) -> Result<AiRow, Refusal> {
+fn row_of(alloc: Global, word: &[u8]) -> Result<AiRow, Rejection> {
     let word = text_of(word)?;
     let role = Role::read(field(word, 2).as_bytes());
     let short = field(word, 4) == "short";
@@ -200,7 +200,7 @@ fn row_of(alloc: Global, word: &[u8]) -> Result<AiRow, Refusal> {
     })
 }
 
-fn rows_of(alloc: Global, words: &[Text]) -> Result<Vec<AiRow>, Refusal> {
+fn rows_of(alloc: Global, words: &[Text]) -> Result<Vec<AiRow>, Rejection> {
     let mut rows = Vec::new(alloc);
     for word in words {
         push(&mut rows, row_of(alloc, word.as_bytes()))?;
@@ -208,12 +208,12 @@ fn rows_of(alloc: Global, words: &[Text]) -> Result<Vec<AiRow>, Refusal> {
     Ok(rows)
 }
 
-/// Writes the number of rows of a table, or the fault.
+/// Writes the number of rows of a table, or the error.
 fn table_of(alloc: Global, line: &mut Line, words: &[Text]) -> Done {
     match AiTable::new(alloc, rows_of(alloc, words)?) {
         Ok(table) => line.debug(table.rows().len()),
         Err(AiFault::Memory) => line.want_memory(),
-        Err(fault) => line.debug(fault),
+        Err(error) => line.debug(error),
     }
     Ok(())
 }

@@ -1,7 +1,7 @@
 //! Calls of gs_ident, by the built-in table of application identifiers. The pairs are codes and values in turn, each value
-//! one of its code; else the fault of the first that is none is answered behind `value`.
+//! one of its code; else the error of the first that is none is answered behind `value`.
 //!
-//! - `make CODE VALUE ..`: the key, the qualifiers behind `|` and the attributes behind a second one, or the refusal.
+//! - `make CODE VALUE ..`: the key, the qualifiers behind `|` and the attributes behind a second one, or the rejection.
 //! - `canonical CODE VALUE ..`: the canonical link of the identity. `spell STEM CODE VALUE ..`: its link under the stem.
 //! - `prefix K CODE VALUE ..`: the canonical link of the identity of the key and the first K qualifiers.
 
@@ -13,7 +13,7 @@ use gs_ai::{AiTable, Pair, ValueFault};
 use gs_chars::Text;
 use gs_ident::{IdentFault, Identity, canonical, make, spell};
 use std::alloc::Global;
-use vector_cases::{Done, Line, Refusal, behind, bytes_at, named, number_of};
+use vectors_cases::{Done, Line, Rejection, behind, bytes_at, named, number_of};
 
 #[derive(Clone, Copy)]
 enum Call {
@@ -39,7 +39,7 @@ pub fn answer(alloc: Global, line: &mut Line, table: &AiTable, call: &[u8], args
         Some(Call::Make) => answer_of(alloc, line, table, args, Asked::Parts),
         Some(Call::Prefix) => answer_of(alloc, line, table, others, Asked::Prefix(first)),
         Some(Call::Spell) => answer_of(alloc, line, table, others, Asked::Under(first)),
-        None => Err(Refusal::NoCase),
+        None => Err(Rejection::NoCase),
     }
 }
 
@@ -60,9 +60,9 @@ fn answer_of(
     asked: Asked<'_>,
 ) -> Done {
     match made(alloc, line, table, words) {
-        Ok(Some(identity)) => told(alloc, line, &identity, asked),
+        Ok(Some(identity)) => known(alloc, line, &identity, asked),
         Ok(None) => Ok(()),
-        Err(refusal) => Err(refusal),
+        Err(rejection) => Err(rejection),
     }
 }
 
@@ -72,44 +72,44 @@ pub fn made(
     line: &mut Line,
     table: &AiTable,
     words: &[Text],
-) -> Result<Option<Identity>, Refusal>
+) -> Result<Option<Identity>, Rejection>
     ensures { IfOk result (λ made. IfSome made (IsMadeWith table.now)) }
 {
-    if let Some(fault) = first_fault(table, words)? {
+    if let Some(error) = first_error(table, words)? {
         line.plain("value");
-        line.debug(fault);
+        line.debug(error);
         return Ok(None);
     }
     match make(alloc, table, pairs_of(alloc, table, words)?) {
         Ok(identity) => Ok(Some(identity)),
-        Err(fault) => {
-            add_refusal(line, fault);
+        Err(error) => {
+            add_rejection(line, error);
             Ok(None)
         }
     }
 }
 
 /// What is wrong with the value of a pair.
-fn fault_of(table: &AiTable, pair: &[Text]) -> Result<Option<ValueFault>, Refusal> {
+fn error_of(table: &AiTable, pair: &[Text]) -> Result<Option<ValueFault>, Rejection> {
     let [code, value, ..] = pair else {
-        return Err(Refusal::NoCase);
+        return Err(Rejection::NoCase);
     };
     Ok(table.value_ok(code.as_bytes(), value.as_bytes()).err())
 }
 
-/// The fault of the first value that is none of its code.
-fn first_fault(table: &AiTable, words: &[Text]) -> Result<Option<ValueFault>, Refusal> {
+/// The error of the first value that is none of its code.
+fn first_error(table: &AiTable, words: &[Text]) -> Result<Option<ValueFault>, Rejection> {
     for pair in words.chunks(2) {
-        let fault = fault_of(table, pair)?;
-        if fault.is_some() {
-            return Ok(fault);
+        let error = error_of(table, pair)?;
+        if error.is_some() {
+            return Ok(error);
         }
     }
     Ok(None)
 }
 
 /// A pair of these bytes.
-pub fn pair_of(alloc: Global, code: &[u8], value: &[u8]) -> Result<Pair, Refusal>
+pub fn pair_of(alloc: Global, code: &[u8], value: &[u8]) -> Result<Pair, Rejection>
     ensures { IfOk result (λ pair. (pair.code ≡ code.now) × (pair.value ≡ value.now)) }
 {
     Ok(Pair {
@@ -119,20 +119,20 @@ pub fn pair_of(alloc: Global, code: &[u8], value: &[u8]) -> Result<Pair, Refusal
 }
 
 /// The pair of a code and a value, which is in order.
-fn checked(alloc: Global, table: &AiTable, words: &[Text]) -> Result<Pair, Refusal>
+fn checked(alloc: Global, table: &AiTable, words: &[Text]) -> Result<Pair, Rejection>
     ensures { IfOk result (IsInOrder table.now) }
 {
     let [code, value, ..] = words else {
-        return Err(Refusal::NoCase);
+        return Err(Rejection::NoCase);
     };
     if table.value_ok(code.as_bytes(), value.as_bytes()).is_err() {
-        return Err(Refusal::NoCase);
+        return Err(Rejection::NoCase);
     }
     pair_of(alloc, code.as_bytes(), value.as_bytes())
 }
 
 /// Pairs that are in order.
-pub fn pairs_of(alloc: Global, table: &AiTable, words: &[Text]) -> Result<Vec<Pair>, Refusal>
+pub fn pairs_of(alloc: Global, table: &AiTable, words: &[Text]) -> Result<Vec<Pair>, Rejection>
     ensures { IfOk result (λ pairs. All (IsInOrder table.now) pairs.items) }
 {
     let mut pairs = Vec::new(alloc);
@@ -142,9 +142,9 @@ pub fn pairs_of(alloc: Global, table: &AiTable, words: &[Text]) -> Result<Vec<Pa
     Ok(pairs)
 }
 
-/// Writes a refusal.
-pub fn add_refusal(line: &mut Line, fault: IdentFault) {
-    match fault {
+/// Writes a rejection.
+pub fn add_rejection(line: &mut Line, error: IdentFault) {
+    match error {
         IdentFault::Repeat(code) => add_coded(line, "Repeat", code),
         IdentFault::NoKey => line.plain("NoKey"),
         IdentFault::TwoKeys(code) => add_coded(line, "TwoKeys", code),
@@ -152,13 +152,13 @@ pub fn add_refusal(line: &mut Line, fault: IdentFault) {
     }
 }
 
-/// Writes the name of a refusal, and the code that it is of.
+/// Writes the name of a rejection, and the code that it is of.
 fn add_coded(line: &mut Line, name: &str, code: Text) {
     line.plain(name);
     line.text(code);
 }
 
-fn told(alloc: Global, line: &mut Line, identity: &Identity, asked: Asked<'_>) -> Done {
+fn known(alloc: Global, line: &mut Line, identity: &Identity, asked: Asked<'_>) -> Done {
     match asked {
         Asked::Parts => add_parts(line, identity),
         Asked::Canonical => line.text_made(canonical(alloc, identity)),
@@ -172,7 +172,7 @@ fn told(alloc: Global, line: &mut Line, identity: &Identity, asked: Asked<'_>) -
 fn add_prefix(alloc: Global, line: &mut Line, identity: &Identity, count: &[u8]) -> Done {
     let count = number_of(count)?;
     if count > identity.qualifiers().len() as u64 {
-        return Err(Refusal::NoCase);
+        return Err(Rejection::NoCase);
     }
     let prefix = identity.prefix(alloc, count as usize)?;
     line.text_made(canonical(alloc, &prefix));

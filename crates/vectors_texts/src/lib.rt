@@ -1,22 +1,25 @@
 //! The public calls of the libraries that stand on a table set, as cases of vectors name them: application identifiers,
-//! identities, tables and texts of each form. The head of vector_cases says how a case and an answer are written.
+//! identities, tables and texts of each form. The head of vectors_cases says how a case and an answer are written.
 #![tactic(auto)]
 
 mod digital_links;
 mod elements;
-mod epc_writing;
+mod epc_writer;
 mod epcs;
 mod identifiers;
 mod identities;
 mod links;
+mod links_by_language;
 mod many_links;
 mod tables;
+mod templates;
 mod translations;
 
 use gs_chars::Text;
 use gs_tables::TableSet;
 use std::alloc::Global;
-use vector_cases::{Answer, Done, Line, Refusal, named};
+pub use translations::{form_of, list_of, options_of, target_of};
+use vectors_cases::{Answer, Done, Line, Rejection, named};
 
 #[derive(Clone, Copy)]
 enum Library {
@@ -27,10 +30,11 @@ enum Library {
     Identities,
     Links,
     Tables,
+    Templates,
     Translations,
 }
 
-const LIBRARIES: [(&str, Library); 8] = [
+const LIBRARIES: [(&str, Library); 9] = [
     ("gs_ai", Library::Identifiers),
     ("gs_dlink", Library::DigitalLinks),
     ("gs_element", Library::Elements),
@@ -38,6 +42,7 @@ const LIBRARIES: [(&str, Library); 8] = [
     ("gs_ident", Library::Identities),
     ("gs_links", Library::Links),
     ("gs_tables", Library::Tables),
+    ("gs_template", Library::Templates),
     ("gs_translate", Library::Translations),
 ];
 
@@ -58,8 +63,9 @@ fn write(
         Some(Library::Identities) => identities::answer(alloc, line, set.ais(), call, args),
         Some(Library::Links) => links::answer(alloc, line, set.ais(), call, args),
         Some(Library::Tables) => tables::answer(alloc, line, set, call, args),
+        Some(Library::Templates) => templates::answer(alloc, line, set.ais(), call, args),
         Some(Library::Translations) => translations::answer(alloc, line, set, call, args),
-        None => Err(Refusal::NoCase),
+        None => Err(Rejection::NoCase),
     }
 }
 

@@ -1,22 +1,26 @@
 //! Calls of gs_links, by the built-in table of application identifiers. `gs1:` stands for https://ref.gs1.org/voc/.
 //!
-//! - `load DOC`: the number of links, and of each its anchor as canonical link, its relation and its reference; or the refusal.
+//! - `load DOC`: the number of links, and of each its anchor as canonical link, its relation and its reference; or the rejection.
 //! - `choose DOC WANT CODE VALUE ..`, with WANT `*` for all relations or the name of one: the depth, and the numbers of the
 //!   chosen links.
 //! - `choose_each COUNT TIMES`: see many_links.
+//! - `keeps_names VOC`: whether a vocabulary keeps names.
 //! - `document DOC WANT CODE VALUE ..`: what is written of the document of the chosen links, `None` where none is chosen.
+//! - `narrow DOC WANT RANGES CODE VALUE ..`, with RANGES the language ranges with commas between: the numbers of the chosen links
+//!   that are kept, and what is written of their document, `None` where none is chosen.
+//! - `narrow_many COUNT TIMES RANGE`: see links_by_language.
 
 ghost use Rattle.std.specs.Prelude.{◌≡◌, IfOk, vec_len};
 
-use crate::identities::{add_refusal, made};
-use crate::many_links;
+use crate::identities::{add_rejection, made};
+use crate::{links_by_language, many_links};
 use gs_ai::AiTable;
 use gs_chars::Text;
 use gs_ident::{Identity, canonical};
-use gs_links::{AnchorWhy, Link, Store, StoreFault, Want};
+use gs_links::{AnchorWhy, Link, Store, StoreFault, Want, keeps_names};
 use gs_linkset::LinkDoc;
 use std::alloc::{AllocError, Global};
-use vector_cases::{Done, Line, Refusal, behind, bytes_at, named};
+use vectors_cases::{Done, Line, Rejection, behind, bytes_at, named};
 
 /// What `gs1:` stands for.
 pub const VOC: &[u8] = b"https://ref.gs1.org/voc/";
@@ -26,22 +30,33 @@ enum Call {
     Choose,
     ChooseEach,
     Document,
+    KeepsNames,
     Load,
+    Narrow,
+    NarrowMany,
 }
 
-const CALLS: [(&str, Call); 4] = [
+const CALLS: [(&str, Call); 7] = [
     ("choose", Call::Choose),
     ("choose_each", Call::ChooseEach),
     ("document", Call::Document),
+    ("keeps_names", Call::KeepsNames),
     ("load", Call::Load),
+    ("narrow", Call::Narrow),
+    ("narrow_many", Call::NarrowMany),
 ];
 
 /// Answers a call of gs_links.
 pub fn answer(alloc: Global, line: &mut Line, table: &AiTable, call: &[u8], args: &[Text]) -> Done {
     match named(&CALLS, call) {
         Some(Call::ChooseEach) => many_links::answer(alloc, line, table, args),
+        Some(Call::NarrowMany) => links_by_language::answer(alloc, line, table, args),
+        Some(Call::KeepsNames) => {
+            line.debug(keeps_names(bytes_at(args, 0)));
+            Ok(())
+        }
         Some(call) => answer_to(alloc, line, table, call, args),
-        None => Err(Refusal::NoCase),
+        None => Err(Rejection::NoCase),
     }
 }
 
@@ -49,8 +64,8 @@ pub fn answer(alloc: Global, line: &mut Line, table: &AiTable, call: &[u8], args
 fn answer_to(alloc: Global, line: &mut Line, table: &AiTable, call: Call, args: &[Text]) -> Done {
     match gs_linkset::read(alloc, bytes_at(args, 0)) {
         Ok(doc) => answer_over(alloc, line, table, doc, call, behind(args, 1)),
-        Err(fault) => {
-            line.fault(fault);
+        Err(error) => {
+            line.error(error);
             Ok(())
         }
     }
@@ -67,8 +82,8 @@ fn answer_over(
 ) -> Done {
     match Store::load(alloc, table, VOC, doc) {
         Ok(store) => answer_from(alloc, line, table, &store, call, args),
-        Err(fault) => {
-            add_fault(line, fault);
+        Err(error) => {
+            add_error(line, error);
             Ok(())
         }
     }
@@ -92,11 +107,11 @@ fn answer_from(
     }
 }
 
-/// Writes a refusal.
-pub fn add_fault(line: &mut Line, fault: StoreFault) {
-    match fault {
+/// Writes a rejection.
+pub fn add_error(line: &mut Line, error: StoreFault) {
+    match error {
         StoreFault::TooMany => line.plain("TooMany"),
-        StoreFault::BadAnchor(context, why) => add_anchor_fault(line, context, why),
+        StoreFault::BadAnchor(context, why) => add_anchor_error(line, context, why),
         StoreFault::BadHref(context, relation, target) => {
             line.plain("BadHref(");
             line.more_debug(context);
@@ -110,19 +125,19 @@ pub fn add_fault(line: &mut Line, fault: StoreFault) {
     }
 }
 
-/// Writes which anchor is none, and why. The refusal of an identity stands behind it.
-fn add_anchor_fault(line: &mut Line, context: usize, why: AnchorWhy) {
+/// Writes which anchor is none, and why. The rejection of an identity stands behind it.
+fn add_anchor_error(line: &mut Line, context: usize, why: AnchorWhy) {
     line.plain("BadAnchor(");
     line.more_debug(context);
     match why {
-        AnchorWhy::Link(fault) => {
+        AnchorWhy::Link(error) => {
             line.more(",\\x20Link(");
-            line.more_debug(fault);
+            line.more_debug(error);
             line.more("))");
         }
-        AnchorWhy::Ident(fault) => {
+        AnchorWhy::Ident(error) => {
             line.more(",\\x20Ident)");
-            add_refusal(line, fault);
+            add_rejection(line, error);
         }
         AnchorWhy::Attributes => line.more(",\\x20Attributes)"),
     }
@@ -149,10 +164,11 @@ fn of_identity(
     call: Call,
     args: &[Text],
 ) -> Done {
-    match made(alloc, line, table, behind(args, 1)) {
-        Ok(Some(identity)) => asked(alloc, line, store, call, &identity, bytes_at(args, 0)),
+    let words = if let Call::Narrow = call { 2 } else { 1 };
+    match made(alloc, line, table, behind(args, words)) {
+        Ok(Some(identity)) => asked(alloc, line, store, call, &identity, args),
         Ok(None) => Ok(()),
-        Err(refusal) => Err(refusal),
+        Err(rejection) => Err(rejection),
     }
 }
 
@@ -163,25 +179,51 @@ pub fn room(alloc: Global, count: usize) -> Result<Vec<u32>, AllocError>
     vec![in alloc; 0u32; count]
 }
 
+/// Which links a word wants.
+fn want_of(word: &[u8]) -> Want<'_> {
+    if word == b"*".as_slice() {
+        Want::All
+    } else {
+        Want::Relation(word)
+    }
+}
+
+/// The language ranges with commas between, and none of an empty word.
+fn ranges_of(alloc: Global, list: &[u8]) -> Result<Vec<Text>, Rejection> {
+    let mut ranges = Vec::new(alloc);
+    if list.is_empty() {
+        return Ok(ranges);
+    }
+    for range in list.split(|c| *c == b',') {
+        ranges.push(Text::from_bytes(alloc, range)?)?;
+    }
+    Ok(ranges)
+}
+
 fn asked(
     alloc: Global,
     line: &mut Line,
     store: &Store,
     call: Call,
     identity: &Identity,
-    want: &[u8],
+    args: &[Text],
 ) -> Done {
-    let want = if want == b"*".as_slice() {
-        Want::All
-    } else {
-        Want::Relation(want)
-    };
+    let want = want_of(bytes_at(args, 0));
     let mut numbers = room(alloc, store.len())?;
     let chosen = store.choose(identity, want, numbers.as_mut_slice());
     let chosen_numbers = &numbers.as_slice()[..chosen.count];
     match call {
         Call::Choose => add_choice(line, chosen.depth, chosen_numbers),
         _ if chosen.count == 0 => line.plain("None"),
+        Call::Narrow => {
+            let ranges = ranges_of(alloc, bytes_at(args, 1))?;
+            let mut kept = room(alloc, chosen.count)?;
+            let count = store.narrow(chosen_numbers, ranges.as_slice(), kept.as_mut_slice());
+            let kept_numbers = &kept.as_slice()[..count];
+            let doc = store.document(alloc, identity, kept_numbers)?;
+            add_numbers(line, kept_numbers);
+            line.text_made(gs_linkset::write(alloc, &doc));
+        }
         _ => {
             let doc = store.document(alloc, identity, chosen_numbers)?;
             line.text_made(gs_linkset::write(alloc, &doc));
@@ -190,9 +232,13 @@ fn asked(
     Ok(())
 }
 
-fn add_choice(line: &mut Line, depth: usize, numbers: &[u32]) {
-    line.debug(depth);
+fn add_numbers(line: &mut Line, numbers: &[u32]) {
     for number in numbers {
         line.debug(*number);
     }
+}
+
+fn add_choice(line: &mut Line, depth: usize, numbers: &[u32]) {
+    line.debug(depth);
+    add_numbers(line, numbers);
 }

@@ -1,12 +1,12 @@
 //! A call of gs_links over many links, of which the link K has the anchor `/01/09506000134352/21/K` and the relation `r`.
 //!
 //! - `choose_each COUNT TIMES`: COUNT, where `choose` gives the link K alone and the depth 1 for the anchor of each K below
-//!   COUNT and `r`, so many times over; else the first K for which it does not, or the refusal of so many links.
+//!   COUNT and `r`, so many times over; else the first K for which it does not, or the rejection of so many links.
 
 ghost use Rattle.std.specs.Prelude.{◌≤◌, All, IfOk, length};
 ghost use Rattle.gs_ident.specs.Identities.{IsInOrder};
 
-use crate::links::{VOC, add_fault, room};
+use crate::links::{VOC, add_error, room};
 use gs_ai::{AiTable, Pair};
 use gs_chars::Text;
 use gs_dlink::read_target;
@@ -14,15 +14,15 @@ use gs_ident::{Identity, make};
 use gs_links::{Store, Want};
 use gs_linkset::LinkDoc;
 use std::alloc::Global;
-use vector_cases::{Answer, Done, Line, Refusal, number, said};
+use vectors_cases::{Answer, Done, Line, Rejection, number, said};
 
 /// Answers the call.
 pub fn answer(alloc: Global, line: &mut Line, table: &AiTable, args: &[Text]) -> Done {
     let text = linkset(alloc, number(args, 0)?)?;
     match gs_linkset::read(alloc, text.as_bytes()) {
         Ok(doc) => answer_over(alloc, line, table, doc, number(args, 1)?),
-        Err(fault) => {
-            line.fault(fault);
+        Err(error) => {
+            line.error(error);
             Ok(())
         }
     }
@@ -32,15 +32,15 @@ pub fn answer(alloc: Global, line: &mut Line, table: &AiTable, args: &[Text]) ->
 fn answer_over(alloc: Global, line: &mut Line, table: &AiTable, doc: LinkDoc, times: u64) -> Done {
     match Store::load(alloc, table, VOC, doc) {
         Ok(store) => add_first_other(alloc, line, table, &store, times),
-        Err(fault) => {
-            add_fault(line, fault);
+        Err(error) => {
+            add_error(line, error);
             Ok(())
         }
     }
 }
 
 /// Appends the link K of the document.
-fn push_link(alloc: Global, text: &mut String, k: u64) -> Result<(), Refusal> {
+fn push_link(alloc: Global, text: &mut String, k: u64) -> Result<(), Rejection> {
     let front = if k == 0 { "" } else { "," };
     let link = format!(in alloc;
         "{front}{{\"anchor\":\"/01/09506000134352/21/{k}\",\"r\":[{{\"href\":\"a\"}}]}}"
@@ -59,21 +59,21 @@ fn linkset(alloc: Global, count: u64) -> Answer {
 }
 
 /// The pairs of the anchor of the link K.
-fn anchor_pairs(alloc: Global, table: &AiTable, k: usize) -> Result<Vec<Pair>, Refusal>
+fn anchor_pairs(alloc: Global, table: &AiTable, k: usize) -> Result<Vec<Pair>, Rejection>
     ensures { IfOk result (λ pairs. All (IsInOrder table.now) pairs.items) }
 {
     let target = format!(in alloc; "/01/09506000134352/21/{k}")?;
     match read_target(alloc, table, target.as_bytes()) {
         Ok(pairs) => Ok(pairs),
-        Err(_) => Err(Refusal::NoCase),
+        Err(_) => Err(Rejection::NoCase),
     }
 }
 
 /// The identity of the anchor of the link K.
-fn identity(alloc: Global, table: &AiTable, k: usize) -> Result<Identity, Refusal> {
+fn identity(alloc: Global, table: &AiTable, k: usize) -> Result<Identity, Rejection> {
     match make(alloc, table, anchor_pairs(alloc, table, k)?) {
         Ok(identity) => Ok(identity),
-        Err(_) => Err(Refusal::NoCase),
+        Err(_) => Err(Rejection::NoCase),
     }
 }
 
@@ -106,7 +106,7 @@ fn anchor_is_alone(
     k: usize,
     times: u64,
     numbers: &mut [u32],
-) -> Result<bool, Refusal>
+) -> Result<bool, Rejection>
     requires { length store.now ≤ length numbers.old }
 {
     let identity = identity(alloc, table, k)?;

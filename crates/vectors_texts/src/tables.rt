@@ -1,6 +1,6 @@
 //! Calls of gs_tables. A LEVEL is `binary`, `tag` or `pure`.
 //!
-//! - `load DOC`: the numbers of application identifiers, kinds and options of each level, or the refusal.
+//! - `load DOC`: the numbers of application identifiers, kinds and options of each level, or the rejection.
 //! - `builtin`: the same numbers of the built-in set. `kind I`: the name, key, lead digits and serial of its kind I.
 //! - `option LEVEL I`: the kind, encoding, prefix length and items of its option I of the level, each item that has a field
 //!   behind its name and `=`.
@@ -13,7 +13,7 @@ use gs_tables::{
     Field, ItemFault, Kind, LevelName, LoadFault, OptInfo, SerialAt, TableSet, read_item,
 };
 use std::alloc::Global;
-use vector_cases::{Done, Line, Refusal, add_item, bytes_at, named, number_in, number_of};
+use vectors_cases::{Done, Line, Rejection, add_item, bytes_at, named, number_in, number_of};
 
 #[derive(Clone, Copy)]
 enum Call {
@@ -41,14 +41,14 @@ pub fn answer(alloc: Global, line: &mut Line, set: &TableSet, call: &[u8], args:
         Some(Call::Kind) => return kind(line, set, first),
         Some(Call::Option) => return option(line, set, first, bytes_at(args, 1)),
         Some(Call::ReadItem) => return item(alloc, line, first, bytes_at(args, 1)),
-        None => return Err(Refusal::NoCase),
+        None => return Err(Rejection::NoCase),
     }
     Ok(())
 }
 
 fn kind(line: &mut Line, set: &TableSet, i: &[u8]) -> Done {
     let Some(kind) = set.kinds().get(number_of(i)? as usize) else {
-        return Err(Refusal::NoCase);
+        return Err(Rejection::NoCase);
     };
     add_kind(line, kind);
     Ok(())
@@ -70,27 +70,32 @@ fn add_counts(line: &mut Line, set: &TableSet) {
 }
 
 /// The set of a document, where it is one.
-pub fn set_of(alloc: Global, document: &[u8]) -> Result<TableSet, Refusal> {
+pub fn set_of(alloc: Global, document: &[u8]) -> Result<TableSet, Rejection> {
     match TableSet::load(alloc, document) {
         Ok(set) => Ok(set),
-        Err(LoadFault::Memory) => Err(Refusal::Memory),
-        Err(_) => Err(Refusal::NoCase),
+        Err(LoadFault::Memory) => Err(Rejection::Memory),
+        Err(_) => Err(Rejection::NoCase),
     }
 }
 
 fn load(alloc: Global, line: &mut Line, document: &[u8]) {
     match TableSet::load(alloc, document) {
         Ok(set) => add_counts(line, &set),
-        Err(fault) => add_fault(line, fault),
+        Err(error) => add_error(line, error),
     }
 }
 
-fn add_fault(line: &mut Line, fault: LoadFault) {
-    match fault {
-        LoadFault::Json(fault) => line.fault(fault),
-        LoadFault::Ambiguous(level, i, j, _) => add_ambiguous(line, level, i, j),
+fn add_error(line: &mut Line, error: LoadFault) {
+    match error {
+        LoadFault::Json(error) => line.error(error),
+        LoadFault::Ambiguous {
+            level,
+            i,
+            j,
+            text: _,
+        } => add_ambiguous(line, level, i, j),
         LoadFault::Memory => line.want_memory(),
-        fault => line.debug(fault),
+        error => line.debug(error),
     }
 }
 
@@ -151,16 +156,16 @@ fn add_option(line: &mut Line, level: LevelName, kind: &Kind, info: &OptInfo, it
 /// Writes the option of a number.
 fn option(line: &mut Line, set: &TableSet, level: &[u8], i: &[u8]) -> Done {
     let (Some(level), Some(i)) = (named(&LEVELS, level), number_in(i)) else {
-        return Err(Refusal::NoCase);
+        return Err(Rejection::NoCase);
     };
     let Some(info) = set.info(level).get(i as usize) else {
-        return Err(Refusal::NoCase);
+        return Err(Rejection::NoCase);
     };
     let Some(option) = set.level(level).options().get(i as usize) else {
-        return Err(Refusal::NoCase);
+        return Err(Rejection::NoCase);
     };
     let Some(kind) = set.kinds().get(info.kind) else {
-        return Err(Refusal::NoCase);
+        return Err(Rejection::NoCase);
     };
     add_option(line, level, kind, info, option.items());
     Ok(())
@@ -169,11 +174,11 @@ fn option(line: &mut Line, set: &TableSet, level: &[u8], i: &[u8]) -> Done {
 /// Writes the item that a document is, or `Bad`.
 fn item(alloc: Global, line: &mut Line, level: &[u8], document: &[u8]) -> Done {
     let Some(level) = named(&LEVELS, level) else {
-        return Err(Refusal::NoCase);
+        return Err(Rejection::NoCase);
     };
     match Doc::parse(alloc, document) {
         Ok(doc) => add_item_at(alloc, line, level, &doc.root(alloc)),
-        Err(_) => return Err(Refusal::NoCase),
+        Err(_) => return Err(Rejection::NoCase),
     }
     Ok(())
 }

@@ -3,7 +3,6 @@
 //!
 //! - `read FORM TEXT`: the canonical link of the identity, the prefix length, the filter value and the encoding of what the text
 //!   means, or the reason.
-//! - `answer FORM TEXT`: the canonical link, or the reason.
 //! - `translate FORM TARGET FILTER GCP ENCODING KEYS STEM DOC TEXT`: the translation, or the reason. FILTER and GCP are numbers,
 //!   or `-` for none; KEYS is `yes` or `no`; DOC is the document of a list of company prefix lengths, empty for the list of no
 //!   entry.
@@ -17,24 +16,18 @@ use gs_chars::Text;
 use gs_dlink::stem_ok;
 use gs_ident::canonical;
 use gs_prefix::{PrefixFault, PrefixList};
-use gs_reasons::append_reason;
 use gs_tables::TableSet;
-use gs_translate::{Form, Meaning, Options, Reason, Target, answer as answer_to, read, translate};
+use gs_translate::{Form, Meaning, Options, Reason, Target, read, reason_text, translate};
 use std::alloc::Global;
-use vector_cases::{Done, Line, Refusal, behind, bytes_at, named, number_in};
+use vectors_cases::{Done, Line, Rejection, behind, bytes_at, named, number_in};
 
 #[derive(Clone, Copy)]
 enum Call {
-    Answer,
     Read,
     Translate,
 }
 
-const CALLS: [(&str, Call); 3] = [
-    ("answer", Call::Answer),
-    ("read", Call::Read),
-    ("translate", Call::Translate),
-];
+const CALLS: [(&str, Call); 2] = [("read", Call::Read), ("translate", Call::Translate)];
 
 const FORMS: [(&str, Form); 6] = [
     ("Bracketed", Form::Bracketed),
@@ -57,17 +50,26 @@ const TARGETS: [(&str, Target); 7] = [
 
 const TRUTHS: [(&str, bool); 2] = [("no", false), ("yes", true)];
 
+/// The form of a word.
+pub fn form_of(word: &[u8]) -> Option<Form> {
+    named(&FORMS, word)
+}
+
+/// The target of a word.
+pub fn target_of(word: &[u8]) -> Option<Target> {
+    named(&TARGETS, word)
+}
+
 /// Answers a call of gs_translate.
 pub fn answer(alloc: Global, line: &mut Line, set: &TableSet, call: &[u8], args: &[Text]) -> Done {
-    let Some(form) = named(&FORMS, bytes_at(args, 0)) else {
-        return Err(Refusal::NoCase);
+    let Some(form) = form_of(bytes_at(args, 0)) else {
+        return Err(Rejection::NoCase);
     };
     let text = bytes_at(args, 1);
     match named(&CALLS, call) {
-        Some(Call::Answer) => add_translated(alloc, line, answer_to(alloc, set, form, text)),
         Some(Call::Read) => meant(alloc, line, set, form, text),
         Some(Call::Translate) => translation(alloc, line, set, form, behind(args, 1)),
-        None => Err(Refusal::NoCase),
+        None => Err(Rejection::NoCase),
     }
 }
 
@@ -83,7 +85,7 @@ fn meant(alloc: Global, line: &mut Line, set: &TableSet, form: Form, text: &[u8]
 }
 
 /// A number up to a greatest, or none.
-fn small_number(word: &[u8], greatest: u8) -> Result<Option<u8>, Refusal>
+fn small_number(word: &[u8], greatest: u8) -> Result<Option<u8>, Rejection>
     ensures { IfOk result (λ number. IfSome number (λ n. n ≤ greatest)) }
 {
     if word == b"-".as_slice() {
@@ -91,48 +93,48 @@ fn small_number(word: &[u8], greatest: u8) -> Result<Option<u8>, Refusal>
     }
     match number_in(word) {
         Some(number) if number <= u64::from(greatest) => Ok(Some(number as u8)),
-        _ => Err(Refusal::NoCase),
+        _ => Err(Rejection::NoCase),
     }
 }
 
 /// A filter value, or none.
-fn filter_of(word: &[u8]) -> Result<Option<u8>, Refusal>
+fn filter_of(word: &[u8]) -> Result<Option<u8>, Rejection>
     ensures { IfOk result FitsFilter }
 {
     small_number(word, 7)
 }
 
 /// The list of a document, where it is one.
-fn list_of(alloc: Global, document: &[u8]) -> Result<PrefixList, Refusal> {
+pub fn list_of(alloc: Global, document: &[u8]) -> Result<PrefixList, Rejection> {
     if document.is_empty() {
         return Ok(PrefixList::empty(alloc));
     }
     match PrefixList::load(alloc, document) {
         Ok(list) => Ok(list),
-        Err(PrefixFault::Memory) => Err(Refusal::Memory),
-        Err(_) => Err(Refusal::NoCase),
+        Err(PrefixFault::Memory) => Err(Rejection::Memory),
+        Err(_) => Err(Rejection::NoCase),
     }
 }
 
 /// A stem.
-fn stem_of(alloc: Global, word: &[u8]) -> Result<Text, Refusal>
+fn stem_of(alloc: Global, word: &[u8]) -> Result<Text, Rejection>
     ensures { IfOk result (λ stem. stem_ok stem ≡ true) }
 {
     if !stem_ok(word) {
-        return Err(Refusal::NoCase);
+        return Err(Rejection::NoCase);
     }
     Ok(Text::from_bytes(alloc, word)?)
 }
 
 /// The options of five words.
-fn options_of(alloc: Global, args: &[Text]) -> Result<Options, Refusal>
+pub fn options_of(alloc: Global, args: &[Text]) -> Result<Options, Rejection>
     ensures { IfOk result AreInOrder }
 {
     // the texts last, since each exit behind a text drops it
     let filter = filter_of(bytes_at(args, 0))?;
     let gcp = small_number(bytes_at(args, 1), 12)?;
     let Some(keys_only) = named(&TRUTHS, bytes_at(args, 3)) else {
-        return Err(Refusal::NoCase);
+        return Err(Rejection::NoCase);
     };
     let stem = stem_of(alloc, bytes_at(args, 4))?;
     Ok(Options {
@@ -146,8 +148,8 @@ fn options_of(alloc: Global, args: &[Text]) -> Result<Options, Refusal>
 
 /// Writes the translation of the last argument by those before it.
 fn translation(alloc: Global, line: &mut Line, set: &TableSet, from: Form, args: &[Text]) -> Done {
-    let Some(to) = named(&TARGETS, bytes_at(args, 0)) else {
-        return Err(Refusal::NoCase);
+    let Some(to) = target_of(bytes_at(args, 0)) else {
+        return Err(Rejection::NoCase);
     };
     let options = options_of(alloc, behind(args, 1))?;
     let prefixes = list_of(alloc, bytes_at(args, 6))?;
@@ -170,11 +172,9 @@ fn add_translated(alloc: Global, line: &mut Line, answer: Result<Text, Reason>) 
 /// Writes a reason, as one word.
 fn add_reason(alloc: Global, line: &mut Line, reason: &Reason) -> Done {
     if let Reason::Memory = reason {
-        return Err(Refusal::Memory);
+        return Err(Rejection::Memory);
     }
-    let mut text = Vec::new(alloc);
-    append_reason(alloc, &mut text, reason)?;
-    line.bytes(text.as_slice());
+    line.text(reason_text(alloc, reason)?);
     Ok(())
 }
 

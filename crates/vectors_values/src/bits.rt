@@ -1,7 +1,7 @@
 //! Calls of gs_bits, over buffers of N bytes, with N 0, 2, 5, 12 or 64. Bits are shown as upper-case hexadecimal digits where
 //! they are whole bytes, else as the digits 0 and 1 behind `b`.
 //!
-//! - `from_hex N TEXT`: the number of bits and the bits, or the fault.
+//! - `from_hex N TEXT`: the number of bits and the bits, or the error.
 //! - `take N HEX WIDTH..`: for each width the number of the next bits or `Short`, then how many are left.
 //! - `push_bits N NUMBER WIDTH ..`: `Full` for each number without room, then the bits.
 //! - `get N HEX I`: bit I.
@@ -12,7 +12,7 @@ ghost use Rattle.std.specs.Prelude.{◌≤◌, ◌<◌, ◌^◌, IfSome, IsTrue}
 use gs_bits::{BitBuf, Cursor, Full, are_bit_digits};
 use gs_chars::Text;
 use std::alloc::Global;
-use vector_cases::{Done, Line, Refusal, behind, bytes_at, named, number_in};
+use vectors_cases::{Done, Line, Rejection, behind, bytes_at, named, number_in};
 
 #[derive(Clone, Copy)]
 enum Call {
@@ -43,7 +43,7 @@ pub fn answer(alloc: Global, line: &mut Line, call: &[u8], args: &[Text]) -> Don
         Some(5) => answer_of::<5>(alloc, line, call, others),
         Some(12) => answer_of::<12>(alloc, line, call, others),
         Some(64) => answer_of::<64>(alloc, line, call, others),
-        _ => Err(Refusal::NoCase),
+        _ => Err(Rejection::NoCase),
     }
 }
 
@@ -56,7 +56,7 @@ fn answer_of<const N: usize>(alloc: Global, line: &mut Line, call: &[u8], args: 
         Some(Call::Get) => get::<N>(line, first, bytes_at(args, 1)),
         Some(Call::PushBits) => push_bits::<N>(alloc, line, args),
         Some(Call::Take) => take::<N>(line, first, behind(args, 1)),
-        None => Err(Refusal::NoCase),
+        None => Err(Rejection::NoCase),
     }
 }
 
@@ -78,12 +78,12 @@ pub fn add_bits<const N: usize>(alloc: Global, line: &mut Line, bits: &BitBuf<N>
 }
 
 /// The buffer of the digits.
-pub fn buffer<const N: usize>(digits: &[u8]) -> Result<BitBuf<N>, Refusal>
+pub fn buffer<const N: usize>(digits: &[u8]) -> Result<BitBuf<N>, Rejection>
     requires { N ≤ 64 }
 {
     match BitBuf::<N>::from_hex(digits) {
         Ok(bits) => Ok(bits),
-        Err(_) => Err(Refusal::NoCase),
+        Err(_) => Err(Rejection::NoCase),
     }
 }
 
@@ -95,12 +95,12 @@ fn from_hex<const N: usize>(alloc: Global, line: &mut Line, text: &[u8]) -> Done
             line.debug(bits.len());
             add_bits(alloc, line, &bits);
         }
-        Err(fault) => line.debug(fault),
+        Err(error) => line.debug(error),
     }
     Ok(())
 }
 
-/// The number of bits that a word tells, at most 64.
+/// The number of bits that a word gives, at most 64.
 fn width_in(word: &[u8]) -> Option<u32>
     ensures { IfSome result (λ width. width ≤ 64) }
 {
@@ -114,11 +114,11 @@ fn width_in(word: &[u8]) -> Option<u32>
 fn add_taken<const N: usize>(line: &mut Line, cursor: &mut Cursor<'_, N>, widths: &[Text]) -> Done {
     for width in widths {
         let Some(width) = width_in(width.as_bytes()) else {
-            return Err(Refusal::NoCase);
+            return Err(Rejection::NoCase);
         };
         match cursor.take(width) {
             Ok(number) => line.debug(number),
-            Err(fault) => line.debug(fault),
+            Err(error) => line.debug(error),
         }
     }
     Ok(())
@@ -147,12 +147,12 @@ fn fits(number: u64, width: u32) -> bool
 fn push_pair<const N: usize>(
     bits: &mut BitBuf<N>,
     pair: &[Text],
-) -> Result<Result<(), Full>, Refusal> {
+) -> Result<Result<(), Full>, Rejection> {
     let value = number_in(bytes_at(pair, 0));
     let width = width_in(bytes_at(pair, 1));
     match (value, width) {
         (Some(value), Some(width)) if fits(value, width) => Ok(bits.push_bits(value, width)),
-        _ => Err(Refusal::NoCase),
+        _ => Err(Rejection::NoCase),
     }
 }
 
@@ -164,8 +164,8 @@ fn push_bits<const N: usize>(alloc: Global, line: &mut Line, pairs: &[Text]) -> 
     for pair in pairs.chunks(2) {
         match push_pair(&mut bits, pair) {
             Ok(Ok(())) => {}
-            Ok(Err(fault)) => line.debug(fault),
-            Err(refusal) => return Err(refusal),
+            Ok(Err(error)) => line.debug(error),
+            Err(rejection) => return Err(rejection),
         }
     }
     add_bits(alloc, line, &bits);
@@ -178,7 +178,7 @@ fn get<const N: usize>(line: &mut Line, digits: &[u8], i: &[u8]) -> Done
     let bits = buffer::<N>(digits)?;
     match number_in(i) {
         Some(i) if i < bits.len() as u64 => line.debug(bits.get(i as usize)),
-        _ => return Err(Refusal::NoCase),
+        _ => return Err(Rejection::NoCase),
     }
     Ok(())
 }

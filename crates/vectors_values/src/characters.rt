@@ -9,7 +9,7 @@
 
 use gs_chars::{CharSet, List, Rows, Text, are_digits, check_digit, read_escape, write_escape};
 use std::alloc::Global;
-use vector_cases::{Done, Line, Refusal, bytes_at, named, number_in};
+use vectors_cases::{Done, Line, Rejection, bytes_at, named, number_in};
 
 #[derive(Clone, Copy)]
 enum Call {
@@ -58,7 +58,7 @@ pub fn answer(alloc: Global, line: &mut Line, call: &[u8], args: &[Text]) -> Don
             Ok(())
         }
         Some(Call::WriteEscape) => escape_written(line, text),
-        None => Err(Refusal::NoCase),
+        None => Err(Rejection::NoCase),
     }
 }
 
@@ -67,7 +67,7 @@ const SETS: [(&str, CharSet); 2] = [("Digits", CharSet::Digits), ("Set82", CharS
 /// Whether a set has each byte of a text.
 fn holds(line: &mut Line, set: &[u8], text: &[u8]) -> Done {
     let Some(set) = named(&SETS, set) else {
-        return Err(Refusal::NoCase);
+        return Err(Rejection::NoCase);
     };
     for c in text {
         line.more(if set.holds(*c) { "y" } else { "n" });
@@ -77,7 +77,7 @@ fn holds(line: &mut Line, set: &[u8], text: &[u8]) -> Done {
 
 fn digit(line: &mut Line, digits: &[u8]) -> Done {
     if digits.is_empty() || digits.len() > 18 || !are_digits(digits) {
-        return Err(Refusal::NoCase);
+        return Err(Rejection::NoCase);
     }
     line.bytes(&[check_digit(digits)]);
     Ok(())
@@ -96,10 +96,10 @@ fn escape_read(line: &mut Line, text: &[u8]) -> Done {
 
 fn escape_written(line: &mut Line, characters: &[u8]) -> Done {
     let [c] = characters else {
-        return Err(Refusal::NoCase);
+        return Err(Rejection::NoCase);
     };
     if !CharSet::Set82.holds(*c) {
-        return Err(Refusal::NoCase);
+        return Err(Rejection::NoCase);
     }
     let mut buffer = *b"...";
     let count = write_escape(*c, &mut buffer);
@@ -123,7 +123,7 @@ fn rows(line: &mut Line, args: &[Text]) -> Done {
         key(args, 2),
         key(args, 3),
     ) else {
-        return Err(Refusal::NoCase);
+        return Err(Rejection::NoCase);
     };
     match Rows::new([a, b, c]) {
         Some(rows) => line.debug(rows.find(key)),

@@ -2,19 +2,19 @@
 //! name, `?NAME` the same where there may be none, `~NAME` where this may be no object either, and `#I` the item of this
 //! number.
 //!
-//! - `parse DOC`: `Ok`, or the fault.
-//! - `text DOC STEP..`, `number`, `truth`, `count`, `names`: what the part is, or the fault; `None` where a step finds none.
+//! - `parse DOC`: `Ok`, or the error.
+//! - `text DOC STEP..`, `number`, `truth`, `count`, `names`: what the part is, or the error; `None` where a step finds none.
 //! - `value DOC STEP..`: the part, as JSON without spaces. `items_len DOC STEP..`: how many items it has, where it is an array.
-//! - `shaped DOC PLAN..`: `Ok`, or the fault. PLAN is pairs of a name behind `+` where it is required, else behind `-`, and
+//! - `shaped DOC PLAN..`: `Ok`, or the error. PLAN is pairs of a name behind `+` where it is required, else behind `-`, and
 //!   its sort: `Text`, `Number`, `Truth`, `Array`, `Texts`, `Arrays`.
 //!
-//! A fault is `Syntax`, or `Lacks`, `Kind` or `Unknown` and the place.
+//! An error is `Syntax`, or `Lacks`, `Kind` or `Unknown` and the place.
 
 use gs_chars::{Memory, Text};
 use gs_json::{Doc, JsonFault, Node, Sort, plan_of};
 use std::alloc::Global;
 use std::fmt::Debug;
-use vector_cases::{Done, Line, Refusal, behind, bytes_at, named, number_in, push};
+use vectors_cases::{Done, Line, Rejection, behind, bytes_at, named, number_in, push};
 
 #[derive(Clone, Copy)]
 enum Call {
@@ -51,8 +51,8 @@ const CALLS: [(&str, Call); 9] = [
 pub fn answer(alloc: Global, line: &mut Line, call: &[u8], args: &[Text]) -> Done {
     match Doc::parse(alloc, bytes_at(args, 0)) {
         Ok(doc) => answer_over(alloc, line, &doc, call, behind(args, 1)),
-        Err(fault) => {
-            line.fault(fault);
+        Err(error) => {
+            line.error(error);
             Ok(())
         }
     }
@@ -67,7 +67,7 @@ fn answer_over(alloc: Global, line: &mut Line, doc: &Doc, call: &[u8], others: &
         }
         Some(Call::Shaped) => shaped(alloc, line, doc, others),
         Some(Call::Part(asked)) => asked_behind(alloc, line, doc, asked, others),
-        None => Err(Refusal::NoCase),
+        None => Err(Rejection::NoCase),
     }
 }
 
@@ -76,8 +76,8 @@ fn asked_behind(alloc: Global, line: &mut Line, doc: &Doc, asked: Asked, steps: 
     match followed(alloc, doc, steps) {
         Ok(Walked::At(node)) => add_asked(alloc, line, asked, &node),
         Ok(Walked::Absent) => line.plain("None"),
-        Ok(Walked::Refused(fault)) => line.fault(fault),
-        Err(refusal) => return Err(refusal),
+        Ok(Walked::Refused(error)) => line.error(error),
+        Err(rejection) => return Err(rejection),
     }
     Ok(())
 }
@@ -90,11 +90,11 @@ enum Walked<'a> {
     Refused(JsonFault),
 }
 
-/// Where a step leads, which finds a part or refuses.
+/// Where a step leads, which finds a part or rejects.
 fn walk_to<'a>(found: Result<Node<'a>, JsonFault>) -> Walked<'a> {
     match found {
         Ok(part) => Walked::At(part),
-        Err(fault) => Walked::Refused(fault),
+        Err(error) => Walked::Refused(error),
     }
 }
 
@@ -103,12 +103,12 @@ fn walk_maybe<'a>(found: Result<Option<Node<'a>>, JsonFault>) -> Walked<'a> {
     match found {
         Ok(Some(part)) => Walked::At(part),
         Ok(None) => Walked::Absent,
-        Err(fault) => Walked::Refused(fault),
+        Err(error) => Walked::Refused(error),
     }
 }
 
-/// Where a step leads, which may find nothing and never refuses.
-fn walk_found(found: Result<Option<Node<'_>>, Memory>) -> Result<Walked<'_>, Refusal> {
+/// Where a step leads, which may find nothing and never rejects.
+fn walk_found(found: Result<Option<Node<'_>>, Memory>) -> Result<Walked<'_>, Rejection> {
     match found? {
         Some(part) => Ok(Walked::At(part)),
         None => Ok(Walked::Absent),
@@ -116,36 +116,36 @@ fn walk_found(found: Result<Option<Node<'_>>, Memory>) -> Result<Walked<'_>, Ref
 }
 
 /// Where a step leads from a part.
-fn stepped<'a>(alloc: Global, node: &Node<'a>, step: &[u8]) -> Result<Walked<'a>, Refusal> {
+fn stepped<'a>(alloc: Global, node: &Node<'a>, step: &[u8]) -> Result<Walked<'a>, Rejection> {
     let [kind, rest @ ..] = step else {
-        return Err(Refusal::NoCase);
+        return Err(Rejection::NoCase);
     };
     let Ok(word) = str::from_utf8(rest) else {
-        return Err(Refusal::NoCase);
+        return Err(Rejection::NoCase);
     };
     match *kind {
         b'.' => Ok(walk_to(node.member(alloc, word))),
         b'?' => Ok(walk_maybe(node.maybe(alloc, word))),
         b'~' => walk_found(node.find(alloc, word)),
         b'#' => item_at(alloc, node, rest),
-        _ => Err(Refusal::NoCase),
+        _ => Err(Rejection::NoCase),
     }
 }
 
 /// The item of a number.
-fn item_at<'a>(alloc: Global, node: &Node<'a>, i: &[u8]) -> Result<Walked<'a>, Refusal> {
+fn item_at<'a>(alloc: Global, node: &Node<'a>, i: &[u8]) -> Result<Walked<'a>, Rejection> {
     let Some(i) = number_in(i) else {
-        return Err(Refusal::NoCase);
+        return Err(Rejection::NoCase);
     };
     match node.count(alloc) {
         Ok(count) if i < count as u64 => Ok(walk_to(node.item(alloc, i as usize))),
-        Ok(_) => Err(Refusal::NoCase),
-        Err(fault) => Ok(Walked::Refused(fault)),
+        Ok(_) => Err(Rejection::NoCase),
+        Err(error) => Ok(Walked::Refused(error)),
     }
 }
 
 /// Where the steps lead from the whole document.
-fn followed<'a>(alloc: Global, doc: &'a Doc, steps: &[Text]) -> Result<Walked<'a>, Refusal> {
+fn followed<'a>(alloc: Global, doc: &'a Doc, steps: &[Text]) -> Result<Walked<'a>, Rejection> {
     let mut node = doc.root(alloc);
     for step in steps {
         match stepped(alloc, &node, step.as_bytes()) {
@@ -169,18 +169,18 @@ fn add_asked(alloc: Global, line: &mut Line, asked: Asked, node: &Node<'_>) {
     }
 }
 
-/// Writes a value, or the fault.
+/// Writes a value, or the error.
 fn add_value<T: Debug + Drop>(line: &mut Line, found: Result<T, JsonFault>) {
     match found {
         Ok(value) => line.debug(value),
-        Err(fault) => line.fault(fault),
+        Err(error) => line.error(error),
     }
 }
 
 fn add_text(alloc: Global, line: &mut Line, node: &Node<'_>) {
     match node.text(alloc) {
         Ok(text) => line.bytes(text.as_bytes()),
-        Err(fault) => line.fault(fault),
+        Err(error) => line.error(error),
     }
 }
 
@@ -199,7 +199,7 @@ fn add_names(alloc: Global, line: &mut Line, node: &Node<'_>) {
                 line.bytes(name.as_bytes());
             }
         }
-        Err(fault) => line.fault(fault),
+        Err(error) => line.error(error),
     }
 }
 
@@ -213,18 +213,18 @@ const SORTS: [(&str, Sort); 6] = [
 ];
 
 /// The name of a member, whether it is required, and its sort.
-fn planned(pair: &[Text]) -> Result<(&[u8], bool, Sort), Refusal> {
+fn planned(pair: &[Text]) -> Result<(&[u8], bool, Sort), Rejection> {
     let [kind, name @ ..] = bytes_at(pair, 0) else {
-        return Err(Refusal::NoCase);
+        return Err(Rejection::NoCase);
     };
     match named(&SORTS, bytes_at(pair, 1)) {
         Some(sort) => Ok((name, *kind == b'+', sort)),
-        None => Err(Refusal::NoCase),
+        None => Err(Rejection::NoCase),
     }
 }
 
 /// The members that these pairs plan.
-fn members_of(alloc: Global, words: &[Text]) -> Result<Vec<(&[u8], bool, Sort)>, Refusal> {
+fn members_of(alloc: Global, words: &[Text]) -> Result<Vec<(&[u8], bool, Sort)>, Rejection> {
     let mut members = Vec::new(alloc);
     for pair in words.chunks(2) {
         push(&mut members, planned(pair))?;
@@ -238,7 +238,7 @@ fn shaped(alloc: Global, line: &mut Line, doc: &Doc, words: &[Text]) -> Done {
     let plan = plan_of(alloc, members.as_slice())?;
     match doc.root(alloc).shaped(alloc, plan.items()) {
         Ok(()) => line.plain("Ok"),
-        Err(fault) => line.fault(fault),
+        Err(error) => line.error(error),
     }
     Ok(())
 }

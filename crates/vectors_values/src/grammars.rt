@@ -1,9 +1,9 @@
 //! Calls of gs_grammar. An ITEM is a word of an item, and an option its items; options are divided by `|`.
 //!
 //! - `holds ITEM VALUE`: `Ok`, or why not.
-//! - `option LEVEL ITEM..`, with LEVEL `text` or `bits`: the size and the number of items, or the fault.
+//! - `option LEVEL ITEM..`, with LEVEL `text` or `bits`: the size and the number of items, or the error.
 //! - `read_option HEX ITEM..`: the numbers of the items of one option, or `false`.
-//! - `write_text ITEM.. = VALUE..`: the text, or the fault. `write_bits ITEM.. = VALUE..`: the bits, or the fault.
+//! - `write_text ITEM.. = VALUE..`: the text, or the error. `write_bits ITEM.. = VALUE..`: the bits, or the error.
 
 ghost use Rattle.std.specs.Prelude.{◌≡◌, IfOk, false, true};
 ghost use Rattle.gs_grammar.specs.Levels.{AreOfKind, OptionForm};
@@ -13,7 +13,7 @@ use gs_bits::BitBuf;
 use gs_chars::{List, Text};
 use gs_grammar::{Item, Opt, OptFault, WriteFault, holds, read_option, write_bits, write_text};
 use std::alloc::Global;
-use vector_cases::{Done, Line, Refusal, behind, bytes_at, item_of, named, push};
+use vectors_cases::{Done, Line, Rejection, behind, bytes_at, item_of, named, push};
 
 #[derive(Clone, Copy)]
 enum Call {
@@ -41,7 +41,7 @@ pub fn answer(alloc: Global, line: &mut Line, call: &[u8], args: &[Text]) -> Don
         Some(Call::ReadOption) => option_read(alloc, line, first, behind(args, 1)),
         Some(Call::WriteBits) => bits_written(alloc, line, args),
         Some(Call::WriteText) => text_written(alloc, line, args),
-        None => Err(Refusal::NoCase),
+        None => Err(Rejection::NoCase),
     }
 }
 
@@ -56,7 +56,7 @@ fn held(alloc: Global, line: &mut Line, word: &[u8], value: &[u8]) -> Done {
 }
 
 /// The items of the words.
-fn items_of(alloc: Global, words: &[Text]) -> Result<Vec<Item>, Refusal> {
+fn items_of(alloc: Global, words: &[Text]) -> Result<Vec<Item>, Rejection> {
     let mut items = Vec::new(alloc);
     for word in words {
         push(&mut items, item_of(alloc, word.as_bytes()))?;
@@ -64,8 +64,8 @@ fn items_of(alloc: Global, words: &[Text]) -> Result<Vec<Item>, Refusal> {
     Ok(items)
 }
 
-/// The option of the items, or its fault.
-fn made(alloc: Global, bit_level: bool, words: &[Text]) -> Result<Result<Opt, OptFault>, Refusal>
+/// The option of the items, or its error.
+fn made(alloc: Global, bit_level: bool, words: &[Text]) -> Result<Result<Opt, OptFault>, Rejection>
     ensures { IfOk result (λ made. IfOk made (λ (option : OptionForm). option.bit_level ≡ bit_level)) }
 {
     let items = items_of(alloc, words)?;
@@ -73,13 +73,13 @@ fn made(alloc: Global, bit_level: bool, words: &[Text]) -> Result<Result<Opt, Op
 }
 
 /// The option of the items, which make one.
-fn option_of(alloc: Global, bit_level: bool, words: &[Text]) -> Result<Opt, Refusal>
+fn option_of(alloc: Global, bit_level: bool, words: &[Text]) -> Result<Opt, Rejection>
     ensures { IfOk result (λ (option : OptionForm). option.bit_level ≡ bit_level) }
 {
     match made(alloc, bit_level, words) {
         Ok(Ok(option)) => Ok(option),
-        Ok(Err(_)) => Err(Refusal::NoCase),
-        Err(refusal) => Err(refusal),
+        Ok(Err(_)) => Err(Rejection::NoCase),
+        Err(rejection) => Err(rejection),
     }
 }
 
@@ -88,21 +88,21 @@ pub fn is_bits(level: &[u8]) -> bool {
     level == b"bits".as_slice()
 }
 
-/// Writes the size of an option and the number of its items, or the fault.
+/// Writes the size of an option and the number of its items, or the error.
 fn option(alloc: Global, line: &mut Line, level: &[u8], words: &[Text]) -> Done {
     match made(alloc, is_bits(level), words) {
         Ok(Ok(option)) => {
             line.debug(option.size());
             line.debug(option.items().len());
         }
-        Ok(Err(fault)) => line.debug(fault),
-        Err(refusal) => return Err(refusal),
+        Ok(Err(error)) => line.debug(error),
+        Err(rejection) => return Err(rejection),
     }
     Ok(())
 }
 
 /// The options of the words.
-pub fn options_of(alloc: Global, bit_level: bool, words: &[Text]) -> Result<Vec<Opt>, Refusal>
+pub fn options_of(alloc: Global, bit_level: bool, words: &[Text]) -> Result<Vec<Opt>, Rejection>
     ensures { IfOk result (λ options. AreOfKind bit_level options.items) }
 {
     let mut options = Vec::new(alloc);
@@ -134,19 +134,19 @@ fn add_numbers(alloc: Global, line: &mut Line, option: &Opt, bits: &BitBuf<64>) 
 }
 
 /// The words before and behind `=`.
-fn halves(words: &[Text]) -> Result<(&[Text], &[Text]), Refusal> {
+fn halves(words: &[Text]) -> Result<(&[Text], &[Text]), Rejection> {
     match words
         .iter()
         .position(|word| word.as_bytes() == b"=".as_slice())
     {
         Some(middle) => Ok((&words[..middle], &words[middle + 1..])),
-        None => Err(Refusal::NoCase),
+        None => Err(Rejection::NoCase),
     }
 }
 
 /// Writes which item cannot hold its value, and why.
-fn add_fault(line: &mut Line, fault: WriteFault) {
-    match fault {
+fn add_error(line: &mut Line, error: WriteFault) {
+    match error {
         WriteFault::CannotHold { item, why } => {
             line.plain("CannotHold");
             line.debug(item);
@@ -167,11 +167,11 @@ fn add_text(alloc: Global, line: &mut Line, option: &Opt, values: &[Text]) -> Do
     requires { option.now.bit_level ≡ false }
 {
     if values.len() != option.items().len() {
-        return Err(Refusal::NoCase);
+        return Err(Rejection::NoCase);
     }
     match write_text(alloc, option, values) {
         Ok(text) => line.text(text),
-        Err(fault) => add_fault(line, fault),
+        Err(error) => add_error(line, error),
     }
     Ok(())
 }
@@ -187,12 +187,12 @@ fn add_bits_of(alloc: Global, line: &mut Line, option: &Opt, values: &[Text]) ->
     requires { option.now.bit_level ≡ true }
 {
     if values.len() != option.items().len() || option.size() > 512 {
-        return Err(Refusal::NoCase);
+        return Err(Rejection::NoCase);
     }
     let mut bits = BitBuf::<64>::new();
     match write_bits(option, values, &mut bits) {
         Ok(()) => add_bits(alloc, line, &bits),
-        Err(fault) => add_fault(line, fault),
+        Err(error) => add_error(line, error),
     }
     Ok(())
 }

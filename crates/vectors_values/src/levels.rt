@@ -1,38 +1,45 @@
-//! Calls of gs_level. An ITEM is a word of an item, and an option its items; options are divided by `|`.
+//! Calls of gs_grammar_level. An ITEM is a word of an item, and an option its items; options are divided by `|`.
 //!
 //! - `read_text TEXT ITEM.. | ITEM..`: the number of the option and the values of its items, or `Nothing`; of options that are
 //!   ambiguous `Ambiguous` and the numbers of the two that share a list.
+//! - `first_share LEVEL ITEM.. | ITEM..`, with LEVEL `text` or `bits`: `None`, or the numbers of the first two options that share a
+//!   list.
 //! - `read_bits HEX ITEM.. | ITEM..`: the same over the bits of hexadecimal digits.
 
 use crate::bits::buffer;
-use crate::grammars::options_of;
+use crate::grammars::{is_bits, options_of};
 use gs_chars::{Memory, Text};
-use gs_level::{Level, Reading, read_bits, read_text};
-use gs_share::{Shared, first_share};
+use gs_grammar_level::{Level, Reading, Shared, read_bits, read_text};
 use std::alloc::Global;
-use vector_cases::{Done, Line, Refusal, behind, bytes_at, named};
+use vectors_cases::{Done, Line, Rejection, behind, bytes_at, named};
 
 #[derive(Clone, Copy)]
 enum Call {
+    FirstShare,
     ReadBits,
     ReadText,
 }
 
-const CALLS: [(&str, Call); 2] = [("read_bits", Call::ReadBits), ("read_text", Call::ReadText)];
+const CALLS: [(&str, Call); 3] = [
+    ("first_share", Call::FirstShare),
+    ("read_bits", Call::ReadBits),
+    ("read_text", Call::ReadText),
+];
 
-/// Answers a call of gs_level.
+/// Answers a call of gs_grammar_level.
 pub fn answer(alloc: Global, line: &mut Line, call: &[u8], args: &[Text]) -> Done {
     let text = bytes_at(args, 0);
     let words = behind(args, 1);
     match named(&CALLS, call) {
+        Some(Call::FirstShare) => first_shared(alloc, line, is_bits(text), words),
         Some(Call::ReadBits) => bits_read(alloc, line, text, words),
         Some(Call::ReadText) => text_read(alloc, line, text, words),
-        None => Err(Refusal::NoCase),
+        None => Err(Rejection::NoCase),
     }
 }
 
 /// The level of the words.
-pub fn level_of(alloc: Global, bit_level: bool, words: &[Text]) -> Result<Level, Refusal> {
+pub fn level_of(alloc: Global, bit_level: bool, words: &[Text]) -> Result<Level, Rejection> {
     let options = options_of(alloc, bit_level, words)?;
     Ok(Level::new(alloc, bit_level, options)?)
 }
@@ -56,10 +63,24 @@ fn add_pair(line: &mut Line, pair: Shared) {
     line.debug(pair.second);
 }
 
+/// Writes the first two options of a level that share a list.
+fn first_shared(alloc: Global, line: &mut Line, bit_level: bool, words: &[Text]) -> Done {
+    let level = level_of(alloc, bit_level, words)?;
+    match level.first_share(alloc) {
+        Ok(Some(pair)) => {
+            line.debug(pair.first);
+            line.debug(pair.second);
+        }
+        Ok(None) => line.plain("None"),
+        Err(Memory) => line.want_memory(),
+    }
+    Ok(())
+}
+
 /// Writes what a level says of a text.
 fn text_read(alloc: Global, line: &mut Line, text: &[u8], words: &[Text]) -> Done {
     let level = level_of(alloc, false, words)?;
-    match first_share(alloc, &level) {
+    match level.first_share(alloc) {
         Ok(Some(pair)) => add_pair(line, pair),
         Err(Memory) => line.want_memory(),
         Ok(None) => add_reading(line, read_text(alloc, &level, text)),
@@ -71,7 +92,7 @@ fn text_read(alloc: Global, line: &mut Line, text: &[u8], words: &[Text]) -> Don
 fn bits_read(alloc: Global, line: &mut Line, digits: &[u8], words: &[Text]) -> Done {
     let bits = buffer::<64>(digits)?;
     let level = level_of(alloc, true, words)?;
-    match first_share(alloc, &level) {
+    match level.first_share(alloc) {
         Ok(Some(pair)) => add_pair(line, pair),
         Err(Memory) => line.want_memory(),
         Ok(None) => add_reading(line, read_bits(alloc, &level, &bits)),

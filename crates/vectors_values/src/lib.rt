@@ -1,5 +1,5 @@
 //! The public calls of the libraries that need no table set, as cases of vectors name them: the values, the documents and the
-//! machines. The head of vector_cases says how a case and an answer are written.
+//! machines. The head of vectors_cases says how a case and an answer are written.
 #![tactic(auto)]
 
 mod bits;
@@ -13,7 +13,7 @@ mod prefixes;
 
 use gs_chars::Text;
 use std::alloc::Global;
-use vector_cases::{Answer, Done, Line, Refusal, named};
+use vectors_cases::{Answer, Done, Line, Rejection, named};
 
 #[derive(Clone, Copy)]
 enum Library {
@@ -27,18 +27,17 @@ enum Library {
     Prefixes,
 }
 
-const LIBRARIES: [(&str, Library); 11] = [
+const LIBRARIES: [(&str, Library); 10] = [
     ("gs_ambig", Library::Machines),
     ("gs_bits", Library::Bits),
     ("gs_chars", Library::Characters),
-    ("gs_compile", Library::Machines),
+    ("gs_grammar_compile", Library::Machines),
     ("gs_grammar", Library::Grammars),
     ("gs_json", Library::Documents),
-    ("gs_level", Library::Levels),
+    ("gs_grammar_level", Library::Levels),
     ("gs_linkset", Library::Linksets),
-    ("gs_machine", Library::Machines),
+    ("gs_grammar_machine", Library::Machines),
     ("gs_prefix", Library::Prefixes),
-    ("gs_share", Library::Machines),
 ];
 
 /// Writes the answer to a call of a library.
@@ -52,7 +51,7 @@ fn write(alloc: Global, line: &mut Line, library: &[u8], call: &[u8], args: &[Te
         Some(Library::Linksets) => linksets::answer(alloc, line, call, args),
         Some(Library::Machines) => machines::answer(alloc, line, call, args),
         Some(Library::Prefixes) => prefixes::answer(alloc, line, call, args),
-        None => Err(Refusal::NoCase),
+        None => Err(Rejection::NoCase),
     }
 }
 

@@ -2,15 +2,15 @@
 //! its relations, behind that `Target HREF` for each target, and behind that the attributes: `One NAME TEXT`, `Many NAME`
 //! and the texts, or `Tagged NAME` and each text with its language.
 //!
-//! - `read DOC`: the linkset, or the fault.
-//! - `write DOC`: what is written of the linkset that DOC is, or the fault.
-//! - `new ANCHOR NAME HREF.. / NAME HREF..`: what is written of the linkset of one context with these relations, or the refusal.
-//! - `copy DOC`: a copy of the first target, `None` where there is none, or the fault.
+//! - `read DOC`: the linkset, or the error.
+//! - `write DOC`: what is written of the linkset that DOC is, or the error.
+//! - `new ANCHOR NAME HREF.. / NAME HREF..`: what is written of the linkset of one context with these relations, or the rejection.
+//! - `copy DOC`: a copy of the first target, `None` where there is none, or the error.
 
 use gs_chars::{List, Text};
 use gs_linkset::{Attr, AttrValue, Context, LinkDoc, Relation, Target};
 use std::alloc::Global;
-use vector_cases::{Done, Line, Refusal, behind, bytes_at, named, push};
+use vectors_cases::{Done, Line, Rejection, behind, bytes_at, named, push};
 
 #[derive(Clone, Copy)]
 enum Call {
@@ -39,16 +39,16 @@ pub fn answer(alloc: Global, line: &mut Line, call: &[u8], args: &[Text]) -> Don
     match named(&CALLS, call) {
         Some(Call::New) => made(alloc, line, first, behind(args, 1)),
         Some(Call::Over(asked)) => answer_over(alloc, line, asked, first),
-        None => Err(Refusal::NoCase),
+        None => Err(Rejection::NoCase),
     }
 }
 
 /// Answers a call over a document.
 fn answer_over(alloc: Global, line: &mut Line, asked: Asked, document: &[u8]) -> Done {
     match gs_linkset::read(alloc, document) {
-        Ok(doc) => told(alloc, line, asked, &doc),
-        Err(fault) => {
-            line.fault(fault);
+        Ok(doc) => known(alloc, line, asked, &doc),
+        Err(error) => {
+            line.error(error);
             Ok(())
         }
     }
@@ -107,7 +107,7 @@ fn add_contexts(line: &mut Line, contexts: &[Context]) {
 }
 
 /// A target without attributes.
-fn target_of(alloc: Global, reference: &Text) -> Result<Target, Refusal> {
+fn target_of(alloc: Global, reference: &Text) -> Result<Target, Rejection> {
     Ok(Target {
         href: reference.copy(alloc)?,
         attrs: List::from_vec(Vec::new(alloc)),
@@ -115,7 +115,7 @@ fn target_of(alloc: Global, reference: &Text) -> Result<Target, Refusal> {
 }
 
 /// Targets without attributes.
-fn targets_of(alloc: Global, references: &[Text]) -> Result<List<Target>, Refusal> {
+fn targets_of(alloc: Global, references: &[Text]) -> Result<List<Target>, Rejection> {
     let mut targets = Vec::new(alloc);
     for reference in references {
         push(&mut targets, target_of(alloc, reference))?;
@@ -124,9 +124,9 @@ fn targets_of(alloc: Global, references: &[Text]) -> Result<List<Target>, Refusa
 }
 
 /// The relation of a name and its references.
-fn relation_of(alloc: Global, words: &[Text]) -> Result<Relation, Refusal> {
+fn relation_of(alloc: Global, words: &[Text]) -> Result<Relation, Rejection> {
     let [name, references @ ..] = words else {
-        return Err(Refusal::NoCase);
+        return Err(Rejection::NoCase);
     };
     let name = name.copy(alloc)?;
     Ok(Relation {
@@ -136,7 +136,7 @@ fn relation_of(alloc: Global, words: &[Text]) -> Result<Relation, Refusal> {
 }
 
 /// Relations, each a name and its references, with `/` between them.
-fn relations_of(alloc: Global, words: &[Text]) -> Result<List<Relation>, Refusal> {
+fn relations_of(alloc: Global, words: &[Text]) -> Result<List<Relation>, Rejection> {
     let mut relations = Vec::new(alloc);
     for part in words.split(|word| word.as_bytes() == b"/".as_slice()) {
         push(&mut relations, relation_of(alloc, part))?;
@@ -145,7 +145,7 @@ fn relations_of(alloc: Global, words: &[Text]) -> Result<List<Relation>, Refusal
 }
 
 /// The context of an anchor and of relations.
-fn context_of(alloc: Global, anchor: &[u8], words: &[Text]) -> Result<Context, Refusal> {
+fn context_of(alloc: Global, anchor: &[u8], words: &[Text]) -> Result<Context, Rejection> {
     let relations = relations_of(alloc, words)?;
     Ok(Context {
         anchor: Text::from_bytes(alloc, anchor)?,
@@ -154,17 +154,17 @@ fn context_of(alloc: Global, anchor: &[u8], words: &[Text]) -> Result<Context, R
 }
 
 /// The list of one context.
-fn contexts_of(alloc: Global, anchor: &[u8], words: &[Text]) -> Result<List<Context>, Refusal> {
+fn contexts_of(alloc: Global, anchor: &[u8], words: &[Text]) -> Result<List<Context>, Rejection> {
     let mut contexts = Vec::new(alloc);
     push(&mut contexts, context_of(alloc, anchor, words))?;
     Ok(List::from_vec(contexts))
 }
 
-/// Writes what is written of the linkset of one context with these relations, or the refusal.
+/// Writes what is written of the linkset of one context with these relations, or the rejection.
 fn made(alloc: Global, line: &mut Line, anchor: &[u8], words: &[Text]) -> Done {
     match LinkDoc::new(contexts_of(alloc, anchor, words)?) {
         Ok(doc) => line.text_made(gs_linkset::write(alloc, &doc)),
-        Err(fault) => line.debug(fault),
+        Err(error) => line.debug(error),
     }
     Ok(())
 }
@@ -186,7 +186,7 @@ fn add_copy(alloc: Global, line: &mut Line, target: Option<&Target>) -> Done {
 }
 
 /// Writes what is asked of a linkset.
-fn told(alloc: Global, line: &mut Line, asked: Asked, doc: &LinkDoc) -> Done {
+fn known(alloc: Global, line: &mut Line, asked: Asked, doc: &LinkDoc) -> Done {
     match asked {
         Asked::Copy => return add_copy(alloc, line, first_target(doc)),
         Asked::Read => add_contexts(line, doc.contexts()),

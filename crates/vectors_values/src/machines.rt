@@ -1,51 +1,49 @@
-//! Calls of gs_machine, gs_ambig, gs_compile and gs_share. A MACHINE is `BORDERS/ROW/ROW..`: the borders with commas between, and the edges that leave
+//! Calls of gs_grammar_machine, gs_ambig and gs_grammar_compile. A MACHINE is `BORDERS/ROW/ROW..`: the borders with commas between, and the edges that leave
 //! each state, `LO-HI>STATE` with `+` between.
 //!
 //! - `machine MACHINE`: the number of states and the start, or `None` where it is no machine.
+//! - `compile LEVEL ITEM.. | ITEM..`, with LEVEL `text` or `bits`: the number of states of the machine of each option.
 //! - `check MACHINE..`: `Clear`, or the two machines and a list of symbols that they share.
 //! - `share LEVEL ITEM.. | ITEM..`, with LEVEL `text` or `bits`: `Clear`, or the two options that share a list of symbols; the
 //!   machines are compiled of the options.
-//! - `first_share LEVEL ITEM.. | ITEM..`: `None`, or the two options of the level.
 
 use crate::grammars::{is_bits, options_of};
-use crate::levels::level_of;
 use gs_ambig::{Verdict, check};
 use gs_chars::{List, Memory, Text};
-use gs_compile::compile;
 use gs_grammar::Opt;
-use gs_machine::{Auto, Edge};
-use gs_share::first_share;
+use gs_grammar_compile::compile;
+use gs_grammar_machine::{Auto, Edge};
 use std::alloc::Global;
-use vector_cases::{Done, Line, Refusal, behind, bytes_at, named, number_in, numbers_of, push};
+use vectors_cases::{Done, Line, Rejection, behind, bytes_at, named, number_in, numbers_of, push};
 
 #[derive(Clone, Copy)]
 enum Call {
     Check,
-    FirstShare,
+    Compile,
     Machine,
     Share,
 }
 
 const CALLS: [(&str, Call); 4] = [
     ("check", Call::Check),
-    ("first_share", Call::FirstShare),
+    ("compile", Call::Compile),
     ("machine", Call::Machine),
     ("share", Call::Share),
 ];
 
-/// Answers a call of gs_machine, gs_ambig, gs_compile or gs_share.
+/// Answers a call of gs_grammar_machine, gs_ambig or gs_grammar_compile.
 pub fn answer(alloc: Global, line: &mut Line, call: &[u8], args: &[Text]) -> Done {
     let first = bytes_at(args, 0);
     match named(&CALLS, call) {
         Some(Call::Check) => checked(alloc, line, args),
-        Some(Call::FirstShare) => first_shared(alloc, line, is_bits(first), behind(args, 1)),
+        Some(Call::Compile) => states(alloc, line, is_bits(first), behind(args, 1)),
         Some(Call::Machine) => machine(alloc, line, first),
         Some(Call::Share) => shared(alloc, line, is_bits(first), behind(args, 1)),
-        None => Err(Refusal::NoCase),
+        None => Err(Rejection::NoCase),
     }
 }
 
-/// The symbol that a word tells, where it tells one.
+/// The symbol that a word gives, where they are known one.
 fn symbol_in(word: &str) -> Option<u8> {
     match number_in(word.as_bytes()) {
         Some(number) => u8::try_from(number).ok(),
@@ -53,12 +51,12 @@ fn symbol_in(word: &str) -> Option<u8> {
     }
 }
 
-fn edge_of(text: &str) -> Result<Edge, Refusal> {
+fn edge_of(text: &str) -> Result<Edge, Rejection> {
     let Some((symbols, state)) = text.split_once('>') else {
-        return Err(Refusal::NoCase);
+        return Err(Rejection::NoCase);
     };
     let Some((lo, hi)) = symbols.split_once('-') else {
-        return Err(Refusal::NoCase);
+        return Err(Rejection::NoCase);
     };
     match (symbol_in(lo), symbol_in(hi), number_in(state.as_bytes())) {
         (Some(lo), Some(hi), Some(to)) => Ok(Edge {
@@ -66,11 +64,11 @@ fn edge_of(text: &str) -> Result<Edge, Refusal> {
             hi,
             to: to as usize,
         }),
-        _ => Err(Refusal::NoCase),
+        _ => Err(Rejection::NoCase),
     }
 }
 
-fn row_of(alloc: Global, text: &str) -> Result<List<Edge>, Refusal> {
+fn row_of(alloc: Global, text: &str) -> Result<List<Edge>, Rejection> {
     let mut edges = Vec::new(alloc);
     for edge in text.split('+') {
         if !edge.is_empty() {
@@ -80,7 +78,7 @@ fn row_of(alloc: Global, text: &str) -> Result<List<Edge>, Refusal> {
     Ok(List::from_vec(edges))
 }
 
-fn rows_of(alloc: Global, text: &str) -> Result<Vec<List<Edge>>, Refusal> {
+fn rows_of(alloc: Global, text: &str) -> Result<Vec<List<Edge>>, Rejection> {
     let mut rows = Vec::new(alloc);
     for row in text.split('/') {
         push(&mut rows, row_of(alloc, row))?;
@@ -88,7 +86,7 @@ fn rows_of(alloc: Global, text: &str) -> Result<Vec<List<Edge>>, Refusal> {
     Ok(rows)
 }
 
-fn borders_of(alloc: Global, text: &str) -> Result<Vec<usize>, Refusal> {
+fn borders_of(alloc: Global, text: &str) -> Result<Vec<usize>, Rejection> {
     let mut borders = Vec::new(alloc);
     for border in numbers_of(alloc, text.as_bytes())? {
         borders.push(border as usize)?;
@@ -97,18 +95,18 @@ fn borders_of(alloc: Global, text: &str) -> Result<Vec<usize>, Refusal> {
 }
 
 /// The machine of a word, where it is one.
-fn made(alloc: Global, word: &[u8]) -> Result<Option<Auto>, Refusal> {
+fn made(alloc: Global, word: &[u8]) -> Result<Option<Auto>, Rejection> {
     let Ok(text) = str::from_utf8(word) else {
-        return Err(Refusal::NoCase);
+        return Err(Rejection::NoCase);
     };
     match text.split_once('/') {
         Some((borders, rows)) => machine_of(alloc, borders, rows),
-        None => Err(Refusal::NoCase),
+        None => Err(Rejection::NoCase),
     }
 }
 
 /// The machine of these borders and rows, where it is one.
-fn machine_of(alloc: Global, borders: &str, rows: &str) -> Result<Option<Auto>, Refusal> {
+fn machine_of(alloc: Global, borders: &str, rows: &str) -> Result<Option<Auto>, Rejection> {
     let rows = rows_of(alloc, rows)?;
     let borders = borders_of(alloc, borders)?;
     Ok(Auto::new(alloc, rows.as_slice(), borders)?)
@@ -119,7 +117,7 @@ fn machine(alloc: Global, line: &mut Line, word: &[u8]) -> Done {
     match made(alloc, word) {
         Ok(Some(auto)) => add_pair(line, auto.states(), auto.start()),
         Ok(None) => line.plain("None"),
-        Err(refusal) => return Err(refusal),
+        Err(rejection) => return Err(rejection),
     }
     Ok(())
 }
@@ -131,15 +129,15 @@ fn add_pair(line: &mut Line, first: usize, second: usize) {
 }
 
 /// The machine of a word.
-fn sure_machine(alloc: Global, word: &[u8]) -> Result<Auto, Refusal> {
+fn sure_machine(alloc: Global, word: &[u8]) -> Result<Auto, Rejection> {
     match made(alloc, word) {
         Ok(Some(auto)) => Ok(auto),
-        Ok(None) => Err(Refusal::NoCase),
-        Err(refusal) => Err(refusal),
+        Ok(None) => Err(Rejection::NoCase),
+        Err(rejection) => Err(rejection),
     }
 }
 
-fn machines_of(alloc: Global, words: &[Text]) -> Result<Vec<Auto>, Refusal> {
+fn machines_of(alloc: Global, words: &[Text]) -> Result<Vec<Auto>, Rejection> {
     let mut machines = Vec::new(alloc);
     for word in words {
         push(&mut machines, sure_machine(alloc, word.as_bytes()))?;
@@ -162,12 +160,12 @@ fn checked(alloc: Global, line: &mut Line, words: &[Text]) -> Done {
 }
 
 /// The machine of an option.
-fn compiled_of(alloc: Global, option: &Opt) -> Result<Auto, Refusal> {
+fn compiled_of(alloc: Global, option: &Opt) -> Result<Auto, Rejection> {
     Ok(compile(alloc, option)?)
 }
 
 /// The machines of the options of the words.
-fn compiled(alloc: Global, bit_level: bool, words: &[Text]) -> Result<Vec<Auto>, Refusal> {
+fn compiled(alloc: Global, bit_level: bool, words: &[Text]) -> Result<Vec<Auto>, Rejection> {
     let options = options_of(alloc, bit_level, words)?;
     let mut machines = Vec::new(alloc);
     for option in options.as_slice() {
@@ -176,23 +174,21 @@ fn compiled(alloc: Global, bit_level: bool, words: &[Text]) -> Result<Vec<Auto>,
     Ok(machines)
 }
 
+/// Writes the number of states of the machine of each option.
+fn states(alloc: Global, line: &mut Line, bit_level: bool, words: &[Text]) -> Done {
+    let machines = compiled(alloc, bit_level, words)?;
+    for machine in machines.as_slice() {
+        line.debug(machine.states());
+    }
+    Ok(())
+}
+
 /// Writes `Clear`, or the two options whose machines share a list of symbols.
 fn shared(alloc: Global, line: &mut Line, bit_level: bool, words: &[Text]) -> Done {
     let machines = compiled(alloc, bit_level, words)?;
     match check(alloc, machines.as_slice()) {
         Ok(Verdict::Clear) => line.plain("Clear"),
         Ok(Verdict::Double { i, j, word: _ }) => add_pair(line, i, j),
-        Err(Memory) => line.want_memory(),
-    }
-    Ok(())
-}
-
-/// Writes the first two options of a level that share a list of symbols, or `None`.
-fn first_shared(alloc: Global, line: &mut Line, bit_level: bool, words: &[Text]) -> Done {
-    let level = level_of(alloc, bit_level, words)?;
-    match first_share(alloc, &level) {
-        Ok(Some(pair)) => add_pair(line, pair.first, pair.second),
-        Ok(None) => line.plain("None"),
         Err(Memory) => line.want_memory(),
     }
     Ok(())

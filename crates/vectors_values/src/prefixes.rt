@@ -1,13 +1,13 @@
 //! Calls of gs_prefix.
 //!
-//! - `load DOC`: the number of entries, or the refusal.
+//! - `load DOC`: the number of entries, or the rejection.
 //! - `length_of DOC DIGITS`: the length of the company prefix by the list of the document, or `None`; by the empty list where
 //!   DOC is empty.
 
 use gs_chars::Text;
 use gs_prefix::{PrefixFault, PrefixList};
 use std::alloc::Global;
-use vector_cases::{Done, Line, Refusal, bytes_at, named};
+use vectors_cases::{Done, Line, Rejection, bytes_at, named};
 
 #[derive(Clone, Copy)]
 enum Call {
@@ -23,29 +23,29 @@ pub fn answer(alloc: Global, line: &mut Line, call: &[u8], args: &[Text]) -> Don
     match named(&CALLS, call) {
         Some(Call::LengthOf) => length_of(alloc, line, document, bytes_at(args, 1)),
         Some(Call::Load) => load(alloc, line, document),
-        None => Err(Refusal::NoCase),
+        None => Err(Rejection::NoCase),
     }
 }
 
 fn load(alloc: Global, line: &mut Line, document: &[u8]) -> Done {
     match PrefixList::load(alloc, document) {
         Ok(list) => line.debug(list.len()),
-        Err(PrefixFault::Json(fault)) => line.fault(fault),
+        Err(PrefixFault::Json(error)) => line.error(error),
         Err(PrefixFault::Memory) => line.want_memory(),
-        Err(fault) => line.debug(fault),
+        Err(error) => line.debug(error),
     }
     Ok(())
 }
 
 /// The list of a document, where it is one.
-fn list_of(alloc: Global, document: &[u8]) -> Result<PrefixList, Refusal> {
+fn list_of(alloc: Global, document: &[u8]) -> Result<PrefixList, Rejection> {
     if document.is_empty() {
         return Ok(PrefixList::empty(alloc));
     }
     match PrefixList::load(alloc, document) {
         Ok(list) => Ok(list),
-        Err(PrefixFault::Memory) => Err(Refusal::Memory),
-        Err(_) => Err(Refusal::NoCase),
+        Err(PrefixFault::Memory) => Err(Rejection::Memory),
+        Err(_) => Err(Rejection::NoCase),
     }
 }
 

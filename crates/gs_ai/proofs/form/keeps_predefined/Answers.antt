@@ -1,7 +1,7 @@
 use Rattle.std.proofs.Common.{◌≡◌, ℕ, ◌+◌, ◌*◌, ◌≤◌, true, eqb, length, Some, refl, sym, ap, arith}
 use Rattle.std.proofs.lemmas.Bool.Decides.{nat_tests}
 use Rattle.gs_ai.specs.declared.row.AiRow.{AiRow}
-use Rattle.gs_ai.specs.Predefined.{predefined_length}
+use Rattle.gs_ai.specs.PredefinedLengths.{predefined_length}
 use Rattle.gs_ai.specs.Tables.{keeps_predefined}
 use Rattle.gs_ai.specs.Values.{greatest_of, least_of}
 use Rattle.gs_ai.proofs.RowLemmas.{row_code, row_parts, few, listed, code_short, small_parts}

@@ -1,5 +1,5 @@
 use Rattle.std.proofs.Common.{◌≡◌, ◌∙◌, true, false, refl, sym, arith, length}
-use Rattle.gs_ai.specs.Tables.{starts_at}
+use Rattle.gs_ai.specs.TablesSupport.{starts_at}
 use Rattle.gs_ai.proofs.PlaceLemmas.{place_found, place_passed, places_done}
 use Rattle.gs_ai.proofs.starts.places_at.Goals as goal
 use Rattle.gs_ai.proofs.starts.places_at.Goals.{then-starts_at+in_ok-push, else-starts_at}

@@ -1,5 +1,5 @@
 use Rattle.std.proofs.Common.{◌≡◌, ◌++◌, drop}
-use Rattle.gs_ai.specs.Tables.{places_at, places_from}
+use Rattle.gs_ai.specs.TablesSupport.{places_at, places_from}
 use Rattle.gs_ai.proofs.starts.places_at.Given as goal
 
 -- the places so far, and those of the rows that are left

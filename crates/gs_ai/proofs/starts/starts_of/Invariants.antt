@@ -1,5 +1,5 @@
 use Rattle.std.proofs.Common.{◌≡◌, ◌<◌, ℕ, length, Some, slice_get}
-use Rattle.gs_ai.specs.Tables.{places_at}
+use Rattle.gs_ai.specs.TablesSupport.{places_at}
 use Rattle.gs_ai.proofs.starts.starts_of.Given as goal
 
 -- the lists of the numbers so far

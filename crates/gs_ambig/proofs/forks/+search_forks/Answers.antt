@@ -1,5 +1,5 @@
 use Rattle.gs_ambig.proofs.Steps.{found_follows, self_at}
-use Rattle.gs_ambig.proofs.Parting.{single_more, single_empty, single_end, single_marks, parts_by}
+use Rattle.gs_ambig.proofs.Partings.{single_more, single_empty, single_end, single_marks, parts_by}
 use Rattle.gs_ambig.proofs.forks.+search_forks.Goals as goal
 
 pub returns-then-contains-clause-none : goal.returns-then-contains-clause-none

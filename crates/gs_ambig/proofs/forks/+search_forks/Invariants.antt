@@ -1,7 +1,7 @@
 use Rattle.std.proofs.Common.{◌-◌, take}
-use Rattle.gs_machine.specs.Machines.{states_of}
+use Rattle.gs_grammar_machine.specs.Machines.{states_of}
 use Rattle.gs_ambig.specs.Searches.{MarksDead, MarksSingle}
-use Rattle.gs_ambig.proofs.Parting.{SingleBy}
+use Rattle.gs_ambig.proofs.Partings.{SingleBy}
 use Rattle.gs_ambig.proofs.forks.+search_forks.Given as goal
 
 abbrev pub decreases-search_forks : goal.decreases-search_forks

@@ -1,5 +1,5 @@
 use Rattle.gs_ambig.proofs.Steps.{self_at}
-use Rattle.gs_ambig.proofs.Parting.{fork_more, fork_end, parts_here}
+use Rattle.gs_ambig.proofs.Partings.{fork_more, fork_end, parts_here}
 use Rattle.gs_ambig.proofs.forks.search_fork.Goals as goal
 
 pub returns-in-Some-clause-found : goal.returns-in-Some-clause-found

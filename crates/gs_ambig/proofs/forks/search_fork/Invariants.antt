@@ -1,5 +1,5 @@
 use Rattle.std.proofs.Common.{take}
-use Rattle.gs_machine.specs.Walks.{edges_at}
+use Rattle.gs_grammar_machine.specs.Walks.{edges_at}
 use Rattle.gs_ambig.specs.Searches.{MarksDead, HasNoFork}
 use Rattle.gs_ambig.proofs.forks.search_fork.Given as goal
 

@@ -1,5 +1,5 @@
 use Rattle.std.proofs.Common.{◌≡◌, ◌*◌, length, take}
-use Rattle.gs_bits.specs.Packed.{bits_of_bytes}
+use Rattle.gs_bits.specs.PackedBits.{bits_of_bytes}
 use Rattle.gs_bits.proofs.spread.spread.Given as goal
 
 abbrev pub invariant-loop-place : goal.invariant-loop-place

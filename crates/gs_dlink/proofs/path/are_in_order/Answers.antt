@@ -1,6 +1,6 @@
 use Rattle.std.proofs.Common.{map, sym, ◌∙◌}
 use Rattle.std.proofs.lemmas.List.{length-map}
-use Rattle.gs_dlink.specs.Values.{written_of}
+use Rattle.gs_dlink.specs.ValuesSupport.{written_of}
 use Rattle.gs_dlink.proofs.OrderLemmas.{code_met, code_passed, order_ends}
 use Rattle.gs_dlink.proofs.path.are_in_order.Goals as goal
 use Rattle.gs_dlink.proofs.path.are_in_order.Goals.{then-is_code_at, else-is_code_at}

@@ -1,4 +1,4 @@
-use Rattle.gs_dlink.specs.Values.{written_of}
+use Rattle.gs_dlink.specs.ValuesSupport.{written_of}
 use Rattle.std.proofs.Common.{map}
 use Rattle.gs_dlink.proofs.OrderLemmas.{Ordered}
 use Rattle.gs_dlink.proofs.path.are_in_order.Given as goal

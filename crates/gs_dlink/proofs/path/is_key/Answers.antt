@@ -1,5 +1,5 @@
 use Rattle.std.proofs.Common.{sym, ◌∙◌}
-use Rattle.gs_dlink.proofs.Placed.{no_row_no_key}
+use Rattle.gs_dlink.proofs.PlaceLemmas.{no_row_no_key}
 use Rattle.gs_dlink.proofs.path.is_key.Goals as goal
 
 pub returns-in-None : goal.returns-in-None

@@ -1,6 +1,7 @@
 use Rattle.std.proofs.Common.{◌+◌, map, reverse, sym, ◌∙◌, take}
 use Rattle.std.proofs.lemmas.List.Elements.{All-push}
-use Rattle.gs_dlink.specs.Values.{IsPlaced, written_of}
+use Rattle.gs_dlink.specs.Values.{IsPlaced}
+use Rattle.gs_dlink.specs.ValuesSupport.{written_of}
 use Rattle.gs_dlink.proofs.CutLemmas.{rest_taken}
 use Rattle.gs_dlink.proofs.KeyPaths.{key_found, none_left, one_left, one_pair_more, pushed}
 use Rattle.gs_dlink.proofs.path.key_path.Goals as goal

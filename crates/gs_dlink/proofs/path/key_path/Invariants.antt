@@ -1,5 +1,6 @@
 use Rattle.std.proofs.Common.{All, length, map, reverse}
-use Rattle.gs_dlink.specs.Values.{IsPlaced, written_of}
+use Rattle.gs_dlink.specs.Values.{IsPlaced}
+use Rattle.gs_dlink.specs.ValuesSupport.{written_of}
 use Rattle.gs_dlink.proofs.KeyPaths.{Walked}
 use Rattle.gs_dlink.proofs.path.key_path.Given as goal
 

@@ -1,8 +1,9 @@
 use Rattle.std.proofs.Common.{map, reverse, sym, ◌∙◌}
 use Rattle.std.proofs.lemmas.List.Elements.{All-push}
-use Rattle.gs_dlink.specs.Values.{IsPlaced, written_of}
+use Rattle.gs_dlink.specs.Values.{IsPlaced}
+use Rattle.gs_dlink.specs.ValuesSupport.{written_of}
 use Rattle.gs_dlink.proofs.KeyPaths.{behind_last, no_ordered_path, ordered_path, pushed}
-use Rattle.gs_dlink.proofs.Placed.{all_reversed}
+use Rattle.gs_dlink.proofs.PlaceLemmas.{all_reversed}
 use Rattle.gs_dlink.proofs.path.with_key.Goals as goal
 
 pub returns-then-not-are_in_order-clause-path : goal.returns-then-not-are_in_order-clause-path

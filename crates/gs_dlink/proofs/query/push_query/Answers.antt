@@ -1,6 +1,6 @@
 use Rattle.std.proofs.Common.{◌+◌, ◌<◌, length, map, arith}
 use Rattle.std.proofs.Common.{length-drop}
-use Rattle.gs_dlink.specs.Values.{written_of}
+use Rattle.gs_dlink.specs.ValuesSupport.{written_of}
 use Rattle.gs_dlink.proofs.CutLemmas.{query_ends, query_goes_on}
 use Rattle.gs_dlink.proofs.query.push_query.Goals as goal
 

@@ -1,6 +1,7 @@
 use Rattle.std.proofs.Common.{◌≡◌, ◌++◌, ◌+◌, ◌≤◌, All, length, map}
 use Rattle.gs_dlink.specs.Uris.{query_pairs}
-use Rattle.gs_dlink.specs.Values.{IsPlaced, written_of}
+use Rattle.gs_dlink.specs.Values.{IsPlaced}
+use Rattle.gs_dlink.specs.ValuesSupport.{written_of}
 use Rattle.gs_dlink.proofs.query.push_query.Given as goal
 
 -- the pairs so far and those of what is left are all pairs

@@ -1,5 +1,5 @@
 use Rattle.std.proofs.Common.{map, sym, ◌∙◌, inr}
-use Rattle.gs_dlink.specs.Values.{written_of}
+use Rattle.gs_dlink.specs.ValuesSupport.{written_of}
 use Rattle.gs_dlink.proofs.Targets.{no_key_path, not_rooted, pairs_found}
 use Rattle.gs_dlink.proofs.read.read_at.Goals as goal
 

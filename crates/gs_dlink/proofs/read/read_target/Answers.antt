@@ -1,5 +1,5 @@
 use Rattle.gs_dlink.specs.Answers.{target_answer}
-use Rattle.gs_dlink.proofs.Judged.{answer_pairs}
+use Rattle.gs_dlink.proofs.JudgementLemmas.{answer_pairs}
 use Rattle.gs_dlink.proofs.Targets.{target_in_order}
 use Rattle.gs_dlink.proofs.read.read_target.Goals as goal
 

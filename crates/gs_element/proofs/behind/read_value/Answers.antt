@@ -1,6 +1,6 @@
 use Rattle.std.proofs.Common.{◌≡◌, ℕ, List, [], ◌∷◌, ◌++◌, ap, sym, ◌∙◌, append_assoc, append-nil}
 use Rattle.std.proofs.lemmas.Grind.{flat_map-append}
-use Rattle.gs_element.specs.Bracketed.{value_before, written_character, written_value}
+use Rattle.gs_element.specs.BracketedTexts.{value_before, written_character, written_value}
 use Rattle.gs_element.proofs.behind.read_value.Goals as goal
 
 written_more : (done : List ℕ) (c : ℕ) (behind : List ℕ) → written_value done ++ (written_character c ++ behind) ≡ written_value (done ++ c ∷ []) ++ behind
@@ -19,4 +19,4 @@ character_more start value pushed text left behind done c so_far before written 
 pub loop-next-preserved : goal.loop-next-preserved
 loop-next-preserved c =
     let h = c.loop-next.invariant in
-    character_more c.args.value.now c.loop-next.value _ c.args.text.now c.loop-next.rest.now c.in-Some.next.rest.now h.0 c.in-Some.next.character h.1 h.2 h.3 c.in_ok-push.ensures c.in-Some.ensures.value c.in-Some.ensures.text
+    character_more c.args.value.now c.loop-next.value _ c.args.text.now c.loop-next.rest.now c.in-Some.next.rest.now h.0 c.in-Some.next.character h.1 h.2 h.3 c.in_ok-push.ensures.appended c.in-Some.ensures.value c.in-Some.ensures.text

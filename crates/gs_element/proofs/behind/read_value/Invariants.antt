@@ -1,5 +1,5 @@
 use Rattle.std.proofs.Common.{◌≡◌, ◌++◌, ℕ, List, length}
-use Rattle.gs_element.specs.Bracketed.{value_before, written_value}
+use Rattle.gs_element.specs.BracketedTexts.{value_before, written_value}
 use Rattle.gs_element.proofs.behind.read_value.Given as goal
 
 -- the characters so far, and the value of what is left

@@ -2,7 +2,7 @@ use Rattle.std.proofs.Common.{◌≡◌, ℕ, ◌-◌, ◌==◌, min, List, leng
 use Rattle.std.proofs.lemmas.List.{take_min}
 use Rattle.std.specs.List.{before_first}
 use Rattle.std.specs.Option.{option_map_or}
-use Rattle.gs_ai.specs.Predefined.{predefined_length}
+use Rattle.gs_ai.specs.PredefinedLengths.{predefined_length}
 use Rattle.gs_element.specs.Raw.{raw_value}
 use Rattle.gs_element.proofs.raw.cut_value.Goals as goal
 

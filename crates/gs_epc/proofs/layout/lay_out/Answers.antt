@@ -1,20 +1,27 @@
-use Rattle.gs_epc.proofs.LayoutLaws.{each_in_order, laid_pairs, made_is, refused_for_memory}
+use Rattle.std.proofs.Common.{◌≡◌, ◌∷◌, List, Ok, ℕ, refl}
+use Rattle.std.proofs.lemmas.Result.{IfOk-weaker}
+use Rattle.gs_ident.specs.Identities.{identity_of_pairs}
+use Rattle.gs_ident.specs.QualifiedKeys.{pairs_in}
+use Rattle.gs_ai.specs.declared.pair.Pair.{Pair}
+use Rattle.gs_ai.specs.declared.row.AiRow.{AiRow}
+use Rattle.gs_tables_document.specs.declared.kind.Kind.{Kind}
+use Rattle.gs_epc.specs.Layout.{KeyFields, fields_in, key_pair, key_value, lay, parts_at}
+use Rattle.gs_epc.proofs.LayoutLaws.{is_qualified, made_is}
 use Rattle.gs_epc.proofs.layout.lay_out.Goals as goal
 
-pub make-requires : goal.make-requires
-make-requires c =
-    let epc = c.args.epc.now in
-    let laid = laid_pairs c.args.ais.now c.args.kind.now epc.prefix epc.rest epc.serial _ _ _ c.in_ok-copy.ensures c.in_ok-key_value.ensures c.in_ok-pairs.ensures in
-    each_in_order c.args.ais.now c.args.kind.now epc.prefix epc.rest epc.serial _ laid c.requires.fit c.rows.ensures.kept
+keyed : (ais : List AiRow) (kind : Kind) (fields : KeyFields) (code value : List ℕ) → code ≡ kind.key → value ≡ key_value (parts_at ais kind.key) kind fields
+    → record { code = code; value = value } ≡ key_pair ais kind fields
+keyed ais kind fields code value same valued = rw (same, valued) refl
 
-pub want_of_memory-requires : goal.want_of_memory-requires
-want_of_memory-requires c =
-    let epc = c.args.epc.now in
-    let laid = laid_pairs c.args.ais.now c.args.kind.now epc.prefix epc.rest epc.serial _ _ _ c.in_ok-copy.ensures c.in_ok-key_value.ensures c.in_ok-pairs.ensures in
-    refused_for_memory c.args.ais.now c.args.kind.now epc.prefix epc.rest epc.serial _ laid c.requires.fit c.rows.ensures.kept c.in-Err.refusal c.in-Err.ensures.refused
+pub of_key-requires : goal.of_key-requires
+of_key-requires c =
+    let fields = fields_in c.args.epc.now in
+    let key = keyed c.args.ais.now c.args.kind.now fields _ _ c.in_ok-copy.ensures c.in_ok-key_value.ensures in
+    is_qualified c.args.ais.now c.args.kind.now fields _ _ key c.in_ok-serial.ensures c.requires.fit c.rows.ensures.kept
 
-pub returns-in-Ok-clause-laid : goal.returns-in-Ok-clause-laid
-returns-in-Ok-clause-laid c =
-    let epc = c.args.epc.now in
-    let laid = laid_pairs c.args.ais.now c.args.kind.now epc.prefix epc.rest epc.serial _ _ _ c.in_ok-copy.ensures c.in_ok-key_value.ensures c.in_ok-pairs.ensures in
-    made_is c.args.ais.now c.args.kind.now epc.prefix epc.rest epc.serial _ laid c.requires.fit c.rows.ensures.kept c.in-Ok.identity c.in-Ok.ensures.made
+pub returns-clause-laid : goal.returns-clause-laid
+returns-clause-laid c =
+    let fields = fields_in c.args.epc.now in
+    let key = keyed c.args.ais.now c.args.kind.now fields _ _ c.in_ok-copy.ensures c.in_ok-key_value.ensures in
+    IfOk-weaker c.of_key.result (λ identity. identity_of_pairs c.args.ais.now (_ ∷ pairs_in _) ≡ Ok identity) (λ identity. identity ≡ lay c.args.ais.now c.args.kind.now fields)
+    (made_is c.args.ais.now c.args.kind.now fields _ _ key c.in_ok-serial.ensures c.requires.fit c.rows.ensures.kept) c.of_key.ensures.made

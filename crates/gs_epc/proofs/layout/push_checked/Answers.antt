@@ -45,4 +45,4 @@ check_digit-check-requires-clause-all_digits c =
 pub returns : goal.returns
 returns c =
     checked_written c.args.value.now (key_digits c.args.lead c.args.prefix.now c.args.rest.now) c.push_digits.new.value c.as_bytes-start.result.now c.as_bytes.result.now _ c.push.new.self c.check_digit-check.result
-    c.in_ok-push_digits.ensures c.as_bytes-start.ensures c.as_bytes.ensures refl c.check_digit-check.ensures c.in_ok-push.ensures
+    c.in_ok-push_digits.ensures c.as_bytes-start.ensures c.as_bytes.ensures refl c.check_digit-check.ensures c.in_ok-push.ensures.appended

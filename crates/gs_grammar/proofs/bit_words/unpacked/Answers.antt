@@ -15,7 +15,7 @@ loop-code-smaller c = let l = code_length _ _ c.in-Some.ensures.some in grind (a
 
 pub loop-code-preserved : goal.loop-code-preserved
 loop-code-preserved c =
-    rw (c.in_ok-push.ensures, take_rest) (pack_collects_step _ _ _ _ c.loop-code.invariant c.in-Some.ensures.some)
+    rw (c.in_ok-push.ensures.appended, take_rest) (pack_collects_step _ _ _ _ c.loop-code.invariant c.in-Some.ensures.some)
 
 pub returns : goal.returns
 returns c = pack_collects_end _ _ _ c.loop-code.invariant c.in_default.ensures.none

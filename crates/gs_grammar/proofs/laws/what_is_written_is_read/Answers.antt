@@ -1,4 +1,4 @@
-use Rattle.gs_grammar.proofs.Written.{written_read}
+use Rattle.gs_grammar.proofs.WritingLemmas.{written_read}
 use Rattle.gs_grammar.proofs.laws.what_is_written_is_read.Goals as goal
 
 pub returns : goal.returns

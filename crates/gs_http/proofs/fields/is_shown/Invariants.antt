@@ -2,7 +2,7 @@ use Rattle.std.proofs.Common.{◌≡◌, drop, map}
 use Rattle.std.specs.List.{list_any}
 use Rattle.httparse.specs.Spans.{header_bytes}
 use Rattle.gs_http.specs.Fields.{is_shown, shows}
-use Rattle.gs_http.specs.Heads.{asked_by}
+use Rattle.gs_http.specs.LentValues.{asked_by}
 use Rattle.gs_http.proofs.fields.is_shown.Given as goal
 
 -- no field so far shows the sign

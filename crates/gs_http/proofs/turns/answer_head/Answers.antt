@@ -6,95 +6,20 @@ use Rattle.gs_http.proofs.turns.answer_head.Goals as goal
 
 pub returns-in_default-clause-answered : goal.returns-in_default-clause-answered
 returns-in_default-clause-answered g c =
-    let some = some_reply c.args.table.now c.args.store.now c.args.settings.now (Some (take c.args.len c.args.bytes.now)) c.args.last in
+    let some = some_reply c.args.resolver.now.table c.args.resolver.now.links c.args.resolver.now.settings (Some (take c.args.len c.args.bytes.now)) c.args.last in
     record { reply = some.0; is_reply = some.1; delivers = (0, sym (append_nothing _)) }
 
 pub returns-in_default-clause-lets_go : goal.returns-in_default-clause-lets_go
 returns-in_default-clause-lets_go g c = tt
 
-pub returns-in_default-clause-write_count : goal.returns-in_default-clause-write_count
-returns-in_default-clause-write_count g c = refl
+pub returns-in_default-clause-counts : goal.returns-in_default-clause-counts
+returns-in_default-clause-counts g c = record { reads_now = refl; writes_now = refl; more_reads = omega arith; more_writes = omega arith }
 
-pub returns-in_default-clause-read_count : goal.returns-in_default-clause-read_count
-returns-in_default-clause-read_count g c = refl
-
-pub returns-in_default-clause-same_left : goal.returns-in_default-clause-same_left
-returns-in_default-clause-same_left g c = refl
-
-pub returns-in_default-clause-same_taken : goal.returns-in_default-clause-same_taken
-returns-in_default-clause-same_taken g c = refl
-
-pub returns-in_default-clause-same_aside : goal.returns-in_default-clause-same_aside
-returns-in_default-clause-same_aside g c = refl
-
-pub returns-in_default-clause-same_ends : goal.returns-in_default-clause-same_ends
-returns-in_default-clause-same_ends g c = refl
-
-pub returns-in_default-clause-write_counts : goal.returns-in_default-clause-write_counts
-returns-in_default-clause-write_counts g c = omega arith
-
-pub returns-in_default-clause-read_counts : goal.returns-in_default-clause-read_counts
-returns-in_default-clause-read_counts g c = omega arith
+pub returns-in_default-clause-unread : goal.returns-in_default-clause-unread
+returns-in_default-clause-unread g c = record { same_left = refl; same_taken = refl }
 
 pub returns-in_default-clause-stays_open : goal.returns-in_default-clause-stays_open
-returns-in_default-clause-stays_open g c = c.requires.current
-
-pub returns-in-Over-clause-lets_go : goal.returns-in-Over-clause-lets_go
-returns-in-Over-clause-lets_go g c = tt
-
-pub returns-in-Over-clause-write_count : goal.returns-in-Over-clause-write_count
-returns-in-Over-clause-write_count g c = c.in-Over.ensures.write_count
-
-pub returns-in-Over-clause-read_count : goal.returns-in-Over-clause-read_count
-returns-in-Over-clause-read_count g c = c.in-Over.ensures.read_count
-
-pub returns-in-Over-clause-write_counts : goal.returns-in-Over-clause-write_counts
-returns-in-Over-clause-write_counts g c = c.in-Over.ensures.write_counts
-
-pub returns-in-Over-clause-read_counts : goal.returns-in-Over-clause-read_counts
-returns-in-Over-clause-read_counts g c = c.in-Over.ensures.read_counts
-
-pub returns-in-Over-clause-same_left : goal.returns-in-Over-clause-same_left
-returns-in-Over-clause-same_left g c = c.in-Over.ensures.same_left
-
-pub returns-in-Over-clause-same_taken : goal.returns-in-Over-clause-same_taken
-returns-in-Over-clause-same_taken g c = c.in-Over.ensures.same_taken
-
-pub returns-in-Over-clause-stays_open : goal.returns-in-Over-clause-stays_open
-returns-in-Over-clause-stays_open g c = c.in-Over.ensures.stays_open
-
-pub returns-in-Over-clause-same_aside : goal.returns-in-Over-clause-same_aside
-returns-in-Over-clause-same_aside g c = c.in-Over.ensures.same_aside
-
-pub returns-in-Over-clause-same_ends : goal.returns-in-Over-clause-same_ends
-returns-in-Over-clause-same_ends g c = c.in-Over.ensures.same_ends
-
-pub returns-clause-write_count : goal.returns-clause-write_count
-returns-clause-write_count g c = c.in-Stays.ensures.write_count
-
-pub returns-clause-read_count : goal.returns-clause-read_count
-returns-clause-read_count g c = c.in-Stays.ensures.read_count
-
-pub returns-clause-write_counts : goal.returns-clause-write_counts
-returns-clause-write_counts g c = c.in-Stays.ensures.write_counts
-
-pub returns-clause-read_counts : goal.returns-clause-read_counts
-returns-clause-read_counts g c = c.in-Stays.ensures.read_counts
-
-pub returns-clause-same_left : goal.returns-clause-same_left
-returns-clause-same_left g c = c.in-Stays.ensures.same_left
-
-pub returns-clause-same_taken : goal.returns-clause-same_taken
-returns-clause-same_taken g c = c.in-Stays.ensures.same_taken
-
-pub returns-clause-stays_open : goal.returns-clause-stays_open
-returns-clause-stays_open g c = c.in-Stays.ensures.stays_open
-
-pub returns-clause-same_aside : goal.returns-clause-same_aside
-returns-clause-same_aside g c = c.in-Stays.ensures.same_aside
-
-pub returns-clause-same_ends : goal.returns-clause-same_ends
-returns-clause-same_ends g c = c.in-Stays.ensures.same_ends
+returns-in_default-clause-stays_open g c = record { open_now = c.requires.current; same_aside = refl; same_ends = refl }
 
 pub returns-in-Over-clause-answered : goal.returns-in-Over-clause-answered
 returns-in-Over-clause-answered g c = record {
@@ -102,6 +27,18 @@ returns-in-Over-clause-answered g c = record {
   is_reply = rw c.as_slice.ensures at c.in-Ok.ensures;
   delivers = c.in-Over.ensures.delivers;
 }
+
+pub returns-in-Over-clause-lets_go : goal.returns-in-Over-clause-lets_go
+returns-in-Over-clause-lets_go g c = tt
+
+pub returns-in-Over-clause-counts : goal.returns-in-Over-clause-counts
+returns-in-Over-clause-counts g c = c.in-Over.ensures.counts
+
+pub returns-in-Over-clause-unread : goal.returns-in-Over-clause-unread
+returns-in-Over-clause-unread g c = c.in-Over.ensures.unread
+
+pub returns-in-Over-clause-stays_open : goal.returns-in-Over-clause-stays_open
+returns-in-Over-clause-stays_open g c = c.in-Over.ensures.stays_open
 
 pub returns-clause-answered : goal.returns-clause-answered
 returns-clause-answered g c = record {
@@ -112,3 +49,12 @@ returns-clause-answered g c = record {
 
 pub returns-clause-lets_go : goal.returns-clause-lets_go
 returns-clause-lets_go g c = c.let_go.ensures
+
+pub returns-clause-counts : goal.returns-clause-counts
+returns-clause-counts g c = c.in-Stays.ensures.counts
+
+pub returns-clause-unread : goal.returns-clause-unread
+returns-clause-unread g c = c.in-Stays.ensures.unread
+
+pub returns-clause-stays_open : goal.returns-clause-stays_open
+returns-clause-stays_open g c = c.in-Stays.ensures.stays_open

@@ -1,5 +1,5 @@
 use Rattle.gs_json.specs.Shapes.{is_array}
-use Rattle.gs_json.proofs.FirstFailing.{all_pass, item_fails, item_passes}
+use Rattle.gs_json.proofs.FirstFailures.{all_pass, item_fails, item_passes}
 use Rattle.gs_json.proofs.fit.first_no_array.Goals as goal
 
 pub loop-i-preserved : goal.loop-i-preserved

@@ -1,6 +1,6 @@
 use Rattle.std.proofs.Common.{◌≡◌, ℕ, List, [], ◌∷◌, ◌++◌, map, append-nil, append_assoc, string_bytes, sym, ap, ◌∙◌}
 use Rattle.std.proofs.lemmas.List.{map-append}
-use Rattle.gs_json.proofs.Looked.{ascending_names}
+use Rattle.gs_json.proofs.LookUpLemmas.{ascending_names}
 use Rattle.gs_json.proofs.node.keys_of.Goals as goal
 
 module _ {A K : Type 0} (lent : A → List ℕ) (text : K → List ℕ) (start : List (List ℕ)) (names : List A) (keys : List K) (so_far : map lent names ++ map text keys ≡ start) where

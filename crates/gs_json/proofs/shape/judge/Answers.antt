@@ -2,22 +2,22 @@ use Rattle.std.proofs.Common.{◌+◌, ◌++◌, drop, Err, ap, ◌∙◌, arith
 use Rattle.std.specs.List.{flat_map}
 use Rattle.std.proofs.lemmas.Result.{err_from_is_err_and}
 use Rattle.serde_json.specs.View.{members_view}
-use Rattle.gs_json.specs.Shapes.{entry_faults}
-use Rattle.gs_json.proofs.Judged.{entries_end, entries_from, entry_first, names_only, no_first}
+use Rattle.gs_json.specs.Shapes.{entry_errors}
+use Rattle.gs_json.proofs.JudgementLemmas.{entries_end, entries_from, entry_first, names_only, no_first}
 use Rattle.gs_json.proofs.shape.judge.Goals as goal
 
 pub loop-entry-preserved : goal.loop-entry-preserved
 loop-entry-preserved c =
-    let faults = entry_faults c.args.place.now (members_view c.in-Some.map.now.entries) in
-    let own = no_first (faults c.entry-item.result) c.in_ok-judge_member.ensures in
-    c.loop-entry.invariant ∙ entries_from faults c.args.plan.now c.loop-entry.entry-index c.entry-item.result c.loop-entry-test.true c.entry-item.is
-    ∙ ap (λ fs. fs ++ flat_map faults (drop (c.loop-entry.entry-index + 1) c.args.plan.now)) own
+    let errors = entry_errors c.args.place.now (members_view c.in-Some.map.now.entries) in
+    let own = no_first (errors c.entry-item.result) c.in_ok-judge_member.ensures in
+    c.loop-entry.invariant ∙ entries_from errors c.args.plan.now c.loop-entry.entry-index c.entry-item.result c.loop-entry-test.true c.entry-item.is
+    ∙ ap (λ fs. fs ++ flat_map errors (drop (c.loop-entry.entry-index + 1) c.args.plan.now)) own
 
 pub returns-in_err-judge_names : goal.returns-in_err-judge_names
 returns-in_err-judge_names c =
     let members = members_view c.in-Some.map.now.entries in
     let p = err_from_is_err_and c.from_residual-in_err-judge_names.result c.from_residual-in_err-judge_names.ensures.1 in
-    let none = c.loop-entry.invariant ∙ entries_end (entry_faults c.args.place.now members) c.args.plan.now c.loop-entry.entry-index (omega arith) in
+    let none = c.loop-entry.invariant ∙ entries_end (entry_errors c.args.place.now members) c.args.plan.now c.loop-entry.entry-index (omega arith) in
     rw (p.1, p.2) (names_only c.args.place.now c.args.plan.now members _ (Err c.in_err-judge_names.field-0.0) c.in-Some.ensures none c.in_err-judge_names.ensures)
 
 pub returns-in_err-judge_member : goal.returns-in_err-judge_member

@@ -2,7 +2,7 @@ use Rattle.std.proofs.Common.{◌∙◌, option_map, ap}
 use Rattle.serde_json.specs.Find.{get_member}
 use Rattle.serde_json.specs.View.{view, members_view}
 use Rattle.serde_json.proofs.Views.{view_of_ref, view-lookup}
-use Rattle.gs_json.proofs.Looked.{no_such_member}
+use Rattle.gs_json.proofs.LookUpLemmas.{no_such_member}
 use Rattle.gs_json.proofs.shape.member_named.Goals as goal
 
 pub returns-in-Ok : goal.returns-in-Ok

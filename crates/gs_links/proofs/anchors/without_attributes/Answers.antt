@@ -1,7 +1,7 @@
 use Rattle.std.proofs.Common.{◌≡◌, ◌==◌, true, List, [], ◌∷◌, ◌∙◌, length, Ok, refl, true≢false, ne_eqb, arith}
 use Rattle.gs_ai.specs.Tables.{is_empty}
 use Rattle.gs_ident.specs.Elements.{Elements}
-use Rattle.gs_links.specs.Loading.{without_attributes}
+use Rattle.gs_links.specs.Loads.{without_attributes}
 use Rattle.gs_links.proofs.anchors.without_attributes.Goals as goal
 
 empty : {X : Type 0} (xs : List X) → true ≡ (length xs == 0) → is_empty xs ≡ true

@@ -1,8 +1,7 @@
 use Rattle.std.proofs.Common.{◌<◌, [], ◌∷◌, ◌++◌, length, get_or, sym, ap, ◌∙◌, arith}
 use Rattle.std.proofs.lemmas.List.{length-set, take_all, take_more_set}
 use Rattle.gs_chars.proofs.TruthsAndLists.{read_at}
-use Rattle.gs_links.specs.Choices.{is_chosen}
-use Rattle.gs_links.specs.Index.{passing}
+use Rattle.gs_links.specs.Choices.{is_chosen, passing}
 use Rattle.gs_links.proofs.ChoiceLemmas.{get_at, one_more}
 use Rattle.gs_links.proofs.IndexLemmas.{passing_less, passing_more}
 use Rattle.gs_links.proofs.candidates.put_chosen.Goals as goal

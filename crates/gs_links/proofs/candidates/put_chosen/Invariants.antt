@@ -1,6 +1,5 @@
 use Rattle.std.proofs.Common.{◌≡◌, ◌≤◌, length, take}
-use Rattle.gs_links.specs.Choices.{is_chosen}
-use Rattle.gs_links.specs.Index.{passing}
+use Rattle.gs_links.specs.Choices.{is_chosen, passing}
 use Rattle.gs_links.proofs.candidates.put_chosen.Given as goal
 
 abbrev pub invariant-loop-k : goal.invariant-loop-k

@@ -1,5 +1,5 @@
 use Rattle.std.proofs.Common.{◌≡◌, ◌+◌, min, take}
-use Rattle.gs_links.specs.Loading.{relations_count}
+use Rattle.gs_links.specs.LoadingSupport.{relations_count}
 use Rattle.gs_links.proofs.counts.count_relations.Given as goal
 
 abbrev pub invariant-loop-i : goal.invariant-loop-i

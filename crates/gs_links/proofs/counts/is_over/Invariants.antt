@@ -1,5 +1,5 @@
 use Rattle.std.proofs.Common.{◌≡◌, min, take}
-use Rattle.gs_links.specs.Loading.{targets_count}
+use Rattle.gs_links.specs.Loads.{targets_count}
 use Rattle.gs_links.proofs.counts.is_over.Given as goal
 
 abbrev pub invariant-loop-i : goal.invariant-loop-i

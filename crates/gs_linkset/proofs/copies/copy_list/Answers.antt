@@ -1,6 +1,6 @@
 use Rattle.std.proofs.Common.{◌∙◌}
 use Rattle.std.proofs.lemmas.List.{take_all}
-use Rattle.gs_linkset.proofs.Copied.{copied_more}
+use Rattle.gs_linkset.proofs.CopyLemmas.{copied_more}
 use Rattle.gs_linkset.proofs.copies.copy_list.Goals as goal
 
 pub loop-item-preserved : goal.loop-item-preserved

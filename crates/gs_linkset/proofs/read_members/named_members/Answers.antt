@@ -5,26 +5,26 @@ use Rattle.serde_json.specs.View.{view}
 use Rattle.gs_linkset.specs.Documents.{names_in}
 use Rattle.gs_linkset.proofs.Ascents.{ascend_kept}
 use Rattle.gs_linkset.proofs.Parts.{name_read}
-use Rattle.gs_linkset.proofs.ReadLemmas.{kept_all, member_fault, member_kept, members_read}
+use Rattle.gs_linkset.proofs.ReadLemmas.{kept_all, member_error, member_kept, members_read}
 use Rattle.gs_linkset.proofs.read_members.named_members.Goals as goal
 
 pub returns-in_err-read-clause-answer : goal.returns-in_err-read-clause-answer
 returns-in_err-read-clause-answer g c =
     let p = err_from_is_err_and c.from_residual.result c.from_residual.ensures.1 in
     let low : c.loop-i.i < length c.args.names.now = omega (arith, c.loop-i-test.true) in
-    rw (p.1, p.2) (member_fault (g.M.ReadMember.faults c.args.object.now.place (view c.args.object.now.tree)) (g.M.ReadMember.made (view c.args.object.now.tree)) g.M.Shaped.shape (map (λ name. name.now) c.args.names.now) c.loop-i.all.items c.loop-i.i _ c.in_err-read.field-0.0 (names_in (view c.args.object.now.tree)) c.requires.names c.loop-i.invariant
+    rw (p.1, p.2) (member_error (g.M.ReadMember.errors c.args.object.now.place (view c.args.object.now.tree)) (g.M.ReadMember.made (view c.args.object.now.tree)) g.M.Shaped.shape (map (λ name. name.now) c.args.names.now) c.loop-i.all.items c.loop-i.i _ c.in_err-read.field-0.0 (names_in (view c.args.object.now.tree)) c.requires.names c.loop-i.invariant
     (name_read c.args.names.now c.loop-i.i _ low) c.in_err-read.ensures.answer)
 
 pub loop-i-preserved : goal.loop-i-preserved
 loop-i-preserved g c =
     let low : c.loop-i.i < length c.args.names.now = omega (arith, c.loop-i-test.true) in
-    member_kept (g.M.ReadMember.faults c.args.object.now.place (view c.args.object.now.tree)) (g.M.ReadMember.made (view c.args.object.now.tree)) g.M.Shaped.shape (map (λ name. name.now) c.args.names.now) c.loop-i.all.items c.loop-i.i _ c.in_ok-read.read c.push_some.new.items.items c.loop-i.invariant
+    member_kept (g.M.ReadMember.errors c.args.object.now.place (view c.args.object.now.tree)) (g.M.ReadMember.made (view c.args.object.now.tree)) g.M.Shaped.shape (map (λ name. name.now) c.args.names.now) c.loop-i.all.items c.loop-i.i _ c.in_ok-read.read c.push_some.new.items.items c.loop-i.invariant
     (name_read c.args.names.now c.loop-i.i _ low) c.in_ok-read.ensures.answer c.in_ok-read.ensures.shape c.in_ok-push_some.ensures
 
 pub returns-clause-answer : goal.returns-clause-answer
 returns-clause-answer g c =
     let few : length (map (λ name. name.now) c.args.names.now) ≤ c.loop-i.i = rw length-map (omega (arith, c.loop-i-test.false)) in
-    rw c.from_vec.ensures (members_read (g.M.ReadMember.faults c.args.object.now.place (view c.args.object.now.tree)) (g.M.ReadMember.made (view c.args.object.now.tree)) g.M.Shaped.shape (map (λ name. name.now) c.args.names.now) c.loop-i.all.items c.loop-i.i (names_in (view c.args.object.now.tree)) c.requires.names c.loop-i.invariant few)
+    rw c.from_vec.ensures (members_read (g.M.ReadMember.errors c.args.object.now.place (view c.args.object.now.tree)) (g.M.ReadMember.made (view c.args.object.now.tree)) g.M.Shaped.shape (map (λ name. name.now) c.args.names.now) c.loop-i.all.items c.loop-i.i (names_in (view c.args.object.now.tree)) c.requires.names c.loop-i.invariant few)
 
 pub returns-clause-shape : goal.returns-clause-shape
 returns-clause-shape g c = rw c.from_vec.ensures c.loop-i.invariant.shaped

@@ -7,7 +7,7 @@ abbrev pub invariant-loop-done : goal.invariant-loop-done
 invariant-loop-done g l = record {
   within : l.done ≤ length l.bytes;
   appended : g.K.Sink.held l.sink ≡ append_known (g.K.Sink.held l.fn.sink) (take l.done l.bytes);
-  count : g.K.Sink.faults l.sink ≡ g.K.Sink.faults l.fn.sink;
+  count : g.K.Sink.errors l.sink ≡ g.K.Sink.errors l.fn.sink;
 }
 
 abbrev pub decreases-loop-done : goal.decreases-loop-done

@@ -2,26 +2,26 @@ use Rattle.std.proofs.Common.{◌≡◌, length, ◌≤◌, unwrap_or, ap, sym, 
 use Rattle.std.proofs.lemmas.Result.{err_from_is_err_and}
 use Rattle.serde_json.specs.View.{view}
 use Rattle.gs_json.specs.Answers.{items_count}
-use Rattle.gs_prefix.specs.Documents.{items_in}
-use Rattle.gs_prefix.proofs.Parts.{items_at, items_length}
-use Rattle.gs_prefix.proofs.Refused.{all_items, item_refused, one_item_more}
+use Rattle.gs_json.specs.Members.{items_of}
+use Rattle.gs_json.proofs.ArrayItems.{items_at, items_length}
+use Rattle.gs_prefix.proofs.RejectionLemmas.{all_items, item_rejected, one_item_more}
 use Rattle.gs_prefix.proofs.form.judge_by.Goals as goal
 
 pub returns-in_err-judge_object : goal.returns-in_err-judge_object
 returns-in_err-judge_object c =
     let p = err_from_is_err_and c.from_residual.result c.from_residual.ensures.1 in
-    rw (p.1, p.2) (item_refused c.args.array.now.place (items_in (view c.args.array.now.tree)) c.loop-i.i (view c.in-Ok.entry.tree) c.in_err-judge_object.field-0.0
+    rw (p.1, p.2) (item_rejected c.args.array.now.place (items_of (view c.args.array.now.tree)) c.loop-i.i (view c.in-Ok.entry.tree) c.in_err-judge_object.field-0.0
     (items_at (view c.args.array.now.tree) c.loop-i.i ∙ sym c.in-Ok.ensures.item) c.loop-i.invariant
     (rw (c.requires, c.in-Ok.ensures.place) at c.in_err-judge_object.ensures))
 
 pub loop-i-preserved : goal.loop-i-preserved
 loop-i-preserved c =
-    one_item_more c.args.array.now.place (items_in (view c.args.array.now.tree)) c.loop-i.i (view c.in-Ok.entry.tree) c.in_ok-judge_object.field-0
+    one_item_more c.args.array.now.place (items_of (view c.args.array.now.tree)) c.loop-i.i (view c.in-Ok.entry.tree) c.in_ok-judge_object.field-0
     (items_at (view c.args.array.now.tree) c.loop-i.i ∙ sym c.in-Ok.ensures.item) c.loop-i.invariant
     (rw (c.requires, c.in-Ok.ensures.place) at c.in_ok-judge_object.ensures)
 
 pub returns : goal.returns
 returns c =
     let size : c.unwrap_or-count.result ≡ items_count (view c.args.array.now.tree) = c.unwrap_or-count.ensures ∙ ap (λ count. unwrap_or count 0) c.items_len.ensures in
-    let few : length (items_in (view c.args.array.now.tree)) ≤ c.loop-i.i = rw (items_length (view c.args.array.now.tree)) (omega (arith, size)) in
-    all_items c.args.array.now.place (items_in (view c.args.array.now.tree)) c.loop-i.i few c.loop-i.invariant
+    let few : length (items_of (view c.args.array.now.tree)) ≤ c.loop-i.i = rw (items_length (view c.args.array.now.tree)) (omega (arith, size)) in
+    all_items c.args.array.now.place (items_of (view c.args.array.now.tree)) c.loop-i.i few c.loop-i.invariant

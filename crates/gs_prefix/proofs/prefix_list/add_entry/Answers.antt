@@ -1,7 +1,7 @@
 use Rattle.std.proofs.Common.{◌≤◌, arith, inl, inr, refl}
 use Rattle.std.proofs.lemmas.Result.{err_from_is_err_and}
 use Rattle.gs_chars.proofs.TruthsAndLists.{read_at}
-use Rattle.gs_prefix.proofs.Refused.{kept}
+use Rattle.gs_prefix.proofs.RejectionLemmas.{kept}
 use Rattle.gs_prefix.proofs.prefix_list.add_entry.Goals as goal
 
 pub overflow_cast-entry : goal.overflow_cast-entry

@@ -1,6 +1,6 @@
 use Rattle.std.proofs.Common.{sym, ◌∙◌}
-use Rattle.gs_prefix.proofs.Found.{found_any}
-use Rattle.gs_prefix.proofs.Refused.{bad_length, bad_prefix, in_order, twice}
+use Rattle.gs_prefix.proofs.FindLemmas.{found_any}
+use Rattle.gs_prefix.proofs.RejectionLemmas.{bad_length, bad_prefix, in_order, twice}
 use Rattle.gs_prefix.proofs.rules.check_entry.Goals as goal
 
 pub returns-then-not-is_prefix : goal.returns-then-not-is_prefix

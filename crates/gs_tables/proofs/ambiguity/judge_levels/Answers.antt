@@ -1,20 +1,21 @@
 use Rattle.std.specs.Prelude.{Result, Ok, Err}
 use Rattle.std.proofs.lemmas.Result.{err_from_is_err_and}
-use Rattle.gs_document.specs.declared.fault.LoadFault.{LoadFault}
-use Rattle.gs_document.specs.declared.fault.LoadFault.TheVariants.{Json, Version, Limit, Ai, BadKind, BadItem, Mismatch, Duplicate, Ambiguous, Memory}
-use Rattle.gs_document.specs.declared.level_name.LevelName.{LevelName}
-use Rattle.gs_document.specs.declared.level_name.LevelName.TheVariants.{Binary, Tag, Pure}
+use Rattle.gs_tables_document.specs.declared.error.LoadFault.{LoadFault}
+use Rattle.gs_tables_document.specs.declared.error.LoadFault.TheVariants.{Json, Version, Limit, Ai, BadKind, BadItem, Mismatch, Duplicate, Ambiguous, Memory}
+use Rattle.gs_tables_document.specs.declared.level_name.LevelName.{LevelName}
+use Rattle.gs_tables_document.specs.declared.level_name.LevelName.TheVariants.{Binary, Tag, Pure}
 use Rattle.gs_grammar.specs.Levels.{LevelForm}
-use Rattle.gs_tables.specs.Judged.{AreClear, AreClearBefore, AreJudged, IsClear, IsLevelJudged, by_name}
+use Rattle.gs_tables.specs.Judgements.{AreClear, AreClearBefore, IsClear}
+use Rattle.gs_tables.specs.JudgedSupport.{AreJudged, IsLevelJudged, by_name}
 use Rattle.gs_tables.proofs.ambiguity.judge_levels.Goals as goal
 
-stops_at : (levels : LevelName → LevelForm) (name : LevelName) (fault : LoadFault) → AreClearBefore levels name → IsLevelJudged name (levels name) (Err fault) → AreJudged levels (Err fault)
+stops_at : (levels : LevelName → LevelForm) (name : LevelName) (error : LoadFault) → AreClearBefore levels name → IsLevelJudged name (levels name) (Err error) → AreJudged levels (Err error)
 stops_at levels name (Ambiguous other i j text) before h = record { before = rw h.0 before; share = rw h.0 h.1 }
 stops_at levels name Memory before h = tt
-stops_at levels name (Json fault) before h = absurd h
+stops_at levels name (Json error) before h = absurd h
 stops_at levels name Version before h = absurd h
 stops_at levels name (Limit limit) before h = absurd h
-stops_at levels name (Ai fault) before h = absurd h
+stops_at levels name (Ai error) before h = absurd h
 stops_at levels name (BadKind i) before h = absurd h
 stops_at levels name (BadItem level i k) before h = absurd h
 stops_at levels name (Mismatch level i) before h = absurd h
@@ -27,7 +28,7 @@ all_clear binary tag pure b t p Pure = p
 
 last_judged : (binary tag pure : LevelForm) (result : Result (Unit {0}) LoadFault) → IsClear binary → IsClear tag → IsLevelJudged Pure pure result → AreJudged (by_name binary tag pure) result
 last_judged binary tag pure (Ok u) b t h = all_clear binary tag pure b t h
-last_judged binary tag pure (Err fault) b t h = stops_at (by_name binary tag pure) Pure fault (b, t) h
+last_judged binary tag pure (Err error) b t h = stops_at (by_name binary tag pure) Pure error (b, t) h
 
 pub returns-in_err-judge_level : goal.returns-in_err-judge_level
 returns-in_err-judge_level c =

@@ -2,7 +2,7 @@ use Rattle.std.proofs.Common.{take}
 use Rattle.std.specs.Prelude.{option_to_list}
 use Rattle.std.specs.List.{flat_map}
 use Rattle.gs_tables.specs.Founds.{IsFound}
-use Rattle.gs_rows.specs.Rules.{items_of_field}
+use Rattle.gs_tables.specs.Rules.{items_of_field}
 use Rattle.gs_tables.proofs.field_items.items_of.Given as goal
 
 abbrev pub invariant-loop-entry : goal.invariant-loop-entry

@@ -1,6 +1,6 @@
 use Rattle.std.proofs.Common.{position, sym, ◌∙◌}
-use Rattle.gs_document.specs.declared.fault.LoadFault.TheVariants.{Duplicate}
-use Rattle.gs_rows.specs.Tables.{is_same}
+use Rattle.gs_tables_document.specs.declared.error.LoadFault.TheVariants.{Duplicate}
+use Rattle.gs_tables.specs.Tables.{is_same}
 use Rattle.gs_tables.proofs.OptionLemmas.{found_same, none_same}
 use Rattle.gs_tables.proofs.option_rules.check_unlike.Goals as goal
 

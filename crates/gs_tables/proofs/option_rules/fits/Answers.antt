@@ -1,7 +1,7 @@
 use Rattle.std.proofs.Common.{rules}
 use Rattle.std.specs.List.{find}
-use Rattle.gs_rows.specs.Rules.{fits_kind, has_name}
-use Rattle.gs_rows.specs.Tables.{fits, items_there}
+use Rattle.gs_tables.specs.Rules.{fits_kind, has_name}
+use Rattle.gs_tables.specs.Tables.{fits, items_there}
 use Rattle.gs_tables.proofs.OptionLemmas.{tested, not_tested}
 use Rattle.gs_tables.proofs.option_rules.fits.Goals as goal
 

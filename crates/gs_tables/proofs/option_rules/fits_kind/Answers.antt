@@ -1,8 +1,9 @@
 use Rattle.std.proofs.Common.{false, ◌∙◌, rules}
 use Rattle.std.specs.Option.{option_map_or}
-use Rattle.gs_rows.specs.Forms.{form_at}
-use Rattle.gs_rows.specs.Rules.{are_visible, fits_kind, keeps_form, keeps_level}
-use Rattle.gs_rows.specs.Tables.{items_there}
+use Rattle.gs_tables.specs.Forms.{form_at}
+use Rattle.gs_chars.specs.Characters.{are_visible}
+use Rattle.gs_tables.specs.Rules.{fits_kind, keeps_form, keeps_level}
+use Rattle.gs_tables.specs.Tables.{items_there}
 use Rattle.gs_tables.proofs.OptionLemmas.{stops_first, stops_second, goes_on, tested, not_tested}
 use Rattle.gs_tables.proofs.option_rules.fits_kind.Goals as goal
 

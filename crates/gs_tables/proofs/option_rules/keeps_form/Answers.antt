@@ -1,8 +1,8 @@
 use Rattle.std.proofs.Common.{◌≡◌, ◌∙◌, rules}
-use Rattle.gs_document.specs.declared.field.Field.TheVariants.{Gcp, Rest, Serial}
-use Rattle.gs_rows.specs.Forms.{serial_at, serial_room}
-use Rattle.gs_rows.specs.Rules.{items_of_field, keeps_form, keeps_gcp, keeps_rest, keeps_serial}
-use Rattle.gs_rows.specs.Tables.{items_there}
+use Rattle.gs_tables_document.specs.declared.field.Field.TheVariants.{Gcp, Rest, Serial}
+use Rattle.gs_tables.specs.Forms.{serial_at, serial_room}
+use Rattle.gs_tables.specs.Rules.{items_of_field, keeps_form, keeps_gcp, keeps_rest, keeps_serial}
+use Rattle.gs_tables.specs.Tables.{items_there}
 use Rattle.gs_tables.proofs.OptionLemmas.{stops_first, stops_second, goes_on}
 use Rattle.gs_tables.proofs.option_rules.keeps_form.Goals as goal
 

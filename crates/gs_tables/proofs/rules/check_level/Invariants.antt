@@ -1,7 +1,7 @@
 use Rattle.std.proofs.Common.{◌≡◌, [], take}
 use Rattle.std.specs.List.{flat_map, enumerate_from}
-use Rattle.gs_rows.specs.Tables.{option_refusals}
+use Rattle.gs_tables.specs.Tables.{option_rejections}
 use Rattle.gs_tables.proofs.rules.check_level.Given as goal
 
 abbrev pub invariant-loop-i : goal.invariant-loop-i
-invariant-loop-i l = flat_map (option_refusals l.ais l.kinds l.level l.rows) (enumerate_from 0 (take l.i l.rows)) ≡ []
+invariant-loop-i l = flat_map (option_rejections l.ais l.kinds l.level l.rows) (enumerate_from 0 (take l.i l.rows)) ≡ []

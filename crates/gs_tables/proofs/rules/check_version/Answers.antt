@@ -1,4 +1,4 @@
-use Rattle.gs_tables.proofs.RefusalLists.{version_first}
+use Rattle.gs_tables.proofs.RejectionLists.{version_first}
 use Rattle.gs_tables.proofs.rules.check_version.Goals as goal
 
 pub returns-else-document-eq1 : goal.returns-else-document-eq1

@@ -1,6 +1,6 @@
 use Rattle.std.proofs.lemmas.Result.{err_from_is_err_and}
 use Rattle.gs_translate.specs.Steps.{goes_on}
-use Rattle.gs_translate.proofs.PairLaws.{link_refused}
+use Rattle.gs_translate.proofs.PairLaws.{link_rejected}
 use Rattle.gs_translate.proofs.StepLaws.{unless_map}
 use Rattle.gs_translate.proofs.elements.link_meaning.Goals as goal
 
@@ -11,4 +11,4 @@ returns-clause-meaning c =
 pub returns-in_err-pairs-clause-meaning : goal.returns-in_err-pairs-clause-meaning
 returns-in_err-pairs-clause-meaning c =
     let p = err_from_is_err_and c.from_residual.result c.from_residual.ensures.1 in
-    rw (p.1, p.2) (link_refused c.args.set.now c.args.text.now c.in_err-pairs.field-0.0 (rw c.ais.ensures.rows at c.in_err-pairs.ensures.fault))
+    rw (p.1, p.2) (link_rejected c.args.set.now c.args.text.now c.in_err-pairs.field-0.0 (rw c.ais.ensures.rows at c.in_err-pairs.ensures.error))

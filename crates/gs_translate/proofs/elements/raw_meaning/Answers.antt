@@ -1,8 +1,8 @@
 use Rattle.std.proofs.lemmas.Result.{err_from_is_err_and}
-use Rattle.gs_element.specs.Answers.{IsRawRefusal}
-use Rattle.gs_element.specs.Raw.{IsRaw, IsRawFault}
+use Rattle.gs_element.specs.Answers.{IsRawRejection}
+use Rattle.gs_element.specs.Raw.{IsRaw, IsRawError}
 use Rattle.gs_translate.specs.Steps.{goes_on}
-use Rattle.gs_translate.proofs.PairLaws.{elements_refused}
+use Rattle.gs_translate.proofs.PairLaws.{elements_rejected}
 use Rattle.gs_translate.proofs.StepLaws.{unless_map}
 use Rattle.gs_translate.proofs.elements.raw_meaning.Goals as goal
 
@@ -15,4 +15,4 @@ returns-in_err-pairs-clause-meaning c =
     let p = err_from_is_err_and c.from_residual.result c.from_residual.ensures.1 in
     let table = c.args.set.now.ais in
     let text = c.args.text.now in
-    rw (p.1, p.2) (elements_refused c.args.set.now (IsRaw table text) (IsRawFault table text) (IsRawRefusal table text) c.in_err-pairs.field-0.0 (λ fault f. f) (rw c.ais.ensures.rows at c.in_err-pairs.ensures.refused))
+    rw (p.1, p.2) (elements_rejected c.args.set.now (IsRaw table text) (IsRawError table text) (IsRawRejection table text) c.in_err-pairs.field-0.0 (λ error f. f) (rw c.ais.ensures.rows at c.in_err-pairs.ensures.rejected))

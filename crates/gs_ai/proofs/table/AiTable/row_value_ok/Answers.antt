@@ -1,5 +1,5 @@
 use Rattle.gs_ai.proofs.RowLemmas.{few, listed, row_parts}
-use Rattle.gs_ai.proofs.TableLemmas.{fault_by_row, row_kept}
+use Rattle.gs_ai.proofs.TableLemmas.{error_by_row, row_kept}
 use Rattle.gs_ai.proofs.table.AiTable.row_value_ok.Goals as goal
 
 pub parts_ok-requires-clause-few : goal.parts_ok-requires-clause-few
@@ -17,11 +17,11 @@ parts_ok-requires-clause-listed c =
 pub returns-clause-ok : goal.returns-clause-ok
 returns-clause-ok c =
     let low = rw (← c.self.view_is) at c.requires in
-    let fault = fault_by_row c.self.inside.rows c.self.invariant.0 c.args.row c.index-items-row.result c.args.value.now low (rw c.items.ensures at c.index-items-row.is) in
-    rw (← c.self.view_is, fault, ← c.items-2.ensures) c.parts_ok.ensures.ok
+    let error = error_by_row c.self.inside.rows c.self.invariant.0 c.args.row c.index-items-row.result c.args.value.now low (rw c.items.ensures at c.index-items-row.is) in
+    rw (← c.self.view_is, error, ← c.items-2.ensures) c.parts_ok.ensures.ok
 
-pub returns-clause-fault : goal.returns-clause-fault
-returns-clause-fault c =
+pub returns-clause-error : goal.returns-clause-error
+returns-clause-error c =
     let low = rw (← c.self.view_is) at c.requires in
-    let fault = fault_by_row c.self.inside.rows c.self.invariant.0 c.args.row c.index-items-row.result c.args.value.now low (rw c.items.ensures at c.index-items-row.is) in
-    rw (← c.self.view_is, fault, ← c.items-2.ensures) c.parts_ok.ensures.err
+    let error = error_by_row c.self.inside.rows c.self.invariant.0 c.args.row c.index-items-row.result c.args.value.now low (rw c.items.ensures at c.index-items-row.is) in
+    rw (← c.self.view_is, error, ← c.items-2.ensures) c.parts_ok.ensures.err

@@ -1,7 +1,7 @@
 use Rattle.std.proofs.Common.{◌≡◌, ◌*◌, ◌/◌, ℕ, Err, length, take, drop, sym, ap, ◌∙◌, arith, replicate, length-take-le}
 use Rattle.std.proofs.lemmas.List.{length-replicate, take_at}
 use Rattle.gs_bits.specs.HexText.{bits_of_hex}
-use Rattle.gs_bits.specs.Packed.{bits_of_bytes}
+use Rattle.gs_bits.specs.PackedBits.{bits_of_bytes}
 use Rattle.gs_bits.proofs.PackedBits.{length-bits_of_bytes, bits_of_bytes-append}
 use Rattle.gs_bits.proofs.bit_buf.BitBuf.from_hex.Goals as goal
 

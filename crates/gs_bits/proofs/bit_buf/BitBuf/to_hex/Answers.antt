@@ -1,5 +1,5 @@
 use Rattle.std.proofs.Common.{◌≡◌, ◌*◌, ◌/◌, ◌≤◌, length, take, ap, ◌∙◌, arith}
-use Rattle.gs_bits.specs.Packed.{bits_of_bytes}
+use Rattle.gs_bits.specs.PackedBits.{bits_of_bytes}
 use Rattle.gs_bits.proofs.PackedBits.{length-packed, bits_of_front}
 use Rattle.gs_bits.proofs.bit_buf.BitBuf.to_hex.Goals as goal
 

@@ -1,4 +1,4 @@
-use Rattle.gs_bits.specs.Packed.{packed_bits}
+use Rattle.gs_bits.specs.PackedBits.{packed_bits}
 use Rattle.std.proofs.Common.{◌<◌, ap, length, arith, length-drop}
 use Rattle.std.proofs.lemmas.List.Elements.{All-drop}
 use Rattle.gs_bits.proofs.PackedBits.{length-packed, AreBits-packed}

@@ -1,6 +1,6 @@
 use Rattle.std.proofs.Common.{◌+◌, ◌≤◌, ◌∙◌, sym, ap, length, take, refl, arith, length-drop}
 use Rattle.gs_bits.specs.Bits.{number_of}
-use Rattle.gs_bits.specs.Packed.{packed_bits}
+use Rattle.gs_bits.specs.PackedBits.{packed_bits}
 use Rattle.gs_bits.proofs.PackedBits.{length-packed, within_packed}
 use Rattle.gs_bits.proofs.cursor.Cursor.take.Goals as goal
 

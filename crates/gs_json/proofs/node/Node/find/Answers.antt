@@ -1,6 +1,6 @@
 use Rattle.std.proofs.Common.{◌∙◌, ap, sym}
 use Rattle.gs_json.specs.Places.{member_place}
-use Rattle.gs_json.proofs.Looked.{find_none, find_some, same_text}
+use Rattle.gs_json.proofs.LookUpLemmas.{find_none, find_some, same_text}
 use Rattle.gs_json.proofs.node.Node.find.Goals as goal
 
 pub returns-in_ok-then-in-Some-get_key_value-clause-part : goal.returns-in_ok-then-in-Some-get_key_value-clause-part

@@ -1,7 +1,7 @@
 use Rattle.std.proofs.Common.{◌≡◌, ◌∙◌, ◌<◌, Some, length, ap, arith, rules}
 use Rattle.std.specs.Vec.{vec_len}
 use Rattle.serde_json.specs.View.{view}
-use Rattle.gs_json.proofs.Looked.{count_is, item_found}
+use Rattle.gs_json.proofs.LookUpLemmas.{count_is, item_found}
 use Rattle.gs_json.proofs.node.Node.item.Goals as goal
 
 pub index-requires : goal.index-requires

@@ -1,5 +1,5 @@
 use Rattle.std.proofs.Common.{◌≡◌, ◌∙◌, length, refl}
-use Rattle.gs_json.proofs.Looked.{counted}
+use Rattle.gs_json.proofs.LookUpLemmas.{counted}
 use Rattle.gs_json.proofs.node.Node.items_len.Goals as goal
 
 pub returns-in-Some : goal.returns-in-Some

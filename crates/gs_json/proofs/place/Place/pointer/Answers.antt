@@ -2,7 +2,7 @@ use Rattle.std.proofs.Common.{ap, ◌∙◌, arith}
 use Rattle.std.proofs.lemmas.List.{take_all}
 use Rattle.gs_json.specs.Places.{member_place}
 use Rattle.gs_json.specs.Steps.{place_of}
-use Rattle.gs_json.proofs.Walked.{one_step_more}
+use Rattle.gs_json.proofs.WalkLemmas.{one_step_more}
 use Rattle.gs_json.proofs.place.Place.pointer.Goals as goal
 use Rattle.gs_json.proofs.place.Place.pointer.Goals.{in-Member+in_ok-push_member-in-Member, in-Item+in_ok-push_item-in-Item}
 

@@ -1,5 +1,5 @@
 use Rattle.std.proofs.Common.{◌∙◌}
-use Rattle.gs_prefix.proofs.Found.{looked_up}
+use Rattle.gs_prefix.proofs.FindLemmas.{looked_up}
 use Rattle.gs_prefix.proofs.index.Index.length_of.Goals as goal
 
 pub returns : goal.returns

@@ -1,4 +1,4 @@
-use Rattle.gs_prefix.proofs.Found.{added}
+use Rattle.gs_prefix.proofs.FindLemmas.{added}
 use Rattle.gs_prefix.proofs.index.Index.push.Goals as goal
 
 pub returns : goal.returns

@@ -1,22 +1,22 @@
 use Rattle.std.proofs.lemmas.Result.{err_from_is_err_and}
-use Rattle.gs_tables.proofs.JudgedLevels.{judged_rule, levels_refused, set_judged}
-use Rattle.gs_tables.proofs.SetLemmas.{ais_refused, limit_refused}
+use Rattle.gs_tables.proofs.JudgedLevels.{judged_rule, levels_rejected, set_judged}
+use Rattle.gs_tables.proofs.SetLemmas.{ais_rejected, limit_rejected}
 use Rattle.gs_tables.proofs.table_set.TableSet.of_rows.Goals as goal
 
 pub returns-in_err-check_limits : goal.returns-in_err-check_limits
 returns-in_err-check_limits c =
     let p = err_from_is_err_and c.from_residual.result c.from_residual.ensures.1 in
-    rw (p.1, p.2) (judged_rule c.args.document c.in_err-check_limits.field-0.0 (limit_refused c.args.document c.in_err-check_limits.field-0.0 c.in_err-check_limits.ensures))
+    rw (p.1, p.2) (judged_rule c.args.document c.in_err-check_limits.field-0.0 (limit_rejected c.args.document c.in_err-check_limits.field-0.0 c.in_err-check_limits.ensures))
 
 pub returns-in_err-ais : goal.returns-in_err-ais
 returns-in_err-ais c =
     let p = err_from_is_err_and c.from_residual-in_err-ais.result c.from_residual-in_err-ais.ensures.1 in
-    rw (p.1, p.2) (judged_rule c.args.document c.in_err-ais.field-0.0 (ais_refused c.args.document c.in_err-ais.field-0.0 c.in_ok-check_limits.ensures c.in_err-ais.ensures))
+    rw (p.1, p.2) (judged_rule c.args.document c.in_err-ais.field-0.0 (ais_rejected c.args.document c.in_err-ais.field-0.0 c.in_ok-check_limits.ensures c.in_err-ais.ensures))
 
 pub returns-in_err-kinds : goal.returns-in_err-kinds
 returns-in_err-kinds c =
     let p = err_from_is_err_and c.from_residual-in_err-kinds.result c.from_residual-in_err-kinds.ensures.1 in
-    rw (p.1, p.2) (levels_refused c.args.document c.in_ok-ais.ais c.in_err-kinds.field-0.0 c.in_ok-check_limits.ensures c.in_ok-ais.ensures c.in_err-kinds.ensures)
+    rw (p.1, p.2) (levels_rejected c.args.document c.in_ok-ais.ais c.in_err-kinds.field-0.0 c.in_ok-check_limits.ensures c.in_ok-ais.ensures c.in_err-kinds.ensures)
 
 pub invariant_of-result : goal.invariant_of-result
 invariant_of-result c =

@@ -1,11 +1,11 @@
 use Rattle.std.proofs.Common.{inl, inr, refl, rules, arith}
 use Rattle.std.proofs.lemmas.Grind.{common_steps}
 use Rattle.std.specs.Prelude.{codes}
-use Rattle.gs_lines.specs.Outputs.{accepted, refused}
+use Rattle.tdl_lines.specs.Outputs.{accepted, rejected}
 use Rattle.vectors_runs.proofs.lines.EchoAnswerer.append_answer.Goals as goal
 
 pub returns-then-text-gt2048 : goal.returns-then-text-gt2048
-returns-then-text-gt2048 c = record { answer = refused (codes "long"); is = inl (c.if-text-gt2048.true, refl); written = search rules; told = refl }
+returns-then-text-gt2048 c = record { answer = rejected (codes "long"); is = inl (c.if-text-gt2048.true, refl); written = search rules; known = refl }
 
 pub returns : goal.returns
-returns c = record { answer = accepted c.args.text.now; is = inr (c.if-text-gt2048.false, refl); written = grind (arith, common_steps); told = refl }
+returns c = record { answer = accepted c.args.text.now; is = inr (c.if-text-gt2048.false, refl); written = grind (arith, common_steps); known = refl }

@@ -1,7 +1,0 @@
-use Rattle.std.proofs.Common.{◌≡◌, ◌++◌, ◌-◌, length}
-use Rattle.gs_compile.specs.Tables.{run_table}
-use Rattle.gs_compile.proofs.adding.add_run.Given as goal
-
-abbrev pub invariant-loop-place : goal.invariant-loop-place
-invariant-loop-place l =
-    l.whole ++ run_table l.lo l.hi (l.count - l._place) (length l.whole) ≡ l.initial.whole ++ run_table l.lo l.hi l.count (length l.initial.whole)

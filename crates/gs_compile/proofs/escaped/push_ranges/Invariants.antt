@@ -1,7 +1,0 @@
-use Rattle.std.proofs.Common.{◌≡◌, ◌++◌, drop}
-use Rattle.gs_compile.specs.EscapeTables.{with_ranges}
-use Rattle.gs_compile.proofs.escaped.push_ranges.Given as goal
-
-abbrev pub invariant-loop-range : goal.invariant-loop-range
-invariant-loop-range l =
-    l.row.items ++ with_ranges (drop l.range-index l.ranges) l.to ≡ l.initial.row.items ++ with_ranges l.ranges l.to

@@ -1,5 +1,0 @@
-use Rattle.gs_compile.proofs.Joining.{cuts_law}
-use Rattle.gs_compile.proofs.laws.cuts_of_runs_are_those_of_derivations.Goals as goal
-
-pub returns : goal.returns
-returns c = cuts_law

@@ -1,7 +1,0 @@
-use Rattle.gs_compile.proofs.AddedRows.{ok_follows}
-use Rattle.gs_compile.proofs.AddedCodes.{ascii_at}
-use Rattle.gs_compile.proofs.packed.add_packed.Goals as goal
-
-pub returns : goal.returns
-returns c =
-    ok_follows _ _ (λ new. ascii_at c.args.lo c.args.hi c.args.bits c.from-least.result c.from-most.result c.from-width.result c.in_ok-end.end c.args.table c.in_ok-characters.characters new c.from-least.ensures c.from-most.ensures c.from-width.ensures c.in_ok-end.ensures c.in_ok-characters.ensures) c.add_run.result c.add_run.ensures

@@ -1,0 +1,9 @@
+-- What proofs and private functions say beside the definitions of Answers.antt.
+use Rattle.std.specs.Prelude.{Result}
+use Rattle.gs_chars.specs.Answers.{OrError}
+use Rattle.gs_dlink.specs.declared.error.LinkFault.{LinkFault}
+use Rattle.gs_dlink.specs.declared.error.LinkFault.TheVariants.{Memory}
+
+-- the answer, or out of memory
+abbrev pub OrMemory : {X : Type 0} → Result X LinkFault → Result X LinkFault → Type 0
+OrMemory result answer = OrError Memory result answer

@@ -1,0 +1,26 @@
+use gs_ai::ElementFault;
+use gs_chars::Memory;
+
+/// Why a text is no link, or a target none of a link.
+#[derive(Clone, Copy, Debug)]
+pub enum LinkFault {
+    /// It does not begin with `http://` or `https://` and an authority.
+    NotHttp,
+    /// Its path ends in no key with its qualifiers.
+    NoKeyPath,
+    /// What is wrong with a pair, at the place of its code in the whole text.
+    Element(ElementFault),
+    /// Out of memory.
+    Memory,
+}
+
+impl From<Memory> for LinkFault {
+    ghost use Rattle.std.specs.Prelude.{◌≡◌};
+    ghost use Rattle.gs_dlink.specs.declared.error.LinkFault.TheVariants.{Memory as WantOfMemory};
+
+    ghost from_gives = { λ _ e. e ≡ WantOfMemory };
+
+    fn from(_rejected: Memory) -> LinkFault {
+        LinkFault::Memory
+    }
+}

@@ -1,6 +1,0 @@
-pub mod FaultLists
-pub mod FormLemmas
-pub mod ItemNames
-pub mod OneReading
-pub mod Parts
-pub mod PartWords

@@ -1,4 +1,0 @@
-use Rattle.gs_document.proofs.plans.ai_plan.Goals as goal
-
-pub returns : goal.returns
-returns c = c.plan_of.ensures

@@ -1,4 +1,0 @@
-use Rattle.gs_document.proofs.rows.KindRowRow.read.Goals as goal
-
-pub returns : goal.returns
-returns c = record { name = c.in_ok-text_in.ensures; key = c.in_ok-text_in-2.ensures; lead = c.number_in.ensures; serial = c.in_ok-text_in-3.ensures }

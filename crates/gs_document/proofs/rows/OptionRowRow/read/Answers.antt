@@ -1,4 +1,0 @@
-use Rattle.gs_document.proofs.rows.OptionRowRow.read.Goals as goal
-
-pub returns : goal.returns
-returns c = record { kind = c.in_ok-text_in.ensures; encoding = c.in_ok-text_in-2.ensures; gcp = c.number_in.ensures; items = c.in_ok-read_rows.ensures }

@@ -1,4 +1,0 @@
-pub mod Limits
-pub mod Items
-pub mod Documents
-pub mod Readings

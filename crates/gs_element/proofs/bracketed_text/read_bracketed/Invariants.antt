@@ -1,0 +1,15 @@
+use Rattle.std.proofs.Common.{length}
+use Rattle.gs_element.specs.Joins.{Joined}
+use Rattle.gs_element.specs.BracketedTexts.{IsBracketedElement}
+use Rattle.gs_element.proofs.JoinLemmas.{Reaches}
+use Rattle.gs_element.proofs.bracketed_text.read_bracketed.Given as goal
+
+-- the pairs so far are joined to what was read, and no join is longer that does not go on from there
+abbrev pub invariant-loop-rest : goal.invariant-loop-rest
+invariant-loop-rest l = record {
+  joined : Joined (IsBracketedElement l.table) l.pairs.items l.text l.rest;
+  reaches : Reaches (IsBracketedElement l.table) l.text l.rest;
+}
+
+abbrev pub decreases-loop-rest : goal.decreases-loop-rest
+decreases-loop-rest l = length l.rest

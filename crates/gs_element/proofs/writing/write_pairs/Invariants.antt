@@ -1,7 +1,0 @@
-use Rattle.std.proofs.Common.{◌≡◌, ◌++◌, take}
-use Rattle.gs_element.specs.Bracketed.{bracketed_text}
-use Rattle.gs_element.proofs.writing.write_pairs.Given as goal
-
--- what the pairs so far make
-abbrev pub invariant-loop-pair : goal.invariant-loop-pair
-invariant-loop-pair l = l.out.items ≡ l.fn.out.items ++ bracketed_text (take l.pair-index l.pairs)

@@ -1,0 +1,92 @@
+-- Element strings as they are printed below a symbol, each code in brackets: GS1 General Specifications, section 4
+-- (human readable interpretation). The backslash before a bracket of a value is this project's own.
+use Rattle.std.specs.Prelude.{◌≡◌, ℕ, Bool, true, ◌==◌, ◌&&◌, not, List, [], ◌∷◌, ◌++◌, length, drop, take_while, Option, Some, None, if◌then◌else◌}
+use Rattle.std.specs.List.{flat_map}
+use Rattle.std.specs.Option.{option_map}
+use Rattle.gs_chars.specs.Characters.{is_digit}
+use Rattle.gs_ai.specs.declared.errors.ElementFault.{ElementFault}
+use Rattle.gs_ai.specs.declared.errors.ElementWhy.TheVariants.{Value, Bracket}
+use Rattle.gs_ai.specs.declared.pair.Pair.{Pair}
+use Rattle.gs_ai.specs.declared.row.AiRow.{AiRow}
+use Rattle.gs_ai.specs.Tables.{is_empty}
+use Rattle.gs_ai.specs.Values.{value_error}
+use Rattle.gs_ident.specs.Identities.{IsInOrder}
+use Rattle.gs_element.specs.Joins.{Joined, IsFirstError}
+
+-- ---- what is written
+
+-- trusted, own: an opening bracket of a value is written with a backslash before it
+abbrev pub written_character : ℕ → List ℕ
+written_character c = if c == 40 then 92 ∷ 40 ∷ [] else c ∷ []
+
+-- trusted, own: a value with a backslash before each opening bracket
+abbrev pub written_value : List ℕ → List ℕ
+written_value value = flat_map written_character value
+
+-- trusted, GS1 General Specifications, section 4 (human readable interpretation): the code in brackets, and the value
+abbrev pub bracketed_element : Pair → List ℕ
+bracketed_element pair = 40 ∷ (pair.code ++ 41 ∷ written_value pair.value)
+
+-- trusted, GS1 General Specifications, section 4 (human readable interpretation): the elements one behind another
+abbrev pub bracketed_text : List Pair → List ℕ
+bracketed_text pairs = flat_map bracketed_element pairs
+
+-- ---- what is read
+
+-- trusted, own: the text ends, or goes on with an opening bracket
+abbrev pub is_cut : List ℕ → Bool
+is_cut [] = true
+is_cut (c ∷ _) = c == 40
+
+-- trusted, GS1 General Specifications, section 4; own for the backslash: the text is the element of the pair and then
+-- `after`, which is nothing or a further element
+pub record IsBracketedElement (table : List AiRow) (pair : Pair) (text after : List ℕ) : Type 0 where
+  pub text_is : text ≡ bracketed_element pair ++ after
+  -- the value is one of its code's
+  pub in_order : IsInOrder table pair
+  pub cut : is_cut after ≡ true
+
+-- trusted, GS1 General Specifications, section 4; own for the backslash: the text is the join of the elements of these
+-- pairs
+abbrev pub IsBracketed : List AiRow → List ℕ → List Pair → Type 0
+IsBracketed table text pairs = Joined (IsBracketedElement table) pairs text []
+
+-- ---- errors
+
+-- trusted, own: The value up to the next opening bracket that has no backslash before it, or the end. A backslash before an
+-- opening bracket is none of its characters; any other is.
+abbrev pub value_before : List ℕ → List ℕ
+value_before [] = []
+value_before (c ∷ []) = if c == 40 then [] else c ∷ []
+value_before (c ∷ d ∷ text) =
+    if c == 40 then []
+    else if c == 92 && d == 40 then 40 ∷ value_before text
+    else c ∷ value_before (d ∷ text)
+
+-- trusted, own: the code and what follows its closing bracket, which is the first character of what is behind the code
+abbrev pub closed_code : List ℕ → List ℕ → Option (List ℕ × List ℕ)
+closed_code code [] = None
+closed_code code (c ∷ text) = if not (is_empty code) && (c == 41) then Some (code, text) else None
+
+-- trusted, own: the code in brackets at the start of a text, one or more digits, and what follows it
+abbrev pub code_front : List ℕ → Option (List ℕ × List ℕ)
+code_front [] = None
+code_front (c ∷ text) =
+    if c == 40 then closed_code (take_while is_digit text) (drop (length (take_while is_digit text)) text)
+    else None
+
+-- trusted, own: no code at the start, at the place of its bracket; or an error of its value, at the place of the code
+abbrev pub front_error : List AiRow → Option (List ℕ × List ℕ) → Option ElementFault
+front_error table None = Some (record { at = 0; why = Bracket })
+front_error table (Some (code, text)) =
+    option_map (λ error. record { at = 1; why = Value error }) (value_error table code (value_before text))
+
+-- trusted, own: the error at the start of a text
+abbrev pub bracketed_error : List AiRow → List ℕ → Option ElementFault
+bracketed_error table [] = None
+bracketed_error table (c ∷ text) = front_error table (code_front (c ∷ text))
+
+-- trusted, own: the error of a text that no pairs are read from
+abbrev pub IsBracketedError : List AiRow → List ℕ → ElementFault → Type 0
+IsBracketedError table text error =
+    IsFirstError (IsBracketedElement table) (bracketed_error table) text text error

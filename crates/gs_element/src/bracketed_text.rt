@@ -1,0 +1,48 @@
+ghost use Rattle.std.specs.Prelude.{◌≡◌, All, IfOk, IfErr};
+ghost use Rattle.gs_ident.specs.Identities.{IsInOrder};
+ghost use Rattle.gs_element.specs.Answers.{IsBracketedRejection};
+ghost use Rattle.gs_element.specs.BracketedTexts.{IsBracketed};
+
+use crate::behind::{code_front, read_value};
+use crate::errors::{ElementsFault, error_at};
+use crate::pairs::push_pair;
+use gs_ai::{AiTable, ElementWhy, Pair};
+use gs_chars::Text;
+use std::alloc::Global;
+
+/// The pairs of an element string in the printed form: for each element `(`, its code, `)` and its value, in which `\(`
+/// stands for an opening bracket (GS1 General Specifications, section 4; the backslash is this project's own). An empty
+/// text has no pairs.
+///
+/// The error is that at the smallest place: `Bracket` where `(` has to stand or where no digits and `)` follow one; at the
+/// place of the code's first digit `Unknown` where no row has the code, or the error of the value. `Memory` is out of
+/// memory, and may come in place of any answer. The text is scanned once, from left to right, and memory is taken for the
+/// pairs alone.
+pub fn read_bracketed(
+    alloc: Global,
+    table: &AiTable,
+    text: &[u8],
+) -> Result<Vec<Pair>, ElementsFault>
+    ensures read { IfOk result (λ pairs. IsBracketed table.now text.now pairs.items) }
+    ensures in_order { IfOk result (λ pairs. All (IsInOrder table.now) pairs.items) }
+    ensures rejected { IfErr result (IsBracketedRejection table.now text.now) }
+{
+    // For the proof alone: the rows of the table keep its rules.
+    let _ = table.rows();
+    let mut pairs = Vec::new(alloc);
+    let mut rest = text;
+    while !rest.is_empty() {
+        let at = text.len() - rest.len();
+        let Some((code, after)) = code_front(rest) else {
+            return Err(error_at(at, ElementWhy::Bracket));
+        };
+        let mut value = Text::new(alloc);
+        let behind = read_value(after, &mut value)?;
+        if let Err(error) = table.value_ok(code, value.as_bytes()) {
+            return Err(error_at(at + 1, ElementWhy::Value(error)));
+        }
+        push_pair(alloc, &mut pairs, code, value)?;
+        rest = behind;
+    }
+    Ok(pairs)
+}

@@ -1,0 +1,130 @@
+ghost use Rattle.std.specs.Prelude.{◌≡◌, ◌++◌, All, IfOk, is_none};
+ghost use Rattle.gs_ai.specs.PredefinedLengths.{predefined_length};
+ghost use Rattle.gs_ident.specs.Elements.{pairs_of};
+ghost use Rattle.gs_ident.specs.Identities.{IsInOrder, IsMadeWith};
+ghost use Rattle.gs_element.specs.BracketedTexts.{bracketed_element, bracketed_text, written_character, written_value};
+ghost use Rattle.gs_element.specs.Raw.{raw_text};
+ghost use Rattle.gs_element.specs.WrittenTexts.{last_open, raw_behind, separator_of};
+
+use gs_ai::{AiTable, Pair};
+use gs_chars::{Memory, Text};
+use gs_ident::Identity;
+use std::alloc::Global;
+
+/// Whether the code has no predefined length.
+fn is_open(table: &AiTable, pair: &Pair) -> bool
+    requires { IsInOrder table.now pair.now }
+    ensures { result ≡ is_none (predefined_length pair.now.code) }
+{
+    let Some(row) = table.find(pair.code.as_bytes()) else {
+        return true;
+    };
+    match table.predefined(row) {
+        Some(_) => false,
+        None => true,
+    }
+}
+
+/// Appends an FNC1 where the element before is open.
+fn write_separator(out: &mut Vec<u8>, unclosed: bool) -> Result<(), Memory>
+    ensures { IfOk result (λ _. out.new.items ≡ out.old.items ++ separator_of unclosed) }
+{
+    if unclosed {
+        out.push(29)?;
+    }
+    Ok(())
+}
+
+/// Appends the elements of the pairs behind one that is open or not, and answers whether the last of all is open.
+fn write_elements(
+    table: &AiTable,
+    out: &mut Vec<u8>,
+    unclosed: bool,
+    pairs: &[Pair],
+) -> Result<bool, Memory>
+    requires { All (IsInOrder table.now) pairs.now }
+    ensures written { IfOk result (λ _. out.new.items ≡ out.old.items ++ raw_behind unclosed pairs.now) }
+    ensures last { IfOk result (λ last. last ≡ last_open unclosed pairs.now) }
+{
+    let mut last = unclosed;
+    for pair in pairs {
+        write_separator(out, last)?;
+        out.extend_from_slice(pair.code.as_bytes())?;
+        out.extend_from_slice(pair.value.as_bytes())?;
+        last = is_open(table, pair);
+    }
+    Ok(last)
+}
+
+/// The element string of the identity, in the order of its pairs: code and value of each, and an FNC1 (the byte 29) behind one
+/// that has no predefined length and is not the last (GS1 General Specifications, section 7.8). Nothing stands at the start. The
+/// one error is out of memory. The identity is one that `make` of gs_ident gave by this table.
+pub fn write_raw(alloc: Global, table: &AiTable, identity: &Identity) -> Result<Text, Memory>
+    requires { IsMadeWith table.now identity.now }
+    ensures { IfOk result (λ text. text ≡ raw_text (pairs_of identity.now)) }
+{
+    let mut out = Vec::with_capacity(alloc, identity.room())?;
+    let key = identity.key();
+    out.extend_from_slice(key.code.as_bytes())?;
+    out.extend_from_slice(key.value.as_bytes())?;
+    let unclosed = is_open(table, key);
+    let unclosed = write_elements(table, &mut out, unclosed, identity.qualifiers())?;
+    write_elements(table, &mut out, unclosed, identity.attributes())?;
+    Ok(Text::from_vec(out))
+}
+
+/// Appends a character of a value, an opening bracket with a backslash before it.
+fn write_character(out: &mut Vec<u8>, c: u8) -> Result<(), Memory>
+    ensures { IfOk result (λ _. out.new.items ≡ out.old.items ++ written_character c) }
+{
+    if c == b'(' {
+        out.push(b'\\')?;
+        out.push(b'(')?;
+        Ok(())
+    } else {
+        out.push(c)?;
+        Ok(())
+    }
+}
+
+/// Appends a value.
+fn write_value(out: &mut Vec<u8>, value: &[u8]) -> Result<(), Memory>
+    ensures { IfOk result (λ _. out.new.items ≡ out.old.items ++ written_value value.now) }
+{
+    for c in value {
+        write_character(out, *c)?;
+    }
+    Ok(())
+}
+
+/// Appends the code of the pair in brackets, and its value.
+fn write_pair(out: &mut Vec<u8>, pair: &Pair) -> Result<(), Memory>
+    ensures { IfOk result (λ _. out.new.items ≡ out.old.items ++ bracketed_element pair.now) }
+{
+    out.push(b'(')?;
+    out.extend_from_slice(pair.code.as_bytes())?;
+    out.push(b')')?;
+    write_value(out, pair.value.as_bytes())
+}
+
+/// Appends each pair.
+fn write_pairs(out: &mut Vec<u8>, pairs: &[Pair]) -> Result<(), Memory>
+    ensures { IfOk result (λ _. out.new.items ≡ out.old.items ++ bracketed_text pairs.now) }
+{
+    for pair in pairs {
+        write_pair(out, pair)?;
+    }
+    Ok(())
+}
+
+/// The element string of the identity in the printed form, in the order of its pairs: each code in brackets, and its value
+/// with `\(` for an opening bracket. The one error is out of memory.
+pub fn write_bracketed(alloc: Global, identity: &Identity) -> Result<Text, Memory>
+    ensures { IfOk result (λ text. text ≡ bracketed_text (pairs_of identity.now)) }
+{
+    let mut out = Vec::with_capacity(alloc, identity.room())?;
+    write_pair(&mut out, identity.key())?;
+    write_pairs(&mut out, identity.qualifiers())?;
+    write_pairs(&mut out, identity.attributes())?;
+    Ok(Text::from_vec(out))
+}

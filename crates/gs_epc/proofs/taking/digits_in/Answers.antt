@@ -1,4 +1,0 @@
-use Rattle.gs_epc.proofs.taking.digits_in.Goals as goal
-
-pub returns : goal.returns
-returns c = rw (c.saturating_sub.ensures, c.checked_count.ensures, c.behind_zero.ensures) at c.front.ensures

@@ -1,0 +1,35 @@
+-- What the rules of tables keep of an EPC of the set: its fields have the lengths and characters of the key of its kind.
+use Rattle.std.specs.Prelude.{◌≡◌, ◌≤◌, ◌-◌, ℕ, List, [], length, Option, Some, None, IsTrue}
+use Rattle.gs_chars.specs.Characters.{are_digits, are_in_set82}
+use Rattle.gs_ai.specs.declared.row.AiRow.{AiRow}
+use Rattle.gs_tables_document.specs.declared.kind.Kind.{Kind}
+use Rattle.gs_tables.specs.declared.form.KeyForm.{KeyForm}
+use Rattle.gs_tables.specs.declared.form.KeyForm.TheVariants.{Digits, Characters}
+use Rattle.gs_epc.specs.Layout.{KeyFields}
+use Rattle.gs_tables.specs.Forms.{serial_room}
+use Rattle.gs_tables.specs.KeptRules.{KeptKind}
+
+-- trusted, own: at least one and at most so many characters of the set of 82
+pub record AreCharacters (most : ℕ) (text : List ℕ) : Type 0 where
+  pub least : 1 ≤ length text
+  pub room : length text ≤ most
+  pub characters : IsTrue (are_in_set82 text)
+
+-- trusted, own: prefix and rest fit the key: digits, with the lead digits that belong to the rest; or characters
+abbrev pub FitForm : KeyForm → ℕ → List ℕ → List ℕ → Type 0
+FitForm (Digits digits _) lead prefix rest =
+    (length prefix ≤ digits - lead) × (length rest ≡ digits - length prefix) × IsTrue (are_digits prefix) × IsTrue (are_digits rest)
+FitForm (Characters most) lead prefix rest = IsTrue (are_digits prefix) × AreCharacters (most - length prefix) rest
+
+-- trusted, own: the serial has room, and is empty where the kind has none
+abbrev pub FitsRoom : Option ℕ → List ℕ → Type 0
+FitsRoom None serial = serial ≡ []
+FitsRoom (Some most) serial = AreCharacters most serial
+
+-- trusted, TDS 2.0, section 7: Prefix, rest and serial fit the kind, which keeps the rules.
+pub record FitKind (ais : List AiRow) (kind : Kind) (fields : KeyFields) : Type 0 where
+  pub of_kind : KeptKind ais kind
+  pub prefix_least : 1 ≤ length fields.prefix
+  pub prefix_most : length fields.prefix ≤ 12
+  pub fits : FitForm of_kind.form kind.lead fields.prefix fields.rest
+  pub room : FitsRoom (serial_room ais of_kind.form kind.serial) fields.serial

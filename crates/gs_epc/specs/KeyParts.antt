@@ -1,0 +1,121 @@
+-- How a key is taken apart: TDS 2.0, section 7 (correspondence between EPCs and GS1 keys), from the key to the EPC.
+use Rattle.std.specs.Prelude.{◌≡◌, ℕ, ◌-◌, List, [], ◌∷◌, ◌++◌, take, drop, find, Option, Some, None, slice_get, Result, Ok, Err}
+use Rattle.std.specs.Option.{option_and_then, option_map, option_map_or}
+use Rattle.gs_ai.specs.declared.pair.Pair.{Pair}
+use Rattle.gs_ai.specs.declared.part.Part.{Part}
+use Rattle.gs_ai.specs.declared.part.Part.TheVariants.{Zero, NumCheck, Set}
+use Rattle.gs_ai.specs.declared.row.AiRow.{AiRow}
+use Rattle.gs_ai.specs.Values.{has_code}
+use Rattle.gs_ident.specs.Elements.{Elements}
+use Rattle.gs_ident.specs.Identities.{pair_with}
+use Rattle.gs_tables_document.specs.declared.kind.Kind.{Kind}
+use Rattle.gs_tables_document.specs.declared.kind.SerialAt.{SerialAt}
+use Rattle.gs_tables_document.specs.declared.kind.SerialAt.TheVariants.{Nowhere, Tail, Ai}
+use Rattle.gs_tables.specs.Tables.{TableRows}
+use Rattle.gs_epc.specs.declared.epc.Epc.{Epc}
+use Rattle.gs_epc.specs.declared.write_error.FieldsFault.{FieldsFault}
+use Rattle.gs_epc.specs.declared.write_error.FieldsFault.TheVariants.{MissingSerial, Memory}
+use Rattle.gs_epc.specs.Layout.{KeyFields, parts_at}
+
+-- ---- the parts of a key's value
+
+-- trusted, own: the value behind the leading zero, where the parts begin with one
+abbrev pub behind_zero : List Part → List ℕ → List ℕ
+behind_zero (Zero ∷ _) value = drop 1 value
+behind_zero _ value = value
+
+-- trusted, own: the digits of the key with its check digit, behind a zero: so many
+abbrev pub checked_count : List Part → ℕ
+checked_count (Zero ∷ NumCheck count ∷ _) = count
+checked_count (NumCheck count ∷ _) = count
+checked_count _ = 0
+
+-- trusted, own: the digits of the key without its check digit
+abbrev pub digits_in : List Part → List ℕ → List ℕ
+digits_in parts value = take (checked_count parts - 1) (behind_zero parts value)
+
+-- trusted, own: what follows the check digit
+abbrev pub tail_in : List Part → List ℕ → List ℕ
+tail_in parts value = drop (checked_count parts) (behind_zero parts value)
+
+-- trusted, own: The company prefix: the first n of the characters, or of the digits behind the lead digits, or all of
+-- fewer.
+abbrev pub prefix_in : List Part → ℕ → ℕ → List ℕ → List ℕ
+prefix_in (Set _ ∷ []) lead n value = take n value
+prefix_in parts lead n value = take n (drop lead (digits_in parts value))
+
+-- trusted, own: The rest: the characters behind the prefix, or the lead digits followed by the digits behind the prefix.
+abbrev pub rest_in : List Part → ℕ → ℕ → List ℕ → List ℕ
+rest_in (Set _ ∷ []) lead n value = drop n value
+rest_in parts lead n value = take lead (digits_in parts value) ++ drop n (drop lead (digits_in parts value))
+
+-- trusted, own: the value of a key of the kind of this index from the company prefix on: what follows a leading zero and
+-- the lead digits
+abbrev pub value_from_prefix : TableRows → ℕ → List ℕ → List ℕ
+value_from_prefix set kind value =
+    option_map_or (λ (row : Kind). drop row.lead (behind_zero (parts_at set.ais row.key) value)) (slice_get set.kinds kind) []
+
+-- ---- the serial
+
+-- trusted, own: the text, where it is not empty
+abbrev pub unless_empty : List ℕ → Option (List ℕ)
+unless_empty [] = None
+unless_empty text = Some text
+
+-- trusted, own: the text that stands for an absent element in the row of its code, and the empty one where the row has none
+abbrev pub none_text : List AiRow → List ℕ → List ℕ
+none_text ais code = option_map_or (λ (row : AiRow). row.none) (find (has_code code) ais) []
+
+-- trusted, own: The serial: empty where the kind has none, the tail of the key, or the value of the qualifier that it is.
+-- Where that is absent, its text for none stands for it. There may be none.
+abbrev pub serial_in : List AiRow → List Part → SerialAt → Elements → Option (List ℕ)
+serial_in ais parts Nowhere identity = Some []
+serial_in ais parts Tail identity = unless_empty (tail_in parts identity.key.value)
+serial_in ais parts (Ai code) identity =
+    option_map_or (λ (pair : Pair). Some pair.value) (pair_with identity.qualifiers code)
+    (unless_empty (none_text ais code))
+
+-- ---- the fields
+
+-- trusted, own: the fields of the value of a key by its parts, its lead digits and a prefix of n, with this serial
+abbrev pub fields_at : List Part → ℕ → ℕ → List ℕ → List ℕ → KeyFields
+fields_at parts lead n value serial =
+    record { prefix = prefix_in parts lead n value; rest = rest_in parts lead n value; serial = serial }
+
+-- trusted, TDS 2.0, section 7: the fields of an identity by its kind and a prefix of n, unless its serial is lacking
+abbrev pub take_apart : List AiRow → Kind → Elements → ℕ → Option KeyFields
+take_apart ais kind identity n =
+    option_map (fields_at (parts_at ais kind.key) kind.lead n identity.key.value)
+    (serial_in ais (parts_at ais kind.key) kind.serial identity)
+
+-- trusted, own: an EPC of these fields, without the encoding and the filter of a tag
+abbrev pub epc_of_key : ℕ → ℕ → KeyFields → Epc
+epc_of_key kind n fields =
+    record {
+      kind = kind;
+      encoding = [];
+      filter = None;
+      gcp = n;
+      prefix = fields.prefix;
+      rest = fields.rest;
+      serial = fields.serial;
+    }
+
+-- trusted, own: what an identity says by the kind of this index and a prefix of n, unless its serial is lacking
+abbrev pub epc_at : TableRows → ℕ → Elements → ℕ → Option Epc
+epc_at set kind identity n =
+    option_and_then (λ (row : Kind). option_map (epc_of_key kind n) (take_apart set.ais row identity n))
+    (slice_get set.kinds kind)
+
+-- trusted, TDS 2.0, section 7: an identity has nothing beside the key of a kind and its serial
+pub record IsOfKind (kind : Kind) (identity : Elements) : Type 0 where
+  pub key : identity.key.code ≡ kind.key
+  pub qualifiers : (i : ℕ) (pair : Pair) → slice_get identity.qualifiers i ≡ Some pair → kind.serial ≡ Ai pair.code
+  pub attributes : identity.attributes ≡ []
+
+-- trusted, TDS 2.0, section 7: The answer of `fields_of`: what the identity says, or that its serial is lacking. Out of
+-- memory may come in place of each.
+abbrev pub IsTakenApart : TableRows → ℕ → Elements → ℕ → Result Epc FieldsFault → Type 0
+IsTakenApart set kind identity n (Ok epc) = epc_at set kind identity n ≡ Some epc
+IsTakenApart set kind identity n (Err MissingSerial) = epc_at set kind identity n ≡ None
+IsTakenApart set kind identity n (Err Memory) = Unit {0}

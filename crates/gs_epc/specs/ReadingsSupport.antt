@@ -1,0 +1,14 @@
+-- What proofs and private functions say beside the definitions of Readings.antt.
+use Rattle.std.specs.Prelude.{ℕ, List, Result}
+use Rattle.gs_grammar_level.specs.Readings.{Reads}
+use Rattle.gs_grammar_level.specs.declared.readings.Reading.{Reading}
+use Rattle.gs_tables_document.specs.declared.level_name.LevelName.{LevelName}
+use Rattle.gs_tables.specs.Tables.{TableRows}
+use Rattle.gs_epc.specs.declared.epc.Epc.{Epc}
+use Rattle.gs_epc.specs.declared.error.EpcFault.{EpcFault}
+use Rattle.gs_epc.specs.Epcs.{options_of}
+use Rattle.gs_epc.specs.Readings.{ReadsAs}
+
+-- the answer to a reading in a level: whatever symbols have this reading, it is the answer to them
+abbrev pub AnswersReading : TableRows → LevelName → Reading → Result Epc EpcFault → Type 0
+AnswersReading set level reading result = (symbols : List ℕ) → Reads (options_of level set) symbols reading → ReadsAs set level symbols result

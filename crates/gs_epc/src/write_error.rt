@@ -1,0 +1,48 @@
+use gs_chars::Memory;
+use gs_grammar::Why;
+use gs_tables::Field;
+use thiserror::Error;
+
+/// Why an identity is not taken apart.
+#[derive(Clone, Copy, Debug, Error)]
+pub enum FieldsFault {
+    /// The kind has a serial, the identity lacks it, and no text stands for its absence.
+    #[error("the identity lacks the serial that its kind has")]
+    MissingSerial,
+    /// Out of memory.
+    #[error("out of memory")]
+    Memory,
+}
+
+impl From<Memory> for FieldsFault {
+    ghost use Rattle.std.specs.Prelude.{◌≡◌};
+    ghost use Rattle.gs_epc.specs.declared.write_error.FieldsFault.TheVariants.{Memory as WantOfMemory};
+
+    ghost from_gives = { λ _ e. e ≡ WantOfMemory };
+
+    fn from(_rejected: Memory) -> FieldsFault {
+        FieldsFault::Memory
+    }
+}
+
+/// Why an EPC is not written.
+#[derive(Clone, Copy, Debug)]
+pub enum EpcWriteFault {
+    /// The level has no option of this kind and prefix length and of the encoding that is asked for.
+    NoOption,
+    /// No such option holds every field. The last one does not hold this field, for this reason.
+    CannotHold(Field, Why),
+    /// Out of memory.
+    Memory,
+}
+
+impl From<Memory> for EpcWriteFault {
+    ghost use Rattle.std.specs.Prelude.{◌≡◌};
+    ghost use Rattle.gs_epc.specs.declared.write_error.EpcWriteFault.TheVariants.{Memory as WantOfMemory};
+
+    ghost from_gives = { λ _ e. e ≡ WantOfMemory };
+
+    fn from(_rejected: Memory) -> EpcWriteFault {
+        EpcWriteFault::Memory
+    }
+}

@@ -1,3 +1,0 @@
-pub mod Generator
-pub mod Counts
-pub mod Counting

@@ -1,5 +1,0 @@
-use Rattle.gs_grammar.proofs.Held.{holds_word}
-use Rattle.gs_grammar.proofs.holding.holds.Goals as goal
-
-pub returns-clause-word : goal.returns-clause-word
-returns-clause-word c = holds_word _ _ _ c.reason_against.ensures.greatest c.reason_against.ensures.reason

@@ -1,7 +1,0 @@
-use Rattle.std.proofs.Common.{◌≡◌, ◌++◌, drop}
-use Rattle.gs_grammar.specs.Writing.{written}
-use Rattle.gs_grammar.proofs.writing.write_text.Given as goal
-
-abbrev pub invariant-loop-number : goal.invariant-loop-number
-invariant-loop-number l =
-    l.text.items ++ written (drop l.number l.items) (drop l.number l.values) ≡ written l.items l.values

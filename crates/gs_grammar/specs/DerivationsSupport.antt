@@ -1,0 +1,26 @@
+-- What proofs and private functions say beside the definitions of Derivations.antt.
+use Rattle.std.specs.Prelude.{◌≡◌, ℕ, List}
+use Rattle.gs_grammar.specs.declared.item.Item.{Item}
+use Rattle.gs_grammar.specs.Derivations.{Derives}
+
+-- the items derive the list, with these values
+pub record HasValues (items : List Item) (w : List ℕ) (values : List (List ℕ)) : Type 0 where
+  pub words : List (List ℕ)
+  pub derives : Derives items w values words
+
+-- the items derive the list in one way alone
+pub record OneWay (items : List Item) (w : List ℕ) : Type 0 where
+  pub values : List (List ℕ)
+  pub words : List (List ℕ)
+  pub derives : Derives items w values words
+  pub only : (values' words' : List (List ℕ)) → Derives items w values' words' → words' ≡ words
+
+-- the items derive the list by two different lists of words
+pub record TwoWays (items : List Item) (w : List ℕ) : Type 0 where
+  pub values : List (List ℕ)
+  pub words : List (List ℕ)
+  pub derives : Derives items w values words
+  pub values' : List (List ℕ)
+  pub words' : List (List ℕ)
+  pub derives' : Derives items w values' words'
+  pub differ : words ≡ words' → ⊥

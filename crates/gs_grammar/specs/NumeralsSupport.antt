@@ -1,0 +1,25 @@
+-- What proofs and private functions say beside the definitions of Numerals.antt.
+use Rattle.std.specs.Prelude.{◌≡◌, ℕ, ◌+◌, ◌*◌, ◌^◌, ◌<◌, List, ◌++◌, decimal, drop, length, IsTrue}
+use Rattle.gs_chars.specs.Characters.{are_digits}
+use Rattle.gs_bits.specs.Bits.{bits_of}
+use Rattle.gs_grammar.specs.Words.{decimal_value}
+
+-- the number that another number and decimal digits behind it write
+abbrev pub number_behind : ℕ → List ℕ → ℕ
+number_behind front digits = front * 10 ^ length digits + decimal_value digits
+
+-- these are n digits that write the number
+pub record IsPadded (n number : ℕ) (digits : List ℕ) : Type 0 where
+  pub count : length digits ≡ n
+  pub all_digits : IsTrue (are_digits digits)
+  pub value : decimal_value digits ≡ number
+
+-- the list begins with the code in 7 bits, and the code is not 0
+pub record HasCode (w : List ℕ) (code : ℕ) : Type 0 where
+  pub some : 0 < code
+  pub small : code < 128
+  pub front : w ≡ bits_of 7 code ++ drop 7 w
+
+-- the list begins with no code in 7 bits but 0
+abbrev pub NoCode : List ℕ → Type 0
+NoCode w = (code : ℕ) (rest : List ℕ) → 0 < code → code < 128 → w ≡ bits_of 7 code ++ rest → ⊥

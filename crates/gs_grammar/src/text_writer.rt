@@ -1,0 +1,81 @@
+ghost use Rattle.std.specs.Prelude.{◌≡◌, ◌++◌, IsTrue, IsOk, IfOk, IfErr, IfSome, IfNone, OnOk, None, true, false, length, flat_map};
+ghost use Rattle.gs_chars.specs.Characters.{are_in_set82};
+ghost use Rattle.gs_chars.specs.Escapes.{written_spelling};
+ghost use Rattle.gs_grammar.specs.Items.{is_in_bounds};
+ghost use Rattle.gs_grammar.specs.Words.{written_word};
+ghost use Rattle.gs_grammar.specs.WrittenWords.{why_not, written, AreHeld, IsFirstRejection, IsWriteFault};
+
+use crate::error::{Why, WriteFault};
+use crate::item::Item;
+use crate::opt::Opt;
+use crate::value_test::holds;
+use gs_chars::{Memory, Text, write_escape};
+use std::alloc::Global;
+
+/// The number of the first item that does not hold its value, and why. There are as many values as items. `None` comes exactly
+/// where each is held.
+pub fn first_rejection(items: &[Item], values: &[Text]) -> Option<(usize, Why)>
+    requires { length values.now ≡ length items.now }
+    ensures some { IfSome result (λ r. IsFirstRejection items.now values.now r.0 r.1) }
+    ensures none { IfNone result (AreHeld items.now values.now) }
+{
+    for (number, item) in items.iter().enumerate() {
+        let value = &values[number];
+        if let Err(why) = holds(item, value.as_bytes()) {
+            return Some((number, why));
+        }
+    }
+    None
+}
+
+/// Appends the written spelling of each character.
+fn push_spellings(value: &[u8], text: &mut Vec<u8>) -> Result<(), Memory>
+    requires { IsTrue (are_in_set82 value.now) }
+    ensures { OnOk result (text.new.items ≡ text.old.items ++ flat_map written_spelling value.now) }
+{
+    for character in value {
+        let mut spelling = [0; 3];
+        let count = write_escape(*character, &mut spelling);
+        text.extend_from_slice(&spelling[..count])?;
+    }
+    Ok(())
+}
+
+/// Appends the written word of a value.
+fn push_word(item: &Item, value: &[u8], text: &mut Vec<u8>) -> Result<(), Memory>
+    requires item { is_in_bounds false item.now ≡ true }
+    requires held { why_not item.now value.now ≡ None }
+    ensures { OnOk result (text.new.items ≡ text.old.items ++ written_word item.now value.now) }
+{
+    match item {
+        Item::Lit(literal) => text.extend_from_slice(literal.as_bytes())?,
+        Item::Pad { .. } | Item::Digits { .. } | Item::Int { .. } => text.extend_from_slice(value)?,
+        Item::Esc { .. } => push_spellings(value, text)?,
+        _ => unreachable!(),
+    }
+    Ok(())
+}
+
+/// The written words of the values, joined: one value for each item of an option of a text level. `CannotHold` comes exactly
+/// where an item does not hold its value, and names the first. The option is one of text, and there are as many values as
+/// items.
+pub fn write_text(alloc: Global, option: &Opt, values: &[Text]) -> Result<Text, WriteFault>
+    requires text_level { option.now.bit_level ≡ false }
+    requires one_each { length values.now ≡ length option.now.items }
+    ensures written { IfOk result (λ text. text ≡ written option.now.items values.now) }
+    ensures held { IsOk result → AreHeld option.now.items values.now }
+    ensures rejected { IfErr result (λ error. IsWriteFault option.now.items values.now error) }
+{
+    let items = option.items();
+    if let Some((item, why)) = first_rejection(items, values) {
+        return Err(WriteFault::CannotHold { item, why });
+    }
+    let mut text = Vec::new(alloc);
+    for (number, item) in items.iter().enumerate() {
+        let value = &values[number];
+        if push_word(item, value.as_bytes(), &mut text).is_err() {
+            return Err(WriteFault::Memory);
+        }
+    }
+    Ok(Text::from_vec(text))
+}

@@ -1,0 +1,151 @@
+ghost use Rattle.std.specs.Prelude.{◌≡◌, ◌∷◌, ◌↔◌, ◌*◌, ◌^◌, ◌&&◌, ◌||◌, ◌<◌, ℕ, List, Bool, nat_lt, nat_le, IsOk, Some, None};
+ghost use Rattle.gs_chars.specs.Characters.{are_in_set82};
+ghost use Rattle.gs_grammar.specs.Items.{is_between};
+ghost use Rattle.gs_grammar.specs.ItemsSupport.{greatest_of};
+ghost use Rattle.gs_grammar.specs.NumeralsSupport.{number_behind};
+ghost use Rattle.gs_grammar.specs.Words.{Word, decimal_value};
+ghost use Rattle.gs_grammar.specs.WrittenWords.{GivesReason, first_reason, is_too_large, why_not};
+
+use crate::error::Why;
+use crate::item::{Item, fits_bits, is_within};
+use crate::numerals::{decimal_number, decimal_number_behind, fits_wide_bits, has_leading_zero};
+use gs_chars::{CharSet, are_digits};
+
+/// The first reason that fits.
+fn judge(char: bool, size: bool, zero: bool, large: bool) -> Result<(), Why>
+    ensures { GivesReason result (first_reason char size zero large) }
+{
+    if char {
+        return Err(Why::Char);
+    }
+    if size {
+        return Err(Why::Length);
+    }
+    if zero {
+        return Err(Why::Zero);
+    }
+    if large { Err(Why::Large) } else { Ok(()) }
+}
+
+/// Whether each character is one of the set of 82.
+fn all_in_set82(value: &[u8]) -> bool
+    ensures { result ≡ are_in_set82 value.now }
+{
+    value
+        .iter()
+        .all(|character| CharSet::Set82.holds(*character))
+}
+
+/// Whether the number that the characters write is above the greatest.
+fn is_above(value: &[u8], greatest: u64) -> bool
+    ensures { result ≡ nat_lt greatest (decimal_value value.now) }
+{
+    match decimal_number(value) {
+        Some(number) => greatest < number,
+        None => true,
+    }
+}
+
+/// Whether the number that a digit's number and the characters behind it write has no room in this many bits.
+fn exceeds(front: u8, value: &[u8], bits: u8) -> bool
+    ensures { result ≡ nat_le (2 ^ bits) (number_behind front value.now) }
+{
+    match decimal_number_behind(u64::from(front), value) {
+        Some(number) => !fits_bits(number, bits),
+        None => bits <= 64 || !fits_wide_bits(front, value, bits),
+    }
+}
+
+/// Whether the number that the characters write has no room in this many bits.
+fn is_too_wide(value: &[u8], bits: u8) -> bool
+    ensures { result ≡ nat_le (2 ^ bits) (decimal_value value.now) }
+{
+    exceeds(0, value, bits)
+}
+
+/// Whether the number that a 1 and the characters behind it write has no room in this many bits.
+fn is_too_wide_behind_one(value: &[u8], bits: u8) -> bool
+    ensures { result ≡ nat_le (2 ^ bits) (decimal_value (49 ∷ value.now)) }
+{
+    exceeds(1, value, bits)
+}
+
+/// Whether the number that the characters write is above the greatest, or has no room in this many bits.
+fn is_too_large(value: &[u8], greatest: u64, bits: u8) -> bool
+    ensures { result ≡ is_too_large bits greatest value.now }
+{
+    match decimal_number(value) {
+        Some(number) => greatest < number || !fits_bits(number, bits),
+        None => true,
+    }
+}
+
+/// Whether the number of characters is within the two bounds, and 7 bits of each have room.
+fn is_packable(lo: u8, hi: u8, bits: u16, count: usize) -> bool
+    ensures { result ≡ (is_between lo hi count && nat_le (7 * count) bits) }
+{
+    is_within(usize::from(lo), usize::from(hi), count) && count <= usize::from(bits / 7)
+}
+
+/// The first reason why the item has no word for the value. The greatest number of an item is one of 64 bits.
+fn reason_against(item: &Item, value: &[u8]) -> Result<(), Why>
+    ensures greatest { greatest_of item.now < 2 ^ 64 }
+    ensures reason { GivesReason result (why_not item.now value.now) }
+{
+    let count = value.len();
+    match item {
+        Item::Pad { n } => judge(!are_digits(value), count != usize::from(*n), false, false),
+        Item::Digits { lo, hi } => judge(
+            !are_digits(value),
+            !is_within(usize::from(*lo), usize::from(*hi), count),
+            false,
+            false,
+        ),
+        Item::Int { max } => judge(
+            !are_digits(value),
+            count == 0,
+            has_leading_zero(value),
+            is_above(value, *max),
+        ),
+        Item::Esc { lo, hi } => judge(
+            !all_in_set82(value),
+            !is_within(usize::from(*lo), usize::from(*hi), count),
+            false,
+            false,
+        ),
+        Item::NumPad { bits, n } => judge(
+            !are_digits(value),
+            count != usize::from(*n),
+            false,
+            is_too_wide(value, *bits),
+        ),
+        Item::Num { bits, max } => judge(
+            !are_digits(value),
+            count == 0,
+            has_leading_zero(value),
+            is_too_large(value, *max, *bits),
+        ),
+        Item::NumStr { bits, hi } => judge(
+            !are_digits(value),
+            !is_within(1, usize::from(*hi), count) || is_too_wide_behind_one(value, *bits),
+            false,
+            false,
+        ),
+        Item::Ascii7 { lo, hi, bits } => judge(
+            !all_in_set82(value),
+            !is_packable(*lo, *hi, *bits, count),
+            false,
+            false,
+        ),
+        Item::Lit(_) | Item::Fill { .. } => judge(false, count != 0, false, false),
+    }
+}
+
+/// Whether some word of the item has the value, also where the item breaks its bounds. The reasons against are tried in the
+/// order of `Why`. An item `Lit` or `Fill` holds the empty value alone.
+pub fn holds(item: &Item, value: &[u8]) -> Result<(), Why>
+    ensures reason { GivesReason result (why_not item.now value.now) }
+    ensures word { IsOk result ↔ ((w : List ℕ) × Word item.now value.now w) }
+{
+    reason_against(item, value)
+}

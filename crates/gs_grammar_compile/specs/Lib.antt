@@ -1,0 +1,9 @@
+pub mod Readers
+pub mod Places
+pub mod Tables
+pub mod NumeralTables
+pub mod NumeralTablesSupport
+pub mod EscapeTables
+pub mod CodeTables
+pub mod OnesTables
+pub mod ItemTables

@@ -1,0 +1,8 @@
+-- What proofs and private functions say beside the definitions of NumeralTables.antt.
+use Rattle.std.specs.Prelude.{◌≡◌, ℕ, ◌+◌, ◌-◌, List, ◌++◌, decimal, length}
+use Rattle.gs_grammar_machine.specs.declared.edge.Edge.{Edge}
+use Rattle.gs_grammar_compile.specs.NumeralTables.{numeral_table}
+
+-- the second table is the first, and behind it the states of a decimal text up to the greatest
+abbrev pub AddsNumeral : ℕ → List (List Edge) → List (List Edge) → Type 0
+AddsNumeral greatest table new = (n : ℕ) → n + 1 ≡ length (decimal greatest) → new ≡ table ++ numeral_table n greatest (length table)

@@ -1,0 +1,9 @@
+pub mod Readings
+pub mod Trails
+pub mod SingleRuns
+pub mod OptionMachines
+pub mod Guides
+pub mod Whole
+pub mod Finders
+pub mod Widths
+pub mod FirstShares

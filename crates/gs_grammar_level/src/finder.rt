@@ -1,0 +1,110 @@
+ghost use Rattle.std.specs.Prelude.{◌≡◌, ◌↔◌, ◌≤◌, ◌<◌, ◌+◌, IsTrue, IfOk, false, length};
+ghost use Rattle.gs_grammar_level.specs.Guides.{StandsAt, BeginAll};
+ghost use Rattle.gs_grammar_level.specs.Finders.{IsFound, NoneFound, NoneReads, NothingFound};
+
+use crate::guides::Group;
+use crate::level::Level;
+use crate::one::{Scratch, read_items};
+use gs_chars::{List, Memory, Text};
+use std::alloc::Global;
+
+/// An option that derives a list of symbols, and the values of a derivation.
+#[derive(Drop)]
+pub struct Found {
+    pub option: usize,
+    pub values: List<Text>,
+}
+
+/// Whether the literal stands in the symbols at this place.
+fn stands_at(symbols: &[u8], place: usize, literal: &[u8]) -> bool
+    ensures { IsTrue result ↔ StandsAt place literal.now symbols.now }
+{
+    match symbols.get(place..) {
+        Some(rest) => rest.starts_with(literal),
+        None => literal.is_empty(),
+    }
+}
+
+/// Whether the first symbol of the literal stands at this place. An empty literal stands everywhere.
+fn begins_at(symbols: &[u8], place: usize, literal: &[u8]) -> bool
+    ensures { StandsAt place literal.now symbols.now → IsTrue result }
+{
+    match literal.first() {
+        Some(first) => symbols.get(place) == Some(first),
+        None => true,
+    }
+}
+
+/// Whether the probe of the option of this number stands in the symbols. Where it does not, the option reads nothing of them.
+fn is_probed(level: &Level, option: usize, symbols: &[u8]) -> bool
+    requires { option < length level.now.options }
+    ensures { result ≡ false → NoneReads level.now.options option (option + 1) symbols.now }
+{
+    let probe = &level.probes()[option];
+    let literal = probe.literal.as_bytes();
+    begins_at(symbols, probe.place, literal) && stands_at(symbols, probe.place, literal)
+}
+
+/// What the option of this number reads of the symbols.
+fn read_option(
+    alloc: Global,
+    level: &Level,
+    option: usize,
+    symbols: &[u8],
+    scratch: &mut Scratch,
+) -> Result<Option<Found>, Memory>
+    requires { option < length level.now.options }
+    ensures found { IfOk result (λ found. IsFound level.now.options symbols.now found) }
+    ensures none { IfOk result (λ found. NoneFound level.now.options option (option + 1) symbols.now found) }
+{
+    let machine = &level.machines()[option];
+    let items = level.options()[option].items();
+    match read_items(alloc, machine, items, symbols, scratch)? {
+        Some(values) => Ok(Some(Found { option, values })),
+        None => Ok(None),
+    }
+}
+
+/// What the first option of the group reads of the symbols that reads them. The group has the options from this number on.
+fn read_group(
+    alloc: Global,
+    level: &Level,
+    from: usize,
+    group: &Group,
+    symbols: &[u8],
+    scratch: &mut Scratch,
+) -> Result<Option<Found>, Memory>
+    requires within { group.now.end ≤ length level.now.options }
+    requires begin { BeginAll level.now.options from group.now.end group.now.literal }
+    ensures found { IfOk result (λ found. IsFound level.now.options symbols.now found) }
+    ensures none { IfOk result (λ found. NoneFound level.now.options from group.now.end symbols.now found) }
+{
+    if !stands_at(symbols, 0, group.literal.as_bytes()) {
+        return Ok(None);
+    }
+    for option in from..group.end {
+        if !is_probed(level, option, symbols) {
+            continue;
+        }
+        if let Some(found) = read_option(alloc, level, option, symbols, scratch)? {
+            return Ok(Some(found));
+        }
+    }
+    Ok(None)
+}
+
+/// What the first option of the level reads of the symbols that reads them.
+pub fn find(alloc: Global, level: &Level, symbols: &[u8]) -> Result<Option<Found>, Memory>
+    ensures found { IfOk result (λ found. IsFound level.now.options symbols.now found) }
+    ensures none { IfOk result (λ found. NothingFound level.now.options symbols.now found) }
+{
+    let mut scratch = Scratch::new(alloc);
+    let mut from = 0;
+    for group in level.groups() {
+        if let Some(found) = read_group(alloc, level, from, group, symbols, &mut scratch)? {
+            return Ok(Some(found));
+        }
+        from = group.end;
+    }
+    Ok(None)
+}

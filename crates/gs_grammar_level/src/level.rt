@@ -1,0 +1,104 @@
+ghost use Rattle.std.specs.Prelude.{◌≡◌, IfOk};
+ghost use Rattle.gs_grammar.specs.Levels.{AreOfKind};
+ghost use Rattle.gs_grammar_level.specs.Guides.{AreProbesOf, AreGroupsFrom};
+ghost use Rattle.gs_grammar_level.specs.OptionMachines.{AreMachinesOf};
+
+use crate::guides::{Group, Probe};
+use crate::machines::machines_of;
+use crate::probe_groups::{groups_of, probes_of};
+use gs_chars::{List, Memory};
+use gs_grammar::Opt;
+use gs_grammar_machine::Auto;
+use std::alloc::Global;
+use std::marker::Model;
+
+/// The options of one level, in the order of the table, and the machine of each.
+pub struct Level {
+    bit_level: bool,
+    options: List<Opt>,
+    machines: List<Auto>,
+    probes: List<Probe>,
+    groups: List<Group>,
+}
+
+// by hand, so that a function that drops a level calls this: a derived drop is written out at each of its exits
+impl Drop for Level {
+    fn drop(self) {
+        let Level {
+            bit_level: _,
+            options: _,
+            machines: _,
+            probes: _,
+            groups: _,
+        } = self;
+    }
+}
+
+impl Model for Level {
+    ghost use Rattle.gs_grammar.specs.Levels.{LevelForm};
+
+    ghost Value = { LevelForm };
+
+    ghost view = { λ a. record { bit_level = a.bit_level; options = a.options } };
+
+    ghost use Rattle.gs_grammar_level.specs.Whole.{IsLevel};
+
+    ghost invariant = { λ a. IsLevel a.bit_level a.options a.machines a.probes a.groups };
+}
+
+impl Level {
+    /// The level of these options. It compiles the machine of each. The one error is out of memory.
+    pub fn new(alloc: Global, bit_level: bool, options: Vec<Opt>) -> Result<Level, Memory>
+        requires { AreOfKind bit_level options.items }
+        ensures bit_level { IfOk result (λ level. level.bit_level ≡ bit_level) }
+        ensures options { IfOk result (λ level. level.options ≡ options.items) }
+    {
+        let machines = machines_of(alloc, options.as_slice())?;
+        let probes = probes_of(alloc, options.as_slice())?;
+        let groups = groups_of(alloc, options.as_slice())?;
+        Ok(Level {
+            bit_level,
+            options: List::from_vec(options),
+            machines,
+            probes,
+            groups,
+        })
+    }
+
+    /// The options, in their order. Each is of the level's kind.
+    pub fn options(&self) -> &[Opt]
+        ensures options { result.now ≡ self.now.options }
+        ensures of_kind { AreOfKind self.now.bit_level self.now.options }
+    {
+        self.options.items()
+    }
+
+    /// Whether the level's symbols are bits.
+    pub fn bit_level(&self) -> bool
+        ensures is { result ≡ self.now.bit_level }
+        ensures of_kind { AreOfKind self.now.bit_level self.now.options }
+    {
+        self.bit_level
+    }
+
+    /// The machines of the options, one for each, in their order.
+    pub fn machines(&self) -> &[Auto]
+        ensures { AreMachinesOf result.now self.now.options }
+    {
+        self.machines.items()
+    }
+
+    /// The probes of the options, one for each, in their order.
+    pub(crate) fn probes(&self) -> &[Probe]
+        ensures { AreProbesOf result.now self.now.options }
+    {
+        self.probes.items()
+    }
+
+    /// The groups of the options, which are all of them.
+    pub(crate) fn groups(&self) -> &[Group]
+        ensures { AreGroupsFrom 0 result.now self.now.options }
+    {
+        self.groups.items()
+    }
+}

@@ -1,0 +1,53 @@
+//! Levels: options with their machines, and the readings of a text or of bits by one pass.
+//!
+//! A level is what Tag Data Translation calls one: the options in which one form of an EPC, as its tag bits, may be written.
+//!
+//! - `Level::new` compiles the machine of each option, once; `Level::machines` lends them.
+//! - `read_text` and `read_bits` find the option that reads a text or bits, and the value of each of its items. Where each item before
+//!   the last has words of one length, these lie where the widths say; else the option's machine is followed.
+//! - `Level::first_share` gives the first two options of the level that share a list of symbols, and a text that shows it; `None` exactly
+//!   where no list of symbols has two readings by it.
+//!
+//! # Example
+//!
+//! A pure identity URI by the second of two options. The gate runs this case, for which crates/vectors_values/src/levels.rt makes
+//! the calls; `\e` is the empty value of a literal.
+//!
+//! ```text
+//! gs_grammar_level::read_text urn:epc:id:sgtin:0614141.812345.6789 pad:3 | lit:urn:epc:id:sgtin: pad:7 lit:. pad:6 lit:. esc:1:20
+//! 1 \e 0614141 \e 812345 \e 6789
+//! ```
+//!
+//! # Where it differs from the standard
+//!
+//! - The items of options are this project's own, in place of the patterns and functions of GS1 EPC Tag Data Translation.
+//! - A level is read only where no text and no bits have two readings by it; the standard has no such condition.
+//!   `Level::first_share` decides it of all texts and bits, once, when tables are loaded.
+#![tactic(auto)]
+
+mod cuts;
+mod finder;
+mod guides;
+mod laws;
+mod level;
+mod machines;
+mod one;
+mod probe_groups;
+mod read;
+mod readings;
+mod share;
+mod share_search;
+mod single_run;
+mod starts;
+mod trail;
+mod values;
+mod widths;
+mod word_measures;
+
+pub use laws::{
+    ambiguous_exactly_where_options_share, each_level_has_an_answer, no_list_has_two_readings,
+};
+pub use level::Level;
+pub use read::{read_bits, read_text};
+pub use readings::Reading;
+pub use share::Shared;

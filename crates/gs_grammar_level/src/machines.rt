@@ -1,0 +1,28 @@
+ghost use Rattle.std.specs.Prelude.{IfOk};
+ghost use Rattle.gs_grammar_level.specs.OptionMachines.{IsMachineOf, AreMachinesOf};
+
+use gs_chars::{List, Memory};
+use gs_grammar::Opt;
+use gs_grammar_compile::compile;
+use gs_grammar_machine::Auto;
+use std::alloc::Global;
+
+/// The machine of an option.
+fn machine_of(alloc: Global, option: &Opt) -> Result<Auto, Memory>
+    ensures { IfOk result (λ machine. IsMachineOf machine option.now) }
+{
+    // The contract of `items` tells that they keep their bounds.
+    let _items = option.items();
+    compile(alloc, option)
+}
+
+/// The machine of each option, in their order.
+pub fn machines_of(alloc: Global, options: &[Opt]) -> Result<List<Auto>, Memory>
+    ensures { IfOk result (λ machines. AreMachinesOf machines options.now) }
+{
+    let mut machines = Vec::with_capacity(alloc, options.len())?;
+    for option in options {
+        machines.push(machine_of(alloc, option)?)?;
+    }
+    Ok(List::from_vec(machines))
+}

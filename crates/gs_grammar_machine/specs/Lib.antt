@@ -1,0 +1,4 @@
+pub mod Walks
+pub mod Cuts
+pub mod Machines
+pub mod MachinesSupport

@@ -1,0 +1,59 @@
+-- What is wanted, wherever the name of the relation lies, and the answer by the links of chosen numbers.
+use Rattle.std.proofs.Common.{◌≡◌, ◌≢◌, ◌<◌, ◌≤◌, ℕ, zero, suc, List, [], ◌∷◌, length, slice_get, Some, false, inl, inr, refl, arith}
+use Rattle.std.specs.Prelude.{All, slice_index_or}
+use Rattle.std.specs.Option.{option_map_or}
+use Rattle.std.specs.Borrow.{Bor}
+use Rattle.gs_chars.proofs.TruthsAndLists.{true_or_false}
+use Rattle.gs_ident.specs.Elements.{Elements}
+use Rattle.gs_links.specs.Choices.{chosen, is_candidate}
+use Rattle.gs_links.specs.Documents.{linked}
+use Rattle.gs_links.specs.Languages.{matches, narrowed}
+use Rattle.gs_links.specs.declared.link.Link.{Link}
+use Rattle.gs_links.specs.declared.link.Want.TheVariants.{Relation as RelationOf}
+use Rattle.gs_http.specs.Answers.{by_linkset, by_relation, choices, linkset, not_found, of_relation, redirect, text_of}
+
+pub same_want : (links : List Link) (identity : Elements) (name : List ℕ) (lent : Bor (List ℕ)) → lent.now ≡ name → chosen links identity (RelationOf lent) ≡ chosen links identity (of_relation name)
+unfolding is_candidate
+same_want links identity name lent e = rw e refl
+
+there : (links : List Link) (i : ℕ) → i < length links → (link : Link) × (slice_get links i ≡ Some link)
+there [] i low = absurd (omega arith)
+there (link ∷ links) zero low = (link, refl)
+there (link ∷ links) (suc i) low = there links i (omega arith)
+
+pub no_links : (links : List Link) (numbers : List ℕ) → length numbers ≡ 0 → not_found ≡ by_relation (linked links numbers)
+no_links links [] none = refl
+no_links links (i ∷ numbers) none = absurd (omega arith)
+
+pub no_linkset : (links : List Link) (numbers : List ℕ) → length numbers ≡ 0 → not_found ≡ by_linkset (linked links numbers)
+no_linkset links [] none = refl
+no_linkset links (i ∷ numbers) none = absurd (omega arith)
+
+pub one_link : (links : List Link) (numbers : List ℕ) (link : Link) → length numbers ≡ 1 → slice_get links (slice_index_or numbers 0 0) ≡ Some link → redirect link.target.href ≡ by_relation (linked links numbers)
+one_link links [] link one at = absurd (omega arith)
+one_link links (i ∷ []) link one at = rw at refl
+one_link links (i ∷ j ∷ numbers) link one at = absurd (omega arith)
+
+pub more_links : (links : List Link) (numbers : List ℕ) → All (λ i. i < length links) numbers → 0 < length numbers → length numbers ≢ 1 → by_relation (linked links numbers) ≡ choices (text_of (linked links numbers))
+more_links links [] all some many = absurd (omega arith)
+more_links links (i ∷ []) all some many = absurd (many refl)
+more_links links (i ∷ j ∷ numbers) all some many =
+    let a = there links i (all 0 0 (omega arith)) in
+    let b = there links j (all 1 0 (omega arith)) in
+    rw (a.1, b.1) refl
+
+pub some_links : (links : List Link) (numbers : List ℕ) → All (λ i. i < length links) numbers → 0 < length numbers → by_linkset (linked links numbers) ≡ linkset (text_of (linked links numbers))
+some_links links [] all some = absurd (omega arith)
+some_links links (i ∷ numbers) all some =
+    let a = there links i (all 0 0 (omega arith)) in
+    rw a.1 refl
+
+-- where there is nothing to choose, languages change nothing
+pub narrowed_few : (links : List Link) (numbers : List ℕ) (ranges : List (List ℕ)) → length numbers ≤ 1 → narrowed links numbers ranges ≡ numbers
+narrowed_few links numbers [] few = refl
+narrowed_few links [] (range ∷ ranges) few = narrowed_few links [] ranges few
+narrowed_few links (i ∷ []) (range ∷ ranges) few = elim (true_or_false (option_map_or (matches range) (slice_get links i) false)) [
+  | inl match ↦ rw match refl
+  | inr other ↦ rw other (narrowed_few links (i ∷ []) ranges few)
+]
+narrowed_few links (i ∷ j ∷ numbers) (range ∷ ranges) few = absurd (omega arith)

@@ -1,5 +1,0 @@
-use Rattle.std.proofs.Common.{refl}
-use Rattle.gs_http.proofs.choosing.is_single.Goals as goal
-
-pub returns : goal.returns
-returns c = refl

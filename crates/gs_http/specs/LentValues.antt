@@ -1,0 +1,36 @@
+-- What the values that this crate makes and lends stand for.
+use Rattle.std.specs.Prelude.{◌≡◌, ℕ, List, map}
+use Rattle.httparse.specs.Grammar.{RequestHead}
+use Rattle.httparse.specs.Spans.{IsRequestAt, header_bytes}
+use Rattle.httparse.specs.declared.spans.HeaderSpan.{HeaderSpan}
+use Rattle.httparse.specs.declared.spans.RequestSpans.{RequestSpans}
+use Rattle.gs_http.specs.declared.answer.Answer.{Answer as Lent}
+use Rattle.gs_http.specs.declared.answer.Answer.TheVariants.{Description, Linkset, Choices, Redirect, BadRequest, NotFound, NotAllowed}
+use Rattle.gs_http.specs.declared.asked_relation.RelationName.{RelationName}
+use Rattle.gs_http.specs.declared.asked_relation.RelationName.TheVariants.{Made, Lent as LentName}
+use Rattle.gs_http.specs.declared.request.Request.{Request}
+use Rattle.gs_http.specs.Answers.{Answer, described, linkset, choices, redirect, bad_request, not_found, not_allowed}
+use Rattle.gs_http.specs.Heads.{Asked, asked_of}
+
+-- what the request that this crate lends says
+abbrev pub asked_by : Request → Asked
+asked_by r = record { method = r.method.now; target = r.target.now; minor = r.minor; fields = map (header_bytes r.head.now) r.fields.now }
+
+-- the request says what a head of the grammar says whose parts lie there
+abbrev pub SaysHead : Request → List ℕ → List HeaderSpan → RequestSpans → Type 0
+SaysHead request head spans parts = (h : RequestHead) → IsRequestAt head spans parts h → asked_by request ≡ asked_of h
+
+-- the answer that this crate lends
+abbrev pub said : Lent → Answer
+said (Description text) = described text.now
+said (Linkset text) = linkset text
+said (Choices text) = choices text
+said (Redirect href) = redirect href.now
+said BadRequest = bad_request
+said NotFound = not_found
+said NotAllowed = not_allowed
+
+-- the bytes of a name that was made or is lent
+abbrev pub name_of : RelationName → List ℕ
+name_of (Made name) = name
+name_of (LentName name) = name.now

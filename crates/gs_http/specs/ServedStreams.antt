@@ -1,0 +1,58 @@
+-- How a connection is served: what was read of it and written to it, turn by turn and in all.
+use Rattle.std.specs.Prelude.{◌≡◌, ◌⊎◌, ◌≤◌, ⊤, ℕ, ◌+◌, true, List, [], ◌++◌, length, take, Option, IfSome}
+use Rattle.gs_ai.specs.declared.row.AiRow.{AiRow}
+use Rattle.gs_links.specs.declared.link.Link.{Link}
+use Rattle.gs_port.specs.Contents.{append_known, prepend_known}
+use Rattle.gs_port.specs.Counts.{counted}
+use Rattle.gs_http.specs.declared.outcomes.Served.{Served}
+use Rattle.gs_http.specs.declared.outcomes.Served.TheVariants.{Done, ReadFault, WriteFault, Memory}
+use Rattle.gs_http.specs.declared.replies.Reply.{Reply}
+use Rattle.gs_http.specs.declared.settings.Settings.{Settings}
+use Rattle.gs_http.specs.Streams.{AreReplies, BeginsWith, all_bytes, bytes_of, has_closing, heads_of, replies_of}
+
+-- ---- counts
+
+-- trusted, own: the count of the reads that failed, by how serving ended
+abbrev pub reads_when : Served → ℕ → ℕ
+reads_when Done count = count
+reads_when ReadFault count = counted count
+reads_when WriteFault count = count
+reads_when Memory count = count
+
+-- trusted, own: the count of the writes that failed
+abbrev pub writes_when : Served → ℕ → ℕ
+writes_when Done count = count
+writes_when ReadFault count = count
+writes_when WriteFault count = counted count
+writes_when Memory count = count
+
+-- ---- a whole connection
+
+-- trusted, own: a fact for a connection that was served whole
+abbrev pub OnDone : Served → Type 0 → Type 0
+OnDone Done fact = fact
+OnDone ReadFault fact = ⊤
+OnDone WriteFault fact = ⊤
+OnDone Memory fact = ⊤
+
+-- trusted, own: what serving a connection read and wrote, where so many replies are the most. `rest` is what is left to read,
+-- where that is known.
+pub record IsServed (most : ℕ) (table : List AiRow) (links : List Link) (settings : Settings) (served : Served) (left left' taken taken' held held' : Option (List ℕ)) : Type 0 where
+  pub read : List ℕ
+  pub written : List ℕ
+  pub rest : List ℕ
+  pub replies : List Reply
+  pub answered : ℕ
+  pub moved : left ≡ prepend_known read left'
+  pub took : taken' ≡ append_known taken read
+  pub wrote : held' ≡ append_known held written
+  pub is_rest : IfSome left' (λ bytes. bytes ≡ rest)
+  -- the replies are those of the stream, however it was cut
+  pub are_replies : AreReplies table links settings most (heads_of most (read ++ rest)) replies
+  -- what was written is a prefix of them up to the first that ends the connection, and all of that where the call is done: then
+  -- nothing is left to read, or one of them ends the connection
+  pub begun : BeginsWith (replies_of replies) written
+  pub whole : OnDone served ((written ≡ replies_of replies) × ((rest ≡ []) ⊎ (has_closing replies ≡ true)))
+  -- of so many heads the replies were written, and at most 12,288 bytes were read beyond these heads
+  pub front : BeginsWith written (all_bytes (take answered replies))
+  pub few : length read ≤ length (bytes_of (take answered (heads_of most (read ++ rest)))) + 12288

@@ -1,0 +1,15 @@
+-- What requests are answered from.
+use Rattle.std.specs.Prelude.{ℕ, ◌+◌, List, length}
+use Rattle.gs_ai.specs.declared.row.AiRow.{AiRow}
+use Rattle.gs_links.specs.declared.link.Link.{Link}
+use Rattle.gs_http.specs.declared.settings.Settings.{Settings}
+
+-- trusted, own: what requests are answered from is the application identifiers, the links, and how requests are answered
+pub record SiteData : Type 0 where
+  pub table : List AiRow
+  pub links : List Link
+  pub settings : Settings
+
+-- trusted, own: answering needs room for two numbers a link
+abbrev pub room_for : List Link → ℕ
+room_for links = length links + length links

@@ -1,0 +1,30 @@
+-- What a call leaves as it was of a connection, and the counts of its failed reads and writes. A connection is given by what its
+-- trait tells of it: each fact takes the members that it speaks of, and the connection before and after the call.
+use Rattle.std.specs.Prelude.{◌≡◌, ◌≤◌, ℕ, Bool, true, List, Option}
+use Rattle.std.specs.Borrow.{GName}
+use Rattle.gs_port.specs.Connections.{Aside}
+use Rattle.gs_http.specs.declared.outcomes.Turn.{Turn}
+use Rattle.gs_http.specs.Turns.{reads_at, writes_at}
+
+-- the connection is open, and what no read and no write changes is as it was
+pub record StaysOpen {S : Type 0} (is_open : S → Bool) (aside : S → Aside) (ends : S → Option (GName × GName)) (before now : S) : Type 0 where
+  pub open_now : is_open now ≡ true
+  pub same_aside : aside now ≡ aside before
+  pub same_ends : ends now ≡ ends before
+
+-- nothing was read
+pub record IsUnread {S : Type 0} (left taken : S → Option (List ℕ)) (before now : S) : Type 0 where
+  pub same_left : left now ≡ left before
+  pub same_taken : taken now ≡ taken before
+
+-- nothing was written, and no write failed
+pub record IsUnwritten {S : Type 0} (held : S → Option (List ℕ)) (writes : S → ℕ) (before now : S) : Type 0 where
+  pub same_held : held now ≡ held before
+  pub same_writes : writes now ≡ writes before
+
+-- the counts after a turn, which never fall
+pub record CountsTurn {S : Type 0} (turn : Turn) (reads writes : S → ℕ) (before now : S) : Type 0 where
+  pub reads_now : reads now ≡ reads_at turn (reads before)
+  pub writes_now : writes now ≡ writes_at turn (writes before)
+  pub more_reads : reads before ≤ reads now
+  pub more_writes : writes before ≤ writes now

@@ -1,0 +1,101 @@
+ghost use Rattle.std.specs.Prelude.{◌≡◌, IfOk, vec_len};
+ghost use Rattle.gs_http.specs.AskedRelations.{default_relation};
+ghost use Rattle.gs_http.specs.Sites.{room_for};
+
+use crate::settings::Settings;
+use crate::site::Site;
+use gs_ai::AiTable;
+use gs_chars::{Memory, Text};
+use gs_links::{Store, expand};
+use std::alloc::Global;
+use std::marker::Model;
+
+/// A site with what is made of it once, and not for each request. Contracts see it as the site.
+#[derive(Drop)]
+pub struct Resolver<'a> {
+    table: &'a AiTable,
+    store: &'a Store,
+    settings: &'a Settings,
+    /// The relation that is meant where a request names none.
+    default_relation: Text,
+}
+
+impl<'a> Model for Resolver<'a> {
+    ghost use Rattle.std.specs.Prelude.{◌≡◌, codes};
+    ghost use Rattle.gs_links.specs.Loads.{expanded};
+    ghost use Rattle.gs_http.specs.Sites.{SiteData};
+
+    ghost Value = { SiteData };
+
+    ghost view = { λ r. record { table = r.table.now; links = r.store.now; settings = r.settings.now } };
+
+    ghost invariant = { λ r. r.default_relation ≡ expanded r.settings.now.voc (codes "gs1:defaultLink") };
+}
+
+impl<'a> Resolver<'a> {
+    /// The resolver of a site. The one error is out of memory.
+    pub fn new(alloc: Global, site: &Site<'a>) -> Result<Resolver<'a>, Memory>
+        ensures { IfOk result (λ resolver. resolver ≡ site.now) }
+    {
+        let voc = site.settings.voc.as_bytes();
+        let default = Text::from_bytes(alloc, b"gs1:defaultLink")?;
+        Ok(Resolver {
+            table: site.table,
+            store: site.store,
+            settings: site.settings,
+            default_relation: expand(alloc, voc, default)?,
+        })
+    }
+
+    /// The resolver of a site, and its room. The one error is out of memory.
+    pub fn with_room(alloc: Global, site: &Site<'a>) -> Result<(Resolver<'a>, Vec<u32>), Memory>
+        ensures site { IfOk result (λ made. made.0 ≡ site.now) }
+        ensures room { IfOk result (λ made. vec_len made.1 ≡ room_for site.now.links) }
+    {
+        let resolver = Resolver::new(alloc, site)?;
+        let room = resolver.room(alloc)?;
+        Ok((resolver, room))
+    }
+
+    /// Room for the numbers of links that answering needs, two for each link: made once for all requests, since answering need
+    /// not find it empty. The one error is out of memory.
+    pub fn room(&self, alloc: Global) -> Result<Vec<u32>, Memory>
+        ensures { IfOk result (λ room. vec_len room ≡ room_for self.now.links) }
+    {
+        let len = self.store.len();
+        // no memory has so many numbers where their count is no number
+        let Some(count) = len.checked_add(len) else {
+            return Err(Memory);
+        };
+        let room = vec![in alloc; 0u32; count]?;
+        Ok(room)
+    }
+
+    /// The application identifiers.
+    pub(crate) fn table(&self) -> &'a AiTable
+        ensures { result.now ≡ self.now.table }
+    {
+        self.table
+    }
+
+    /// The links.
+    pub(crate) fn store(&self) -> &'a Store
+        ensures { result.now ≡ self.now.links }
+    {
+        self.store
+    }
+
+    /// How requests are answered.
+    pub(crate) fn settings(&self) -> &'a Settings
+        ensures { result.now ≡ self.now.settings }
+    {
+        self.settings
+    }
+
+    /// The relation that is meant where a request names none.
+    pub(crate) fn default_relation(&self) -> &[u8]
+        ensures { result.now ≡ default_relation self.now.settings.voc }
+    {
+        self.default_relation.as_bytes()
+    }
+}

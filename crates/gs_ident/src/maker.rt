@@ -1,0 +1,105 @@
+ghost use Rattle.std.specs.Prelude.{◌≡◌, ◌≢◌, ◌<◌, All, Ok, Err, IfOk, IfErr, false, length, true};
+ghost use Rattle.std.specs.List.{list_any};
+ghost use Rattle.gs_ai.specs.Tables.{are_distinct, is_key_of};
+ghost use Rattle.gs_ident.specs.Identities.{counted, identity_of_pairs, IsInOrder, IsMadeWith};
+ghost use Rattle.gs_ident.specs.Answers.{IsOnlyKey};
+ghost use Rattle.gs_ident.specs.Keys.{AreKeys, HasFirstKey, IsList};
+ghost use Rattle.gs_ident.specs.Moves.{HasElements};
+
+use crate::errors::IdentFault;
+use crate::identity::Identity;
+use crate::keys::{KeyPlace, Keys, keys_among};
+use crate::pair_choice::{find_contradiction, keep_others, move_listed, stands_for_none};
+use crate::pair_order::sort_pairs;
+use gs_ai::{AiTable, Pair};
+use gs_chars::{Memory, Text};
+use std::alloc::Global;
+
+/// The codes that the row lists as qualifiers. The row is one of the table.
+fn listed_codes(table: &AiTable, row: usize) -> &[Text]
+    requires { row < length table.now }
+    ensures codes { IsList table.now row result.now }
+    ensures distinct { are_distinct result.now ≡ true }
+    ensures no_key { list_any (is_key_of table.now) result.now ≡ false }
+{
+    table.rows()[row].qualifiers.items()
+}
+
+/// The identity of the first key and of the pairs around it. The pairs are moved.
+#[tactic(auto, unfolding(crate::specs::Identities::elements_of))]
+fn elements_of(
+    alloc: Global,
+    table: &AiTable,
+    pairs: Vec<Pair>,
+    first: KeyPlace,
+) -> Result<Identity, Memory>
+    requires { HasFirstKey table.now pairs.items first }
+    ensures { IfOk result (HasElements table.now pairs.items first.pair) }
+{
+    let mut others = pairs;
+    let key = others.remove(first.pair);
+    let listed = listed_codes(table, first.row);
+    let qualifiers = move_listed(alloc, &mut others, listed)?;
+    keep_others(&mut others, listed, &key);
+    let attributes = sort_pairs(alloc, others)?;
+    Ok(Identity::from_pairs(key, qualifiers, attributes))
+}
+
+/// Drops the pairs whose value stands for none.
+fn keep_counted(table: &AiTable, pairs: &mut Vec<Pair>)
+    ensures { pairs.new.items ≡ counted table.now pairs.old.items }
+{
+    pairs.retain(|pair| !stands_for_none(table, pair));
+}
+
+/// The keys among the pairs that count. The others, of which there are none as a rule, are dropped.
+fn keys_of_counted(table: &AiTable, pairs: &mut Vec<Pair>) -> Keys
+    ensures counted { pairs.new.items ≡ counted table.now pairs.old.items }
+    ensures keys { AreKeys table.now pairs.new.items result }
+{
+    let keys = keys_among(table, pairs.as_slice());
+    if !keys.with_none {
+        return keys;
+    }
+    keep_counted(table, pairs);
+    keys_among(table, pairs.as_slice())
+}
+
+/// The key of pairs that agree and have no other: each of them counts, and these are the keys among them by the table.
+fn only_key(
+    alloc: Global,
+    table: &AiTable,
+    pairs: &[Pair],
+    keys: Keys,
+) -> Result<KeyPlace, IdentFault>
+    requires { AreKeys table.now pairs.now keys }
+    ensures { IsOnlyKey table.now pairs.now result }
+{
+    if let Some(pair) = find_contradiction(pairs) {
+        return Err(IdentFault::Repeat(pair.code.copy(alloc)?));
+    }
+    let Some(first) = keys.first else {
+        return Err(IdentFault::NoKey);
+    };
+    match keys.other {
+        Some(other) => Err(IdentFault::TwoKeys(pairs[other].code.copy(alloc)?)),
+        None => Ok(first),
+    }
+}
+
+/// The identity of the pairs. Pairs whose value stands for none are dropped first; equal repeats count once. A rejection is the
+/// first that fits: `Repeat` with the code of the first pair whose code stood before with another value, `NoKey`, `TwoKeys`
+/// with the code of the second key. `Memory` is out of memory, and may come in place of any answer. Each pair has a code of
+/// the table, and a value that its row allows.
+pub fn make(alloc: Global, table: &AiTable, pairs: Vec<Pair>) -> Result<Identity, IdentFault>
+    requires { All (IsInOrder table.now) pairs.items }
+    ensures made { IfOk result (λ identity. identity_of_pairs table.now pairs.items ≡ Ok identity) }
+    ensures with_table { IfOk result (λ identity. IsMadeWith table.now identity) }
+    ensures rejected { IfErr result (λ error. error ≢ IdentFault.Memory
+        → identity_of_pairs table.now pairs.items ≡ Err error) }
+{
+    let mut counted = pairs;
+    let keys = keys_of_counted(table, &mut counted);
+    let first = only_key(alloc, table, counted.as_slice(), keys)?;
+    Ok(elements_of(alloc, table, counted, first)?)
+}

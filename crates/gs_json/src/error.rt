@@ -1,0 +1,27 @@
+use gs_chars::{Memory, Text};
+
+/// Why a document is not read as it is asked for. The places are JSON Pointers (RFC 6901).
+#[derive(Debug, Drop)]
+pub enum JsonFault {
+    /// The bytes are no JSON text.
+    Syntax,
+    /// The object has no member at this place.
+    Lacks(Text),
+    /// What stands at this place is of another kind.
+    Kind(Text),
+    /// The object has a member at this place that it must not have.
+    Unknown(Text),
+    /// Out of memory.
+    Memory,
+}
+
+impl From<Memory> for JsonFault {
+    ghost use Rattle.std.specs.Prelude.{◌≡◌};
+    ghost use Rattle.gs_json.specs.declared.error.JsonFault.TheVariants.{Memory as WantOfMemory};
+
+    ghost from_gives = { λ _ e. e ≡ WantOfMemory };
+
+    fn from(_rejected: Memory) -> JsonFault {
+        JsonFault::Memory
+    }
+}

@@ -1,5 +1,0 @@
-use Rattle.gs_level.proofs.Following.{SoFar}
-use Rattle.gs_level.proofs.trail.follow.Given as goal
-
-abbrev pub invariant-loop-symbol : goal.invariant-loop-symbol
-invariant-loop-symbol l = SoFar l.machine l.trail.items l.symbols l.symbol-index l.from

@@ -1,0 +1,6 @@
+use Rattle.std.proofs.Common.{◌≡◌, drop}
+use Rattle.gs_links.specs.Languages.{tags_among}
+use Rattle.gs_links.proofs.languages.tags_of.Given as goal
+
+abbrev pub invariant-loop-i : goal.invariant-loop-i
+invariant-loop-i l = tags_among l.attrs ≡ tags_among (drop l.i l.attrs)

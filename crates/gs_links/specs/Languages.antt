@@ -1,0 +1,57 @@
+-- The choice among links by language: the ranges are tried in order, and a range matches by basic filtering (RFC 4647,
+-- section 3.3.1). That a link has the languages of its `hreflang`, and that the first range with a link decides, is this
+-- project's own.
+use Rattle.std.specs.Prelude.{ℕ, Bool, true, ◌==◌, ◌&&◌, ◌||◌, if◌then◌else◌, List, [], ◌∷◌, map, take, drop, length, codes, bytes_eq}
+use Rattle.std.specs.Char.{to_ascii_lowercase}
+use Rattle.std.specs.List.{list_any}
+use Rattle.gs_linkset.specs.declared.link_types.Attr.{Attr}
+use Rattle.gs_linkset.specs.declared.link_types.AttrValue.{AttrValue}
+use Rattle.gs_linkset.specs.declared.link_types.AttrValue.TheVariants.{One, Many, Tagged}
+use Rattle.gs_links.specs.Choices.{passing}
+use Rattle.gs_links.specs.declared.link.Link.{Link}
+
+-- trusted, RFC 9264, section 4.2.4.1: a value of `hreflang` is a list of language tags
+abbrev pub texts_of : AttrValue → List (List ℕ)
+texts_of (Many texts) = texts
+texts_of (One text) = []
+texts_of (Tagged pairs) = []
+
+-- trusted, RFC 9264, section 4.2.4.1: the tags of attributes are those of `hreflang`, and none where it is not there
+abbrev pub tags_among : List Attr → List (List ℕ)
+tags_among [] = []
+tags_among (attr ∷ attrs) = if bytes_eq attr.name (codes "hreflang") then texts_of attr.value else tags_among attrs
+
+-- trusted, own: the language tags of a link are those of its target
+abbrev pub tags_of : Link → List (List ℕ)
+tags_of link = tags_among link.target.attrs
+
+-- trusted, RFC 4647, section 2: tags and ranges are compared without regard to the case of ASCII letters
+abbrev pub lowered : List ℕ → List ℕ
+lowered text = map to_ascii_lowercase text
+
+-- trusted, RFC 4647, section 3.3.1: nothing or a hyphen comes next
+abbrev pub is_cut : List ℕ → Bool
+is_cut [] = true
+is_cut (c ∷ rest) = c == 45
+
+-- trusted, RFC 4647, section 3.3.1: a tag is in a range that it begins with, where nothing or a hyphen comes behind it
+abbrev pub is_in_range : List ℕ → List ℕ → Bool
+is_in_range range tag = bytes_eq (lowered (take (length range) tag)) (lowered range) && is_cut (drop (length range) tag)
+
+-- trusted, RFC 4647, section 2.1: the range `*` is that of every language
+abbrev pub is_any : List ℕ → Bool
+is_any range = bytes_eq range (codes "*")
+
+-- trusted, own: a link matches the range `*`, and a range that one of its tags is in
+unfoldable pub matches : List ℕ → Link → Bool
+matches range link = is_any range || list_any (is_in_range range) (tags_of link)
+
+-- trusted, own: the first numbers, or the others where they are none
+abbrev pub some_or : List ℕ → List ℕ → List ℕ
+some_or [] others = others
+some_or (n ∷ numbers) others = n ∷ numbers
+
+-- trusted, own: the numbers of the links that match the first range that one of them matches, or all where none does
+abbrev pub narrowed : List Link → List ℕ → List (List ℕ) → List ℕ
+narrowed links numbers [] = numbers
+narrowed links numbers (range ∷ ranges) = some_or (passing links (matches range) numbers) (narrowed links numbers ranges)

@@ -1,0 +1,17 @@
+-- What proofs and private functions say beside the definitions of Loading.antt.
+use Rattle.std.specs.Prelude.{ℕ, List, length, Err}
+use Rattle.std.specs.List.{flat_map}
+use Rattle.gs_chars.specs.Answers.{first_or}
+use Rattle.gs_ai.specs.declared.row.AiRow.{AiRow}
+use Rattle.gs_linkset.specs.declared.link_types.Context.{Context}
+use Rattle.gs_linkset.specs.declared.link_types.Relation.{Relation}
+use Rattle.gs_links.specs.declared.error.StoreFault.{StoreFault}
+use Rattle.gs_links.specs.Loads.{context_errors, OrMemory}
+
+-- how many targets the relations, and the contexts have
+abbrev pub relations_count : List Relation → ℕ
+relations_count relations = length (flat_map (λ relation. relation.targets) relations)
+
+-- an error is the first rejection of a context, or out of memory
+abbrev pub IsRejection : List AiRow → ℕ → Context → StoreFault → Type 0
+IsRejection table i context error = OrMemory {X = Unit {0}} (Err error) (first_or (context_errors table i context) (tt {0}))

@@ -1,0 +1,11 @@
+-- What proofs and private functions say beside the definitions of Shapes.antt.
+use Rattle.std.specs.Prelude.{◌≡◌, ◌≤◌, true, List, length}
+use Rattle.std.specs.List.{list_all}
+use Rattle.gs_links.specs.Index.{IsIndexOf}
+use Rattle.gs_links.specs.declared.index.Index.{Index}
+use Rattle.gs_links.specs.declared.link.Link.{Link}
+use Rattle.gs_links.specs.Shapes.{is_link, most_links}
+
+-- links that are stored, and found by the index
+abbrev pub AreStored : List Link → Index → Type 0
+AreStored links index = (length links ≤ most_links) × (list_all is_link links ≡ true) × IsIndexOf index links

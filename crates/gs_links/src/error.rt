@@ -1,0 +1,38 @@
+use gs_chars::Memory;
+use gs_dlink::LinkFault;
+use gs_ident::IdentFault;
+
+/// Why an anchor is none.
+#[derive(Drop)]
+pub enum AnchorWhy {
+    /// It is no link, or no target of a link where it begins with a slash.
+    Link(LinkFault),
+    /// Its pairs have no identity.
+    Ident(IdentFault),
+    /// Its identity has attributes.
+    Attributes,
+}
+
+/// Why a linkset is no store. Contexts, the relations of a context and the targets of a relation are counted from 0.
+#[derive(Drop)]
+pub enum StoreFault {
+    /// It has more than 65,536 targets.
+    TooMany,
+    /// The anchor of the context at this index is none.
+    BadAnchor(usize, AnchorWhy),
+    /// The context, the relation and the target whose `href` is not 1 to 2,048 bytes from 33 to 126.
+    BadHref(usize, usize, usize),
+    /// Out of memory.
+    Memory,
+}
+
+impl From<Memory> for StoreFault {
+    ghost use Rattle.std.specs.Prelude.{◌≡◌};
+    ghost use Rattle.gs_links.specs.declared.error.StoreFault.TheVariants.{Memory as WantOfMemory};
+
+    ghost from_gives = { λ _ e. e ≡ WantOfMemory };
+
+    fn from(_rejected: Memory) -> StoreFault {
+        StoreFault::Memory
+    }
+}

@@ -1,0 +1,86 @@
+ghost use Rattle.std.specs.Prelude.{◌≡◌, bytes_eq, codes};
+ghost use Rattle.std.specs.List.{list_any};
+ghost use Rattle.gs_links.specs.Languages.{is_any, is_cut, is_in_range, matches, tags_of, texts_of};
+
+use crate::link::Link;
+use gs_chars::Text;
+use gs_linkset::AttrValue;
+
+/// The language tags of a value of `hreflang`.
+fn texts_of(value: &AttrValue) -> &[Text]
+    ensures { result.now ≡ texts_of value.now }
+{
+    match value {
+        AttrValue::Many(texts) => texts.items(),
+        AttrValue::One(_) => &[],
+        AttrValue::Tagged(_) => &[],
+    }
+}
+
+/// Whether an attribute tells the languages of its target.
+fn is_hreflang(name: &[u8]) -> bool
+    ensures { result ≡ bytes_eq name.now (codes "hreflang") }
+{
+    name == b"hreflang".as_slice()
+}
+
+/// The language tags of a link.
+pub(crate) fn tags_of(link: &Link) -> &[Text]
+    ensures { result.now ≡ tags_of link.now }
+{
+    let attrs = link.target.attrs.items();
+    for i in 0..attrs.len() {
+        if is_hreflang(attrs[i].name.as_bytes()) {
+            return texts_of(&attrs[i].value);
+        }
+    }
+    &[]
+}
+
+/// Whether a tag may end where these bytes come next.
+fn is_cut(rest: &[u8]) -> bool
+    ensures { result ≡ is_cut rest.now }
+{
+    match rest.first() {
+        Some(byte) => *byte == b'-',
+        None => true,
+    }
+}
+
+/// Whether a tag is in a range.
+fn is_in_range(range: &[u8], tag: &[u8]) -> bool
+    ensures { result ≡ is_in_range range.now tag.now }
+{
+    if tag.len() < range.len() {
+        return false;
+    }
+    let (front, rest) = tag.split_at(range.len());
+    front.eq_ignore_ascii_case(range) && is_cut(rest)
+}
+
+/// Whether a range is that of every language.
+pub(crate) fn is_any(range: &[u8]) -> bool
+    ensures { result ≡ is_any range.now }
+{
+    range == b"*".as_slice()
+}
+
+/// Whether one of the tags is in a range.
+fn is_one_in_range(range: &[u8], tags: &[Text]) -> bool
+    ensures { result ≡ list_any (is_in_range range.now) tags.now }
+{
+    for i in 0..tags.len() {
+        if is_in_range(range, tags[i].as_bytes()) {
+            return true;
+        }
+    }
+    false
+}
+
+/// Whether a link matches a range.
+#[tactic(auto, unfolding(crate::specs::Languages::matches))]
+pub(crate) fn matches(range: &[u8], link: &Link) -> bool
+    ensures { result ≡ matches range.now link.now }
+{
+    is_any(range) || is_one_in_range(range, tags_of(link))
+}

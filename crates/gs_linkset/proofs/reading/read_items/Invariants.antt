@@ -1,9 +1,0 @@
-use Rattle.std.proofs.Common.{◌≡◌, true}
-use Rattle.std.specs.List.{list_all}
-use Rattle.serde_json.specs.View.{view}
-use Rattle.gs_linkset.specs.Attributes.{items_of}
-use Rattle.gs_linkset.proofs.ReadLemmas.{SoFar}
-use Rattle.gs_linkset.proofs.reading.read_items.Given as goal
-
-abbrev pub invariant-loop-i : goal.invariant-loop-i
-invariant-loop-i g l = SoFar g.T.ReadItem.faults g.T.ReadItem.made l.array.place (items_of (view l.array.tree)) l.items.items l.i × (list_all g.T.Shaped.shape l.items.items ≡ true)

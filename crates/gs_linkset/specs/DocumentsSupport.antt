@@ -1,0 +1,9 @@
+-- What proofs and private functions say beside the definitions of Documents.antt.
+use Rattle.std.specs.Prelude.{ℕ, List, option_and_then, unwrap_or}
+use Rattle.serde_json.specs.Data.{Data}
+use Rattle.serde_json.specs.Find.{get}
+use Rattle.gs_json.specs.Answers.{count_of}
+
+-- how many items a member has
+abbrev pub count_in : List ℕ → Data → ℕ
+count_in name d = unwrap_or (option_and_then count_of (get name d)) 0

@@ -1,0 +1,183 @@
+ghost use Rattle.std.specs.Prelude.{◌≡◌, ◌<◌, [], IfOk, IfSome, codes, false, length, map, true};
+ghost use Rattle.std.specs.List.{list_all};
+ghost use Rattle.std.specs.Str.{bytes_eq};
+ghost use Rattle.serde_json.specs.View.{view};
+ghost use Rattle.gs_json.specs.Answers.{OrMemory, items_count};
+ghost use Rattle.gs_json.specs.Members.{items_of};
+ghost use Rattle.gs_chars.specs.Answers.{first_or};
+ghost use Rattle.gs_linkset.specs.Answers.{document_answer, read_answer};
+ghost use Rattle.gs_linkset.specs.AnswersSupport.{ItemAnswer, member_answer};
+ghost use Rattle.gs_linkset.specs.Documents.{item_errors};
+ghost use Rattle.gs_linkset.specs.LinkShapes.{is_context, is_relation};
+
+use crate::doc::LinkDoc;
+use crate::link_shapes::Shaped;
+use crate::link_types::{Context, Relation, Target};
+use crate::members::{must_array, must_text};
+use crate::pushes::push;
+use crate::read_members::{ReadMember, read_members};
+use gs_chars::{List, Text};
+use gs_json::{Doc, JsonFault, Node};
+use std::alloc::Global;
+
+/// What is read of each item of an array.
+trait ReadItem: Shaped + Drop {
+    ghost use Rattle.std.specs.Prelude.{List, ℕ};
+    ghost use Rattle.serde_json.specs.Data.{Data};
+    ghost use Rattle.gs_json.specs.declared.error.JsonFault.{JsonFault};
+
+    /// The errors of an item at a place.
+    ghost errors: { List ℕ → Data → List JsonFault };
+
+    /// What an item without error is read as.
+    ghost made: { Data → Self };
+
+    /// What an item is read as.
+    fn read(alloc: Global, item: &Node<'_>) -> Result<Self, JsonFault>
+        ensures answer { OrMemory result
+            (first_or (errors item.now.place (view item.now.tree)) (made (view item.now.tree))) }
+        ensures shape { IfOk result (λ read. Self.shape read ≡ true) };
+}
+
+/// What is read of the item of an array at a number.
+fn item_at<T: ReadItem>(alloc: Global, array: &Node<'_>, i: usize) -> Result<T, JsonFault>
+    requires { i < items_count (view array.now.tree) }
+    ensures answer { ItemAnswer (λ place d. first_or (T.errors place d) (T.made d))
+        array.now.place i (view array.now.tree) result }
+    ensures shape { IfOk result (λ read. T.shape read ≡ true) }
+{
+    match array.item(alloc, i) {
+        Ok(item) => T::read(alloc, &item),
+        Err(_) => Err(JsonFault::Memory),
+    }
+}
+
+/// What is read of the items of an array, in their order.
+fn read_items<T: ReadItem>(
+    alloc: Global,
+    array: &Node<'_>,
+    count: usize,
+) -> Result<List<T>, JsonFault>
+    requires { count ≡ items_count (view array.now.tree) }
+    ensures answer { OrMemory result (first_or
+        (item_errors T.errors array.now.place (items_of (view array.now.tree)))
+        (map T.made (items_of (view array.now.tree)))) }
+    ensures shape { IfOk result (λ read. list_all T.shape read ≡ true) }
+{
+    let mut items = Vec::new(alloc);
+    for i in 0..count {
+        let item = item_at(alloc, array, i)?;
+        push(&mut items, item)?;
+    }
+    Ok(List::from_vec(items))
+}
+
+impl ReadItem for Target {
+    ghost use Rattle.gs_linkset.specs.Documents.{target_errors, target_of};
+
+    ghost errors = { target_errors };
+
+    ghost made = { target_of };
+
+    fn read(alloc: Global, item: &Node<'_>) -> Result<Target, JsonFault> {
+        let href = must_text(alloc, item, "href")?;
+        let attrs = read_members(alloc, item)?;
+        Ok(Target { href, attrs })
+    }
+}
+
+/// Whether the name is that of the member that is no relation.
+fn is_anchor(name: &[u8]) -> bool
+    ensures { result ≡ bytes_eq name.now (codes "anchor") }
+{
+    name == b"anchor".as_slice()
+}
+
+/// The relation of a name, where the member is one.
+fn relation_at(alloc: Global, member: &Node<'_>, name: &str) -> Result<Option<Relation>, JsonFault>
+    requires { bytes_eq name.now (codes "anchor") ≡ false }
+    ensures answer { OrMemory result (member_answer name.now member.now.place (view member.now.tree)) }
+    ensures shape { IfOk result (λ relation. IfSome relation (λ relation. is_relation relation ≡ true)) }
+{
+    let Some(count) = member.items_len() else {
+        return Ok(None);
+    };
+    let targets = read_items(alloc, member, count)?;
+    Ok(Some(Relation {
+        name: Text::from_bytes(alloc, name.as_bytes())?,
+        targets,
+    }))
+}
+
+impl ReadMember for Relation {
+    ghost use Rattle.gs_linkset.specs.Documents.{relation_errors, relation_of};
+    ghost use Rattle.gs_linkset.specs.Names.{relation_has_name};
+
+    ghost errors = { relation_errors };
+
+    ghost made = { relation_of };
+
+    ghost has_name = { relation_has_name };
+
+    fn read(alloc: Global, object: &Node<'_>, name: &str) -> Result<Option<Relation>, JsonFault> {
+        if is_anchor(name.as_bytes()) {
+            return Ok(None);
+        }
+        match object.find(alloc, name)? {
+            Some(member) => relation_at(alloc, &member, name),
+            None => Ok(None),
+        }
+    }
+}
+
+impl ReadItem for Context {
+    ghost use Rattle.gs_linkset.specs.Documents.{context_errors, context_of};
+
+    ghost errors = { context_errors };
+
+    ghost made = { context_of };
+
+    #[tactic(auto, unfolding(crate::specs::Documents::context_errors, crate::specs::Documents::context_of))]
+    fn read(alloc: Global, item: &Node<'_>) -> Result<Context, JsonFault> {
+        let anchor = must_text(alloc, item, "anchor")?;
+        let relations = read_members(alloc, item)?;
+        Ok(Context { anchor, relations })
+    }
+}
+
+/// The contexts of a document.
+fn read_document(alloc: Global, root: &Node<'_>) -> Result<List<Context>, JsonFault>
+    requires { root.now.place ≡ [] }
+    ensures answer { OrMemory result (document_answer (view root.now.tree)) }
+    ensures shape { IfOk result (λ contexts. list_all is_context contexts ≡ true) }
+{
+    let count = must_array(alloc, root, "linkset")?;
+    match root.find(alloc, "linkset")? {
+        Some(array) => read_items(alloc, &array, count),
+        None => Ok(List::from_vec(Vec::new(alloc))),
+    }
+}
+
+/// The linkset that a document in JSON is (RFC 9264, section 4.2): an object with the array `linkset` of objects
+/// with the text `anchor`, whose other arrays are relations of objects with the text `href`. Members of other kinds
+/// are ignored. Of the errors the first in the order of the document is the answer, depth first, `anchor` before
+/// the relations, and these in ascending order of name. `Syntax`: the bytes are no JSON text. `Lacks`: the document
+/// has no `linkset`, a context no `anchor`, or a target no `href`. `Kind`: one of these, the document, a context or
+/// a target is of another kind. `Unknown` never comes. `Memory` may come in place of any answer.
+pub fn read(alloc: Global, bytes: &[u8]) -> Result<LinkDoc, JsonFault>
+    ensures { OrMemory result (read_answer bytes.now) }
+{
+    match Doc::parse(alloc, bytes) {
+        Ok(doc) => read_root(alloc, &doc.root(alloc)),
+        Err(error) => Err(error),
+    }
+}
+
+/// The linkset of the document of this tree, or its first error.
+fn read_root(alloc: Global, root: &Node<'_>) -> Result<LinkDoc, JsonFault>
+    requires { root.now.place ≡ [] }
+    ensures { OrMemory result (document_answer (view root.now.tree)) }
+{
+    let contexts = read_document(alloc, root)?;
+    Ok(LinkDoc::of_contexts(contexts))
+}

@@ -1,3 +1,0 @@
-pub mod Folder
-pub mod Gate
-pub mod Objects

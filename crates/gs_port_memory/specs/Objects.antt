@@ -1,0 +1,40 @@
+-- Files and doors in memory.
+use Rattle.std.specs.Prelude.{ℕ, Bool, List, [], Option, Some, None}
+use Rattle.gs_port.specs.Connections.{Finished}
+use Rattle.gs_port.specs.Files.{FilesHeld}
+use Rattle.gs_port.specs.Memory.{Plan, uncalled}
+
+-- trusted, own: files in memory: each a name and its bytes, what is left of the current one, the plan of the calls, the
+-- count of errors, and the names that were opened, in order, where they are known
+pub record MemFolder : Type 0 where
+  pub files : FilesHeld
+  pub current : Option (List ℕ)
+  pub plan : Plan
+  pub count : ℕ
+  pub opened : Option (List (List ℕ))
+
+-- trusted, own: these files, of which none was opened yet
+abbrev pub unopened_folder : FilesHeld → List ℕ → MemFolder
+unopened_folder files fails = record { files = files; current = None; plan = uncalled fails; count = 0; opened = Some [] }
+
+-- trusted, own: a connection in memory: the bytes that are left, those that were read, and those that were written to it
+pub record MemConnection : Type 0 where
+  pub rest : List ℕ
+  pub taken : List ℕ
+  pub kept : List ℕ
+
+-- trusted, own: a door in memory: whether it was opened, the inputs of the waiting connections, the open one, the finished
+-- ones, the most that one read or write moves, the plan of the calls, the count of its own errors, the counts of reads and
+-- of writes, and those that stood at the last accept
+pub record MemGate : Type 0 where
+  pub opened : Bool
+  pub waiting : List (List ℕ)
+  pub current : Option MemConnection
+  pub finished : List Finished
+  pub most : ℕ
+  pub plan : Plan
+  pub errors : ℕ
+  pub reads : ℕ
+  pub writes : ℕ
+  pub reads_then : ℕ
+  pub writes_then : ℕ

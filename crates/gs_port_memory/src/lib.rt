@@ -1,0 +1,27 @@
+//! Files and a door in memory, of which calls fail by a plan: the twins of the system's, of which everything is known.
+//!
+//! - `MemFiles` are files, each a name and its bytes.
+//! - `MemDoor` is a door with one connection for each input, which keeps what was written to each.
+//!
+//! # Example
+//!
+//! A file is opened and read, and that twice; the call with the number 1, from 0, fails, which is the first read. The gate runs
+//! this case, for which crates/vectors_runs/src/outside.rt makes the calls.
+//!
+//! ```text
+//! gs_port::open 1 long abc / long long
+//! Opened Failed Opened abc
+//! ```
+//!
+//! # Where it differs from the system
+//!
+//! - A name is the bytes that it is written with, and stands for nothing else. An address is not looked at.
+//! - Connections come in the order of their inputs, and after the last one none comes any more.
+#![tactic(auto)]
+
+mod mem_door;
+mod mem_files;
+mod mem_stream;
+
+pub use mem_door::MemDoor;
+pub use mem_files::MemFiles;

@@ -1,0 +1,34 @@
+-- What the calls of the system answer.
+use Rattle.std.specs.Prelude.{◌≡◌, ◌⊎◌, ℕ, ◌==◌, ◌&&◌, not, if◌then◌else◌, Option, Some, Result, Ok, Err}
+use Rattle.std.specs.declared.io.ErrorKind.{ErrorKind}
+use Rattle.std.specs.declared.io.ErrorKind.TheVariants as kinds
+use Rattle.gs_port.specs.declared.source.ReadAnswer.{ReadAnswer}
+use Rattle.gs_port.specs.declared.source.ReadAnswer.TheVariants as read
+use Rattle.gs_port.specs.declared.sink.WriteAnswer.{WriteAnswer}
+use Rattle.gs_port.specs.declared.sink.WriteAnswer.TheVariants as write
+use Rattle.gs_port.specs.declared.door.AcceptAnswer.{AcceptAnswer}
+use Rattle.gs_port.specs.declared.door.AcceptAnswer.TheVariants as accepting
+
+-- trusted, own: the answer to a read, of which an error is an error
+abbrev pub read_answer_of : {E : Type 0} → Result ℕ E → ReadAnswer
+read_answer_of (Ok n) = read.Got n
+read_answer_of (Err error) = read.Failed
+
+-- trusted, own: the answer to a write of so many bytes, of which an error is an error, and taking nothing of some bytes is one too
+abbrev pub write_answer_of : {E : Type 0} → ℕ → Result ℕ E → WriteAnswer
+write_answer_of length (Ok n) = if (n == 0) && not (length == 0) then write.Failed else write.Took n
+write_answer_of length (Err error) = write.Failed
+
+-- trusted, own: an accept that ends with an error of this kind is tried again: it was interrupted, or the peer gave up
+abbrev pub IsTriedAgain : ErrorKind → Type 0
+IsTriedAgain kind = (kind ≡ kinds.Interrupted) ⊎ (kind ≡ kinds.ConnectionAborted)
+
+-- trusted, own: the answer to an accept, of which an error is an error
+abbrev pub accept_answer_of : {T E : Type 0} → Result T E → AcceptAnswer
+accept_answer_of (Ok stream) = accepting.Accepted
+accept_answer_of (Err error) = accepting.Failed
+
+-- trusted, own: what is current behind an accept: what it gave, or what was current before
+abbrev pub accepted_now : {T E : Type 0} → Result T E → Option T → Option T
+accepted_now (Ok stream) before = Some stream
+accepted_now (Err error) before = before

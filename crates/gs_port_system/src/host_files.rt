@@ -1,0 +1,83 @@
+ghost use Rattle.std.specs.Prelude.{◌≡◌, ◌<◌, ◌≤◌, [], ◌∷◌, true, false, None, Some, is_some, length};
+ghost use Rattle.gs_port.specs.Answers.{CountsOpen, IfGot, IsZeroAtEnd, MovesFront, OnNotOpened, OnOpened, OnReadFailed, OpenFails};
+ghost use Rattle.gs_port.specs.Answers.{count_after_read};
+ghost use Rattle.gs_port.specs.Counts.{Rises};
+ghost use Rattle.gs_port.specs.Files.{AddsNames};
+ghost use Rattle.gs_port_system.specs.Calls.{OpensOnce, ReadsCurrent};
+
+use crate::calls::FileCalls;
+use crate::system::{open_error, read_current};
+use gs_port::{Files, OpenAnswer, OpenedNames, ReadAnswer};
+use std::alloc::Global;
+
+/// The files of the system, or of what stands for it. An open or a read is one call. Each error of one is counted, but for an
+/// error of out of memory, which an open answers by `Memory`. Nothing is known of the files but the names that were opened.
+#[derive(Drop)]
+pub struct HostFiles<S, F> {
+    system: S,
+    current: Option<F>,
+    errors: u64,
+    opened: OpenedNames,
+}
+
+impl<S: FileCalls> HostFiles<S, S::File> {
+    /// The files of the system, with none open and no error counted.
+    pub fn new(alloc: Global, system: S) -> HostFiles<S, S::File>
+        ensures closed { ⟦<HostFiles<S, S::File> as Files>⟧.is_open result ≡ false }
+        ensures errors { ⟦<HostFiles<S, S::File> as Files>⟧.errors result ≡ 0 }
+        ensures opened { ⟦<HostFiles<S, S::File> as Files>⟧.opened result ≡ Some [] }
+    {
+        HostFiles {
+            system,
+            current: None,
+            errors: 0,
+            opened: OpenedNames::new(alloc),
+        }
+    }
+}
+
+impl<S: FileCalls> Files for HostFiles<S, S::File> {
+    ghost files = { λ s. None };
+
+    ghost is_open = { λ s. is_some s.current };
+
+    ghost left = { λ s. None };
+
+    ghost errors = { λ s. s.errors };
+
+    ghost opened = { λ s. s.opened };
+
+    fn open(&mut self, name: &str) -> OpenAnswer
+        ensures called { OpensOnce S.opens self.old.system name.now result self.new.current self.new.system }
+        ensures opened { OnOpened result (is_some self.new.current ≡ true) }
+        ensures not_opened { OnNotOpened result (is_some self.new.current ≡ false) }
+        ensures failed { OpenFails result None name.now self.old.errors self.new.errors }
+        ensures counts { self.old.errors ≤ self.new.errors }
+        ensures count { CountsOpen result None name.now self.old.errors self.new.errors }
+        ensures named { AddsNames self.old.opened (name.now ∷ []) self.new.opened }
+    {
+        self.current = None;
+        self.opened.add(name);
+        match self.system.open_once(name) {
+            Ok(file) => {
+                self.current = Some(file);
+                OpenAnswer::Opened
+            }
+            Err(error) => open_error(error, &mut self.errors),
+        }
+    }
+
+    fn read(&mut self, buf: &mut [u8]) -> ReadAnswer
+        requires room { 0 < length buf.old }
+        requires current { is_some self.old.current ≡ true }
+        ensures called { ReadsCurrent S.File.ReadCall.reads self.old.current buf.new result self.new.current }
+        ensures within { IfGot result (λ n. n ≤ length buf.new) }
+        ensures failed { OnReadFailed result (Rises self.old.errors self.new.errors) }
+        ensures stays_open { is_some self.new.current ≡ true }
+        ensures same_names { self.new.opened ≡ self.old.opened }
+        ensures counts { self.old.errors ≤ self.new.errors }
+        ensures count { self.new.errors ≡ count_after_read result self.old.errors }
+    {
+        read_current(&mut self.current, buf, &mut self.errors)
+    }
+}

@@ -1,0 +1,79 @@
+ghost use Rattle.std.specs.Prelude.{◌≡◌, ◌<◌, ◌≤◌, None, length};
+ghost use Rattle.gs_port.specs.Answers.{AppendsFront, IfGot, IfTook, IsZeroAtEnd, MovesFront, OnNothingTaken, OnReadFailed};
+ghost use Rattle.gs_port.specs.Answers.{OnWriteFailed, count_after_read, count_after_write};
+ghost use Rattle.gs_port.specs.Counts.{Rises};
+ghost use Rattle.gs_port_system.specs.Calls.{ReadsOnce, WritesOnce};
+
+use crate::calls::{ReadCall, WriteCall};
+use crate::system::{read_answer, write_answer};
+use gs_port::{ReadAnswer, Sink, Source, WriteAnswer};
+
+/// The standard input, or what stands for it. A read is one call, and each error of one is counted. Its content is not known.
+#[derive(Drop)]
+pub struct StdinSource<R> {
+    stdin: R,
+    errors: u64,
+}
+
+impl<R: ReadCall> StdinSource<R> {
+    /// The standard input of the runtime, with no error counted.
+    pub fn new(stdin: R) -> StdinSource<R>
+        ensures { ⟦<StdinSource<R> as Source>⟧.errors result ≡ 0 }
+    {
+        StdinSource { stdin, errors: 0 }
+    }
+}
+
+impl<R: ReadCall> Source for StdinSource<R> {
+    ghost left = { λ s. None };
+
+    ghost errors = { λ s. s.errors };
+
+    fn read(&mut self, buf: &mut [u8]) -> ReadAnswer
+        requires room { 0 < length buf.old }
+        ensures called { ReadsOnce R.reads self.old.stdin buf.new result self.new.stdin }
+        ensures within { IfGot result (λ n. n ≤ length buf.new) }
+        ensures moved { MovesFront result buf.new None None }
+        ensures end { IsZeroAtEnd result None }
+        ensures failed { OnReadFailed result (Rises self.old.errors self.new.errors) }
+        ensures counts { self.old.errors ≤ self.new.errors }
+        ensures count { self.new.errors ≡ count_after_read result self.old.errors }
+    {
+        read_answer(self.stdin.read_once(buf), &mut self.errors)
+    }
+}
+
+/// The standard output, or what stands for it. A write is one call. Each error of one is counted, and so is a write that takes
+/// nothing of a piece that is not empty. Its content is not known.
+#[derive(Drop)]
+pub struct StdoutSink<W> {
+    stdout: W,
+    errors: u64,
+}
+
+impl<W: WriteCall> StdoutSink<W> {
+    /// The standard output of the runtime, with no error counted.
+    pub fn new(stdout: W) -> StdoutSink<W>
+        ensures { ⟦<StdoutSink<W> as Sink>⟧.errors result ≡ 0 }
+    {
+        StdoutSink { stdout, errors: 0 }
+    }
+}
+
+impl<W: WriteCall> Sink for StdoutSink<W> {
+    ghost held = { λ s. None };
+
+    ghost errors = { λ s. s.errors };
+
+    fn write(&mut self, piece: &[u8]) -> WriteAnswer
+        ensures called { WritesOnce W.writes self.old.stdout piece.now result self.new.stdout }
+        ensures within { IfTook result (λ n. n ≤ length piece.now) }
+        ensures some { IfTook result (λ n. 0 < length piece.now → 0 < n) }
+        ensures appended { AppendsFront result piece.now None None }
+        ensures failed { OnWriteFailed result (Rises self.old.errors self.new.errors) }
+        ensures counts { self.old.errors ≤ self.new.errors }
+        ensures count { self.new.errors ≡ count_after_write result self.old.errors }
+    {
+        write_answer(self.stdout.write_once(piece), piece.len(), &mut self.errors)
+    }
+}

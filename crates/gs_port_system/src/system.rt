@@ -1,0 +1,122 @@
+ghost use Rattle.std.specs.Prelude.{◌≡◌, ◌≢◌, ◌<◌, ◌≤◌, ◌↔◌, IsTrue, is_some, length, true};
+ghost use Rattle.std.specs.IoError.{error_kind};
+ghost use Rattle.gs_port.specs.Answers.{IfGot, IfTook, count_after_read, count_after_write};
+ghost use Rattle.gs_port.specs.AnswersSupport.{count_after_accept, count_after_open};
+ghost use Rattle.gs_port_system.specs.Calls.{ReadsCurrent, WritesCurrent};
+ghost use Rattle.gs_port_system.specs.System.{IsTriedAgain, accept_answer_of, accepted_now, read_answer_of, write_answer_of};
+
+use crate::calls::{ReadCall, WriteCall};
+use gs_port::{AcceptAnswer, OpenAnswer, ReadAnswer, WriteAnswer};
+use std::io::{Error, ErrorKind, Result};
+
+/// What a read of the system answers. An error is counted.
+pub(crate) fn read_answer(read: Result<usize>, errors: &mut u64) -> ReadAnswer
+    ensures answer { result ≡ read_answer_of read }
+    ensures count { errors.new ≡ count_after_read result errors.old }
+    ensures counts { errors.old ≤ errors.new }
+{
+    match read {
+        Ok(moved) => ReadAnswer::Got(moved),
+        Err(_) => {
+            *errors = errors.saturating_add(1);
+            ReadAnswer::Failed
+        }
+    }
+}
+
+/// What a write of a piece of so many bytes to the system answers. An error is counted, and so is a
+/// write that takes nothing of a piece that is not empty.
+pub(crate) fn write_answer(written: Result<usize>, len: usize, errors: &mut u64) -> WriteAnswer
+    ensures answer { result ≡ write_answer_of len written }
+    ensures count { errors.new ≡ count_after_write result errors.old }
+    ensures counts { errors.old ≤ errors.new }
+{
+    match written {
+        Ok(taken) if taken > 0 || len == 0 => WriteAnswer::Took(taken),
+        _ => {
+            *errors = errors.saturating_add(1);
+            WriteAnswer::Failed
+        }
+    }
+}
+
+/// What an open of the system answers that ends with an error. It is counted, but when memory ran out.
+pub(crate) fn open_error(error: Error, errors: &mut u64) -> OpenAnswer
+    ensures memory { (result ≡ OpenAnswer.Memory) ↔ (error_kind error ≡ ErrorKind.OutOfMemory) }
+    ensures failed { (result ≡ OpenAnswer.Failed) ↔ (error_kind error ≢ ErrorKind.OutOfMemory) }
+    ensures count { errors.new ≡ count_after_open result errors.old }
+    ensures counts { errors.old ≤ errors.new }
+{
+    if error.kind() == ErrorKind::OutOfMemory {
+        return OpenAnswer::Memory;
+    }
+    *errors = errors.saturating_add(1);
+    OpenAnswer::Failed
+}
+
+/// Whether an accept of the system that ends with the error is tried again: it was interrupted, or the peer gave up.
+pub(crate) fn is_tried_again(error: &Error) -> bool
+    ensures { IsTrue result ↔ IsTriedAgain (error_kind error.now) }
+{
+    let kind = error.kind();
+    kind == ErrorKind::Interrupted || kind == ErrorKind::ConnectionAborted
+}
+
+/// What an accept of the system answers. What it gives becomes the current one. An error is counted.
+pub(crate) fn accept_answer<T: Drop>(
+    accepted: Result<T>,
+    current: &mut Option<T>,
+    errors: &mut u64,
+) -> AcceptAnswer
+    ensures answer { result ≡ accept_answer_of accepted }
+    ensures current { current.new ≡ accepted_now accepted current.old }
+    ensures count { errors.new ≡ count_after_accept result errors.old }
+    ensures counts { errors.old ≤ errors.new }
+{
+    match accepted {
+        Ok(stream) => {
+            *current = Some(stream);
+            AcceptAnswer::Accepted
+        }
+        Err(_) => {
+            *errors = errors.saturating_add(1);
+            AcceptAnswer::Failed
+        }
+    }
+}
+
+/// What one call to read of what is current answers. An error is counted. Something is current.
+pub(crate) fn read_current<R: ReadCall>(
+    current: &mut Option<R>,
+    buf: &mut [u8],
+    errors: &mut u64,
+) -> ReadAnswer
+    requires current { is_some current.old ≡ true }
+    ensures called { ReadsCurrent R.reads current.old buf.new result current.new }
+    ensures within { IfGot result (λ n. n ≤ length buf.new) }
+    ensures stays { is_some current.new ≡ true }
+    ensures count { errors.new ≡ count_after_read result errors.old }
+    ensures counts { errors.old ≤ errors.new }
+{
+    let Some(open) = current else { unreachable!() };
+    read_answer(open.read_once(buf), errors)
+}
+
+/// What one call to write to what is current answers. An error is counted, and so is a write that takes nothing of a piece that
+/// is not empty. Something is current.
+pub(crate) fn write_current<W: WriteCall>(
+    current: &mut Option<W>,
+    piece: &[u8],
+    errors: &mut u64,
+) -> WriteAnswer
+    requires current { is_some current.old ≡ true }
+    ensures called { WritesCurrent W.writes current.old piece.now result current.new }
+    ensures within { IfTook result (λ n. n ≤ length piece.now) }
+    ensures some { IfTook result (λ n. 0 < length piece.now → 0 < n) }
+    ensures stays { is_some current.new ≡ true }
+    ensures count { errors.new ≡ count_after_write result errors.old }
+    ensures counts { errors.old ≤ errors.new }
+{
+    let Some(open) = current else { unreachable!() };
+    write_answer(open.write_once(piece), piece.len(), errors)
+}

@@ -1,0 +1,195 @@
+ghost use Rattle.std.specs.Prelude.{◌≡◌, ◌<◌, ◌≤◌, false, true, None, is_some, length};
+ghost use Rattle.gs_port.specs.Answers.{AddsMoved, AppendsFront, IfGot, IfTook, IsZeroAtEnd, MovesFront, OnAcceptFailed, OnAccepted};
+ghost use Rattle.gs_port.specs.Answers.{OnNotAccepted, OnNotOpened, OnNothingTaken, OnOpenFailed, OnOpened, OnReadFailed, OnWriteFailed};
+ghost use Rattle.gs_port.specs.Answers.{count_after_read, count_after_write};
+ghost use Rattle.gs_port.specs.Connections.{after_accept, after_open, no_aside};
+ghost use Rattle.gs_port.specs.ConnectionsSupport.{unknown_aside};
+ghost use Rattle.gs_port.specs.Counts.{Rises};
+ghost use Rattle.gs_port_system.specs.Calls.{AcceptsLast, AcceptsOnce, AcceptsSetUp, IsAgain, IsLast, ListensOnce, ReadsCurrent, WritesCurrent};
+
+use crate::calls::DoorCalls;
+use crate::system::{accept_answer, is_tried_again, open_error, read_current, write_current};
+use gs_port::{AcceptAnswer, Conn, Door, OpenAnswer, ReadAnswer, WriteAnswer};
+use std::io::{Error, ErrorKind, Result};
+
+/// A listener of the system's TCP, or of what stands for it, and one connection at a time. A read or a write is one call, and
+/// one that waits too long is an error. Each error is counted, but for an error of out of memory, which an open answers by
+/// `Memory`. Nothing is known of the connections.
+#[derive(Drop)]
+pub struct TcpDoor<S, L, T> {
+    system: S,
+    listener: Option<L>,
+    current: Option<T>,
+    errors: u64,
+    reads: u64,
+    writes: u64,
+    reads_then: u64,
+    writes_then: u64,
+}
+
+/// Whether what an accept said is not to be tried again.
+fn is_last<T>(accepted: &Result<T>) -> bool
+    ensures last { result ≡ true → IsLast accepted.now }
+    ensures again { result ≡ false → IsAgain accepted.now }
+{
+    match accepted {
+        Ok(_) => true,
+        Err(error) => !is_tried_again(error),
+    }
+}
+
+/// The next connection. An accept that the system interrupts or that a peer gives up is tried again, more often than a listener
+/// lives to see.
+fn next_stream<S: DoorCalls>(listener: &mut S::Listener) -> Result<S::Stream>
+    ensures { AcceptsLast S.accepts listener.old result listener.new }
+{
+    for tries in 0..u64::MAX {
+        let accepted = S::accept_once(listener);
+        if is_last(&accepted) {
+            return accepted;
+        }
+    }
+    Err(Error::from(ErrorKind::Other))
+}
+
+/// The next connection, set up.
+fn next_connection<S: DoorCalls>(listener: &mut S::Listener) -> Result<S::Stream>
+    ensures { AcceptsSetUp S.accepts S.sets_up listener.old result listener.new }
+{
+    match next_stream::<S>(listener) {
+        Ok(stream) => S::set_up(stream),
+        Err(error) => Err(error),
+    }
+}
+
+impl<S: DoorCalls> TcpDoor<S, S::Listener, S::Stream> {
+    /// A door of the system that was not opened yet, with no error counted.
+    pub fn new(system: S) -> TcpDoor<S, S::Listener, S::Stream>
+        ensures closed { ⟦<TcpDoor<S, S::Listener, S::Stream> as Conn>⟧.is_open result ≡ false }
+        ensures reads { ⟦<TcpDoor<S, S::Listener, S::Stream> as Conn>⟧.reads result ≡ 0 }
+        ensures writes { ⟦<TcpDoor<S, S::Listener, S::Stream> as Conn>⟧.writes result ≡ 0 }
+        ensures aside { ⟦<TcpDoor<S, S::Listener, S::Stream> as Conn>⟧.aside result ≡ no_aside }
+    {
+        TcpDoor {
+            system,
+            listener: None,
+            current: None,
+            errors: 0,
+            reads: 0,
+            writes: 0,
+            reads_then: 0,
+            writes_then: 0,
+        }
+    }
+
+    /// The port that it listens at. `None` where it was not opened, or the system names no address.
+    pub fn port(&self) -> Option<u16> {
+        S::port(self.listener.as_ref()?)
+    }
+}
+
+impl<S: DoorCalls> Conn for TcpDoor<S, S::Listener, S::Stream> {
+    ghost ends = { λ s. None };
+
+    ghost is_open = { λ s. is_some s.current };
+
+    ghost left = { λ s. None };
+
+    ghost taken = { λ s. None };
+
+    ghost held = { λ s. None };
+
+    ghost reads = { λ s. s.reads };
+
+    ghost writes = { λ s. s.writes };
+
+    ghost aside = { λ s. unknown_aside s.errors (is_some s.listener) s.reads_then s.writes_then };
+
+    fn read(&mut self, buf: &mut [u8]) -> ReadAnswer
+        requires room { 0 < length buf.old }
+        requires current { is_some self.old.current ≡ true }
+        ensures called { ReadsCurrent S.Stream.ReadCall.reads self.old.current buf.new result self.new.current }
+        ensures within { IfGot result (λ n. n ≤ length buf.new) }
+        ensures failed { OnReadFailed result (Rises self.old.reads self.new.reads) }
+        ensures counts { self.old.reads ≤ self.new.reads }
+        ensures count { self.new.reads ≡ count_after_read result self.old.reads }
+        ensures same_writes { self.new.writes ≡ self.old.writes }
+        ensures stays_open { is_some self.new.current ≡ true }
+        ensures same_aside { unknown_aside self.new.errors (is_some self.new.listener) self.new.reads_then self.new.writes_then
+            ≡ unknown_aside self.old.errors (is_some self.old.listener) self.old.reads_then self.old.writes_then }
+    {
+        read_current(&mut self.current, buf, &mut self.reads)
+    }
+
+    fn write(&mut self, piece: &[u8]) -> WriteAnswer
+        requires current { is_some self.old.current ≡ true }
+        ensures called { WritesCurrent S.Stream.WriteCall.writes self.old.current piece.now result self.new.current }
+        ensures within { IfTook result (λ n. n ≤ length piece.now) }
+        ensures some { IfTook result (λ n. 0 < length piece.now → 0 < n) }
+        ensures failed { OnWriteFailed result (Rises self.old.writes self.new.writes) }
+        ensures counts { self.old.writes ≤ self.new.writes }
+        ensures count { self.new.writes ≡ count_after_write result self.old.writes }
+        ensures same_reads { self.new.reads ≡ self.old.reads }
+        ensures stays_open { is_some self.new.current ≡ true }
+        ensures same_aside { unknown_aside self.new.errors (is_some self.new.listener) self.new.reads_then self.new.writes_then
+            ≡ unknown_aside self.old.errors (is_some self.old.listener) self.old.reads_then self.old.writes_then }
+    {
+        write_current(&mut self.current, piece, &mut self.writes)
+    }
+}
+
+impl<S: DoorCalls> Door for TcpDoor<S, S::Listener, S::Stream> {
+    fn open(&mut self, address: &str) -> OpenAnswer
+        ensures called { ListensOnce S.binds self.old.system address.now self.old.listener result self.new.listener
+            self.new.system }
+        ensures opened { OnOpened result (is_some self.new.listener ≡ true) }
+        ensures not_opened { OnNotOpened result (is_some self.new.listener ≡ is_some self.old.listener) }
+        ensures failed { OnOpenFailed result (Rises self.old.errors self.new.errors) }
+        ensures counts { self.old.errors ≤ self.new.errors }
+        ensures aside { unknown_aside self.new.errors (is_some self.new.listener) self.new.reads_then self.new.writes_then
+            ≡ after_open result
+            (unknown_aside self.old.errors (is_some self.old.listener) self.old.reads_then self.old.writes_then) }
+        ensures same_current { self.new.current ≡ self.old.current }
+        ensures same_reads { self.new.reads ≡ self.old.reads }
+        ensures same_writes { self.new.writes ≡ self.old.writes }
+    {
+        match self.system.bind_once(address) {
+            Ok(listener) => {
+                self.listener = Some(listener);
+                OpenAnswer::Opened
+            }
+            Err(error) => open_error(error, &mut self.errors),
+        }
+    }
+
+    fn accept(&mut self) -> AcceptAnswer
+        requires none_open { is_some self.old.current ≡ false }
+        requires listening { is_some self.old.listener ≡ true }
+        ensures called { AcceptsOnce S.accepts S.sets_up self.old.listener self.old.current result self.new.listener
+            self.new.current }
+        ensures accepted { OnAccepted result (is_some self.new.current ≡ true) }
+        ensures not_accepted { OnNotAccepted result (is_some self.new.current ≡ false) }
+        ensures failed { OnAcceptFailed result (Rises self.old.errors self.new.errors) }
+        ensures counts { self.old.errors ≤ self.new.errors }
+        ensures aside { unknown_aside self.new.errors (is_some self.new.listener) self.new.reads_then self.new.writes_then
+            ≡ after_accept result self.old.reads self.old.writes
+            (unknown_aside self.old.errors (is_some self.old.listener) self.old.reads_then self.old.writes_then) }
+        ensures same_reads { self.new.reads ≡ self.old.reads }
+        ensures same_writes { self.new.writes ≡ self.old.writes }
+    {
+        let Some(listener) = &mut self.listener else {
+            unreachable!()
+        };
+        let accepted = next_connection::<S>(listener);
+        let answer = accept_answer(accepted, &mut self.current, &mut self.errors);
+        if answer == AcceptAnswer::Accepted {
+            self.reads_then = self.reads;
+            self.writes_then = self.writes;
+        }
+        answer
+    }
+
+    fn finish(&mut self) {
+        self.current = None;
+    }
+}

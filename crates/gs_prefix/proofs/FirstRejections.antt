@@ -1,0 +1,117 @@
+-- The first rejection of lists of rejections, one after the other.
+use Rattle.std.proofs.Common.{◌≡◌, ℕ, zero, suc, ◌+◌, ◌<◌, ◌≤◌, List, [], ◌∷◌, ◌++◌, length, get_or, take, map, Some, None, slice_get, refl, ap, arith, inl, inr}
+use Rattle.std.specs.Prelude.{Result, Ok, Err}
+use Rattle.std.proofs.lemmas.List.{map-append, take_more}
+use Rattle.std.specs.List.{flat_map, enumerate_from}
+use Rattle.gs_chars.proofs.TruthsAndLists.{nil_parts}
+use Rattle.gs_json.specs.Answers.{OrMemory as JsonOrMemory}
+use Rattle.gs_json.specs.Shapes.{first_error}
+use Rattle.gs_json.specs.declared.error.JsonFault.{JsonFault}
+use Rattle.gs_json.specs.declared.error.JsonFault.TheVariants as json
+use Rattle.gs_chars.specs.Answers.{first_or}
+use Rattle.gs_prefix.specs.Answers.{OrMemory}
+use Rattle.gs_prefix.specs.AnswersSupport.{of_json}
+use Rattle.gs_prefix.specs.declared.error.PrefixFault.{PrefixFault}
+use Rattle.gs_prefix.specs.declared.error.PrefixFault.TheVariants.{Json, Memory}
+
+-- ---- one list behind another
+
+pub first_in_front : {X Y : Type 0} (a b : List PrefixFault) (x : X) (y : Y) (e : PrefixFault) → OrMemory (Err e) (first_or a x) → OrMemory (Err e) (first_or (a ++ b) y)
+first_in_front a b x y e (inl h) = inl (let same : e ≡ Memory = cc in ap Err same)
+first_in_front [] b x y e (inr h) = absurd (let g : Err e ≡ Ok x = h in cc)
+first_in_front (f ∷ a) b x y e (inr h) = inr (let same : e ≡ f = cc in ap Err same)
+
+pub nothing_in_front : {X : Type 0} (a : List PrefixFault) (x z : X) → OrMemory (Ok z) (first_or a x) → a ≡ []
+nothing_in_front a x z (inl h) = absurd (let g : Ok z ≡ Err Memory = h in cc)
+nothing_in_front [] x z (inr h) = refl
+nothing_in_front (f ∷ a) x z (inr h) = absurd (let g : Ok z ≡ Err f = h in cc)
+
+pub first_behind : {X Y : Type 0} (a b : List PrefixFault) (x z : X) (y : Y) (answer : Result Y PrefixFault) → OrMemory (Ok z) (first_or a x) → OrMemory answer (first_or b y) → OrMemory answer (first_or (a ++ b) y)
+first_behind a b x z y answer none h = rw (nothing_in_front a x z none) h
+
+-- ---- rows
+
+pub take_all : {X : Type 0} (xs : List X) (i : ℕ) → length xs ≤ i → take i xs ≡ xs
+take_all [] zero h = refl
+take_all [] (suc i) h = refl
+take_all (x ∷ xs) zero h = absurd (omega arith)
+take_all (x ∷ xs) (suc i) h = ap (λ ys. x ∷ ys) (take_all xs i (omega arith))
+
+module _ {X E : Type 0} (f : ℕ × X → List E) where
+  -- the rejections of rows from one counted as n on, of which none but the row at a place has one
+  split_from : (n : ℕ) (xs : List X) (i : ℕ) (x : X) → slice_get xs i ≡ Some x → flat_map f (enumerate_from n (take i xs)) ≡ [] → (rest : List E) × (flat_map f (enumerate_from n xs) ≡ f (n + i, x) ++ rest)
+  split_from n [] i x at none = absurd (let g : None ≡ Some x = at in cc)
+  split_from n (y ∷ ys) zero x at none =
+      let same : y ≡ x = cc in
+      let here : n + 0 ≡ n = omega arith in
+      rw (same, here) (flat_map f (enumerate_from (n + 1) ys), refl)
+  split_from n (y ∷ ys) (suc i) x at none =
+      let parts = nil_parts (f (n, y)) (flat_map f (enumerate_from (n + 1) (take i ys))) none in
+      let here : n + suc i ≡ n + 1 + i = omega arith in
+      let rest = split_from (n + 1) ys i x at parts.1 in
+      rw (parts.0, here) (rest.0, rest.1)
+
+  more_from : (n : ℕ) (xs : List X) (i : ℕ) (x : X) → slice_get xs i ≡ Some x → flat_map f (enumerate_from n (take i xs)) ≡ [] → f (n + i, x) ≡ [] → flat_map f (enumerate_from n (take (suc i) xs)) ≡ []
+  more_from n [] i x at none h = absurd (let g : None ≡ Some x = at in cc)
+  more_from n (y ∷ ys) zero x at none h =
+      let same : y ≡ x = cc in
+      let here : n + 0 ≡ n = omega arith in
+      let h' = rw here at h in
+      rw (same, h') refl
+  more_from n (y ∷ ys) (suc i) x at none h =
+      let parts = nil_parts (f (n, y)) (flat_map f (enumerate_from (n + 1) (take i ys))) none in
+      let here : n + suc i ≡ n + 1 + i = omega arith in
+      let h' = rw here at h in
+      rw parts.0 (more_from (n + 1) ys i x at parts.1 h')
+
+  -- the row at a place is the first that may have a rejection
+  pub split_at : (xs : List X) (i : ℕ) (x : X) → slice_get xs i ≡ Some x → flat_map f (enumerate_from 0 (take i xs)) ≡ [] → (rest : List E) × (flat_map f (enumerate_from 0 xs) ≡ f (i, x) ++ rest)
+  split_at xs i x at none = let own : 0 + i ≡ i = omega arith in rw own at (split_from 0 xs i x at none)
+
+  pub one_more : (xs : List X) (i : ℕ) (x : X) → slice_get xs i ≡ Some x → flat_map f (enumerate_from 0 (take i xs)) ≡ [] → f (i, x) ≡ [] → flat_map f (enumerate_from 0 (take (i + 1) xs)) ≡ []
+  one_more xs i x at none h =
+      let own : i ≡ 0 + i = omega arith in
+      let next : i + 1 ≡ suc i = omega arith in
+      rw next (more_from 0 xs i x at none (rw own at h))
+
+  pub all_rows : (xs : List X) (i : ℕ) → length xs ≤ i → flat_map f (enumerate_from 0 (take i xs)) ≡ [] → flat_map f (enumerate_from 0 xs) ≡ []
+  all_rows xs i all none = rw (take_all xs i all) at none
+
+-- ---- errors of JSON
+
+-- what is said of a result without a value
+abbrev unit : Unit {0}
+unit = tt
+
+judged_by : (errors : List JsonFault) (error : JsonFault) → Err error ≡ first_error errors → OrMemory (Err (of_json error)) (first_or (map Json errors) unit)
+judged_by errors json.Memory h = inl refl
+judged_by [] json.Syntax h = absurd (cc)
+judged_by [] (json.Lacks p) h = absurd (cc)
+judged_by [] (json.Kind p) h = absurd (cc)
+judged_by [] (json.Unknown p) h = absurd (cc)
+judged_by (f ∷ errors) json.Syntax h = inr (let same : json.Syntax ≡ f = cc in rw same refl)
+judged_by (f ∷ errors) (json.Lacks p) h = inr (let same : json.Lacks p ≡ f = cc in rw same refl)
+judged_by (f ∷ errors) (json.Kind p) h = inr (let same : json.Kind p ≡ f = cc in rw same refl)
+judged_by (f ∷ errors) (json.Unknown p) h = inr (let same : json.Unknown p ≡ f = cc in rw same refl)
+
+pub judged : (errors : List JsonFault) (error : JsonFault) → JsonOrMemory (Err error) (first_error errors) → OrMemory (Err (of_json error)) (first_or (map Json errors) unit)
+judged errors error (inl h) = let same : error ≡ json.Memory = cc in rw same (inl refl)
+judged errors error (inr h) = judged_by errors error h
+
+-- ---- what items are read as, one by one
+
+take_one : {X : Type 0} (xs : List X) (i : ℕ) (x : X) → slice_get xs i ≡ Some x → take (suc i) xs ≡ take i xs ++ x ∷ []
+take_one [] i x at = absurd (let g : None ≡ Some x = at in cc)
+take_one (y ∷ ys) zero x at = let same : y ≡ x = cc in rw same refl
+take_one (y ∷ ys) (suc i) x at = ap (λ zs. y ∷ zs) (take_one ys i x at)
+
+pub take_next : {X : Type 0} (xs : List X) (i : ℕ) (x : X) → slice_get xs i ≡ Some x → take (i + 1) xs ≡ take i xs ++ x ∷ []
+take_next xs i x at = let next : i + 1 ≡ suc i = omega arith in rw next (take_one xs i x at)
+
+pub mapped_all : {X Y : Type 0} (f : X → Y) (xs : List X) (i : ℕ) (ys : List Y) → length xs ≤ i → ys ≡ map f (take i xs) → ys ≡ map f xs
+mapped_all f xs i ys all so_far = rw (take_all xs i all) at so_far
+
+-- one item more that was read
+pub mapped_step : {X Y : Type 0} (f : X → Y) (xs : List X) (i : ℕ) (x : X) (done new : List Y) (y : Y) → i < length xs → x ≡ get_or xs i x → done ≡ map f (take i xs) → new ≡ done ++ y ∷ [] → y ≡ f x
+    → new ≡ map f (take (i + 1) xs)
+mapped_step f xs i x done new y low here so_far e own = rw (e, so_far, own, take_more xs i x low, map-append) (ap (λ z. map f (take i xs) ++ f z ∷ []) here)

@@ -1,0 +1,202 @@
+-- The rejections of entries and of documents.
+use Rattle.std.proofs.Common.{◌≡◌, ◌⊎◌, ℕ, ◌+◌, ◌<◌, ◌≤◌, nat_lt, nat_le, true, false, List, [], ◌∷◌, ◌++◌, length, take, map, Some, None, slice_get, IfSome, refl, sym, ap, ◌∙◌, arith, inl, inr}
+use Rattle.std.specs.Prelude.{Result, Ok, Err}
+use Rattle.std.specs.List.{flat_map, enumerate_from, list_all, list_any}
+use Rattle.std.specs.Str.{IsUtf8, is_utf8}
+use Rattle.std.proofs.lemmas.Bool.Decides.{nat_tests}
+use Rattle.std.proofs.lemmas.List.{map-append}
+use Rattle.std.proofs.lemmas.Option.{slice_get_cases}
+use Rattle.std.proofs.lemmas.Str.{IsUtf8-from_is_utf8, is_utf8-from_IsUtf8}
+use Rattle.serde_json.specs.Data.{Data}
+use Rattle.serde_json.specs.Find.{as_object}
+use Rattle.serde_json.specs.Read.{read as read_text}
+use Rattle.gs_json.specs.Places.{item_place}
+use Rattle.gs_json.specs.Shapes.{members_errors}
+use Rattle.gs_json.specs.declared.error.JsonFault.{JsonFault}
+use Rattle.gs_json.specs.declared.error.JsonFault.TheVariants as json
+use Rattle.gs_prefix.specs.declared.entry.PrefixEntry.{PrefixEntry}
+use Rattle.gs_prefix.specs.declared.error.PrefixFault.{PrefixFault}
+use Rattle.gs_prefix.specs.declared.error.PrefixFault.TheVariants.{Json, BadPrefix, BadLength, Twice, Limit, Memory}
+use Rattle.gs_chars.specs.Answers.{first_or}
+use Rattle.gs_json.specs.Members.{document_of}
+use Rattle.gs_prefix.specs.Answers.{OrMemory, document_answer, load_answer}
+use Rattle.gs_prefix.specs.AnswersSupport.{AddsEntry, of_json}
+use Rattle.gs_prefix.specs.Documents.{array_errors, entries_errors, entries_of, entry_plan, form_errors, list_plan, version_errors}
+use Rattle.gs_prefix.specs.Lengths.{has_prefix, is_prefix}
+use Rattle.gs_prefix.specs.LengthsSupport.{is_entry, with_entry}
+use Rattle.gs_prefix.specs.Rules.{entry_rejections, rejections, rejections_at}
+use Rattle.gs_prefix.proofs.FirstRejections.{all_rows, first_behind, first_in_front, nothing_in_front, one_more, split_at, take_all, take_next}
+use Rattle.gs_chars.proofs.ErrorAnswers.{no_error}
+use Rattle.gs_chars.proofs.TruthsAndLists.{and_first, and_second, true_or_false}
+
+-- ---- one entry
+
+module _ (earlier : List PrefixEntry) (i : ℕ) (e : PrefixEntry) where
+  pub bad_prefix : is_prefix e.prefix ≡ false → Err (BadPrefix i) ≡ first_or (entry_rejections earlier i e) (tt {0})
+  unfolding entry_rejections
+  bad_prefix h = rw h refl
+
+  pub bad_length : is_prefix e.prefix ≡ true → 12 < e.length → Err (BadLength i) ≡ first_or (entry_rejections earlier i e) (tt {0})
+  unfolding entry_rejections
+  bad_length h long = let l : nat_lt 12 e.length ≡ true = grind (arith, nat_tests) in rw (h, l) refl
+
+  pub twice : is_prefix e.prefix ≡ true → e.length ≤ 12 → list_any (has_prefix e.prefix) earlier ≡ true → Err (Twice i) ≡ first_or (entry_rejections earlier i e) (tt {0})
+  unfolding entry_rejections
+  twice h short t = let l : nat_lt 12 e.length ≡ false = grind (arith, nat_tests) in rw (h, l, t) refl
+
+  pub in_order : is_prefix e.prefix ≡ true → e.length ≤ 12 → list_any (has_prefix e.prefix) earlier ≡ false → Ok (tt {0}) ≡ first_or (entry_rejections earlier i e) (tt {0})
+  unfolding entry_rejections
+  in_order h short t = let l : nat_lt 12 e.length ≡ false = grind (arith, nat_tests) in rw (h, l, t) refl
+
+  -- what no rejection says
+  pub record Kept : Type 0 where
+    pub prefix : is_prefix e.prefix ≡ true
+    pub short : e.length ≤ 12
+    pub fresh : list_any (has_prefix e.prefix) earlier ≡ false
+
+  pub kept : Ok (tt {0}) ≡ first_or (entry_rejections earlier i e) (tt {0}) → Kept
+  unfolding entry_rejections
+  kept h = elim (true_or_false (is_prefix e.prefix)) [
+    | inr p ↦ absurd (let g = rw p at h in let bad : Ok (tt {0}) ≡ Err (BadPrefix i) = g in cc)
+    | inl p ↦ elim (true_or_false (nat_lt 12 e.length)) [
+      | inl l ↦ absurd (let g = rw (p, l) at h in let bad : Ok (tt {0}) ≡ Err (BadLength i) = g in cc)
+      | inr l ↦ elim (true_or_false (list_any (has_prefix e.prefix) earlier)) [
+        | inl t ↦ absurd (let g = rw (p, l, t) at h in let bad : Ok (tt {0}) ≡ Err (Twice i) = g in cc)
+        | inr t ↦ record { prefix = p; short = grind (arith, nat_tests); fresh = t }
+      ]
+    ]
+  ]
+
+  nothing : Ok (tt {0}) ≡ first_or (entry_rejections earlier i e) (tt {0}) → entry_rejections earlier i e ≡ []
+  nothing h = nothing_in_front (entry_rejections earlier i e) (tt {0}) (tt {0}) (inr h)
+
+-- ---- the entries of a list
+
+all_more : (es : List PrefixEntry) (e : PrefixEntry) → list_all is_entry es ≡ true → is_entry e ≡ true → list_all is_entry (es ++ e ∷ []) ≡ true
+all_more [] e h t = rw t refl
+all_more (x ∷ es) e h t = rw (and_first (is_entry x) (list_all is_entry es) h) (all_more es e (and_second (is_entry x) (list_all is_entry es) h) t)
+
+is_kept : (e : PrefixEntry) → is_prefix e.prefix ≡ true → e.length ≤ 12 → is_entry e ≡ true
+is_kept e p short = let l : nat_le e.length 12 ≡ true = grind (arith, nat_tests) in rw (p, l) refl
+
+pub limit_passed : (es : List PrefixEntry) → 65536 < length es → OrMemory {X = List PrefixEntry} (Err Limit) (first_or (rejections es) es)
+unfolding rejections
+limit_passed es h = let l : nat_lt 65536 (length es) ≡ true = grind (arith, nat_tests) in rw l (inr refl)
+
+-- what is known of the entries before an index
+pub record SoFar (entries index : List PrefixEntry) (i : ℕ) : Type 0 where
+  pub held : index ≡ take i entries
+  pub in_order : list_all is_entry index ≡ true
+  pub none : flat_map (rejections_at entries) (enumerate_from 0 (take i entries)) ≡ []
+
+within_limit : (es : List PrefixEntry) → length es ≤ 65536 → rejections es ≡ flat_map (rejections_at es) (enumerate_from 0 es)
+unfolding rejections
+within_limit es h = let l : nat_lt 65536 (length es) ≡ false = grind (arith, nat_tests) in rw l refl
+
+entry_rejected : (entries index : List PrefixEntry) (i : ℕ) (x : PrefixEntry) (e : PrefixFault) → length entries ≤ 65536 → SoFar entries index i → slice_get entries i ≡ Some x → OrMemory (Err e) (first_or (entry_rejections index i x) (tt {0})) → OrMemory {X = List PrefixEntry} (Err e) (first_or (rejections entries) entries)
+entry_rejected entries index i x e few so_far at h =
+    let own = rw so_far.held at h in
+    let split = split_at (rejections_at entries) entries i x at so_far.none in
+    rw (within_limit entries few, split.1) (first_in_front (rejections_at entries (i, x)) split.0 (tt {0}) entries e own)
+
+one_entry_more : (entries index new : List PrefixEntry) (i : ℕ) (x : PrefixEntry) → SoFar entries index i → slice_get entries i ≡ Some x → Ok (tt {0}) ≡ first_or (entry_rejections index i x) (tt {0}) → new ≡ with_entry index x.prefix x.length → SoFar entries new (i + 1)
+one_entry_more entries index new i x so_far at h e =
+    let k = kept index i x h in
+    record {
+      held = e ∙ rw so_far.held (sym (take_next entries i x at));
+      in_order = rw e (all_more index x so_far.in_order (is_kept x k.prefix k.short));
+      none = one_more (rejections_at entries) entries i x at so_far.none (nothing (take i entries) i x (rw so_far.held at h));
+    }
+
+-- what the call for one entry answered, of the list so far
+pub add_rejected : (entries index after : List PrefixEntry) (i : ℕ) (e : PrefixFault) → length entries ≤ 65536 → SoFar entries index i → i < length entries → IfSome (slice_get entries i) (AddsEntry (Err e) i index after) → OrMemory {X = List PrefixEntry} (Err e) (first_or (rejections entries) entries)
+add_rejected entries index after i e few so_far within h = elim (slice_get_cases entries i).1 [
+  | inl there ↦ let own = rw there.2 at h in entry_rejected entries index i there.0 e few so_far there.2 own.0
+  | inr past ↦ absurd (let beyond : length entries ≤ i = past.0 in omega arith)
+]
+
+pub added : (entries index after : List PrefixEntry) (i : ℕ) → SoFar entries index i → i < length entries → IfSome (slice_get entries i) (AddsEntry (Ok (tt {0})) i index after) → SoFar entries after (i + 1)
+added entries index after i so_far within h = elim (slice_get_cases entries i).1 [
+  | inl there ↦ let own = rw there.2 at h in one_entry_more entries index after i there.0 so_far there.2 (no_error Memory (tt {0}) (first_or (entry_rejections index i there.0) (tt {0})) own.0) own.1
+  | inr past ↦ absurd (let beyond : length entries ≤ i = past.0 in omega arith)
+]
+
+pub all_entries : (entries index : List PrefixEntry) (i : ℕ) → length entries ≤ 65536 → length entries ≤ i → SoFar entries index i → OrMemory {X = List PrefixEntry} (Ok index) (first_or (rejections entries) entries)
+all_entries entries index i few all so_far =
+    let whole : index ≡ entries = so_far.held ∙ take_all entries i all in
+    let none : rejections entries ≡ [] = within_limit entries few ∙ all_rows (rejections_at entries) entries i all so_far.none in
+    rw none (inr (ap Ok whole))
+
+-- ---- the form of a document
+
+module _ (place : List ℕ) (items : List Data) where
+  abbrev errors_at : ℕ × Data → List JsonFault
+  errors_at row = members_errors (item_place place row.0) entry_plan (as_object row.1)
+
+  pub item_rejected : (i : ℕ) (x : Data) (e : PrefixFault) → slice_get items i ≡ Some x → array_errors place (take i items) ≡ [] → OrMemory {X = Unit {0}} (Err e) (first_or (map Json (errors_at (i, x))) (tt {0})) → OrMemory {X = Unit {0}} (Err e) (first_or (map Json (array_errors place items)) (tt {0}))
+  unfolding array_errors
+  item_rejected i x e at none h =
+      let split = split_at errors_at items i x at none in
+      rw (split.1, map-append) (first_in_front (map Json (errors_at (i, x))) (map Json split.0) (tt {0}) (tt {0}) e h)
+
+  no_json : (errors : List JsonFault) → map Json errors ≡ [] → errors ≡ []
+  no_json [] h = refl
+  no_json (f ∷ errors) h = absurd (let g : Json f ∷ map Json errors ≡ [] = h in cc)
+
+  pub one_item_more : (i : ℕ) (x : Data) (z : Unit {0}) → slice_get items i ≡ Some x → array_errors place (take i items) ≡ [] → OrMemory {X = Unit {0}} (Ok z) (first_or (map Json (errors_at (i, x))) (tt {0})) → array_errors place (take (i + 1) items) ≡ []
+  unfolding array_errors
+  one_item_more i x z at none h = one_more errors_at items i x at none (no_json (errors_at (i, x)) (nothing_in_front (map Json (errors_at (i, x))) (tt {0}) z h))
+
+  pub all_items : (i : ℕ) → length items ≤ i → array_errors place (take i items) ≡ [] → OrMemory {X = Unit {0}} (Ok (tt {0})) (first_or (map Json (array_errors place items)) (tt {0}))
+  unfolding array_errors
+  all_items i all none = rw (all_rows errors_at items i all none) (inr refl)
+
+joined : (a b : List JsonFault) → map Json (a ++ b) ≡ map Json a ++ map Json b
+joined a b = map-append Json a b
+
+module _ (d : Data) where
+  abbrev object_errors : List JsonFault
+  object_errors = members_errors [] list_plan (as_object d)
+
+  pub object_rejected : (e : PrefixFault) → OrMemory {X = Unit {0}} (Err e) (first_or (map Json object_errors) (tt {0})) → OrMemory {X = Unit {0}} (Err e) (first_or (map Json (form_errors d)) (tt {0}))
+  unfolding form_errors
+  object_rejected e h = rw (joined object_errors (version_errors d ++ entries_errors d)) (first_in_front (map Json object_errors) (map Json (version_errors d ++ entries_errors d)) (tt {0}) (tt {0}) e h)
+
+  pub version_rejected : (e : PrefixFault) (y : Unit {0}) → OrMemory {X = Unit {0}} (Ok y) (first_or (map Json object_errors) (tt {0})) → OrMemory {X = Unit {0}} (Err e) (first_or (map Json (version_errors d)) (tt {0})) → OrMemory {X = Unit {0}} (Err e) (first_or (map Json (form_errors d)) (tt {0}))
+  unfolding form_errors
+  version_rejected e y none h =
+      rw (joined object_errors (version_errors d ++ entries_errors d), joined (version_errors d) (entries_errors d)) (first_behind (map Json object_errors) (map Json (version_errors d) ++ map Json (entries_errors d)) (tt {0}) y (tt {0}) (Err e) none
+      (first_in_front (map Json (version_errors d)) (map Json (entries_errors d)) (tt {0}) (tt {0}) e h))
+
+  pub entries_judged : (answer : Result (Unit {0}) PrefixFault) (y z : Unit {0}) → OrMemory {X = Unit {0}} (Ok y) (first_or (map Json object_errors) (tt {0})) → OrMemory {X = Unit {0}} (Ok z) (first_or (map Json (version_errors d)) (tt {0})) → OrMemory answer (first_or (map Json (entries_errors d)) (tt {0})) → OrMemory answer (first_or (map Json (form_errors d)) (tt {0}))
+  unfolding form_errors
+  entries_judged answer y z none same h =
+      rw (joined object_errors (version_errors d ++ entries_errors d), joined (version_errors d) (entries_errors d)) (first_behind (map Json object_errors) (map Json (version_errors d) ++ map Json (entries_errors d)) (tt {0}) y (tt {0}) answer none
+      (first_behind (map Json (version_errors d)) (map Json (entries_errors d)) (tt {0}) z (tt {0}) answer same h))
+
+-- ---- the answer to bytes
+
+is_json : (bytes : List ℕ) (d : Data) → IsUtf8 bytes × (read_text bytes ≡ Some d) → load_answer bytes ≡ document_answer d
+unfolding load_answer document_of
+is_json bytes d h = let t = is_utf8-from_IsUtf8 bytes h.0 in rw (t, h.1) refl
+
+pub not_json : (bytes : List ℕ) (error : JsonFault) → (error ≡ json.Syntax → IsUtf8 bytes → read_text bytes ≡ None) → (error ≡ json.Syntax) ⊎ (error ≡ json.Memory) → OrMemory {X = List PrefixEntry} (Err (of_json error)) (load_answer bytes)
+unfolding load_answer document_of
+not_json bytes error none (inr m) = rw m (inl refl)
+not_json bytes error none (inl s) = elim (true_or_false (is_utf8 bytes)) [
+  | inl t ↦ let e = none s (IsUtf8-from_is_utf8 bytes t) in rw (s, t, e) (inr refl)
+  | inr t ↦ rw (s, t) (inr refl)
+]
+
+pub document_is : (bytes : List ℕ) (d : Data) (answer : Result (List PrefixEntry) PrefixFault) → IsUtf8 bytes × (read_text bytes ≡ Some d) → OrMemory answer (document_answer d) → OrMemory answer (load_answer bytes)
+document_is bytes d answer is h = rw (is_json bytes d is) h
+
+pub form_rejected : (d : Data) (e : PrefixFault) → OrMemory {X = Unit {0}} (Err e) (first_or (map Json (form_errors d)) (tt {0})) → OrMemory {X = List PrefixEntry} (Err e) (document_answer d)
+unfolding document_answer
+form_rejected d e h = first_in_front (map Json (form_errors d)) (rejections (entries_of d)) (tt {0}) (entries_of d) e h
+
+pub entries_answer : (d : Data) (entries : List PrefixEntry) (z : Unit {0}) (answer : Result (List PrefixEntry) PrefixFault) → OrMemory {X = Unit {0}} (Ok z) (first_or (map Json (form_errors d)) (tt {0})) → entries ≡ entries_of d → OrMemory answer (first_or (rejections entries) entries) → OrMemory answer (document_answer d)
+unfolding document_answer
+entries_answer d entries z answer none e h =
+    let own = rw e at h in
+    first_behind (map Json (form_errors d)) (rejections (entries_of d)) (tt {0}) z (entries_of d) answer none own

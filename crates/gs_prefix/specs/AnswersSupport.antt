@@ -1,0 +1,25 @@
+-- What proofs and private functions say beside the definitions of Answers.antt.
+use Rattle.std.specs.Prelude.{◌≡◌, ℕ, List, map, Result, IfOk}
+use Rattle.gs_chars.specs.Answers.{first_or}
+use Rattle.gs_json.specs.declared.error.JsonFault.{JsonFault}
+use Rattle.gs_json.specs.declared.error.JsonFault.TheVariants as json
+use Rattle.gs_prefix.specs.declared.entry.PrefixEntry.{PrefixEntry}
+use Rattle.gs_prefix.specs.declared.error.PrefixFault.{PrefixFault}
+use Rattle.gs_prefix.specs.declared.error.PrefixFault.TheVariants.{Json, Memory}
+use Rattle.gs_prefix.specs.LengthsSupport.{with_entry}
+use Rattle.gs_prefix.specs.Rules.{entry_rejections}
+use Rattle.gs_prefix.specs.Answers.{OrMemory}
+
+-- the answer to an entry beside the earlier ones: where no rule rejects it, it is behind them
+abbrev pub AddsEntry : Result Unit PrefixFault → ℕ → List PrefixEntry → List PrefixEntry → PrefixEntry → Type 0
+AddsEntry result i earlier after entry =
+    OrMemory result (first_or (entry_rejections earlier i entry) tt) × IfOk result (λ _. after ≡ with_entry earlier entry.prefix entry.length)
+
+-- the answer is the first of these errors of JSON, or out of memory
+abbrev pub IsFirst : Result Unit PrefixFault → List JsonFault → Type 0
+IsFirst result errors = OrMemory result (first_or (map Json errors) tt)
+
+-- an error of JSON, with out of memory as its own
+abbrev pub of_json : JsonFault → PrefixFault
+of_json json.Memory = Memory
+of_json error = Json error

@@ -1,0 +1,30 @@
+use gs_chars::Memory;
+use gs_json::JsonFault;
+
+/// Why a list of company prefix lengths is rejected. Entries are counted from 0.
+#[derive(Debug, Drop)]
+pub enum PrefixFault {
+    /// The document is not of the form of such a list.
+    Json(JsonFault),
+    /// The prefix of the entry at this index is not 1 to 12 digits.
+    BadPrefix(usize),
+    /// The length of the entry at this index is above 12.
+    BadLength(usize),
+    /// An earlier entry has the prefix of the entry at this index.
+    Twice(usize),
+    /// There are more than 65,536 entries.
+    Limit,
+    /// Out of memory.
+    Memory,
+}
+
+impl From<Memory> for PrefixFault {
+    ghost use Rattle.std.specs.Prelude.{◌≡◌};
+    ghost use Rattle.gs_prefix.specs.declared.error.PrefixFault.TheVariants.{Memory as WantOfMemory};
+
+    ghost from_gives = { λ _ e. e ≡ WantOfMemory };
+
+    fn from(_rejected: Memory) -> PrefixFault {
+        PrefixFault::Memory
+    }
+}

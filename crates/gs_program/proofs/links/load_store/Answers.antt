@@ -1,5 +1,0 @@
-use Rattle.gs_chars.proofs.TruthsAndLists.{and_second}
-use Rattle.gs_program.proofs.links.load_store.Goals as goal
-
-pub load-requires : goal.load-requires
-load-requires c = rw c.as_bytes.ensures.value (and_second _ _ (and_second _ _ c.requires))

@@ -1,6 +1,0 @@
-use Rattle.std.proofs.Common.{◌≡◌, ◌++◌, take}
-use Rattle.gs_refusals.specs.Refusals.{shown}
-use Rattle.gs_refusals.proofs.refusals.append_place.Given as goal
-
-abbrev pub invariant-loop-c : goal.invariant-loop-c
-invariant-loop-c l = l.out.items ≡ l.initial.out.items ++ shown (take l.c-index l.place)

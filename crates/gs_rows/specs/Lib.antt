@@ -1,5 +1,0 @@
-pub mod Forms
-pub mod Rules
-pub mod Tables
-pub mod KeptRules
-pub mod Numbers

@@ -1,0 +1,164 @@
+-- The rules of kinds and of options. Each is a test of one row, of the rows before it, and of the application identifiers
+-- that the row names. After TDT 2.0, sections 3 and 4; the rules and their order are this project's own.
+use Rattle.std.specs.Prelude.{ℕ, ◌-◌, ◌%◌, Bool, true, false, not, ◌==◌, ◌&&◌, nat_le, if◌then◌else◌, List, [], ◌∷◌, length, map, filter, Option, Some, None, is_none, is_some, decimal}
+use Rattle.std.specs.List.{find, list_any}
+use Rattle.std.specs.Option.{option_map_or}
+use Rattle.std.specs.Str.{bytes_eq}
+use Rattle.gs_chars.specs.Characters.{are_visible}
+use Rattle.gs_ai.specs.declared.row.AiRow.{AiRow}
+use Rattle.gs_ai.specs.Tables.{is_empty, is_key}
+use Rattle.gs_ai.specs.Values.{has_code}
+use Rattle.gs_grammar.specs.declared.item.Item.{Item}
+use Rattle.gs_grammar.specs.declared.item.Item.TheVariants.{Lit, Pad, Digits as DigitsItem, Int, Esc, NumPad, Num, NumStr, Ascii7, Fill}
+use Rattle.gs_grammar.specs.Items.{is_between, size_of_all}
+use Rattle.gs_tables_document.specs.declared.field.Field.{Field}
+use Rattle.gs_tables_document.specs.declared.field.Field.TheVariants.{Filter, Gcp, Rest, Serial}
+use Rattle.gs_tables.specs.declared.form.KeyForm.{KeyForm}
+use Rattle.gs_tables.specs.declared.form.KeyForm.TheVariants.{Digits, Characters}
+use Rattle.gs_tables_document.specs.declared.document.KindRow.{KindRow}
+use Rattle.gs_tables_document.specs.declared.kind.SerialAt.{SerialAt}
+use Rattle.gs_tables_document.specs.declared.kind.SerialAt.TheVariants.{Nowhere, Tail, Ai}
+use Rattle.gs_tables_document.specs.declared.level_name.LevelName.{LevelName}
+use Rattle.gs_tables_document.specs.declared.level_name.LevelName.TheVariants.{Binary, Tag, Pure}
+use Rattle.gs_tables.specs.Forms.{key_form, form_at, tail_of, characters_of, serial_at, serial_room}
+use Rattle.gs_tables_document.specs.Items.{FieldItem, alone}
+
+-- ---- kinds
+
+-- trusted, own: the kind has this name
+abbrev pub has_name : List ℕ → KindRow → Bool
+has_name name kind = bytes_eq name kind.name
+
+-- trusted, own: the kind has this key
+abbrev pub has_key : List ℕ → KindRow → Bool
+has_key key kind = bytes_eq key kind.key
+
+-- trusted, own: the name is there, is visible, and is no earlier one
+abbrev pub is_new_name : List KindRow → List ℕ → Bool
+is_new_name earlier name = not (is_empty name) && are_visible name && not (list_any (has_name name) earlier)
+
+-- trusted, own: no digit stands before the prefix, or one where the key is digits
+abbrev pub is_lead : KeyForm → ℕ → Bool
+is_lead (Digits _ _) lead = nat_le lead 1
+is_lead (Characters _) lead = lead == 0
+
+-- trusted, own: the code is that of a row that is characters alone
+abbrev pub is_characters : List AiRow → List ℕ → Bool
+is_characters ais code = option_map_or (λ row. is_some (characters_of row.parts)) (find (has_code code) ais) false
+
+-- trusted, own: the serial stands in the tail exactly where the key has one, else nowhere or in a qualifier of the key
+abbrev pub is_serial_of : List AiRow → AiRow → KeyForm → SerialAt → Bool
+is_serial_of ais row form Nowhere = is_none (tail_of form)
+is_serial_of ais row form Tail = is_some (tail_of form)
+is_serial_of ais row form (Ai code) = is_none (tail_of form) && list_any (bytes_eq code) row.qualifiers && is_characters ais code
+
+-- trusted, own: the key row has a form that a kind can have, which the lead digits and the serial fit
+abbrev pub fits_key : List AiRow → AiRow → KindRow → Bool
+fits_key ais row kind =
+    is_key row.role && option_map_or (λ form. is_lead form kind.lead && is_serial_of ais row form (serial_at kind.serial)) (key_form row.parts) false
+
+-- trusted, own, after TDS 2.0 section 6.3: the kind keeps the rules of kinds, beside the earlier ones
+unfoldable pub is_kind : List AiRow → List KindRow → KindRow → Bool
+is_kind ais earlier kind =
+    is_new_name earlier kind.name && not (list_any (has_key kind.key) earlier)
+    && option_map_or (λ row. fits_key ais row kind) (find (has_code kind.key) ais) false
+
+-- ---- options
+
+-- trusted, own: an item's value stands for this field
+abbrev pub is_field : Field → Option Field → Bool
+is_field Filter (Some Filter) = true
+is_field Gcp (Some Gcp) = true
+is_field Rest (Some Rest) = true
+is_field Serial (Some Serial) = true
+is_field _ _ = false
+
+-- trusted, own: the items whose value stands for a field
+abbrev pub items_of_field : Field → List FieldItem → List Item
+items_of_field field items = map (λ i. i.1) (filter (λ (i : FieldItem). is_field field i.0) items)
+
+-- trusted, own: the one item of a list passes a test
+abbrev pub is_one : (Item → Bool) → List Item → Bool
+is_one test (item ∷ []) = test item
+is_one test _ = false
+
+-- trusted, own: exactly so many digits
+abbrev pub is_digits : ℕ → Item → Bool
+is_digits n (Pad k) = k == n
+is_digits n (NumPad _ k) = k == n
+is_digits n _ = false
+
+-- trusted, own: digits alone
+abbrev pub is_padded : Item → Bool
+is_padded (Pad _) = true
+is_padded (DigitsItem _ _) = true
+is_padded (NumStr _ _) = true
+is_padded (NumPad _ _) = true
+is_padded _ = false
+
+-- trusted, own: the filter value of a tag: a number up to 7, in 3 bits
+abbrev pub is_filter : Item → Bool
+is_filter (Int most) = most == 7
+is_filter (Num bits most) = (bits == 3) && (most == 7)
+is_filter _ = false
+
+-- trusted, own: the characters of the longest value
+abbrev pub longest_of : Item → ℕ
+longest_of (Lit _) = 0
+longest_of (Pad n) = n
+longest_of (DigitsItem _ hi) = hi
+longest_of (Int most) = length (decimal most)
+longest_of (Esc _ hi) = hi
+longest_of (NumPad _ n) = n
+longest_of (Num _ most) = length (decimal most)
+longest_of (NumStr _ hi) = hi
+longest_of (Ascii7 _ hi _) = hi
+longest_of (Fill _ _) = 0
+
+-- trusted, own: the item has values other than the empty one, and the longest has at most so many characters
+abbrev pub has_room : ℕ → Item → Bool
+has_room most item = is_between 1 most (longest_of item)
+
+-- trusted, own: characters, whose longest value has at most so many
+abbrev pub is_free : ℕ → Item → Bool
+is_free most item = not (is_padded item) && has_room most item
+
+-- trusted, own: the length of the prefix is one that the key leaves room for
+abbrev pub is_gcp : KeyForm → ℕ → ℕ → Bool
+is_gcp (Digits digits _) lead n = is_between 1 12 n && nat_le n (digits - lead)
+is_gcp (Characters _) lead n = is_between 1 12 n
+
+-- trusted, own: the prefix has such a length, and stands in one item of so many digits
+unfoldable pub keeps_gcp : KeyForm → ℕ → ℕ → List Item → Bool
+keeps_gcp form lead n items = is_gcp form lead n && is_one (is_digits n) items
+
+-- trusted, own: the digits or characters of the key that are left beside a prefix of n stand in one item, or in none where
+-- no digit is left
+unfoldable pub keeps_rest : KeyForm → ℕ → List Item → Bool
+keeps_rest (Digits digits _) n items = if digits - n == 0 then is_empty items else is_one (is_digits (digits - n)) items
+keeps_rest (Characters most) n items = is_one (is_free (most - n)) items
+
+-- trusted, own: one serial item where there is a serial, with a longest value that it has room for, and else none
+unfoldable pub keeps_serial : Option ℕ → List Item → Bool
+keeps_serial None items = is_empty items
+keeps_serial (Some most) items = is_one (has_room most) items
+
+-- trusted, own: what an option of a level must keep beside its kind: the name of an encoding, a filter value and whole
+-- words of 16 bits
+unfoldable pub keeps_level : LevelName → List ℕ → List FieldItem → Bool
+keeps_level Binary encoding items = not (is_empty encoding) && is_one is_filter (items_of_field Filter items) && (size_of_all (alone items) % 16 == 0)
+keeps_level Tag encoding items = not (is_empty encoding) && is_one is_filter (items_of_field Filter items)
+keeps_level Pure encoding items = is_empty encoding && is_empty (items_of_field Filter items)
+
+-- trusted, own: the prefix, the rest and the serial fit a kind whose key is of this form
+unfoldable pub keeps_form : List AiRow → KindRow → ℕ → List FieldItem → KeyForm → Bool
+keeps_form ais kind n items form =
+    keeps_gcp form kind.lead n (items_of_field Gcp items)
+    && keeps_rest form n (items_of_field Rest items)
+    && keeps_serial (serial_room ais form (serial_at kind.serial)) (items_of_field Serial items)
+
+-- trusted, own, after TDT 2.0 sections 3 and 4: the option, of an encoding and a length n of the prefix, fits its kind
+unfoldable pub fits_kind : List AiRow → KindRow → LevelName → List ℕ → ℕ → List FieldItem → Bool
+fits_kind ais kind level encoding n items =
+    are_visible encoding && keeps_level level encoding items
+    && option_map_or (keeps_form ais kind n items) (form_at ais kind.key) false

@@ -1,0 +1,206 @@
+-- The built-in rows. Kinds, encodings and the partition table are those of TDS 2.0, sections 6.3, 14.2 and 14.6. The choice of rows
+-- is this project's own.
+use Rattle.std.specs.Prelude.{ℕ, ◌-◌, ◌^◌, ◌==◌, if◌then◌else◌, List, [], ◌∷◌, ◌++◌, map, codes, replicate, Option, Some, None, option_map, option_to_list}
+use Rattle.std.specs.List.{flat_map}
+use Rattle.gs_tables_builtin.specs.BuiltInAis.{builtin_ais}
+use Rattle.gs_bits.specs.Bits.{bits_of}
+use Rattle.gs_grammar.specs.declared.item.Item.{Item}
+use Rattle.gs_grammar.specs.declared.item.Item.TheVariants.{Lit, Pad, Int, Esc, NumPad, Num, Ascii7, Fill}
+use Rattle.gs_tables_document.specs.declared.document.Document.{Document}
+use Rattle.gs_tables_document.specs.declared.document.KindRow.{KindRow}
+use Rattle.gs_tables_document.specs.declared.document.OptionRow.{OptionRow}
+use Rattle.gs_tables_builtin.specs.declared.encoding.Encoding.{Encoding}
+use Rattle.gs_tables_builtin.specs.declared.encoding.Identity.{Identity}
+use Rattle.gs_tables_builtin.specs.declared.encoding.Partition.{Partition}
+use Rattle.gs_tables_builtin.specs.declared.encoding.RestForm.{RestForm}
+use Rattle.gs_tables_builtin.specs.declared.encoding.RestForm.TheVariants.{Digits, Number, Characters}
+use Rattle.gs_tables_document.specs.declared.field.Field.{Field}
+use Rattle.gs_tables_document.specs.declared.field.Field.TheVariants.{Filter, Gcp, Rest, Serial}
+use Rattle.gs_tables_document.specs.Items.{FieldItem}
+
+-- ---- kinds
+
+-- trusted, own: a kind with its key, its lead digits and its serial
+abbrev pub kind : List ℕ → List ℕ → ℕ → List ℕ → KindRow
+kind name key lead serial = record { name = name; key = key; lead = lead; serial = serial }
+
+-- trusted, TDS 2.0, section 6.3: the kinds (TDS 2.0, section 6.3)
+unfoldable pub builtin_kinds : List KindRow
+builtin_kinds =
+    kind (codes "sgtin") (codes "01") 1 (codes "21")
+    ∷ kind (codes "sscc") (codes "00") 1 []
+    ∷ kind (codes "sgln") (codes "414") 0 (codes "254")
+    ∷ kind (codes "grai") (codes "8003") 0 (codes "tail")
+    ∷ kind (codes "giai") (codes "8004") 0 []
+    ∷ kind (codes "gdti") (codes "253") 0 (codes "tail")
+    ∷ kind (codes "gsrn") (codes "8018") 0 [] ∷ []
+
+-- ---- the partition table: the digits of the prefix, the partition, and the bits of the prefix (TDS 2.0, section 14.2)
+
+-- trusted, own: a row of the partition table
+abbrev pub partition : ℕ → ℕ → ℕ → Partition
+partition digits number bits = record { digits = digits; number = number; bits = bits }
+
+-- trusted, TDS 2.0, section 14.2: the partition table, from 12 digits to 6
+abbrev pub partitions : List Partition
+partitions = partition 12 0 40 ∷ partition 11 1 37 ∷ partition 10 2 34 ∷ partition 9 3 30 ∷ partition 8 4 27 ∷ partition 7 5 24 ∷ partition 6 6 20 ∷ []
+
+-- ---- the encodings
+
+-- trusted, own: an encoding: its header, the bits of prefix and rest together, the rest, the serial, and the zeros at the
+-- end
+abbrev pub encoding : List ℕ → List ℕ → ℕ → ℕ → RestForm → Option Item → Option Item → Encoding
+encoding name kind header width rest serial after = record { name = name; kind = kind; header = header; width = width; rest = rest; serial = serial; after = after }
+
+-- trusted, own: a literal of zeros, so many
+abbrev pub zeros : ℕ → Item
+zeros n = Lit (replicate n 0)
+
+-- trusted, own: the encodings of trade items, logistic units and locations
+unfoldable pub item_encodings : List Encoding
+item_encodings =
+    encoding (codes "sgtin-96") (codes "sgtin") 48 44 (Digits 13) (Some (Num 38 274877906943)) None
+    ∷ encoding (codes "sgtin-198") (codes "sgtin") 54 44 (Digits 13) (Some (Ascii7 1 20 140)) (Some (Fill 2 10))
+    ∷ encoding (codes "sscc-96") (codes "sscc") 49 58 (Digits 17) None (Some (zeros 24))
+    ∷ encoding (codes "sgln-96") (codes "sgln") 50 41 (Digits 12) (Some (Num 41 2199023255551)) None
+    ∷ encoding (codes "sgln-195") (codes "sgln") 57 41 (Digits 12) (Some (Ascii7 1 20 140)) (Some (Fill 5 13)) ∷ []
+
+-- trusted, own: the encodings of assets
+unfoldable pub asset_encodings : List Encoding
+asset_encodings =
+    encoding (codes "grai-96") (codes "grai") 51 44 (Digits 12) (Some (Num 38 274877906943)) None
+    ∷ encoding (codes "grai-170") (codes "grai") 55 44 (Digits 12) (Some (Ascii7 1 16 112)) (Some (Fill 6 6))
+    ∷ encoding (codes "giai-96") (codes "giai") 52 82 Number None None
+    ∷ encoding (codes "giai-202") (codes "giai") 56 188 Characters None (Some (Fill 6 6)) ∷ []
+
+-- trusted, own: the encodings of documents and services
+unfoldable pub document_encodings : List Encoding
+document_encodings =
+    encoding (codes "gdti-96") (codes "gdti") 44 41 (Digits 12) (Some (Num 41 2199023255551)) None
+    ∷ encoding (codes "gdti-174") (codes "gdti") 62 41 (Digits 12) (Some (Ascii7 1 17 119)) (Some (Fill 2 2))
+    ∷ encoding (codes "gsrn-96") (codes "gsrn") 45 58 (Digits 17) None (Some (zeros 24)) ∷ []
+
+-- trusted, TDS 2.0, section 14.6: all encodings, in the order of the options
+unfoldable pub encodings : List Encoding
+encodings = item_encodings ++ asset_encodings ++ document_encodings
+
+-- ---- options
+
+-- trusted, own: an item that is there
+abbrev pub there : FieldItem → Option FieldItem
+there i = Some i
+
+-- trusted, own: the item of a field, where there is one
+abbrev pub of_field : Option Field → Option Item → List FieldItem
+of_field field item = map (λ (i : Item). (field, i)) (option_to_list item)
+
+-- trusted, own: the rest beside a prefix of n digits, in so many bits
+abbrev pub rest_in_bits : RestForm → ℕ → ℕ → FieldItem
+rest_in_bits (Digits d) n bits = if d - n == 0 then (None, zeros bits) else (Some Rest, NumPad bits (d - n))
+rest_in_bits Number n bits = (Some Rest, Num bits (2 ^ bits - 1))
+rest_in_bits Characters n bits = (Some Rest, Ascii7 1 (30 - n) bits)
+
+-- trusted, TDS 2.0, sections 14.2 and 14.6: header, filter, partition, prefix, rest, serial, and the zeros at the end
+abbrev pub binary_items : Encoding → Partition → List FieldItem
+binary_items e p =
+    (None, Lit (bits_of 8 e.header)) ∷ (Some Filter, Num 3 7) ∷ (None, Lit (bits_of 3 p.number)) ∷ (Some Gcp, NumPad p.bits p.digits)
+    ∷ rest_in_bits e.rest p.digits (e.width - p.bits)
+    ∷ of_field (Some Serial) e.serial ++ of_field None e.after
+
+-- trusted, own: the item of a text level for one of a bit level
+abbrev pub in_text : Item → Item
+in_text (NumPad bits n) = Pad n
+in_text (Num bits most) = Int most
+in_text (Ascii7 lo hi bits) = Esc lo hi
+in_text other = other
+
+-- trusted, own: a dot, and the item of a field
+abbrev pub dotted : Field → Item → List FieldItem
+dotted field i = (None, Lit (codes ".")) ∷ (Some field, i) ∷ []
+
+-- trusted, own: what follows the prefix: the rest and the serial, each behind a dot, where a rest of no digits leaves two
+-- dots
+abbrev pub behind_prefix : FieldItem → Option Item → List FieldItem
+behind_prefix (None, _) serial = (None, Lit (codes "..")) ∷ of_field (Some Serial) serial
+behind_prefix (Some field, rest) serial = dotted Rest rest ++ flat_map (dotted Serial) (option_to_list serial)
+
+-- trusted, own: the item of a text level for an item of bits, for the same field
+abbrev pub in_text_too : FieldItem → FieldItem
+in_text_too i = (i.0, in_text i.1)
+
+-- trusted, TDS 2.0, sections 12 and 6.3: `urn:epc:tag:ENCODING:`, filter, prefix, rest and serial
+abbrev pub tag_items : Encoding → Partition → List FieldItem
+tag_items e p =
+    (None, Lit (codes "urn:epc:tag:" ++ e.name ++ codes ":")) ∷ (Some Filter, Int 7) ∷ (None, Lit (codes ".")) ∷ (Some Gcp, Pad p.digits)
+    ∷ behind_prefix (in_text_too (rest_in_bits e.rest p.digits (e.width - p.bits))) (option_map in_text e.serial)
+
+-- trusted, own: the pure identity of a kind: its name, what the rest is, and the serial
+abbrev pub identity : List ℕ → RestForm → Option Item → Identity
+identity name rest serial = record { name = name; rest = rest; serial = serial }
+
+-- trusted, TDS 2.0, section 6.3: the pure identities of all kinds
+unfoldable pub identities : List Identity
+identities =
+    identity (codes "sgtin") (Digits 13) (Some (Esc 1 20))
+    ∷ identity (codes "sscc") (Digits 17) None
+    ∷ identity (codes "sgln") (Digits 12) (Some (Esc 1 20))
+    ∷ identity (codes "grai") (Digits 12) (Some (Esc 1 16))
+    ∷ identity (codes "giai") Characters None
+    ∷ identity (codes "gdti") (Digits 12) (Some (Esc 1 17))
+    ∷ identity (codes "gsrn") (Digits 17) None ∷ []
+
+-- trusted, TDS 2.0, sections 12 and 6.3: `urn:epc:id:KIND:`, prefix, rest and serial
+abbrev pub pure_items : Identity → Partition → List FieldItem
+pure_items k p =
+    (None, Lit (codes "urn:epc:id:" ++ k.name ++ codes ":")) ∷ (Some Gcp, Pad p.digits)
+    ∷ behind_prefix (in_text_too (rest_in_bits k.rest p.digits 0)) k.serial
+
+-- trusted, own: the row of an option of a partition, with its kind, its encoding, and its items as a document has them
+abbrev pub row_with : List ℕ → List ℕ → Partition → List (Option FieldItem) → OptionRow
+row_with kind encoding p items = record { kind = kind; encoding = encoding; gcp = p.digits; items = items }
+
+-- trusted, own: an option of a kind and an encoding for a length of the prefix
+abbrev pub option_row : List ℕ → List ℕ → Partition → List FieldItem → OptionRow
+option_row kind encoding p items = row_with kind encoding p (map there items)
+
+-- trusted, own: the option of tag bits of an encoding for a length of the prefix
+abbrev pub binary_row : Encoding → Partition → OptionRow
+binary_row e p = option_row e.kind e.name p (binary_items e p)
+
+-- trusted, own: the options of tag bits of an encoding
+abbrev pub binary_rows : Encoding → List OptionRow
+binary_rows e = map (binary_row e) partitions
+
+-- trusted, own: the option of tag URIs of an encoding for a length of the prefix
+abbrev pub tag_row : Encoding → Partition → OptionRow
+tag_row e p = option_row e.kind e.name p (tag_items e p)
+
+-- trusted, own: the options of tag URIs of an encoding
+abbrev pub tag_rows : Encoding → List OptionRow
+tag_rows e = map (tag_row e) partitions
+
+-- trusted, own: the option of pure identity URIs of a kind for a length of the prefix
+abbrev pub pure_row : Identity → Partition → OptionRow
+pure_row k p = option_row k.name [] p (pure_items k p)
+
+-- trusted, own: the options of pure identity URIs of a kind
+abbrev pub pure_rows : Identity → List OptionRow
+pure_rows k = map (pure_row k) partitions
+
+-- trusted, own: the options of tag bits, for each encoding
+unfoldable pub builtin_binary : List OptionRow
+builtin_binary = flat_map binary_rows encodings
+
+-- trusted, own: the options of tag URIs, for each encoding
+unfoldable pub builtin_tag : List OptionRow
+builtin_tag = flat_map tag_rows encodings
+
+-- trusted, own: the options of pure identity URIs, for each kind
+unfoldable pub builtin_pure : List OptionRow
+builtin_pure = flat_map pure_rows identities
+
+-- ---- numbers that 64 bits hold, as the code has them
+
+-- trusted, own choice: the rows of the built-in tables
+abbrev pub builtin_document : Document
+builtin_document = record { version = 1; ais = builtin_ais; kinds = builtin_kinds; binary = builtin_binary; tag = builtin_tag; pure = builtin_pure }

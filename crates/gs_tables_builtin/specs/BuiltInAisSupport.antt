@@ -1,0 +1,32 @@
+-- What proofs and private functions say beside the definitions of BuiltInAis.antt.
+use Rattle.std.specs.Prelude.{ℕ, Bool, List, ◌++◌, map}
+use Rattle.std.specs.Borrow.{Bor}
+use Rattle.gs_tables_builtin.specs.declared.ai_line.AiLine.{AiLine}
+use Rattle.gs_tables_builtin.specs.declared.ai_line.AiLine.TheVariants as line
+use Rattle.gs_ai.specs.declared.part.Part.{Part}
+use Rattle.gs_ai.specs.declared.part.Role.{Role}
+use Rattle.gs_ai.specs.declared.part.Role.TheVariants as role
+use Rattle.gs_ai.specs.declared.row.AiRow.{AiRow}
+use Rattle.gs_tables_builtin.specs.BuiltInAis.{attribute, qualifier, key, item_ais, date_ais, variant_ais, additional_ais, weight_ais, shipment_ais, party_ais, location_ais, asset_ais, agreed_ais, company_ais}
+
+-- a row of these parts
+abbrev pub ai_row : List ℕ → List Part → Role → List (List ℕ) → Bool → List ℕ → AiRow
+ai_row code parts role qualifiers short none = record { code = code; parts = parts; role = role; qualifiers = qualifiers; short = short; none = none }
+
+-- the text that is lent
+abbrev pub known : Bor (List ℕ) → List ℕ
+known text = text.now
+
+-- the row that a line of the code describes
+abbrev pub row_of : AiLine → AiRow
+row_of (line.Attribute code p) = attribute code.now p
+row_of (line.Qualifier code p none) = qualifier code.now p none.now
+row_of (line.Key code parts qualifiers short) = key code.now parts.now (map known qualifiers.now) short
+
+-- the rows of goods: what and how many they are, their dates and weights
+abbrev pub goods_ais : List AiRow
+goods_ais = item_ais ++ date_ais ++ variant_ais ++ additional_ais ++ weight_ais
+
+-- the other rows: where goods go and come from, assets and services, and what is agreed
+abbrev pub other_ais : List AiRow
+other_ais = shipment_ais ++ party_ais ++ location_ais ++ asset_ais ++ agreed_ais ++ company_ais

@@ -1,0 +1,4 @@
+pub mod BuiltIn
+pub mod BuiltInSupport
+pub mod BuiltInAis
+pub mod BuiltInAisSupport

@@ -1,0 +1,43 @@
+-- The items of a level by their names.
+use Rattle.std.proofs.Common.{◌≡◌, ℕ, true, false, List, codes, refl}
+use Rattle.std.specs.Prelude.{Result, Err}
+use Rattle.std.specs.Str.{bytes_eq}
+use Rattle.serde_json.specs.Data.{Data}
+use Rattle.gs_tables_document.specs.declared.error.ItemFault.{ItemFault}
+use Rattle.gs_tables_document.specs.declared.error.ItemFault.TheVariants.{Bad}
+use Rattle.gs_tables_document.specs.Items.{FieldItem, Reads, ascii7, bit_item, bit_literal, esc, fill, int, literal, num, numpad, pad, text_item}
+
+module _ (name : List ℕ) (d : Data) (result : Result FieldItem ItemFault) where
+  pub text_by_lit : true ≡ bytes_eq name (codes "lit") → Reads result (literal d) → Reads result (text_item name d)
+  text_by_lit h0 own = rw (← h0) own
+
+  pub text_by_pad : false ≡ bytes_eq name (codes "lit") → true ≡ bytes_eq name (codes "pad") → Reads result (pad d) → Reads result (text_item name d)
+  text_by_pad h0 h1 own = rw (← h0, ← h1) own
+
+  pub text_by_int : false ≡ bytes_eq name (codes "lit") → false ≡ bytes_eq name (codes "pad") → true ≡ bytes_eq name (codes "int") → Reads result (int d) → Reads result (text_item name d)
+  text_by_int h0 h1 h2 own = rw (← h0, ← h1, ← h2) own
+
+  pub text_by_esc : false ≡ bytes_eq name (codes "lit") → false ≡ bytes_eq name (codes "pad") → false ≡ bytes_eq name (codes "int") → true ≡ bytes_eq name (codes "esc") → Reads result (esc d) → Reads result (text_item name d)
+  text_by_esc h0 h1 h2 h3 own = rw (← h0, ← h1, ← h2, ← h3) own
+
+pub text_by_none : (name : List ℕ) (d : Data) → false ≡ bytes_eq name (codes "lit") → false ≡ bytes_eq name (codes "pad") → false ≡ bytes_eq name (codes "int") → false ≡ bytes_eq name (codes "esc") → Reads {X = FieldItem} (Err Bad) (text_item name d)
+text_by_none name d h0 h1 h2 h3 = rw (← h0, ← h1, ← h2, ← h3) refl
+
+module _ (name : List ℕ) (d : Data) (result : Result FieldItem ItemFault) where
+  pub bit_by_lit : true ≡ bytes_eq name (codes "lit") → Reads result (bit_literal d) → Reads result (bit_item name d)
+  bit_by_lit h0 own = rw (← h0) own
+
+  pub bit_by_numpad : false ≡ bytes_eq name (codes "lit") → true ≡ bytes_eq name (codes "numpad") → Reads result (numpad d) → Reads result (bit_item name d)
+  bit_by_numpad h0 h1 own = rw (← h0, ← h1) own
+
+  pub bit_by_num : false ≡ bytes_eq name (codes "lit") → false ≡ bytes_eq name (codes "numpad") → true ≡ bytes_eq name (codes "num") → Reads result (num d) → Reads result (bit_item name d)
+  bit_by_num h0 h1 h2 own = rw (← h0, ← h1, ← h2) own
+
+  pub bit_by_ascii7 : false ≡ bytes_eq name (codes "lit") → false ≡ bytes_eq name (codes "numpad") → false ≡ bytes_eq name (codes "num") → true ≡ bytes_eq name (codes "ascii7") → Reads result (ascii7 d) → Reads result (bit_item name d)
+  bit_by_ascii7 h0 h1 h2 h3 own = rw (← h0, ← h1, ← h2, ← h3) own
+
+  pub bit_by_fill : false ≡ bytes_eq name (codes "lit") → false ≡ bytes_eq name (codes "numpad") → false ≡ bytes_eq name (codes "num") → false ≡ bytes_eq name (codes "ascii7") → true ≡ bytes_eq name (codes "fill") → Reads result (fill d) → Reads result (bit_item name d)
+  bit_by_fill h0 h1 h2 h3 h4 own = rw (← h0, ← h1, ← h2, ← h3, ← h4) own
+
+pub bit_by_none : (name : List ℕ) (d : Data) → false ≡ bytes_eq name (codes "lit") → false ≡ bytes_eq name (codes "numpad") → false ≡ bytes_eq name (codes "num") → false ≡ bytes_eq name (codes "ascii7") → false ≡ bytes_eq name (codes "fill") → Reads {X = FieldItem} (Err Bad) (bit_item name d)
+bit_by_none name d h0 h1 h2 h3 h4 = rw (← h0, ← h1, ← h2, ← h3, ← h4) refl

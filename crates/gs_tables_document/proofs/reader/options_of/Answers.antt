@@ -1,0 +1,4 @@
+use Rattle.gs_tables_document.proofs.reader.options_of.Goals as goal
+
+pub returns : goal.returns
+returns c = (c.in_ok-read_rows.ensures, c.in_ok-read_rows-2.ensures, c.in_ok-read_rows-3.ensures)

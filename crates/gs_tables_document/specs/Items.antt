@@ -1,0 +1,153 @@
+-- The items of an option as a table document writes them: an array that begins with the item's name. This project's own.
+use Rattle.std.specs.Prelude.{ℕ, ◌==◌, ◌^◌, nat_lt, Bool, true, false, if◌then◌else◌, List, map, codes, Option, Some, None, option_map, option_and_then, option_to_list, Result, Ok, Err, ◌≡◌, ◌-◌}
+use Rattle.std.specs.List.{flat_map}
+use Rattle.std.specs.Str.{bytes_eq}
+use Rattle.serde_json.specs.Data.{Data}
+use Rattle.serde_json.specs.Find.{as_number, as_str, as_u64, at}
+use Rattle.gs_json.specs.Answers.{items_count}
+use Rattle.gs_bits.specs.Digits.{are_bit_digits}
+use Rattle.gs_grammar.specs.declared.item.Item.{Item}
+use Rattle.gs_grammar.specs.declared.item.Item.TheVariants.{Lit, Pad, Int, Esc, NumPad, Num, Ascii7, Fill}
+use Rattle.gs_tables_document.specs.declared.field.Field.{Field}
+use Rattle.gs_tables_document.specs.declared.field.Field.TheVariants.{Filter, Gcp, Rest, Serial}
+use Rattle.gs_tables_document.specs.declared.error.ItemFault.{ItemFault}
+use Rattle.gs_tables_document.specs.declared.error.ItemFault.TheVariants.{Bad, Memory}
+
+-- ---- what may stand in an item
+
+-- trusted, own: the field of a name
+abbrev pub field_of : List ℕ → Option Field
+field_of name =
+    if bytes_eq name (codes "filter") then Some Filter
+    else if bytes_eq name (codes "gcp") then Some Gcp
+    else if bytes_eq name (codes "rest") then Some Rest
+    else if bytes_eq name (codes "serial") then Some Serial
+    else None
+
+-- trusted, own: a number that has room in this many bits
+abbrev pub held : ℕ → ℕ → Option ℕ
+held bits n = if nat_lt n (2 ^ bits) then Some n else None
+
+-- trusted, own: bits, as a text of the digits 0 and 1
+abbrev pub bits_of : List ℕ → Option (List ℕ)
+bits_of text = if are_bit_digits text then Some (map (λ c. c - 48) text) else None
+
+-- trusted, own: the text at a place of an array
+abbrev pub text_arg : ℕ → Data → Option (List ℕ)
+text_arg i d = option_and_then as_str (at i d)
+
+-- trusted, own: the number at a place of an array
+abbrev pub number_arg : ℕ → Data → Option ℕ
+number_arg i d = option_and_then as_u64 (option_and_then as_number (at i d))
+
+-- trusted, own: the field at a place of an array
+abbrev pub field_arg : ℕ → Data → Option Field
+field_arg i d = option_and_then field_of (text_arg i d)
+
+-- trusted, own: the number at a place of an array, below 2^8
+abbrev pub byte_arg : ℕ → Data → Option ℕ
+byte_arg i d = option_and_then (held 8) (number_arg i d)
+
+-- trusted, own: the number at a place of an array, below 2^16
+abbrev pub short_arg : ℕ → Data → Option ℕ
+short_arg i d = option_and_then (held 16) (number_arg i d)
+
+-- ---- the items
+
+-- trusted, own: an item, and the field that its value stands for
+abbrev pub FieldItem : Type 0
+FieldItem = Option Field × Item
+
+-- trusted, own: the items that are there
+abbrev pub present : List (Option FieldItem) → List FieldItem
+present entries = flat_map option_to_list entries
+
+-- trusted, own: the items without their fields
+abbrev pub alone : List FieldItem → List Item
+alone items = map (λ (i : FieldItem). i.1) items
+
+-- trusted, own: the fields of the items
+abbrev pub fields_of : List FieldItem → List (Option Field)
+fields_of items = map (λ (i : FieldItem). i.0) items
+
+-- trusted, own: an array of this many parts
+abbrev pub sized : ℕ → Data → Option FieldItem → Option FieldItem
+sized n d answer = if items_count d == n then answer else None
+
+-- trusted, own: an item whose value stands for the field that its second part names
+abbrev pub with_field : Data → Option Item → Option FieldItem
+with_field d item = option_and_then (λ field. option_map (λ i. (Some field, i)) item) (field_arg 1 d)
+
+-- trusted, own: an item whose value stands for no field
+abbrev pub no_field : Option Item → Option FieldItem
+no_field item = option_map (λ i. (None, i)) item
+
+-- trusted, own: two numbers
+abbrev pub both : Option ℕ → Option ℕ → (ℕ → ℕ → Item) → Option Item
+both a b make = option_and_then (λ x. option_map (λ y. make x y) b) a
+
+-- trusted, own: `["lit", TEXT]`
+abbrev pub literal : Data → Option FieldItem
+literal d = sized 2 d (no_field (option_map Lit (text_arg 1 d)))
+
+-- trusted, own: `["lit", BITS]` on a bit level
+abbrev pub bit_literal : Data → Option FieldItem
+bit_literal d = sized 2 d (no_field (option_map Lit (option_and_then bits_of (text_arg 1 d))))
+
+-- trusted, own: `["pad", FIELD, n]`
+abbrev pub pad : Data → Option FieldItem
+pad d = sized 3 d (with_field d (option_map Pad (byte_arg 2 d)))
+
+-- trusted, own: `["int", FIELD, max]`
+abbrev pub int : Data → Option FieldItem
+int d = sized 3 d (with_field d (option_map Int (number_arg 2 d)))
+
+-- trusted, own: `["esc", FIELD, lo, hi]`
+abbrev pub esc : Data → Option FieldItem
+esc d = sized 4 d (with_field d (both (byte_arg 2 d) (byte_arg 3 d) Esc))
+
+-- trusted, own: `["numpad", FIELD, bits, n]`
+abbrev pub numpad : Data → Option FieldItem
+numpad d = sized 4 d (with_field d (both (byte_arg 2 d) (byte_arg 3 d) NumPad))
+
+-- trusted, own: `["num", FIELD, bits, max]`
+abbrev pub num : Data → Option FieldItem
+num d = sized 4 d (with_field d (both (byte_arg 2 d) (number_arg 3 d) Num))
+
+-- trusted, own: `["ascii7", FIELD, lo, hi, bits]`
+abbrev pub ascii7 : Data → Option FieldItem
+ascii7 d = sized 5 d (with_field d (option_and_then (λ bits. both (byte_arg 2 d) (byte_arg 3 d) (λ lo hi. Ascii7 lo hi bits)) (short_arg 4 d)))
+
+-- trusted, own: `["fill", a, b]`
+abbrev pub fill : Data → Option FieldItem
+fill d = sized 3 d (no_field (both (byte_arg 1 d) (byte_arg 2 d) Fill))
+
+-- trusted, own: the items of a text level by their names
+abbrev pub text_item : List ℕ → Data → Option FieldItem
+text_item name d =
+    if bytes_eq name (codes "lit") then literal d
+    else if bytes_eq name (codes "pad") then pad d
+    else if bytes_eq name (codes "int") then int d
+    else if bytes_eq name (codes "esc") then esc d
+    else None
+
+-- trusted, own: the items of a bit level by their names
+abbrev pub bit_item : List ℕ → Data → Option FieldItem
+bit_item name d =
+    if bytes_eq name (codes "lit") then bit_literal d
+    else if bytes_eq name (codes "numpad") then numpad d
+    else if bytes_eq name (codes "num") then num d
+    else if bytes_eq name (codes "ascii7") then ascii7 d
+    else if bytes_eq name (codes "fill") then fill d
+    else None
+
+-- trusted, own: the item of a bit level or of a text level that the array is, and its field
+abbrev pub item_of : Bool → Data → Option FieldItem
+item_of true d = option_and_then (λ name. bit_item name d) (text_arg 0 d)
+item_of false d = option_and_then (λ name. text_item name d) (text_arg 0 d)
+
+-- trusted, own: the answer is this one, and `Bad` exactly where there is none
+abbrev pub Reads : {X : Type 0} → Result X ItemFault → Option X → Type 0
+Reads (Ok x) answer = answer ≡ Some x
+Reads (Err Bad) answer = answer ≡ None
+Reads (Err Memory) answer = Unit {0}

@@ -1,0 +1,7 @@
+pub mod Limits
+pub mod Items
+pub mod ItemsSupport
+pub mod Documents
+pub mod DocumentsSupport
+pub mod Readings
+pub mod ReadingsSupport

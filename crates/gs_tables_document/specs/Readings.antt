@@ -1,0 +1,36 @@
+-- What the bytes of a table document are read as: its rows, or the first error of its form.
+use Rattle.std.specs.Prelude.{◌≡◌, ◌⊎◌, ℕ, List, [], Some, None, slice_get, IsUtf8}
+use Rattle.serde_json.specs.Data.{Data}
+use Rattle.serde_json.specs.Read.{read as read_text}
+use Rattle.gs_json.specs.declared.error.JsonFault.{JsonFault}
+use Rattle.gs_json.specs.declared.error.JsonFault.TheVariants.{Syntax}
+use Rattle.gs_tables_document.specs.declared.document.Document.{Document}
+use Rattle.gs_tables_document.specs.declared.error.LoadFault.{LoadFault}
+use Rattle.gs_tables_document.specs.declared.error.LoadFault.TheVariants.{Json, Memory}
+use Rattle.gs_tables_document.specs.Documents.{document_errors, IsDocument}
+
+-- trusted, own: the bytes are the JSON text of this tree
+abbrev pub IsJson : List ℕ → Data → Type 0
+IsJson bytes d = IsUtf8 bytes × (read_text bytes ≡ Some d)
+
+-- trusted, own: the bytes are a table document of these rows
+abbrev pub Holds : List ℕ → Document → Type 0
+Holds bytes document = (d : Data) × IsJson bytes d × (document_errors d ≡ []) × IsDocument d document
+
+-- trusted, own: the bytes are no JSON text
+abbrev pub IsNoJson : List ℕ → JsonFault → Type 0
+IsNoJson bytes error = (error ≡ Syntax) × (IsUtf8 bytes → read_text bytes ≡ None)
+
+-- trusted, own: the first error of the form of the document that the bytes are
+abbrev pub IsFirstError : List ℕ → JsonFault → Type 0
+IsFirstError bytes error = (d : Data) × IsJson bytes d × (slice_get (document_errors d) 0 ≡ Some error)
+
+-- trusted, own: why the form of a document is rejected
+abbrev pub IsFormError : List ℕ → JsonFault → Type 0
+IsFormError bytes error = IsNoJson bytes error ⊎ IsFirstError bytes error
+
+-- trusted, own: the rejection is one of the form, or out of memory
+abbrev pub IsFormRejection : List ℕ → LoadFault → Type 0
+IsFormRejection bytes (Json error) = IsFormError bytes error
+IsFormRejection bytes Memory = Unit {0}
+IsFormRejection bytes _ = ⊥

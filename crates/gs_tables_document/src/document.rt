@@ -1,0 +1,50 @@
+use crate::field::Field;
+use gs_ai::AiRow;
+use gs_chars::{List, Text};
+use gs_grammar::Item;
+
+/// An item, and the field that its value stands for, none for a literal and a fill.
+pub type FieldItem = (Option<Field>, Item);
+
+/// A kind as a document has it, before it is judged.
+#[derive(Drop)]
+pub struct KindRow {
+    /// The name, as EPC URIs have it.
+    pub name: Text,
+    /// The code of the key.
+    pub key: Text,
+    /// How many digits of the key stand before the prefix and go with the rest.
+    pub lead: u64,
+    /// Where the serial stands: the code of its element, `tail`, or empty for nowhere.
+    pub serial: Text,
+}
+
+/// An option as a document has it, before it is judged.
+#[derive(Drop)]
+pub struct OptionRow {
+    /// The name of its kind.
+    pub kind: Text,
+    /// The name of the encoding, empty on the level of pure identities.
+    pub encoding: Text,
+    /// How many digits or characters the GS1 Company Prefix has.
+    pub gcp: u64,
+    /// The items, each absent where the document has none of the level there.
+    pub items: List<Option<FieldItem>>,
+}
+
+/// The rows of a document, before they are judged.
+#[derive(Drop)]
+pub struct Document {
+    /// The version of the profile.
+    pub version: u64,
+    /// The application identifiers.
+    pub ais: List<AiRow>,
+    /// The kinds.
+    pub kinds: List<KindRow>,
+    /// The options of the bits of tags.
+    pub binary: List<OptionRow>,
+    /// The options of tag URIs.
+    pub tag: List<OptionRow>,
+    /// The options of pure identity URIs.
+    pub pure: List<OptionRow>,
+}

@@ -1,0 +1,85 @@
+use crate::level_name::LevelName;
+use gs_ai::AiFault;
+use gs_chars::{Memory, Text};
+use gs_json::JsonFault;
+
+/// What there may be only so many of.
+#[derive(Clone, Copy, Debug)]
+pub enum LimitName {
+    /// Rows of application identifiers, at most `MOST_ROWS`.
+    Ais,
+    /// Kinds, at most `MOST_KINDS`.
+    Kinds,
+    /// Options of a level, at most `MOST_ROWS`.
+    Options,
+    /// Items of an option, at most `MOST_ITEMS`.
+    Items,
+    /// Symbols of an option, at most `MOST_SYMBOLS` of gs_grammar.
+    Size,
+}
+
+/// Why tables are rejected. The indexes count from 0.
+#[derive(Debug, Drop)]
+pub enum LoadFault {
+    /// The document is not of the form of a table document.
+    Json(JsonFault),
+    /// The version is not 1.
+    Version,
+    /// There is more than the limit allows.
+    Limit(LimitName),
+    /// A rule of the application identifiers is broken.
+    Ai(AiFault),
+    /// The kind at this index breaks a rule.
+    BadKind(usize),
+    /// The item at the last index, of the option of the level, is none of the level, or breaks a bound.
+    BadItem(LevelName, usize, usize),
+    /// The option of the level does not fit its kind.
+    Mismatch(LevelName, usize),
+    /// The options of the level at the two indexes have the same kind, encoding and prefix length.
+    Duplicate(LevelName, usize, usize),
+    /// The options of the level at the two indexes, which may be one option, are the first pair that shares a list of symbols,
+    /// and no earlier level has such a pair. The text shows one that they share, bits as `0` and `1`.
+    Ambiguous {
+        /// The level.
+        level: LevelName,
+        /// The index of the first of the two options.
+        i: usize,
+        /// The index of the second.
+        j: usize,
+        /// The symbols that they share.
+        text: Text,
+    },
+    /// Out of memory.
+    Memory,
+}
+
+/// Why an item is not read.
+#[derive(Clone, Copy)]
+pub enum ItemFault {
+    /// It is no item of the level.
+    Bad,
+    /// Out of memory.
+    Memory,
+}
+
+impl From<Memory> for LoadFault {
+    ghost use Rattle.std.specs.Prelude.{◌≡◌};
+    ghost use Rattle.gs_tables_document.specs.declared.error.LoadFault.TheVariants.{Memory as WantOfMemory};
+
+    ghost from_gives = { λ _ e. e ≡ WantOfMemory };
+
+    fn from(_rejected: Memory) -> LoadFault {
+        LoadFault::Memory
+    }
+}
+
+impl From<Memory> for ItemFault {
+    ghost use Rattle.std.specs.Prelude.{◌≡◌};
+    ghost use Rattle.gs_tables_document.specs.declared.error.ItemFault.TheVariants.{Memory as WantOfMemory};
+
+    ghost from_gives = { λ _ e. e ≡ WantOfMemory };
+
+    fn from(_rejected: Memory) -> ItemFault {
+        ItemFault::Memory
+    }
+}

@@ -1,0 +1,34 @@
+ghost use Rattle.std.specs.Prelude.{◌≡◌};
+ghost use Rattle.gs_tables_document.specs.Items.{field_of};
+
+/// What the value of an item stands for.
+#[derive(Clone, Copy, Debug, PartialEq, Eq)]
+pub enum Field {
+    /// The filter value of a tag.
+    Filter,
+    /// The GS1 Company Prefix.
+    Gcp,
+    /// What follows the prefix in the key.
+    Rest,
+    /// The serial.
+    Serial,
+}
+
+impl Field {
+    /// The field that is written so.
+    pub(crate) fn read(text: &[u8]) -> Option<Field>
+        ensures { result ≡ field_of text.now }
+    {
+        if text == b"filter".as_slice() {
+            Some(Field::Filter)
+        } else if text == b"gcp".as_slice() {
+            Some(Field::Gcp)
+        } else if text == b"rest".as_slice() {
+            Some(Field::Rest)
+        } else if text == b"serial".as_slice() {
+            Some(Field::Serial)
+        } else {
+            None
+        }
+    }
+}

@@ -1,0 +1,167 @@
+ghost use Rattle.std.specs.Prelude.{◌≡◌, ℕ, List, [], IfOk, IfErr, codes};
+ghost use Rattle.serde_json.specs.View.{view};
+ghost use Rattle.gs_json.specs.Answers.{OrMemory};
+ghost use Rattle.gs_json.specs.Shapes.{first_error};
+ghost use Rattle.gs_json.specs.Members.{items_of};
+ghost use Rattle.gs_tables_document.specs.Documents.{IsDocument, ai_plan, document_errors, document_plan, kind_plan, object_errors, option_plan, row_errors, rows_errors};
+ghost use Rattle.gs_tables_document.specs.DocumentsSupport.{AreOptions};
+ghost use Rattle.gs_tables_document.specs.Readings.{Holds, IsFormRejection, IsJson};
+ghost use Rattle.gs_tables_document.specs.ReadingsSupport.{of_json};
+
+use crate::document::{Document, OptionRow};
+use crate::error::LoadFault;
+use crate::plans::{ai_plan, document_plan, kind_plan, option_plan};
+use crate::read_mode::Reading;
+use crate::rows::read_rows;
+use gs_chars::{List, Memory};
+use gs_json::{Doc, Entry, JsonFault, Node, number_in};
+use serde_json::Value;
+use std::alloc::Global;
+
+/// How the options of bits are read.
+const BITS: Reading = Reading { bits: true };
+
+/// How all other rows are read.
+const TEXTS: Reading = Reading { bits: false };
+
+/// The rows of the table document that the bytes are, or the first error of its form, as `Json`: the bytes are no JSON
+/// text, or the document or a row has not the form of its kind. `Memory` may come in place of any answer.
+pub fn read_document(alloc: Global, bytes: &[u8]) -> Result<Document, LoadFault>
+    ensures document { IfOk result (λ document. Holds bytes.now document) }
+    ensures rejected { IfErr result (λ error. IsFormRejection bytes.now error) }
+{
+    match Doc::parse(alloc, bytes) {
+        Ok(doc) => read_root(alloc, &doc.root(alloc)),
+        Err(error) => Err(of_json(error)),
+    }
+}
+
+/// The rows of the document of this tree, or the first error of its form.
+fn read_root(alloc: Global, root: &Node<'_>) -> Result<Document, LoadFault>
+    requires { root.now.place ≡ [] }
+    ensures document { IfOk result (λ document. (bytes : List ℕ) → IsJson bytes (view root.now.tree)
+        → Holds bytes document) }
+    ensures rejected { IfErr result (λ error. (bytes : List ℕ) → IsJson bytes (view root.now.tree)
+        → IsFormRejection bytes error) }
+{
+    match judge_document(alloc, root) {
+        Ok(()) => Ok(rows_of(alloc, root.value())?),
+        Err(error) => Err(of_json(error)),
+    }
+}
+
+/// An error of JSON, with out of memory as its own.
+fn of_json(error: JsonFault) -> LoadFault
+    ensures { result ≡ of_json error }
+{
+    match error {
+        JsonFault::Memory => LoadFault::Memory,
+        other => LoadFault::Json(other),
+    }
+}
+
+/// The first error of the form of a document: of its object, then of the rows of each array.
+fn judge_document(alloc: Global, root: &Node<'_>) -> Result<(), JsonFault>
+    requires { root.now.place ≡ [] }
+    ensures { OrMemory result (first_error (document_errors (view root.now.tree))) }
+{
+    judge_object(alloc, root)?;
+    judge_ais(alloc, root)?;
+    judge_kinds(alloc, root)?;
+    judge_options(alloc, root, "binary")?;
+    judge_options(alloc, root, "tag")?;
+    judge_options(alloc, root, "pure")
+}
+
+/// The first error of the document's object.
+fn judge_object(alloc: Global, root: &Node<'_>) -> Result<(), JsonFault>
+    requires { root.now.place ≡ [] }
+    ensures { OrMemory result (first_error (object_errors [] document_plan (view root.now.tree))) }
+{
+    let plan = document_plan(alloc)?;
+    root.shaped(alloc, plan.items())
+}
+
+/// The first error of the rows of application identifiers.
+fn judge_ais(alloc: Global, root: &Node<'_>) -> Result<(), JsonFault>
+    requires { root.now.place ≡ [] }
+    ensures { OrMemory result (first_error (rows_errors (codes "ais") ai_plan (view root.now.tree))) }
+{
+    let plan = ai_plan(alloc)?;
+    judge_rows(alloc, root, "ais", plan.items())
+}
+
+/// The first error of the rows of kinds.
+fn judge_kinds(alloc: Global, root: &Node<'_>) -> Result<(), JsonFault>
+    requires { root.now.place ≡ [] }
+    ensures { OrMemory result (first_error (rows_errors (codes "kinds") kind_plan (view root.now.tree))) }
+{
+    let plan = kind_plan(alloc)?;
+    judge_rows(alloc, root, "kinds", plan.items())
+}
+
+/// The first error of the rows of the options of a level.
+fn judge_options(alloc: Global, root: &Node<'_>, name: &str) -> Result<(), JsonFault>
+    requires { root.now.place ≡ [] }
+    ensures { OrMemory result (first_error (rows_errors name.now option_plan (view root.now.tree))) }
+{
+    let plan = option_plan(alloc)?;
+    judge_rows(alloc, root, name, plan.items())
+}
+
+/// The first error of the rows of the array of a name, row by row.
+#[tactic(auto, unfolding(crate::specs::Documents::rows_errors))]
+fn judge_rows(alloc: Global, root: &Node<'_>, name: &str, plan: &[Entry]) -> Result<(), JsonFault>
+    requires { root.now.place ≡ [] }
+    ensures { OrMemory result (first_error (rows_errors name.now plan.now (view root.now.tree))) }
+{
+    match root.find(alloc, name)? {
+        Some(array) => judge_items(alloc, &array, plan),
+        None => Ok(()),
+    }
+}
+
+/// The first error of the rows of an array, row by row.
+fn judge_items(alloc: Global, array: &Node<'_>, plan: &[Entry]) -> Result<(), JsonFault>
+    ensures { OrMemory result
+        (first_error (row_errors array.now.place plan.now (items_of (view array.now.tree)))) }
+{
+    let count = array.items_len().unwrap_or(0);
+    for i in 0..count {
+        let row = array.item(alloc, i)?;
+        row.shaped(alloc, plan)?;
+    }
+    Ok(())
+}
+
+/// The rows of a document.
+fn rows_of(alloc: Global, root: &Value) -> Result<Document, Memory>
+    ensures { IfOk result (λ document. IsDocument (view root.now) document) }
+{
+    let version = number_in(root, "version");
+    let ais = read_rows(alloc, root, "ais", TEXTS)?;
+    let kinds = read_rows(alloc, root, "kinds", TEXTS)?;
+    let (binary, tag, pure) = options_of(alloc, root)?;
+    Ok(Document {
+        version,
+        ais,
+        kinds,
+        binary,
+        tag,
+        pure,
+    })
+}
+
+/// The rows of the options of the levels: binary, tag and pure.
+fn options_of(
+    alloc: Global,
+    root: &Value,
+) -> Result<(List<OptionRow>, List<OptionRow>, List<OptionRow>), Memory>
+    ensures { IfOk result (AreOptions (view root.now)) }
+{
+    Ok((
+        read_rows(alloc, root, "binary", BITS)?,
+        read_rows(alloc, root, "tag", TEXTS)?,
+        read_rows(alloc, root, "pure", TEXTS)?,
+    ))
+}

@@ -1,0 +1,159 @@
+ghost use Rattle.std.specs.Prelude.{IfOk, codes, map};
+ghost use Rattle.serde_json.specs.View.{view};
+ghost use Rattle.gs_json.specs.Members.{items_in, text_in};
+ghost use Rattle.gs_tables_document.specs.Documents.{Each, IsRole};
+ghost use Rattle.gs_tables_document.specs.DocumentsSupport.{AreAiLists};
+
+use crate::document::{FieldItem, KindRow, OptionRow};
+use crate::error::ItemFault;
+use crate::items::read_value;
+use crate::members::{copy_in, str_of};
+use crate::read_mode::Reading;
+use gs_ai::{AiRow, Part, Role};
+use gs_chars::{List, Memory, Text};
+use gs_json::{items_in, number_in, text_in, truth_in};
+use serde_json::Value;
+use std::alloc::Global;
+
+/// What a part of a document is read as.
+pub(crate) trait Row: Drop {
+    ghost use Rattle.serde_json.specs.Data.{Data};
+    ghost use Rattle.gs_tables_document.specs.declared.read_mode.Reading.{Reading};
+
+    /// The last is what the part is read as.
+    ghost reads: { Reading → Data → Self → Type 0 };
+
+    /// Reads a part of a document, whatever it is.
+    fn read(alloc: Global, value: &Value, reading: Reading) -> Result<Self, Memory>
+        ensures { IfOk result (λ row. reads reading (view value.now) row) };
+}
+
+/// The rows that these are read as, in their order.
+fn read_items<R: Row>(alloc: Global, items: &[Value], reading: Reading) -> Result<List<R>, Memory>
+    ensures { IfOk result (λ rows. Each (R.reads reading) (map view items.now) rows) }
+{
+    let mut rows = Vec::new(alloc);
+    for item in items {
+        rows.push(R::read(alloc, item, reading)?)?;
+    }
+    Ok(List::from_vec(rows))
+}
+
+/// The rows of the array that is the member of a name, and none where there is no such array.
+pub(crate) fn read_rows<R: Row>(
+    alloc: Global,
+    object: &Value,
+    name: &str,
+    reading: Reading,
+) -> Result<List<R>, Memory>
+    ensures { IfOk result (λ rows. Each (R.reads reading) (items_in name.now (view object.now)) rows) }
+{
+    read_items(alloc, items_in(object, name), reading)
+}
+
+impl Row for Text {
+    ghost use Rattle.gs_tables_document.specs.Documents.{IsText};
+
+    ghost reads = { λ _ d text. IsText d text };
+
+    fn read(alloc: Global, value: &Value, _reading: Reading) -> Result<Text, Memory> {
+        Text::from_bytes(alloc, str_of(value).as_bytes())
+    }
+}
+
+impl Row for Part {
+    ghost use Rattle.gs_tables_document.specs.Documents.{IsPartOf};
+
+    ghost reads = { λ _ d part. IsPartOf d part };
+
+    fn read(alloc: Global, value: &Value, _reading: Reading) -> Result<Part, Memory> {
+        Ok(Part::read(str_of(value).as_bytes()))
+    }
+}
+
+/// The role that the member `role` names.
+fn role_in(object: &Value) -> Role
+    ensures { IsRole (text_in (codes "role") (view object.now)) result }
+{
+    Role::read(text_in(object, "role").as_bytes())
+}
+
+/// The parts and the qualifiers of an application identifier.
+fn lists_in(
+    alloc: Global,
+    object: &Value,
+    reading: Reading,
+) -> Result<(List<Part>, List<Text>), Memory>
+    ensures { IfOk result (AreAiLists (view object.now)) }
+{
+    Ok((
+        read_rows(alloc, object, "parts", reading)?,
+        read_rows(alloc, object, "qualifiers", reading)?,
+    ))
+}
+
+impl Row for AiRow {
+    ghost use Rattle.gs_tables_document.specs.Documents.{IsAiRow};
+
+    ghost reads = { λ _ d row. IsAiRow d row };
+
+    fn read(alloc: Global, value: &Value, reading: Reading) -> Result<AiRow, Memory> {
+        let role = role_in(value);
+        let short = truth_in(value, "short");
+        let code = copy_in(alloc, value, "code")?;
+        let none = copy_in(alloc, value, "none")?;
+        let (parts, qualifiers) = lists_in(alloc, value, reading)?;
+        Ok(AiRow {
+            role,
+            short,
+            code,
+            none,
+            parts,
+            qualifiers,
+        })
+    }
+}
+
+impl Row for KindRow {
+    ghost use Rattle.gs_tables_document.specs.Documents.{IsKindRow};
+
+    ghost reads = { λ _ d row. IsKindRow d row };
+
+    fn read(alloc: Global, value: &Value, _reading: Reading) -> Result<KindRow, Memory> {
+        Ok(KindRow {
+            lead: number_in(value, "lead"),
+            name: copy_in(alloc, value, "name")?,
+            key: copy_in(alloc, value, "key")?,
+            serial: copy_in(alloc, value, "serial")?,
+        })
+    }
+}
+
+impl Row for OptionRow {
+    ghost use Rattle.gs_tables_document.specs.Documents.{IsOptionRow};
+
+    ghost reads = { IsOptionRow };
+
+    fn read(alloc: Global, value: &Value, reading: Reading) -> Result<OptionRow, Memory> {
+        Ok(OptionRow {
+            gcp: number_in(value, "gcp"),
+            kind: copy_in(alloc, value, "kind")?,
+            encoding: copy_in(alloc, value, "encoding")?,
+            items: read_rows(alloc, value, "items", reading)?,
+        })
+    }
+}
+
+impl Row for Option<FieldItem> {
+    ghost use Rattle.gs_tables_document.specs.Documents.{IsItemAt};
+
+    ghost reads = { IsItemAt };
+
+    fn read(alloc: Global, value: &Value, reading: Reading) -> Result<Option<FieldItem>, Memory> {
+        match read_value(alloc, value, reading.bits) {
+            Ok(item) => Ok(Some(item)),
+            Err(ItemFault::Bad) => Ok(None),
+            Err(ItemFault::Memory) => Err(Memory),
+        }
+    }
+}

@@ -1,0 +1,120 @@
+ghost use Rattle.std.specs.Prelude.{◌≡◌, ◌++◌, IfOk, OnOk};
+ghost use Rattle.gs_translate.specs.Reasons.{element_text, epc_text, hex_text, ident_text, reason_text, value_text};
+
+use crate::hold_text::{append_hold, append_missing};
+use crate::reason::Reason;
+use crate::words::{append_number, append_numbered, append_word};
+use gs_ai::{ElementFault, ElementWhy, ValueFault};
+use gs_bits::HexFault;
+use gs_chars::{Memory, Text};
+use gs_epc::EpcFault;
+use gs_ident::IdentFault;
+use std::alloc::Global;
+
+/// The text of a reason, as it is printed behind `no `, and `memory` of `Memory`.
+pub fn reason_text(alloc: Global, reason: &Reason) -> Result<Text, Memory>
+    ensures { IfOk result (λ text. text ≡ reason_text reason.now) }
+{
+    let mut text = Vec::new(alloc);
+    append_reason(alloc, &mut text, reason)?;
+    Ok(Text::from_vec(text))
+}
+
+/// Appends why a text is rejected, as it is printed.
+pub fn append_reason(alloc: Global, out: &mut Vec<u8>, reason: &Reason) -> Result<(), Memory>
+    ensures { OnOk result (out.new.items ≡ out.old.items ++ reason_text reason.now) }
+{
+    match reason {
+        Reason::Long => append_word(out, b"long"),
+        Reason::Epc(error) => append_epc(alloc, out, *error),
+        Reason::Element(error) => append_element(alloc, out, *error),
+        Reason::NotHttp => append_word(out, b"http"),
+        Reason::NoKeyPath => append_word(out, b"path"),
+        Reason::Ident(error) => append_ident(out, error),
+        Reason::NoKind => append_word(out, b"kind"),
+        Reason::Extra(code) => append_code(out, b"extra ", code),
+        Reason::Missing(name) => append_missing(out, *name),
+        Reason::NoOption => append_word(out, b"option"),
+        Reason::CannotHold(field, why) => append_hold(out, *field, *why),
+        Reason::Memory => append_word(out, b"memory"),
+    }
+}
+
+/// Appends why a text says no EPC.
+fn append_epc(alloc: Global, out: &mut Vec<u8>, error: EpcFault) -> Result<(), Memory>
+    ensures { OnOk result (out.new.items ≡ out.old.items ++ epc_text error) }
+{
+    match error {
+        EpcFault::Hex(error) => append_hex(alloc, out, error),
+        EpcFault::NoReading => append_word(out, b"reading"),
+        EpcFault::Memory => append_word(out, b"memory"),
+    }
+}
+
+/// Appends why a text is no hexadecimal text.
+fn append_hex(alloc: Global, out: &mut Vec<u8>, error: HexFault) -> Result<(), Memory>
+    ensures { OnOk result (out.new.items ≡ out.old.items ++ hex_text error) }
+{
+    match error {
+        HexFault::OddDigits => append_word(out, b"odd"),
+        HexFault::Full => append_word(out, b"full"),
+        HexFault::BadDigit(place) => append_numbered(alloc, out, b"digit", place),
+    }
+}
+
+/// Appends what is wrong with an element, and where.
+fn append_element(alloc: Global, out: &mut Vec<u8>, error: ElementFault) -> Result<(), Memory>
+    ensures { OnOk result (out.new.items ≡ out.old.items ++ element_text error) }
+{
+    match error.why {
+        ElementWhy::Value(why) => append_value(alloc, out, error.at, why),
+        ElementWhy::Escape => append_numbered(alloc, out, b"escape", error.at),
+        ElementWhy::Bracket => append_numbered(alloc, out, b"bracket", error.at),
+    }
+}
+
+/// Appends that a value has a wrong character, the place of its code, and the place of the character in the value.
+fn append_char(alloc: Global, out: &mut Vec<u8>, at: usize, place: usize) -> Result<(), Memory>
+    ensures { OnOk result (out.new.items ≡ out.old.items ++ value_text at (ValueFault.Char place)) }
+{
+    append_numbered(alloc, out, b"char", at)?;
+    append_number(alloc, out, place)
+}
+
+/// Appends why a value is none of its code, and the place of the code.
+fn append_value(
+    alloc: Global,
+    out: &mut Vec<u8>,
+    at: usize,
+    error: ValueFault,
+) -> Result<(), Memory>
+    ensures { OnOk result (out.new.items ≡ out.old.items ++ value_text at error) }
+{
+    match error {
+        ValueFault::Unknown => append_numbered(alloc, out, b"unknown", at),
+        ValueFault::Length => append_numbered(alloc, out, b"length", at),
+        ValueFault::Char(place) => append_char(alloc, out, at, place),
+        ValueFault::Check => append_numbered(alloc, out, b"check", at),
+        ValueFault::Date => append_numbered(alloc, out, b"date", at),
+    }
+}
+
+/// Appends why elements have no identity, as it is printed.
+pub fn append_ident(out: &mut Vec<u8>, error: &IdentFault) -> Result<(), Memory>
+    ensures { OnOk result (out.new.items ≡ out.old.items ++ ident_text error.now) }
+{
+    match error {
+        IdentFault::Repeat(code) => append_code(out, b"repeat ", code),
+        IdentFault::NoKey => append_word(out, b"key"),
+        IdentFault::TwoKeys(code) => append_code(out, b"keys ", code),
+        IdentFault::Memory => append_word(out, b"memory"),
+    }
+}
+
+/// Appends a word and the code of an application identifier.
+fn append_code(out: &mut Vec<u8>, word: &[u8], code: &Text) -> Result<(), Memory>
+    ensures { OnOk result (out.new.items ≡ out.old.items ++ (word.now ++ code.now)) }
+{
+    append_word(out, word)?;
+    append_word(out, code.as_bytes())
+}

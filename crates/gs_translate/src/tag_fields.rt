@@ -1,0 +1,203 @@
+ghost use Rattle.std.specs.Prelude.{◌≡◌, ◌<◌, IfOk, find, length, not, position};
+ghost use Rattle.std.specs.List.{list_any};
+ghost use Rattle.std.specs.Option.{option_copied};
+ghost use Rattle.gs_epc.specs.Candidates.{HasFilterOn};
+ghost use Rattle.gs_translate.specs.Steps.{UnlessMemory};
+ghost use Rattle.gs_translate.specs.Targets.{FitsFilter, digits_from_prefix, encoding_for, epc_for, extra_pair, filter_for, has_key, has_option, is_option_of, is_serial, kind_for, known_length, lacks_filter, length_for, with_tag};
+
+use crate::field_name::FieldName;
+use crate::meaning::Meaning;
+use crate::options::Options;
+use crate::reason::Reason;
+use gs_ai::Pair;
+use gs_chars::{Memory, Text, count_digits};
+use gs_epc::{Epc, fields_of, value_from_prefix};
+use gs_ident::Identity;
+use gs_prefix::PrefixList;
+use gs_tables::{LevelName, OptInfo, SerialAt, TableSet};
+use std::alloc::Global;
+
+/// The index of the kind of the key.
+fn kind_place(set: &TableSet, key: &Pair) -> Option<usize>
+    ensures { result ≡ position (has_key key.now.code) set.now.kinds }
+{
+    set.kinds().iter().position(|kind| key.code == kind.key)
+}
+
+/// Whether the pair is the serial, which has an element of its own.
+fn is_serial(serial: &SerialAt, pair: &Pair) -> bool
+    ensures { result ≡ is_serial serial.now pair.now }
+{
+    match serial {
+        SerialAt::Ai(code) => *code == pair.code,
+        SerialAt::Nowhere | SerialAt::Tail => false,
+    }
+}
+
+/// The first pair that is not the serial.
+fn first_other<'a>(serial: &SerialAt, pairs: &'a [Pair]) -> Option<&'a Pair>
+    ensures { option_copied result ≡ find (λ pair. not (is_serial serial.now pair)) pairs.now }
+{
+    pairs.iter().find(|pair| !is_serial(serial, pair))
+}
+
+/// The first pair that no EPC says.
+fn extra_pair<'a>(serial: &SerialAt, identity: &'a Identity) -> Option<&'a Pair>
+    ensures { option_copied result ≡ extra_pair serial.now identity.now }
+{
+    match first_other(serial, identity.qualifiers()) {
+        Some(pair) => Some(pair),
+        None => first_other(serial, identity.attributes()),
+    }
+}
+
+/// The index of the kind of the key, where an EPC of it says the whole identity.
+fn kind_for(alloc: Global, set: &TableSet, identity: &Identity) -> Result<usize, Reason>
+    ensures kind { UnlessMemory result (result ≡ kind_for set.now identity.now) }
+    ensures within { IfOk result (λ kind. kind < length set.now.kinds) }
+{
+    let Some(kind) = kind_place(set, identity.key()) else {
+        return Err(Reason::NoKind);
+    };
+    match extra_pair(&set.kinds()[kind].serial, identity) {
+        Some(pair) => Err(Reason::Extra(pair.code.copy(alloc)?)),
+        None => Ok(kind),
+    }
+}
+
+/// The digits in which the value of a key goes on from the company prefix.
+fn digits_from_prefix<'a>(set: &TableSet, kind: usize, value: &'a [u8]) -> &'a [u8]
+    requires { kind < length set.now.kinds }
+    ensures { result.now ≡ digits_from_prefix set.now kind value.now }
+{
+    let value = value_from_prefix(set, kind, value);
+    &value[..count_digits(value)]
+}
+
+/// The length of the company prefix that the text gives, else that of the options, else that of the list.
+fn known_length(
+    set: &TableSet,
+    prefixes: &PrefixList,
+    options: &Options,
+    meaning: &Meaning,
+    kind: usize,
+) -> Option<u8>
+    requires { kind < length set.now.kinds }
+    ensures { result ≡ known_length set.now prefixes.now options.now meaning.now kind }
+{
+    let value = meaning.identity.key().value.as_bytes();
+    match meaning.gcp.or(options.gcp) {
+        Some(length) => Some(length),
+        None => prefixes.length_of(digits_from_prefix(set, kind, value)),
+    }
+}
+
+/// Whether one of the options is of the kind and the length of the company prefix.
+fn is_option_of(options: &[OptInfo], kind: usize, gcp: u8) -> bool
+    ensures { result ≡ list_any (is_option_of kind gcp) options.now }
+{
+    options
+        .iter()
+        .any(|info| info.kind == kind && info.gcp == gcp)
+}
+
+/// Whether an option of any level is of the kind and the length of the company prefix.
+fn has_option(set: &TableSet, kind: usize, gcp: u8) -> bool
+    ensures { result ≡ has_option set.now kind gcp }
+{
+    is_option_of(set.info(LevelName::Binary), kind, gcp)
+        || is_option_of(set.info(LevelName::Tag), kind, gcp)
+        || is_option_of(set.info(LevelName::Pure), kind, gcp)
+}
+
+/// The length of the company prefix, of which there is an option.
+fn length_for(
+    set: &TableSet,
+    prefixes: &PrefixList,
+    options: &Options,
+    meaning: &Meaning,
+    kind: usize,
+) -> Result<u8, Reason>
+    requires { kind < length set.now.kinds }
+    ensures { result ≡ length_for set.now prefixes.now options.now meaning.now kind }
+{
+    let Some(gcp) = known_length(set, prefixes, options, meaning, kind) else {
+        return Err(Reason::Missing(FieldName::Gcp));
+    };
+    if has_option(set, kind, gcp) {
+        Ok(gcp)
+    } else {
+        Err(Reason::NoOption)
+    }
+}
+
+/// The filter value that the text gives, else that of the options.
+fn filter_for(options: &Options, meaning: &Meaning) -> Option<u8>
+    ensures { result ≡ filter_for options.now meaning.now }
+{
+    meaning.filter.or(options.filter)
+}
+
+/// Whether a filter value is lacking, which a pure identity does not need.
+fn lacks_filter(level: LevelName, filter: Option<u8>) -> bool
+    ensures { result ≡ lacks_filter level filter }
+{
+    match level {
+        LevelName::Pure => false,
+        LevelName::Binary | LevelName::Tag => filter.is_none(),
+    }
+}
+
+/// The encoding of the options, else that of the text.
+fn encoding_for(alloc: Global, options: &Options, meaning: &Meaning) -> Result<Text, Memory>
+    ensures { IfOk result (λ encoding. encoding ≡ encoding_for options.now meaning.now) }
+{
+    if options.encoding.as_bytes().is_empty() {
+        meaning.encoding.copy(alloc)
+    } else {
+        options.encoding.copy(alloc)
+    }
+}
+
+/// The EPC with the encoding and the filter value of a tag.
+fn with_tag(
+    alloc: Global,
+    options: &Options,
+    level: LevelName,
+    meaning: &Meaning,
+    epc: Epc,
+) -> Result<Epc, Reason>
+    requires options { FitsFilter options.now.filter }
+    requires meaning { FitsFilter meaning.now.filter }
+    ensures tagged { UnlessMemory result (result ≡ with_tag options.now level meaning.now epc) }
+    ensures filter { IfOk result (λ epc. HasFilterOn level epc.filter) }
+{
+    let filter = filter_for(options, meaning);
+    if lacks_filter(level, filter) {
+        return Err(Reason::Missing(FieldName::Filter));
+    }
+    let mut epc = epc;
+    epc.encoding = encoding_for(alloc, options, meaning)?;
+    epc.filter = filter;
+    Ok(epc)
+}
+
+/// What is written of a meaning as a tag or an EPC URI, or the first reason why it is not.
+pub(crate) fn epc_for(
+    alloc: Global,
+    set: &TableSet,
+    prefixes: &PrefixList,
+    options: &Options,
+    level: LevelName,
+    meaning: &Meaning,
+) -> Result<Epc, Reason>
+    requires options { FitsFilter options.now.filter }
+    requires meaning { FitsFilter meaning.now.filter }
+    ensures epc { UnlessMemory result (result ≡ epc_for set.now prefixes.now options.now level meaning.now) }
+    ensures filter { IfOk result (λ epc. HasFilterOn level epc.filter) }
+{
+    let kind = kind_for(alloc, set, &meaning.identity)?;
+    let gcp = length_for(set, prefixes, options, meaning, kind)?;
+    let epc = fields_of(alloc, set, kind, &meaning.identity, gcp)?;
+    with_tag(alloc, options, level, meaning, epc)
+}

@@ -1,5 +1,0 @@
-use Rattle.std.proofs.Common.{refl}
-use Rattle.gs_words.proofs.command.Command.names.Goals as goal
-
-pub returns-in-Check : goal.returns-in-Check
-returns-in-Check c = rw c.in-Check.is refl

@@ -1,7 +1,0 @@
-use Rattle.std.proofs.Common.{◌≡◌, ℕ, List, true, map, string_bytes, take}
-use Rattle.gs_words.specs.Names.{ArePairs, has_required}
-use Rattle.gs_words.proofs.pairs.has_required.Given as goal
-
--- the names of the rows before are there
-abbrev pub invariant-loop-row : goal.invariant-loop-row
-invariant-loop-row l = (pairs : List (List ℕ × List ℕ)) → ArePairs (map string_bytes l.words) pairs → has_required (take l.row-index l.rows) pairs ≡ true

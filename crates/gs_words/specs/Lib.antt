@@ -1,5 +1,0 @@
-pub mod Ranges
-pub mod Names
-pub mod Commands
-pub mod CommandReads
-pub mod Requests

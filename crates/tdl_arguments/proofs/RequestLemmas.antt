@@ -1,0 +1,165 @@
+-- What arguments ask for.
+use Rattle.std.proofs.Common.{◌≡◌, ℕ, ◌≤◌, true, List, [], ◌∷◌, ◌++◌, Option, None, Some, arith, refl, subst, sym, ◌∙◌, ap, inl, inr}
+use Rattle.std.proofs.lemmas.Bool.{le-leb, leb-true}
+use Rattle.std.specs.Prelude.{bytes_eq, codes, option_and_then, option_map}
+use Rattle.gs_chars.proofs.TruthsAndLists.{equal_bytes, mapped_some, true_or_false}
+use Rattle.gs_ident.proofs.PairLemmas.{found_passes}
+use Rattle.gs_translate.specs.declared.form.Form.{Form}
+use Rattle.gs_translate.specs.declared.form.Form.TheVariants as form
+use Rattle.gs_translate.specs.declared.target.Target.{Target}
+use Rattle.gs_translate.specs.declared.target.Target.TheVariants as target
+use Rattle.gs_translate.specs.StepsSupport.{HasOne}
+use Rattle.tdl_arguments.specs.declared.command.Command.{Command}
+use Rattle.tdl_arguments.specs.declared.command.Command.TheVariants.{Canon, Translate, Check, Resolve, Serve, Gen}
+use Rattle.tdl_arguments.specs.CommandReads.{canon_of, command_of, gen_of, form_named, forms, target_named, targets, translation_of}
+use Rattle.tdl_arguments.specs.Commands.{command_words, form_word, operands_in_range, target_word}
+use Rattle.tdl_arguments.specs.Requests.{Asked, Asks, NotInOrder, WordsInOrder, asked_of}
+use Rattle.tdl_arguments.specs.Ranges.{lines_of, most_lines}
+use Rattle.tdl_arguments.proofs.NumeralLemmas.{number_read, number_spelled}
+use Rattle.tdl_arguments.proofs.PairLemmas.{same_pairs}
+
+-- ---- forms by their words
+
+form_read : (form : Form) → form_named (form_word form) ≡ Some form
+form_read form.Hex = refl
+form_read form.Tag = refl
+form_read form.Pure = refl
+form_read form.Raw = refl
+form_read form.Bracketed = refl
+form_read form.Link = refl
+
+form_spelled : (word : List ℕ) (form : Form) → form_named word ≡ Some form → word ≡ form_word form
+form_spelled word form e = equal_bytes word (form_word form) (found_passes (λ (f : Form). bytes_eq word (form_word f)) forms form e)
+
+target_read : (target : Target) → target_named (target_word target) ≡ Some target
+target_read target.Hex = refl
+target_read target.Tag = refl
+target_read target.Pure = refl
+target_read target.Raw = refl
+target_read target.Bracketed = refl
+target_read target.Link = refl
+target_read target.Canon = refl
+
+target_spelled : (word : List ℕ) (target : Target) → target_named word ≡ Some target → word ≡ target_word target
+target_spelled word target e = equal_bytes word (target_word target) (found_passes (λ (t : Target). bytes_eq word (target_word t)) targets target e)
+
+-- ---- commands by their words
+
+-- a command with its operands, and the arguments behind it
+abbrev Parts : Type 0
+Parts = Command × List (List ℕ)
+
+same_parts : (one other : Parts) → Some one ≡ Some other → one ≡ other
+same_parts one other e = cc
+
+-- the arguments of each command are read as it
+command_read : (command : Command) (behind : List (List ℕ)) → operands_in_range command ≡ true → command_of (command_words command ++ behind) ≡ Some (command, behind)
+command_read (Canon form) behind fits = rw (form_read form) refl
+command_read (Translate from to) behind fits = rw (form_read from, target_read to) refl
+command_read Check behind fits = refl
+command_read Resolve behind fits = refl
+command_read Serve behind fits = refl
+command_read (Gen lines) behind fits =
+    let few : lines ≤ most_lines = leb-true lines most_lines fits in
+    rw (number_read 0 most_lines lines (omega arith) (omega arith) few) refl
+
+-- the arguments are those of a command, whose operands are in range, and what stands behind them
+abbrev AreOf : List (List ℕ) → Parts → Type 0
+AreOf words parts = (words ≡ command_words parts.0 ++ parts.1) × (operands_in_range parts.0 ≡ true)
+
+-- a command without operands
+plain_spelled : (word : List ℕ) (words : List (List ℕ)) (command : Command) (parts : Parts) → command_words command ≡ word ∷ [] → operands_in_range command ≡ true → Some (command, words) ≡ Some parts → AreOf (word ∷ words) parts
+plain_spelled word words command parts spelled fits e =
+    let same = same_parts (command, words) parts e in
+    rw (← same, spelled) (refl, fits)
+
+canon_spelled : (words : List (List ℕ)) (parts : Parts) → canon_of words ≡ Some parts → AreOf (codes "canon" ∷ words) parts
+canon_spelled [] parts e = absurd (let f : None ≡ Some parts = e in cc)
+canon_spelled (word ∷ words) parts e =
+    let m = mapped_some (λ (f : Form). let p : Parts = (Canon f, words) in p) (form_named word) parts e in
+    let made : Parts = (Canon m.0, words) in
+    let of_made : AreOf (codes "canon" ∷ word ∷ words) made = (ap (λ (w : List ℕ). codes "canon" ∷ w ∷ words) (form_spelled word m.0 m.1), refl) in
+    subst (λ (p : Parts). AreOf (codes "canon" ∷ word ∷ words) p) m.2 of_made
+
+translation_spelled : (words : List (List ℕ)) (parts : Parts) → translation_of words ≡ Some parts → AreOf (codes "translate" ∷ words) parts
+translation_spelled [] parts e = absurd (let f : None ≡ Some parts = e in cc)
+translation_spelled (word ∷ []) parts e = absurd (let f : None ≡ Some parts = e in cc)
+translation_spelled (from ∷ to ∷ words) parts e = by (form_named from) refl (target_named to) refl e
+  where
+    by : (o : Option Form) → form_named from ≡ o → (p : Option Target) → target_named to ≡ p → option_and_then (λ (f : Form). option_map (λ (t : Target). let p : Parts = (Translate f t, words) in p) p) o ≡ Some parts → AreOf (codes "translate" ∷ from ∷ to ∷ words) parts
+    by None n p m f = absurd (let g : None ≡ Some parts = f in cc)
+    by (Some form) n None m f = absurd (let g : None ≡ Some parts = f in cc)
+    by (Some form) n (Some target) m f =
+        let same = same_parts (Translate form target, words) parts f in
+        rw (← same, form_spelled from form n, target_spelled to target m) (refl, refl)
+
+gen_spelled : (words : List (List ℕ)) (parts : Parts) → gen_of words ≡ Some parts → AreOf (codes "gen" ∷ words) parts
+gen_spelled [] parts e = absurd (let f : None ≡ Some parts = e in cc)
+gen_spelled (word ∷ words) parts e =
+    let m = mapped_some (λ (n : ℕ). let p : Parts = (Gen n, words) in p) (lines_of word) parts e in
+    let spelled = number_spelled 0 most_lines word m.0 (omega arith) m.1 in
+    let few : m.0 ≤ most_lines = spelled.0 in
+    let made : Parts = (Gen m.0, words) in
+    let of_made : AreOf (codes "gen" ∷ word ∷ words) made = (ap (λ (w : List ℕ). codes "gen" ∷ w ∷ words) spelled.1, le-leb m.0 most_lines few) in
+    subst (λ (p : Parts). AreOf (codes "gen" ∷ word ∷ words) p) m.2 of_made
+
+-- arguments that are read as a command are its arguments
+command_spelled : (words : List (List ℕ)) (parts : Parts) → command_of words ≡ Some parts → AreOf words parts
+command_spelled [] parts e = absurd (let f : None ≡ Some parts = e in cc)
+command_spelled (word ∷ words) parts e = elim (true_or_false (bytes_eq word (codes "canon"))) as (λ _. AreOf (word ∷ words) parts) [
+  | inl is ↦ rw (equal_bytes word (codes "canon") is) (canon_spelled words parts (rw is at e))
+  | inr canon ↦ elim (true_or_false (bytes_eq word (codes "translate"))) as (λ _. AreOf (word ∷ words) parts) [
+    | inl is ↦ rw (equal_bytes word (codes "translate") is) (translation_spelled words parts (rw (canon, is) at e))
+    | inr translate ↦ elim (true_or_false (bytes_eq word (codes "check"))) as (λ _. AreOf (word ∷ words) parts) [
+      | inl is ↦ rw (equal_bytes word (codes "check") is) (plain_spelled (codes "check") words Check parts refl refl (rw (canon, translate, is) at e))
+      | inr check ↦ elim (true_or_false (bytes_eq word (codes "resolve"))) as (λ _. AreOf (word ∷ words) parts) [
+        | inl is ↦ rw (equal_bytes word (codes "resolve") is) (plain_spelled (codes "resolve") words Resolve parts refl refl (rw (canon, translate, check, is) at e))
+        | inr resolve ↦ elim (true_or_false (bytes_eq word (codes "serve"))) as (λ _. AreOf (word ∷ words) parts) [
+          | inl is ↦ rw (equal_bytes word (codes "serve") is) (plain_spelled (codes "serve") words Serve parts refl refl (rw (canon, translate, check, resolve, is) at e))
+          | inr serve ↦ elim (true_or_false (bytes_eq word (codes "gen"))) as (λ _. AreOf (word ∷ words) parts) [
+            | inl is ↦ rw (equal_bytes word (codes "gen") is) (gen_spelled words parts (rw (canon, translate, check, resolve, serve, is) at e))
+            | inr gen ↦ absurd (let f : None ≡ Some parts = rw (canon, translate, check, resolve, serve, gen) at e in cc)
+          ]
+        ]
+      ]
+    ]
+  ]
+]
+
+-- ---- what is asked
+
+pub order_of : (words : List (List ℕ)) (parts : Parts) (asked : Asked) → command_of words ≡ Some parts → Asks parts.0 parts.1 asked → WordsInOrder words asked
+order_of words parts asked e a = let spelled = command_spelled words parts e in record { command = parts.0; behind = parts.1; spelled = spelled.0; in_range = spelled.1; asks = a }
+
+pub asks_of : (words : List (List ℕ)) (parts : Parts) (asked : Asked) → command_of words ≡ Some parts → WordsInOrder words asked → Asks parts.0 parts.1 asked
+asks_of words parts asked e o =
+    let same = same_parts parts (o.command, o.behind) (sym e ∙ ap command_of o.spelled ∙ command_read o.command o.behind o.in_range) in
+    rw same o.asks
+
+pub not_in_order : (words : List (List ℕ)) → command_of words ≡ None → NotInOrder words
+not_in_order words e asked o =
+    let parts : Parts = (o.command, o.behind) in
+    let f : None ≡ Some parts = sym e ∙ ap command_of o.spelled ∙ command_read o.command o.behind o.in_range in cc
+
+-- ---- one request
+
+same_asks : (command : Command) (words : List (List ℕ)) (one other : Asked) → Asks command words one → Asks command words other → one ≡ other
+same_asks command words one other a b =
+    let pairs = same_pairs words a.pairs b.pairs a.of_rows.are b.of_rows.are in
+    a.is ∙ ap (asked_of command) pairs ∙ sym b.is
+
+-- a command and what stands behind it and its operands
+record SameCommand (one other : Command) (behind behind' : List (List ℕ)) : Type 0 where
+  commands : one ≡ other
+  behinds : behind ≡ behind'
+
+same_command : (one other : Command) (behind behind' : List (List ℕ)) → operands_in_range one ≡ true → operands_in_range other ≡ true → command_words one ++ behind ≡ command_words other ++ behind' → SameCommand one other behind behind'
+same_command one other behind behind' fits fits' e =
+    let both = same_parts (one, behind) (other, behind') (sym (command_read one behind fits) ∙ ap command_of e ∙ command_read other behind' fits') in
+    record { commands = ap (λ (x : Parts). x.0) both; behinds = ap (λ (x : Parts). x.1) both }
+
+pub one_request : (words : List (List ℕ)) → HasOne (WordsInOrder words)
+one_request words one other a b =
+    let same = same_command a.command b.command a.behind b.behind a.in_range b.in_range (sym a.spelled ∙ b.spelled) in
+    let asks : Asks a.command a.behind other = rw (same.commands, same.behinds) b.asks in
+    same_asks a.command a.behind one other a.asks asks

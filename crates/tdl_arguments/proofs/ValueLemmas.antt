@@ -1,0 +1,109 @@
+-- Values that are named are in range.
+use Rattle.std.proofs.Common.{◌≡◌, ℕ, ◌≤◌, ◌&&◌, Bool, true, false, List, [], ◌∷◌, Option, None, Some, refl, sym, ◌∙◌, ap, inl, inr}
+use Rattle.std.specs.Prelude.{IfSome, bytes_eq, find, if◌then◌else◌, nat_le, option_and_then, unwrap_or}
+use Rattle.std.proofs.lemmas.Bool.{leb-true}
+use Rattle.gs_chars.proofs.TruthsAndLists.{and_parts, equal_bytes, true_or_false}
+use Rattle.gs_dlink.specs.Stems.{stem_ok}
+use Rattle.gs_grammar.specs.Words.{decimal_value}
+use Rattle.gs_ident.specs.Links.{canonical_stem}
+use Rattle.gs_translate.specs.Targets.{FitsFilter}
+use Rattle.gs_translate.specs.Translations.{AreInOrder}
+use Rattle.tdl_arguments.specs.declared.name.Name.{Name}
+use Rattle.tdl_arguments.specs.declared.name.Name.TheVariants.{Tables, Prefixes, Links, Describe, Voc, Listen, Count, Filter, Gcp, Encoding, KeysOnly, Stem}
+use Rattle.tdl_arguments.specs.declared.name.NameRow.{NameRow}
+use Rattle.tdl_arguments.specs.Names.{AreTaken, in_range, look_up, name_word, none_taken, one_taken, takes}
+use Rattle.tdl_arguments.specs.Ranges.{filter_of, is_numeral, is_vocabulary}
+use Rattle.tdl_arguments.specs.Requests.{Asked, WordsInOrder, default_voc, no_options, options_of}
+
+-- ---- names by their words
+
+names : List Name
+names = Tables ∷ Prefixes ∷ Links ∷ Describe ∷ Voc ∷ Listen ∷ Count ∷ Filter ∷ Gcp ∷ Encoding ∷ KeysOnly ∷ Stem ∷ []
+
+abbrev name_of : List ℕ → Option Name
+name_of word = find (λ (name : Name). bytes_eq word (name_word name)) names
+
+name_read : (name : Name) → name_of (name_word name) ≡ Some name
+unfolding names
+name_read Tables = refl
+name_read Prefixes = refl
+name_read Links = refl
+name_read Describe = refl
+name_read Voc = refl
+name_read Listen = refl
+name_read Count = refl
+name_read Filter = refl
+name_read Gcp = refl
+name_read Encoding = refl
+name_read KeysOnly = refl
+name_read Stem = refl
+
+same_name : (one other : Name) → name_word one ≡ name_word other → one ≡ other
+same_name one other e = let f : Some one ≡ Some other = sym (name_read one) ∙ ap name_of e ∙ name_read other in cc
+
+-- ---- values that are taken
+
+-- a row that takes a pair has its name, whose range has the value
+taken_in_range : (rows : List NameRow) (name : Name) (n value : List ℕ) → takes rows n value ≡ true → bytes_eq n (name_word name) ≡ true → in_range name value ≡ true
+taken_in_range [] name n value t e = absurd (let f : false ≡ true = t in cc)
+taken_in_range (row ∷ rows) name n value t e = elim (true_or_false (bytes_eq (name_word row.name) n && in_range row.name value)) as (λ _. in_range name value ≡ true) [
+  | inl here ↦
+      let both = and_parts (bytes_eq (name_word row.name) n) (in_range row.name value) here in
+      let same = same_name row.name name (equal_bytes (name_word row.name) n both.0 ∙ equal_bytes n (name_word name) e) in
+      rw same at both.1
+  | inr other ↦ taken_in_range rows name n value (rw other at t) e
+]
+
+-- the value of a name that is taken is in its range
+pub named_in_range : (rows : List NameRow) (pairs : List (List ℕ × List ℕ)) (name : Name) (value : List ℕ) → AreTaken rows pairs → look_up (name_word name) pairs ≡ Some value → in_range name value ≡ true
+named_in_range rows pairs name value none_taken e = absurd (let f : None ≡ Some value = e in cc)
+named_in_range rows pairs name value (one_taken n v others takes_it once rest) e = elim (true_or_false (bytes_eq n (name_word name))) as (λ _. in_range name value ≡ true) [
+  | inl is ↦
+      let found : Some v ≡ Some value = rw is at e in
+      let same : v ≡ value = cc in
+      rw same at (taken_in_range rows name n v takes_it is)
+  | inr differs ↦ named_in_range rows others name value rest (rw differs at e)
+]
+
+-- ---- the options of translations
+
+within_by : (a b c : Bool) (number greatest : ℕ) → c ≡ nat_le number greatest → IfSome (if a && (b && c) then Some number else None) (λ n. n ≤ greatest)
+within_by false b c number greatest e = tt
+within_by true false c number greatest e = tt
+within_by true true false number greatest e = tt
+within_by true true true number greatest e = leb-true number greatest (sym e)
+
+filter_fits : (named : Option (List ℕ)) → FitsFilter (option_and_then filter_of named)
+filter_fits None = tt
+filter_fits (Some word) = within_by (is_numeral word) (nat_le 0 (decimal_value word)) (nat_le (decimal_value word) 7) (decimal_value word) 7 refl
+
+stem_fits : (named : Option (List ℕ)) → ((stem : List ℕ) → named ≡ Some stem → stem_ok stem ≡ true) → stem_ok (unwrap_or named canonical_stem) ≡ true
+unfolding stem_ok
+stem_fits None ok = refl
+stem_fits (Some stem) ok = ok stem refl
+
+-- the options that arguments name are in order
+pub options_fit : (words : List (List ℕ)) (asked : Asked) → WordsInOrder words asked → AreInOrder (options_of asked.values)
+options_fit words asked o =
+    let a = o.asks in
+    let stem = look_up (name_word Stem) a.pairs in
+    rw a.is (record {
+      filter = filter_fits (look_up (name_word Filter) a.pairs);
+      stem = stem_fits stem (λ s e. named_in_range _ a.pairs Stem s a.of_rows.taken e);
+    })
+
+-- the options where nothing is named are in order
+pub no_options_fit : AreInOrder no_options
+no_options_fit = record { filter = filter_fits None; stem = stem_fits None (λ stem e. absurd (let f : None ≡ Some stem = e in cc)) }
+
+-- ---- the vocabulary
+
+vocabulary_by : (named : Option (List ℕ)) → ((value : List ℕ) → named ≡ Some value → is_vocabulary value ≡ true) → is_vocabulary (unwrap_or named default_voc) ≡ true
+vocabulary_by None ok = refl
+vocabulary_by (Some value) ok = ok value refl
+
+-- the vocabulary that arguments name is one
+pub vocabulary_fits : (words : List (List ℕ)) (asked : Asked) → WordsInOrder words asked → is_vocabulary asked.values.voc ≡ true
+vocabulary_fits words asked o =
+    let a = o.asks in
+    rw a.is (vocabulary_by (look_up (name_word Voc) a.pairs) (λ value e. named_in_range _ a.pairs Voc value a.of_rows.taken e))

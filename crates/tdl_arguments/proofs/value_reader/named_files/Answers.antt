@@ -1,0 +1,15 @@
+use Rattle.std.proofs.Common.{refl}
+use Rattle.tdl_arguments.proofs.value_reader.named_files.Goals as goal
+
+pub returns : goal.returns
+returns c = λ pairs are.
+    rw (
+      c.look_up.ensures pairs are,
+      c.look_up-2.ensures pairs are,
+      c.look_up-3.ensures pairs are,
+      c.look_up-4.ensures pairs are,
+      c.word.ensures,
+      c.word-2.ensures,
+      c.word-3.ensures,
+      c.word-4.ensures,
+    ) refl

@@ -1,0 +1,64 @@
+-- How the arguments of a command are read, one by one. What a command's arguments are is said by `command_words`; laws join the two.
+use Rattle.std.specs.Prelude.{ℕ, if◌then◌else◌, List, [], ◌∷◌, map, codes, find, Option, Some, None, option_map, option_and_then, bytes_eq, string_bytes}
+use Rattle.gs_translate.specs.declared.form.Form.{Form}
+use Rattle.gs_translate.specs.declared.form.Form.TheVariants as form
+use Rattle.gs_translate.specs.declared.target.Target.{Target}
+use Rattle.gs_translate.specs.declared.target.Target.TheVariants as target
+use Rattle.tdl_arguments.specs.declared.command.Command.{Command}
+use Rattle.tdl_arguments.specs.declared.command.Command.TheVariants.{Canon, Translate, Check, Resolve, Serve, Gen}
+use Rattle.tdl_arguments.specs.declared.arguments.Split.{Split}
+use Rattle.tdl_arguments.specs.Commands.{form_word, target_word}
+use Rattle.tdl_arguments.specs.Ranges.{lines_of}
+
+-- the forms that texts are read in
+abbrev pub forms : List Form
+forms = form.Hex ∷ form.Tag ∷ form.Pure ∷ form.Raw ∷ form.Bracketed ∷ form.Link ∷ []
+
+-- the forms that texts are translated to
+abbrev pub targets : List Target
+targets = target.Hex ∷ target.Tag ∷ target.Pure ∷ target.Raw ∷ target.Bracketed ∷ target.Link ∷ target.Canon ∷ []
+
+-- the form that has the word
+abbrev pub form_named : List ℕ → Option Form
+form_named word = find (λ form. bytes_eq word (form_word form)) forms
+
+-- the form that texts are translated to that has the word
+abbrev pub target_named : List ℕ → Option Target
+target_named word = find (λ target. bytes_eq word (target_word target)) targets
+
+-- the arguments behind `canon`
+abbrev pub canon_of : List (List ℕ) → Option (Command × List (List ℕ))
+canon_of [] = None
+canon_of (word ∷ words) = option_map (λ form. (Canon form, words)) (form_named word)
+
+-- the arguments behind `translate`
+abbrev pub translation_of : List (List ℕ) → Option (Command × List (List ℕ))
+translation_of [] = None
+translation_of (word ∷ []) = None
+translation_of (from ∷ to ∷ words) =
+    option_and_then (λ form. option_map (λ target. (Translate form target, words)) (target_named to)) (form_named from)
+
+-- the arguments behind `gen`
+abbrev pub gen_of : List (List ℕ) → Option (Command × List (List ℕ))
+gen_of [] = None
+gen_of (word ∷ words) = option_map (λ lines. (Gen lines, words)) (lines_of word)
+
+-- the arguments behind the word of a command
+abbrev pub command_by : List ℕ → List (List ℕ) → Option (Command × List (List ℕ))
+command_by word words =
+    if bytes_eq word (codes "canon") then canon_of words
+    else if bytes_eq word (codes "translate") then translation_of words
+    else if bytes_eq word (codes "check") then Some (Check, words)
+    else if bytes_eq word (codes "resolve") then Some (Resolve, words)
+    else if bytes_eq word (codes "serve") then Some (Serve, words)
+    else if bytes_eq word (codes "gen") then gen_of words
+    else None
+
+-- the command that arguments begin with, and the arguments behind it and its operands
+abbrev pub command_of : List (List ℕ) → Option (Command × List (List ℕ))
+command_of [] = None
+command_of (word ∷ words) = command_by word words
+
+-- what was split, as contracts see it
+abbrev pub known_split : Option Split → Option (Command × List (List ℕ))
+known_split split = option_map (λ (s : Split). (s.command, map string_bytes s.behind.now)) split

@@ -1,0 +1,6 @@
+pub mod Ranges
+pub mod Names
+pub mod Commands
+pub mod CommandReads
+pub mod Requests
+pub mod RequestsSupport

@@ -1,0 +1,82 @@
+-- Pairs of a name and its value, as they stand among the arguments of the command line.
+use Rattle.std.specs.Prelude.{◌≡◌, ℕ, ◌&&◌, ◌||◌, nat_lt, Bool, true, not, List, [], ◌∷◌, length, codes, Option, None, is_some, bytes_eq}
+use Rattle.std.specs.List.{find, list_all, list_any}
+use Rattle.std.specs.Option.{option_map}
+use Rattle.gs_dlink.specs.Stems.{stem_ok}
+use Rattle.tdl_arguments.specs.declared.name.Name.{Name}
+use Rattle.tdl_arguments.specs.declared.name.Name.TheVariants.{Tables, Prefixes, Links, Describe, Voc, Listen, Count, Filter, Gcp, Encoding, KeysOnly, Stem}
+use Rattle.tdl_arguments.specs.declared.name.NameRow.{NameRow}
+use Rattle.tdl_arguments.specs.Ranges.{count_of, filter_of, gcp_of, is_vocabulary}
+
+-- trusted, own: pairs of a name and its value
+abbrev pub NamedPairs : Type 0
+NamedPairs = List (List ℕ × List ℕ)
+
+-- trusted, own: the word of a name
+abbrev pub name_word : Name → List ℕ
+name_word Tables = codes "--tables"
+name_word Prefixes = codes "--prefixes"
+name_word Links = codes "--links"
+name_word Describe = codes "--describe"
+name_word Voc = codes "--voc"
+name_word Listen = codes "--listen"
+name_word Count = codes "--count"
+name_word Filter = codes "--filter"
+name_word Gcp = codes "--gcp"
+name_word Encoding = codes "--encoding"
+name_word KeysOnly = codes "--keys-only"
+name_word Stem = codes "--stem"
+
+-- trusted, own: the values that a name may have; a file may have any name, and an address any text
+abbrev pub in_range : Name → List ℕ → Bool
+in_range Tables value = true
+in_range Prefixes value = true
+in_range Links value = true
+in_range Describe value = true
+in_range Voc value = is_vocabulary value
+in_range Listen value = true
+in_range Count value = is_some (count_of value)
+in_range Filter value = is_some (filter_of value)
+in_range Gcp value = is_some (gcp_of value)
+in_range Encoding value = nat_lt 0 (length value)
+in_range KeysOnly value = bytes_eq value (codes "yes") || bytes_eq value (codes "no")
+in_range Stem value = stem_ok value
+
+-- trusted, own: a row takes this name with this value
+abbrev pub takes : List NameRow → List ℕ → List ℕ → Bool
+takes rows name value = list_any (λ (row : NameRow). bytes_eq (name_word row.name) name && in_range row.name value) rows
+
+-- trusted, own: the value of the first pair with the name
+abbrev pub look_up : List ℕ → NamedPairs → Option (List ℕ)
+look_up name pairs = option_map (λ (pair : List ℕ × List ℕ). pair.1) (find (λ (pair : List ℕ × List ℕ). bytes_eq pair.0 name) pairs)
+
+-- trusted, own: the arguments are these pairs, each a name and its value
+pub data ArePairs : List (List ℕ) → NamedPairs → Type 0 where
+  no_pair : ArePairs [] []
+  one_pair : (name value : List ℕ) (words : List (List ℕ)) (pairs : NamedPairs) → ArePairs words pairs → ArePairs (name ∷ value ∷ words) ((name, value) ∷ pairs)
+
+-- trusted, own: the rows take each of the pairs, and each name stands at most once
+pub data AreTaken (rows : List NameRow) : NamedPairs → Type 0 where
+  none_taken : AreTaken rows []
+  one_taken : (name value : List ℕ) (pairs : NamedPairs) → takes rows name value ≡ true → look_up name pairs ≡ None → AreTaken rows pairs → AreTaken rows ((name, value) ∷ pairs)
+
+-- trusted, own: the arguments are pairs that the rows take, each name at most once
+pub record AreOfRows (rows : List NameRow) (words : List (List ℕ)) (pairs : NamedPairs) : Type 0 where
+  pub are : ArePairs words pairs
+  pub taken : AreTaken rows pairs
+
+-- trusted, own: the arguments are pairs that the rows take, each name at most once
+abbrev pub HasPairs : List NameRow → List (List ℕ) → Type 0
+HasPairs rows words = (pairs : NamedPairs) × AreOfRows rows words pairs
+
+-- trusted, own: the arguments are no pairs that the rows take, each name at most once
+abbrev pub HasNoPairs : List NameRow → List (List ℕ) → Type 0
+HasNoPairs rows words = (pairs : NamedPairs) → AreOfRows rows words pairs → ⊥
+
+-- trusted, own: a fact of the pairs that the arguments are, where they are pairs
+abbrev pub OfPairs : List (List ℕ) → (NamedPairs → Type 0) → Type 0
+OfPairs words Fact = (pairs : NamedPairs) → ArePairs words pairs → Fact pairs
+
+-- trusted, own: each name that must be there is there
+abbrev pub has_required : List NameRow → NamedPairs → Bool
+has_required rows pairs = list_all (λ (row : NameRow). not row.required || is_some (look_up (name_word row.name) pairs)) rows

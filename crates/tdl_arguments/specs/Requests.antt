@@ -1,0 +1,188 @@
+-- What the arguments of the command line ask for.
+use Rattle.std.specs.Prelude.{◌≡◌, ℕ, Bool, true, List, [], ◌∷◌, ◌++◌, codes, Option, Some, None, option_and_then, option_to_list, unwrap_or, bytes_eq, map, String, string_bytes}
+use Rattle.std.specs.Borrow.{Bor}
+use Rattle.std.specs.List.{Contains}
+use Rattle.gs_ident.specs.Links.{canonical_stem}
+use Rattle.gs_translate.specs.declared.options.Options.{Options}
+use Rattle.tdl_arguments.specs.declared.command.Command.{Command}
+use Rattle.tdl_arguments.specs.declared.name.Name.{Name}
+use Rattle.tdl_arguments.specs.declared.name.Name.TheVariants.{Tables, Prefixes, Links, Describe, Voc, Listen, Count, Filter, Gcp, Encoding, KeysOnly, Stem}
+use Rattle.tdl_arguments.specs.declared.request.NamedFiles.{NamedFiles}
+use Rattle.tdl_arguments.specs.declared.request.NamedValues.{NamedValues}
+use Rattle.tdl_arguments.specs.declared.request.Request.{Request}
+use Rattle.tdl_arguments.specs.Commands.{answers_heads, answers_lines, command_words, names_of, operands_in_range, reads_input, uses_door}
+use Rattle.tdl_arguments.specs.Names.{AreOfRows, NamedPairs, has_required, look_up, name_word}
+use Rattle.tdl_arguments.specs.Ranges.{count_of, filter_of, gcp_of}
+
+-- trusted, own: the arguments of the command line, as contracts see them
+abbrev pub known_words : {Z : Type 0} → List (String Z) → List (List ℕ)
+known_words words = map string_bytes words
+
+-- trusted, own: the names of the files that are asked for
+pub record FileNames : Type 0 where
+  pub tables : Option (List ℕ)
+  pub prefixes : Option (List ℕ)
+  pub links : Option (List ℕ)
+  pub describe : Option (List ℕ)
+
+-- trusted, own: the values of the names that name no files
+pub record Values : Type 0 where
+  pub voc : List ℕ
+  pub listen : List ℕ
+  pub count : ℕ
+  pub filter : Option ℕ
+  pub gcp : Option ℕ
+  pub encoding : List ℕ
+  pub keys_only : Bool
+  pub stem : List ℕ
+
+-- trusted, own: what is asked: a command with its operands, over these files and by these values
+pub record Asked : Type 0 where
+  pub command : Command
+  pub files : FileNames
+  pub values : Values
+
+-- trusted, own: the files that pairs name
+abbrev pub named_files : NamedPairs → FileNames
+named_files pairs = record {
+  tables = look_up (name_word Tables) pairs;
+  prefixes = look_up (name_word Prefixes) pairs;
+  links = look_up (name_word Links) pairs;
+  describe = look_up (name_word Describe) pairs;
+}
+
+-- trusted, own: what stands for `gs1:` in relations where that is not named
+abbrev pub default_voc : List ℕ
+default_voc = codes "https://ref.gs1.org/voc/"
+
+-- trusted, own: the address of a server where it is not named
+abbrev pub default_listen : List ℕ
+default_listen = codes "127.0.0.1:8080"
+
+-- trusted, own: the value of a name, or what stands in its place
+abbrev pub value_or : List ℕ → Name → NamedPairs → List ℕ
+value_or default name pairs = unwrap_or (look_up (name_word name) pairs) default
+
+-- trusted, own: the number that is the value of a name
+abbrev pub number_named : (List ℕ → Option ℕ) → Name → NamedPairs → Option ℕ
+number_named number_of name pairs = option_and_then number_of (look_up (name_word name) pairs)
+
+-- trusted, own: the number of connections that pairs name, and 0 where they name none
+abbrev pub count_named : NamedPairs → ℕ
+count_named pairs = unwrap_or (number_named count_of Count pairs) 0
+
+-- trusted, own: The values of names in pairs, with their defaults: no connection, since the command that serves some must
+-- name their number, no filter value, no length of a company prefix, no encoding, all elements kept, and the stem of
+-- canonical links.
+abbrev pub named_values : NamedPairs → Values
+named_values pairs = record {
+  voc = value_or default_voc Voc pairs;
+  listen = value_or default_listen Listen pairs;
+  count = count_named pairs;
+  filter = number_named filter_of Filter pairs;
+  gcp = number_named gcp_of Gcp pairs;
+  encoding = value_or [] Encoding pairs;
+  keys_only = bytes_eq (value_or (codes "no") KeysOnly pairs) (codes "yes");
+  stem = value_or canonical_stem Stem pairs;
+}
+
+-- trusted, own: what pairs ask of a command: the look-up of the names, with their defaults
+abbrev pub asked_of : Command → NamedPairs → Asked
+asked_of command pairs = record { command = command; files = named_files pairs; values = named_values pairs }
+
+-- trusted, own: Arguments behind a command and its operands ask for this: they are pairs that the command takes, each name at
+-- most once and those there that it must have, and what is asked is the look-up of the names.
+pub record Asks (command : Command) (words : List (List ℕ)) (asked : Asked) : Type 0 where
+  pub pairs : NamedPairs
+  pub of_rows : AreOfRows (names_of command) words pairs
+  pub required : has_required (names_of command) pairs ≡ true
+  pub is : asked ≡ asked_of command pairs
+
+-- trusted, own: The arguments are in order, and ask for this: a command, its operands, which are in range, and pairs.
+pub record WordsInOrder (words : List (List ℕ)) (asked : Asked) : Type 0 where
+  pub command : Command
+  pub behind : List (List ℕ)
+  pub spelled : words ≡ command_words command ++ behind
+  pub in_range : operands_in_range command ≡ true
+  pub asks : Asks command behind asked
+
+-- trusted, own: no request has these arguments
+abbrev pub NotInOrder : List (List ℕ) → Type 0
+NotInOrder words = (asked : Asked) → WordsInOrder words asked → ⊥
+
+-- trusted, own: the arguments ask for a command that passes a test
+pub record AsksFor (test : Command → Bool) (words : List (List ℕ)) : Type 0 where
+  pub asked : Asked
+  pub order : WordsInOrder words asked
+  pub passes : test asked.command ≡ true
+
+-- trusted, own: the arguments ask for a command that answers the lines of the input
+abbrev pub AsksForLines : List (List ℕ) → Type 0
+AsksForLines words = AsksFor answers_lines words
+
+-- trusted, own: the arguments ask for a command that answers the heads of the input
+abbrev pub AsksForHeads : List (List ℕ) → Type 0
+AsksForHeads words = AsksFor answers_heads words
+
+-- trusted, own: the arguments ask for a command that uses the input
+abbrev pub AsksForInput : List (List ℕ) → Type 0
+AsksForInput words = AsksFor reads_input words
+
+-- trusted, own: the arguments ask for a command that uses the door
+abbrev pub AsksForDoor : List (List ℕ) → Type 0
+AsksForDoor words = AsksFor uses_door words
+
+-- trusted, own: what is said of translations by values
+abbrev pub options_of : Values → Options
+options_of values = record { filter = values.filter; gcp = values.gcp; encoding = values.encoding; keys_only = values.keys_only; stem = values.stem }
+
+-- trusted, own: the options where nothing is named
+abbrev pub no_options : Options
+no_options = options_of (named_values [])
+
+-- trusted, own: the names of the files that are read behind the tables and the company prefix lengths, in their order
+abbrev pub names_last : FileNames → List (List ℕ)
+names_last files = option_to_list files.links ++ option_to_list files.describe
+
+-- trusted, own: the names of the files that are read behind the tables, in their order
+abbrev pub names_behind : FileNames → List (List ℕ)
+names_behind files = option_to_list files.prefixes ++ names_last files
+
+-- trusted, own: the names of the files that are read, in their order
+abbrev pub names_in_order : FileNames → List (List ℕ)
+names_in_order files = option_to_list files.tables ++ names_behind files
+
+-- trusted, own: the arguments name a file
+pub record NamesFile (words : List (List ℕ)) (name : List ℕ) : Type 0 where
+  pub asked : Asked
+  pub order : WordsInOrder words asked
+  pub named : Contains (names_in_order asked.files) name
+
+-- trusted, own: the arguments name no file
+abbrev pub NamesNoFile : List (List ℕ) → Type 0
+NamesNoFile words = (name : List ℕ) → NamesFile words name → ⊥
+
+-- trusted, own: what is printed where the arguments are not in order
+abbrev pub usage_line : List ℕ
+usage_line = codes "usage: tdl canon FORM | translate FROM TO | check | resolve | serve | gen N, then --name value pairs" ++ 10 ∷ []
+
+-- trusted, own: the name of a file in a request
+abbrev pub known_name : Option (Bor (List ℕ)) → Option (List ℕ)
+known_name None = None
+known_name (Some name) = Some name.now
+
+-- trusted, own: the files of a request
+abbrev pub known_files : NamedFiles → FileNames
+known_files files = record { tables = known_name files.tables; prefixes = known_name files.prefixes; links = known_name files.links; describe = known_name files.describe }
+
+-- trusted, own: the names of the files of a request, in the order in which they are read
+abbrev pub all_named : Request → List (List ℕ)
+all_named request = names_in_order (known_files request.files)
+
+-- trusted, own: the values of a request
+abbrev pub known_values : NamedValues → Values
+known_values values = record { voc = values.voc.now; listen = values.listen.now; count = values.count; filter = values.filter; gcp = values.gcp; encoding = values.encoding.now; keys_only = values.keys_only; stem = values.stem.now }
+
+-- trusted, own: what a request asks for
+abbrev pub known_request : Request → Asked
+known_request request = record { command = request.command; files = known_files request.files; values = known_values request.values }

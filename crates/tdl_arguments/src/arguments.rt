@@ -1,0 +1,219 @@
+ghost use Rattle.std.specs.Prelude.{◌≡◌, ◌∷◌, IfSome, IfNone, Some, map, string_bytes};
+ghost use Rattle.tdl_arguments.specs.CommandReads.{canon_of, command_by, command_of, form_named, gen_of, target_named, known_split, translation_of};
+ghost use Rattle.tdl_arguments.specs.Commands.{form_word, target_word};
+ghost use Rattle.tdl_arguments.specs.Requests.{Asks, NotInOrder, WordsInOrder, known_request, known_words};
+ghost use Rattle.tdl_arguments.specs.RequestsSupport.{AsksNothing};
+
+use crate::command::Command;
+use crate::pairs::{are_of_rows, has_required};
+use crate::ranges::lines_of;
+use crate::request::Request;
+use crate::value_reader::{named_files, named_values};
+use gs_translate::{Form, Target};
+
+/// A command with its operands, and the arguments behind them.
+#[derive(Clone, Copy)]
+pub struct Split<'a> {
+    /// The command with its operands.
+    pub command: Command,
+    /// The arguments behind them.
+    pub behind: &'a [String],
+}
+
+/// The word of a form.
+fn form_word(form: Form) -> &'static str
+    ensures { result.now ≡ form_word form }
+{
+    match form {
+        Form::Hex => "hex",
+        Form::Tag => "tag",
+        Form::Pure => "pure",
+        Form::Raw => "raw",
+        Form::Bracketed => "bracketed",
+        Form::Link => "link",
+    }
+}
+
+/// The word of a form that texts are translated to.
+fn target_word(target: Target) -> &'static str
+    ensures { result.now ≡ target_word target }
+{
+    match target {
+        Target::Hex => "hex",
+        Target::Tag => "tag",
+        Target::Pure => "pure",
+        Target::Raw => "raw",
+        Target::Bracketed => "bracketed",
+        Target::Link => "link",
+        Target::Canon => "canon",
+    }
+}
+
+/// The form of a word.
+fn form_named(word: &str) -> Option<Form>
+    ensures { result ≡ form_named word.now }
+{
+    [
+        Form::Hex,
+        Form::Tag,
+        Form::Pure,
+        Form::Raw,
+        Form::Bracketed,
+        Form::Link,
+    ]
+    .iter()
+    .find(|form| word == form_word(**form))
+    .copied()
+}
+
+/// The form of a word that texts are translated to.
+fn target_named(word: &str) -> Option<Target>
+    ensures { result ≡ target_named word.now }
+{
+    [
+        Target::Hex,
+        Target::Tag,
+        Target::Pure,
+        Target::Raw,
+        Target::Bracketed,
+        Target::Link,
+        Target::Canon,
+    ]
+    .iter()
+    .find(|target| word == target_word(**target))
+    .copied()
+}
+
+/// The command `canon` of the word of a form, and the arguments behind it.
+fn canon_by<'a>(word: &str, behind: &'a [String]) -> Option<Split<'a>>
+    ensures { known_split result ≡ canon_of (word.now ∷ map string_bytes behind.now) }
+{
+    let form = form_named(word)?;
+    Some(Split {
+        command: Command::Canon(form),
+        behind,
+    })
+}
+
+/// The command `translate` of the arguments of two forms, and the arguments behind it.
+fn translation_by<'a>(from: &str, to: &str, behind: &'a [String]) -> Option<Split<'a>>
+    ensures { known_split result ≡ translation_of (from.now ∷ to.now ∷ map string_bytes behind.now) }
+{
+    let form = form_named(from)?;
+    let target = target_named(to)?;
+    Some(Split {
+        command: Command::Translate(form, target),
+        behind,
+    })
+}
+
+/// The command `canon` of the arguments behind that word.
+fn canon_of(words: &[String]) -> Option<Split<'_>>
+    ensures { known_split result ≡ canon_of (map string_bytes words.now) }
+{
+    if words.is_empty() {
+        return None;
+    }
+    canon_by(words[0].as_str(), &words[1..])
+}
+
+/// The command `translate` of the arguments behind that word.
+fn translation_of(words: &[String]) -> Option<Split<'_>>
+    ensures { known_split result ≡ translation_of (map string_bytes words.now) }
+{
+    if words.len() < 2 {
+        return None;
+    }
+    translation_by(words[0].as_str(), words[1].as_str(), &words[2..])
+}
+
+/// The command `gen` of the word of a number of lines, and the arguments behind it.
+fn gen_by<'a>(word: &str, behind: &'a [String]) -> Option<Split<'a>>
+    ensures { known_split result ≡ gen_of (word.now ∷ map string_bytes behind.now) }
+{
+    let lines = lines_of(word)?;
+    Some(Split {
+        command: Command::Gen(lines),
+        behind,
+    })
+}
+
+/// The command `gen` of the arguments behind that word.
+fn gen_of(words: &[String]) -> Option<Split<'_>>
+    ensures { known_split result ≡ gen_of (map string_bytes words.now) }
+{
+    if words.is_empty() {
+        return None;
+    }
+    gen_by(words[0].as_str(), &words[1..])
+}
+
+/// A command without operands, and the arguments behind it.
+fn plain(command: Command, behind: &[String]) -> Option<Split<'_>>
+    ensures { known_split result ≡ Some (command, map string_bytes behind.now) }
+{
+    Some(Split { command, behind })
+}
+
+/// The command of a word and of the arguments behind it.
+fn command_by<'a>(word: &str, behind: &'a [String]) -> Option<Split<'a>>
+    ensures { known_split result ≡ command_by word.now (map string_bytes behind.now) }
+{
+    if word == "canon" {
+        return canon_of(behind);
+    }
+    if word == "translate" {
+        return translation_of(behind);
+    }
+    if word == "check" {
+        return plain(Command::Check, behind);
+    }
+    if word == "resolve" {
+        return plain(Command::Resolve, behind);
+    }
+    if word == "serve" {
+        return plain(Command::Serve, behind);
+    }
+    if word == "gen" {
+        return gen_of(behind);
+    }
+    None
+}
+
+/// The command that the arguments begin with, and the arguments behind it and its operands.
+fn command_of(words: &[String]) -> Option<Split<'_>>
+    ensures { known_split result ≡ command_of (map string_bytes words.now) }
+{
+    if words.is_empty() {
+        return None;
+    }
+    command_by(words[0].as_str(), &words[1..])
+}
+
+/// The request of a command with the arguments behind its operands. `None` comes exactly where these are no pairs that the
+/// command takes, or lack a name that it must have.
+fn request_of(command: Command, words: &[String]) -> Option<Request<'_>>
+    ensures request { IfSome result (λ request. Asks command (known_words words.now) (known_request request)) }
+    ensures none { IfNone result (AsksNothing command (known_words words.now)) }
+{
+    if !are_of_rows(words, command.names()) {
+        return None;
+    }
+    if !has_required(words, command.names()) {
+        return None;
+    }
+    Some(Request {
+        command,
+        files: named_files(words),
+        values: named_values(words),
+    })
+}
+
+/// The request that the arguments spell. `None` comes exactly where they are not in order.
+pub fn read_arguments(words: &[String]) -> Option<Request<'_>>
+    ensures request { IfSome result (λ request. WordsInOrder (known_words words.now) (known_request request)) }
+    ensures none { IfNone result (NotInOrder (known_words words.now)) }
+{
+    let split = command_of(words)?;
+    request_of(split.command, split.behind)
+}

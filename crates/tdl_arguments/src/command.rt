@@ -1,0 +1,116 @@
+ghost use Rattle.std.specs.Prelude.{◌≡◌};
+ghost use Rattle.tdl_arguments.specs.Commands.{names_of};
+
+use crate::name::{Name, NameRow};
+use gs_translate::{Form, Target};
+
+/// A command with its operands.
+#[derive(Clone, Copy)]
+pub enum Command {
+    /// Answers each line of the input, a text of the form, by the canonical link of what it names.
+    Canon(Form),
+    /// Answers each line of the input, a text of the first form, by its translation to the second.
+    Translate(Form, Target),
+    /// Loads the files, and counts what they have.
+    Check,
+    /// Answers the requests that the input is, as one connection.
+    Resolve,
+    /// Answers the requests of the connections that come at a door.
+    Serve,
+    /// Translates so many generated lines, and counts the answers.
+    Gen(u32),
+}
+
+/// The name of the file of tables, which may be absent.
+const TABLES: NameRow = NameRow {
+    name: Name::Tables,
+    required: false,
+};
+
+/// The name of the file of company prefix lengths, which may be absent.
+const PREFIXES: NameRow = NameRow {
+    name: Name::Prefixes,
+    required: false,
+};
+
+/// The name of the file of links, which may be absent.
+const LINKS: NameRow = NameRow {
+    name: Name::Links,
+    required: false,
+};
+
+/// The name of the file of links, which must be there.
+const LINKS_NEEDED: NameRow = NameRow {
+    name: Name::Links,
+    required: true,
+};
+
+/// The name of the description of the resolver, which may be absent.
+const DESCRIBE: NameRow = NameRow {
+    name: Name::Describe,
+    required: false,
+};
+
+/// The name of the address of a server, which may be absent.
+const LISTEN: NameRow = NameRow {
+    name: Name::Listen,
+    required: false,
+};
+
+/// The name of the number of connections, which must be there.
+const COUNT_NEEDED: NameRow = NameRow {
+    name: Name::Count,
+    required: true,
+};
+
+/// The name of the vocabulary, which may be absent.
+const VOC: NameRow = NameRow {
+    name: Name::Voc,
+    required: false,
+};
+
+/// The name of a filter value, which may be absent.
+const FILTER: NameRow = NameRow {
+    name: Name::Filter,
+    required: false,
+};
+
+/// The name of the number of digits of a company prefix, which may be absent.
+const GCP: NameRow = NameRow {
+    name: Name::Gcp,
+    required: false,
+};
+
+/// The name of an encoding of tags, which may be absent.
+const ENCODING: NameRow = NameRow {
+    name: Name::Encoding,
+    required: false,
+};
+
+/// The name of whether keys alone are kept, which may be absent.
+const KEYS_ONLY: NameRow = NameRow {
+    name: Name::KeysOnly,
+    required: false,
+};
+
+/// The name of the stem of links, which may be absent.
+const STEM: NameRow = NameRow {
+    name: Name::Stem,
+    required: false,
+};
+
+impl Command {
+    /// The names that the command takes.
+    pub fn names(self) -> &'static [NameRow]
+        ensures { result.now ≡ names_of self }
+    {
+        match self {
+            Command::Canon(_) => &[TABLES],
+            Command::Translate(_, _) => &[TABLES, PREFIXES, FILTER, GCP, ENCODING, KEYS_ONLY, STEM],
+            Command::Check => &[TABLES, PREFIXES, LINKS, VOC],
+            Command::Resolve => &[LINKS_NEEDED, TABLES, VOC, DESCRIBE],
+            Command::Serve => &[LINKS_NEEDED, COUNT_NEEDED, TABLES, VOC, DESCRIBE, LISTEN],
+            Command::Gen(_) => &[TABLES],
+        }
+    }
+}

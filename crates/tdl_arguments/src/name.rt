@@ -1,0 +1,81 @@
+ghost use Rattle.std.specs.Prelude.{◌≡◌};
+ghost use Rattle.tdl_arguments.specs.Names.{in_range, name_word};
+
+use crate::ranges::{count_of, filter_of, gcp_of, is_vocabulary};
+use gs_dlink::stem_ok;
+
+/// A name that stands before its value among the arguments.
+#[derive(Clone, Copy)]
+pub enum Name {
+    /// The file of tables.
+    Tables,
+    /// The file of the lengths of company prefixes.
+    Prefixes,
+    /// The file of links.
+    Links,
+    /// The file that describes a resolver.
+    Describe,
+    /// What stands for `gs1:` in relations.
+    Voc,
+    /// The address that a server listens at.
+    Listen,
+    /// The number of connections that a server finishes.
+    Count,
+    /// A filter value.
+    Filter,
+    /// The number of digits of a company prefix.
+    Gcp,
+    /// The name of an encoding of tags.
+    Encoding,
+    /// Whether of an identity its key alone is kept.
+    KeysOnly,
+    /// The stem of links.
+    Stem,
+}
+
+impl Name {
+    /// The word of the name.
+    pub fn word(self) -> &'static str
+        ensures { result.now ≡ name_word self }
+    {
+        match self {
+            Name::Tables => "--tables",
+            Name::Prefixes => "--prefixes",
+            Name::Links => "--links",
+            Name::Describe => "--describe",
+            Name::Voc => "--voc",
+            Name::Listen => "--listen",
+            Name::Count => "--count",
+            Name::Filter => "--filter",
+            Name::Gcp => "--gcp",
+            Name::Encoding => "--encoding",
+            Name::KeysOnly => "--keys-only",
+            Name::Stem => "--stem",
+        }
+    }
+
+    /// Whether the name may have this value. A file may have any name, and an address may be any text.
+    pub fn has_in_range(self, value: &str) -> bool
+        ensures { result ≡ in_range self value.now }
+    {
+        match self {
+            Name::Tables | Name::Prefixes | Name::Links | Name::Describe | Name::Listen => true,
+            Name::Voc => is_vocabulary(value),
+            Name::Count => count_of(value).is_some(),
+            Name::Filter => filter_of(value).is_some(),
+            Name::Gcp => gcp_of(value).is_some(),
+            Name::Encoding => !value.is_empty(),
+            Name::KeysOnly => value == "yes" || value == "no",
+            Name::Stem => stem_ok(value.as_bytes()),
+        }
+    }
+}
+
+/// A name in the row of a command.
+#[derive(Clone, Copy)]
+pub struct NameRow {
+    /// The name.
+    pub name: Name,
+    /// Whether the command must have it.
+    pub required: bool,
+}

@@ -1,0 +1,85 @@
+ghost use Rattle.std.specs.Prelude.{◌≡◌, [], Option, unwrap_or};
+ghost use Rattle.tdl_arguments.specs.Names.{OfPairs};
+ghost use Rattle.tdl_arguments.specs.Ranges.{count_of, filter_of, gcp_of};
+ghost use Rattle.tdl_arguments.specs.Requests.{count_named, named_files, named_values, number_named, known_files, known_values, known_words, value_or};
+
+use crate::name::Name;
+use crate::pairs::look_up;
+use crate::ranges::{count_of, filter_of, gcp_of};
+use crate::request::{NamedFiles, NamedValues};
+use gs_ident::CANONICAL_STEM;
+
+/// What stands for `gs1:` in relations where that is not named.
+const DEFAULT_VOC: &str = "https://ref.gs1.org/voc/";
+
+/// The address of a server where it is not named.
+const DEFAULT_LISTEN: &str = "127.0.0.1:8080";
+
+/// The files that pairs name.
+pub fn named_files(words: &[String]) -> NamedFiles<'_>
+    ensures { OfPairs (known_words words.now) (λ pairs. known_files result ≡ named_files pairs) }
+{
+    NamedFiles {
+        tables: look_up(words, Name::Tables.word()),
+        prefixes: look_up(words, Name::Prefixes.word()),
+        links: look_up(words, Name::Links.word()),
+        describe: look_up(words, Name::Describe.word()),
+    }
+}
+
+/// The value of a name, or what stands in its place.
+fn value_or<'a>(words: &'a [String], name: Name, default: &'a str) -> &'a str
+    ensures { OfPairs (known_words words.now) (λ pairs. result.now ≡ value_or default.now name pairs) }
+{
+    match look_up(words, name.word()) {
+        Some(value) => value,
+        None => default,
+    }
+}
+
+/// The number of connections that is named, and 0 where none is.
+fn named_count(words: &[String]) -> u32
+    ensures { OfPairs (known_words words.now) (λ pairs. result ≡ count_named pairs) }
+{
+    let Some(value) = look_up(words, Name::Count.word()) else {
+        return 0;
+    };
+    count_of(value).unwrap_or(0)
+}
+
+/// The filter value that is named.
+fn named_filter(words: &[String]) -> Option<u8>
+    ensures { OfPairs (known_words words.now) (λ pairs. result ≡ number_named filter_of Name.Filter pairs) }
+{
+    filter_of(look_up(words, Name::Filter.word())?)
+}
+
+/// The number of digits of a company prefix that is named.
+fn named_gcp(words: &[String]) -> Option<u8>
+    ensures { OfPairs (known_words words.now) (λ pairs. result ≡ number_named gcp_of Name.Gcp pairs) }
+{
+    gcp_of(look_up(words, Name::Gcp.word())?)
+}
+
+/// The values that pairs name, with their defaults.
+pub fn named_values(words: &[String]) -> NamedValues<'_>
+    ensures { OfPairs (known_words words.now) (λ pairs. known_values result ≡ named_values pairs) }
+{
+    NamedValues {
+        voc: value_or(words, Name::Voc, DEFAULT_VOC),
+        listen: value_or(words, Name::Listen, DEFAULT_LISTEN),
+        count: named_count(words),
+        filter: named_filter(words),
+        gcp: named_gcp(words),
+        encoding: value_or(words, Name::Encoding, ""),
+        keys_only: value_or(words, Name::KeysOnly, "no") == "yes",
+        stem: value_or(words, Name::Stem, CANONICAL_STEM),
+    }
+}
+
+/// The values where nothing is named.
+pub fn no_values<'a>() -> NamedValues<'a>
+    ensures { known_values result ≡ named_values [] }
+{
+    named_values(&[])
+}

@@ -1,0 +1,16 @@
+-- What counting has done at a moment, and what is written of the line of counts.
+use Rattle.std.specs.Prelude.{ℕ, List, Option}
+use Rattle.tdl_lines.specs.Outputs.{Appends}
+use Rattle.tdl_lines.specs.declared.status.Status.{Status}
+use Rattle.tdl_lines.specs.declared.status.Status.TheVariants.{Done}
+use Rattle.tdl_lines.specs.Printers.{PrintedAs}
+use Rattle.gs_tables.specs.Tables.{TableRows}
+use Rattle.tdl_gen.specs.Counts.{Generated}
+
+-- trusted, own: the line of counts was written whole and the status is `Done`, or a prefix of it was written
+abbrev pub PrintsGenerated : TableRows → ℕ → List ℕ → Status → Type 0
+PrintsGenerated set lines output status = (line : List ℕ) × Generated set lines line × PrintedAs Done line output status
+
+-- trusted, own: that was added to what a sink holds, where that is known
+abbrev pub AppendsGenerated : TableRows → ℕ → Status → Option (List ℕ) → Option (List ℕ) → Type 0
+AppendsGenerated set lines status before now = Appends before now (λ output. PrintsGenerated set lines output status)

@@ -1,0 +1,57 @@
+-- What is counted of the answers to the first lines of the generator, and how the counts are printed.
+use Rattle.std.specs.Prelude.{◌≡◌, ℕ, suc, false, List, [], ◌∷◌, ◌++◌, Result, Some, None, codes, decimal, count_by, flat_map, is_ok, length}
+use Rattle.gs_ident.specs.Links.{canonical_stem}
+use Rattle.tdl_lines.specs.Outputs.{printed}
+use Rattle.gs_tables.specs.Tables.{TableRows}
+use Rattle.gs_translate.specs.declared.form.Form.{Form}
+use Rattle.gs_translate.specs.declared.form.Form.TheVariants as form
+use Rattle.gs_translate.specs.declared.options.Options.{Options}
+use Rattle.gs_translate.specs.declared.reason.Reason.{Reason}
+use Rattle.gs_translate.specs.declared.target.Target.{Target}
+use Rattle.gs_translate.specs.declared.target.Target.TheVariants as target
+use Rattle.gs_translate.specs.Steps.{Then}
+use Rattle.gs_translate.specs.Translations.{IsTranslation}
+use Rattle.tdl_messages.specs.AnswerLines.{line_of}
+use Rattle.tdl_gen.specs.Generator.{generated_line}
+
+-- trusted, own: what is said beside the lines: filter value 1, and all else as it is where nothing is named
+abbrev pub filter_one : Options
+filter_one = record { filter = Some 1; gcp = None; encoding = []; keys_only = false; stem = canonical_stem }
+
+-- trusted, own: the translation of a text by no company prefix lengths, and by filter value 1 alone
+unfoldable pub IsPlain : TableRows → Form → Target → List ℕ → Result (List ℕ) Reason → Type 0
+IsPlain set from to text answer = IsTranslation set [] filter_one from to text answer
+
+-- trusted, own: The answer to a line: the canonical link of its tag, or the first rejection. The pure identity is translated
+-- to the bits of a tag, and these to a canonical link, by no company prefix lengths.
+abbrev pub IsLineAnswer : TableRows → List ℕ → Result (List ℕ) Reason → Type 0
+IsLineAnswer set line answer =
+    Then (IsPlain set form.Pure target.Hex line) (IsPlain set form.Hex target.Canon) answer
+
+-- trusted, own: these are the answers to the first lines of the generator, in their order, so many as there are
+pub data AnswersFirst (set : TableRows) : ℕ → List (Result (List ℕ) Reason) → Type 0 where
+  no_line : AnswersFirst set 0 []
+  one_more : (n : ℕ) (answers : List (Result (List ℕ) Reason)) (answer : Result (List ℕ) Reason) → AnswersFirst set n answers → IsLineAnswer set (generated_line n) answer → AnswersFirst set (suc n) (answers ++ answer ∷ [])
+
+-- trusted, own: the bytes of the line of an answer, with its line feed
+abbrev pub answer_bytes : Result (List ℕ) Reason → List ℕ
+answer_bytes answer = printed (line_of answer)
+
+-- trusted, own: how many answers are texts
+abbrev pub ok_answers : List (Result (List ℕ) Reason) → ℕ
+ok_answers answers = count_by is_ok answers
+
+-- trusted, own: how many bytes the lines of all answers have
+abbrev pub answered_bytes : List (Result (List ℕ) Reason) → ℕ
+answered_bytes answers = length (flat_map answer_bytes answers)
+
+-- trusted, own: the line of the counts: of lines, of answers that are texts, and of the bytes of the lines of all answers
+abbrev pub counts_text : ℕ → ℕ → ℕ → List ℕ
+counts_text lines ok bytes =
+    codes "lines " ++ decimal lines ++ codes " ok " ++ decimal ok ++ codes " bytes " ++ decimal bytes ++ 10 ∷ []
+
+-- trusted, own: the line that tells the counts of the answers to so many lines of the generator
+pub record Generated (set : TableRows) (lines : ℕ) (output : List ℕ) : Type 0 where
+  pub answers : List (Result (List ℕ) Reason)
+  pub each : AnswersFirst set lines answers
+  pub written : output ≡ counts_text lines (ok_answers answers) (answered_bytes answers)

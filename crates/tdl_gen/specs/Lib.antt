@@ -1,0 +1,4 @@
+pub mod Generator
+pub mod Counts
+pub mod Counters
+pub mod CountingSupport

@@ -1,0 +1,155 @@
+-- Rejections of files, as they are printed.
+use Rattle.std.specs.Prelude.{ℕ, if◌then◌else◌, List, [], ◌∷◌, ◌++◌, map, codes}
+use Rattle.gs_ai.specs.declared.errors.AiFault.{AiFault}
+use Rattle.gs_ai.specs.declared.errors.AiFault.TheVariants as ai
+use Rattle.gs_chars.specs.Characters.{is_visible}
+use Rattle.gs_tables_document.specs.declared.error.LimitName.{LimitName}
+use Rattle.gs_tables_document.specs.declared.error.LimitName.TheVariants.{Ais, Kinds, Options, Items, Size}
+use Rattle.gs_tables_document.specs.declared.error.LoadFault.{LoadFault}
+use Rattle.gs_tables_document.specs.declared.error.LoadFault.TheVariants.{Json, Version, Limit, Ai, BadKind, BadItem, Mismatch, Duplicate, Ambiguous, Memory}
+use Rattle.gs_tables_document.specs.declared.level_name.LevelName.{LevelName}
+use Rattle.gs_tables_document.specs.declared.level_name.LevelName.TheVariants.{Binary, Tag, Pure}
+use Rattle.gs_json.specs.declared.error.JsonFault.{JsonFault}
+use Rattle.gs_json.specs.declared.error.JsonFault.TheVariants as json
+use Rattle.gs_links.specs.declared.error.AnchorWhy.{AnchorWhy}
+use Rattle.gs_links.specs.declared.error.AnchorWhy.TheVariants as anchor
+use Rattle.gs_links.specs.declared.error.StoreFault.{StoreFault}
+use Rattle.gs_links.specs.declared.error.StoreFault.TheVariants as store
+use Rattle.gs_prefix.specs.declared.error.PrefixFault.{PrefixFault}
+use Rattle.gs_prefix.specs.declared.error.PrefixFault.TheVariants as prefix
+use Rattle.gs_translate.specs.declared.reason.Reason.TheVariants.{Ident}
+use Rattle.gs_translate.specs.Meanings.{link_reason}
+use Rattle.gs_translate.specs.Reasons.{numbered, reason_text}
+use Rattle.tdl_messages.specs.declared.file_kind.FileKind.{FileKind}
+use Rattle.tdl_messages.specs.declared.file_kind.FileKind.TheVariants as kind
+use Rattle.tdl_messages.specs.declared.rejection.Rejection.{Rejection}
+use Rattle.tdl_messages.specs.declared.rejection.FileFault.{FileFault}
+use Rattle.tdl_messages.specs.declared.rejection.FileFault.TheVariants.{Over, Tables, Prefixes, Linkset, Store}
+
+-- trusted, own: the word that a rejection of a kind of file is printed with
+abbrev pub file_word : FileKind → List ℕ
+file_word kind.Tables = codes "tables"
+file_word kind.Prefixes = codes "prefixes"
+file_word kind.Links = codes "links"
+file_word kind.Describe = codes "describe"
+
+-- trusted, own: the most bytes of a kind of file
+abbrev pub file_limit : FileKind → ℕ
+file_limit kind.Tables = 1048576
+file_limit kind.Prefixes = 4194304
+file_limit kind.Links = 16777216
+file_limit kind.Describe = 1048576
+
+-- trusted, own: a byte as it is printed: a question mark where it is no visible character
+abbrev pub shown_byte : ℕ → ℕ
+shown_byte c = if is_visible c then c else 63
+
+-- trusted, own: a place as it is printed
+abbrev pub shown : List ℕ → List ℕ
+shown place = map shown_byte place
+
+-- trusted, own: why a document has not its form
+abbrev pub json_text : JsonFault → List ℕ
+json_text json.Syntax = codes "syntax"
+json_text (json.Lacks place) = codes "lacks " ++ shown place
+json_text (json.Kind place) = codes "kind " ++ shown place
+json_text (json.Unknown place) = codes "unknown " ++ shown place
+json_text json.Memory = codes "memory"
+
+-- trusted, own: the name of a limit
+abbrev pub limit_text : LimitName → List ℕ
+limit_text Ais = codes "ais"
+limit_text Kinds = codes "kinds"
+limit_text Options = codes "options"
+limit_text Items = codes "items"
+limit_text Size = codes "size"
+
+-- trusted, own: the name of a level
+abbrev pub level_text : LevelName → List ℕ
+level_text Binary = codes "binary"
+level_text Tag = codes "tag"
+level_text Pure = codes "pure"
+
+-- trusted, own: a word and two numbers
+abbrev pub numbered_twice : List ℕ → ℕ → ℕ → List ℕ
+numbered_twice word i j = numbered (numbered word i) j
+
+-- trusted, own: a word and a level
+abbrev pub of_level : List ℕ → LevelName → List ℕ
+of_level word level = word ++ 32 ∷ level_text level
+
+-- trusted, own: a word, a level and two numbers
+abbrev pub of_level_twice : List ℕ → LevelName → ℕ → ℕ → List ℕ
+of_level_twice word level i j = numbered_twice (of_level word level) i j
+
+-- trusted, own: an option that does not fit its kind, by its level and its number
+abbrev pub mismatch_text : LevelName → ℕ → List ℕ
+mismatch_text level i = numbered (of_level (codes "mismatch") level) i
+
+-- trusted, own: why an application identifier breaks a rule
+abbrev pub ai_text : AiFault → List ℕ
+ai_text (ai.BadAi i) = numbered (codes "ai") i
+ai_text (ai.CodePrefix j i) = numbered_twice (codes "code-prefix") j i
+ai_text (ai.KeyIsQualifier i) = numbered (codes "key-is-qualifier") i
+ai_text (ai.PredefinedLength i) = numbered (codes "predefined") i
+ai_text ai.Memory = codes "memory"
+
+-- trusted, own: the first ambiguous level, the first pair of its options that shares a list, and a text that shows such a
+-- list
+abbrev pub ambiguous_text : LevelName → ℕ → ℕ → List ℕ → List ℕ
+ambiguous_text level i j text = of_level_twice (codes "ambiguous") level i j ++ 32 ∷ text
+
+-- trusted, own: an error of tables
+abbrev pub tables_text : LoadFault → List ℕ
+tables_text (Json error) = codes "json " ++ json_text error
+tables_text Version = codes "version"
+tables_text (Limit name) = codes "limit " ++ limit_text name
+tables_text (Ai error) = ai_text error
+tables_text (BadKind i) = numbered (codes "bad-kind") i
+tables_text (BadItem level i k) = of_level_twice (codes "bad-item") level i k
+tables_text (Mismatch level i) = mismatch_text level i
+tables_text (Duplicate level j i) = of_level_twice (codes "duplicate") level j i
+tables_text (Ambiguous level i j text) = ambiguous_text level i j text
+tables_text Memory = codes "memory"
+
+-- trusted, own: an error of a list of company prefix lengths
+abbrev pub prefixes_text : PrefixFault → List ℕ
+prefixes_text (prefix.Json error) = codes "json " ++ json_text error
+prefixes_text (prefix.BadPrefix i) = numbered (codes "bad-prefix") i
+prefixes_text (prefix.BadLength i) = numbered (codes "bad-length") i
+prefixes_text (prefix.Twice i) = numbered (codes "twice") i
+prefixes_text prefix.Limit = codes "limit"
+prefixes_text prefix.Memory = codes "memory"
+
+-- trusted, own: why an anchor is none: the text that is printed behind `no ` for the same error of a link or of an identity
+abbrev pub anchor_text : AnchorWhy → List ℕ
+anchor_text (anchor.Link error) = reason_text (link_reason error)
+anchor_text (anchor.Ident error) = reason_text (Ident error)
+anchor_text anchor.Attributes = codes "attributes"
+
+-- trusted, own: the context of an anchor that is none, and why
+abbrev pub bad_anchor_text : ℕ → AnchorWhy → List ℕ
+bad_anchor_text i why = numbered (codes "bad-anchor") i ++ 32 ∷ anchor_text why
+
+-- trusted, own: the context, the relation and the target of an `href` that is none
+abbrev pub bad_href_text : ℕ → ℕ → ℕ → List ℕ
+bad_href_text i r t = numbered (numbered_twice (codes "bad-href") i r) t
+
+-- trusted, own: an error of a linkset as a store of links
+abbrev pub store_text : StoreFault → List ℕ
+store_text store.TooMany = codes "too-many"
+store_text (store.BadAnchor i why) = bad_anchor_text i why
+store_text (store.BadHref i r t) = bad_href_text i r t
+store_text store.Memory = codes "memory"
+
+-- trusted, own: why a file is rejected
+abbrev pub error_text : FileFault → List ℕ
+error_text Over = codes "over"
+error_text (Tables error) = tables_text error
+error_text (Prefixes error) = prefixes_text error
+error_text (Linkset error) = codes "json " ++ json_text error
+error_text (Store error) = store_text error
+
+-- trusted, own: the line of a rejected file: `refused WHICH REASON`, and a line feed
+abbrev pub rejected_line : Rejection → List ℕ
+rejected_line rejection = codes "refused " ++ file_word rejection.kind ++ 32 ∷ error_text rejection.error ++ 10 ∷ []

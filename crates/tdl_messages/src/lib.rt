@@ -1,0 +1,32 @@
+//! The lines that the program prints of answers to texts, and of files that are rejected.
+//!
+//! - `append_line` appends the line of an answer, `ok TEXT` or `no REASON`; `append_accepted` and `append_refused` append either.
+//! - `refused_line` is the line that is printed of a rejected file. What it says of each error is a text of docs/FORMATS.md, 'The
+//!   command line'. The texts of reasons stand in gs_translate.
+//! - `FileKind` has the word of each kind of file, and the most bytes that such a file may have.
+//!
+//! # Example
+//!
+//! Tables that lack a member. The gate runs this case of a whole run, for which crates/vectors_runs/src/runs.rt makes the call.
+//!
+//! ```text
+//! tdl_run::run check --tables t / - t {"version":1} / 5 - \e / 1000 -
+//! Refused refused\x20tables\x20json\x20lacks\x20/ais\x0A \e
+//! ```
+//!
+//! # Where it differs from the standards
+//!
+//! - No standard says how an answer is printed, or how a file is rejected: the words are this project's own.
+#![tactic(auto)]
+
+mod answer_lines;
+mod file_kind;
+mod link_rejections;
+mod numbers;
+mod rejection;
+mod rejections;
+
+pub use answer_lines::{append_accepted, append_line, append_rejected};
+pub use file_kind::FileKind;
+pub use rejection::{FileFault, Rejection};
+pub use rejections::rejected_line;

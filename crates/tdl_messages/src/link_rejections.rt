@@ -1,0 +1,61 @@
+ghost use Rattle.std.specs.Prelude.{◌≡◌, ◌++◌, OnOk};
+ghost use Rattle.tdl_messages.specs.Rejections.{anchor_text, bad_anchor_text, bad_href_text, store_text};
+
+use crate::numbers::append_numbered_twice;
+use gs_chars::Memory;
+use gs_links::{AnchorWhy, StoreFault};
+use gs_translate::{
+    Reason, append_ident, append_number, append_numbered, append_reason, append_word,
+};
+use std::alloc::Global;
+
+/// Appends why an anchor is none.
+fn append_anchor(alloc: Global, out: &mut Vec<u8>, why: &AnchorWhy) -> Result<(), Memory>
+    ensures { OnOk result (out.new.items ≡ out.old.items ++ anchor_text why.now) }
+{
+    match why {
+        AnchorWhy::Link(error) => append_reason(alloc, out, &Reason::from(*error)),
+        AnchorWhy::Ident(error) => append_ident(out, error),
+        AnchorWhy::Attributes => append_word(out, b"attributes"),
+    }
+}
+
+/// Appends the context whose anchor is none, and why.
+fn append_bad_anchor(
+    alloc: Global,
+    out: &mut Vec<u8>,
+    i: usize,
+    why: &AnchorWhy,
+) -> Result<(), Memory>
+    ensures { OnOk result (out.new.items ≡ out.old.items ++ bad_anchor_text i why.now) }
+{
+    append_numbered(alloc, out, b"bad-anchor", i)?;
+    append_word(out, b" ")?;
+    append_anchor(alloc, out, why)
+}
+
+/// Appends the context, the relation and the target whose `href` is none.
+fn append_bad_href(
+    alloc: Global,
+    out: &mut Vec<u8>,
+    i: usize,
+    r: usize,
+    t: usize,
+) -> Result<(), Memory>
+    ensures { OnOk result (out.new.items ≡ out.old.items ++ bad_href_text i r t) }
+{
+    append_numbered_twice(alloc, out, b"bad-href", i, r)?;
+    append_number(alloc, out, t)
+}
+
+/// Appends an error of a linkset as a store of links.
+pub fn append_store(alloc: Global, out: &mut Vec<u8>, error: &StoreFault) -> Result<(), Memory>
+    ensures { OnOk result (out.new.items ≡ out.old.items ++ store_text error.now) }
+{
+    match error {
+        StoreFault::TooMany => append_word(out, b"too-many"),
+        StoreFault::BadAnchor(i, why) => append_bad_anchor(alloc, out, *i, why),
+        StoreFault::BadHref(i, r, t) => append_bad_href(alloc, out, *i, *r, *t),
+        StoreFault::Memory => append_word(out, b"memory"),
+    }
+}

@@ -1,0 +1,29 @@
+use crate::file_kind::FileKind;
+use gs_json::JsonFault;
+use gs_links::StoreFault;
+use gs_prefix::PrefixFault;
+use gs_tables_document::LoadFault;
+
+/// Why a file, or the rows in its place, are rejected.
+#[derive(Drop)]
+pub enum FileFault {
+    /// The file has more bytes than its kind may have.
+    Over,
+    /// The tables break a rule, which is never out of memory.
+    Tables(LoadFault),
+    /// The list of company prefix lengths breaks a rule, which is never out of memory.
+    Prefixes(PrefixFault),
+    /// The links are no linkset, which is never out of memory.
+    Linkset(JsonFault),
+    /// The linkset breaks a rule of links, which is never out of memory.
+    Store(StoreFault),
+}
+
+/// A file that is rejected.
+#[derive(Drop)]
+pub struct Rejection {
+    /// The kind of the file.
+    pub kind: FileKind,
+    /// Why it is rejected.
+    pub error: FileFault,
+}

@@ -1,0 +1,100 @@
+-- A run whose arguments and files are in order, whose input fits and whose counts stand still is done, or memory ran out.
+use Rattle.std.proofs.Common.{◌≡◌, ◌⊎◌, inl, inr, ℕ, ◌≤◌, Bool, true, false, if◌then◌else◌, List, length, Option, Some, refl, ap}
+use Rattle.std.specs.Prelude.{Err}
+use Rattle.std.proofs.lemmas.Bool.{le-ltb}
+use Rattle.tdl_lines.specs.declared.status.Status.{Status}
+use Rattle.tdl_lines.specs.declared.status.Status.TheVariants as status
+use Rattle.tdl_lines.specs.Inputs.{IsKnown}
+use Rattle.tdl_lines.specs.Outputs.{AnswersInput, LineAnswer, status_of}
+use Rattle.tdl_lines.specs.Statuses.{OnReadFault, OnWriteFault, OnWritten, is_answered}
+use Rattle.gs_port.specs.Connections.{Finished}
+use Rattle.gs_port.specs.Counts.{Rises}
+use Rattle.tdl_arguments.specs.declared.command.Command.{Command}
+use Rattle.tdl_arguments.specs.declared.command.Command.TheVariants.{Canon, Translate, Check, Resolve, Serve, Gen}
+use Rattle.tdl_arguments.specs.Commands.{answers_lines}
+use Rattle.tdl_arguments.specs.Requests.{Asked, Values, WordsInOrder}
+use Rattle.tdl_arguments.proofs.RequestLemmas.{one_request}
+use Rattle.tdl_run.specs.declared.loads.Loaded.{Loaded}
+use Rattle.tdl_run.specs.Requests.{AskedRan}
+use Rattle.tdl_run.specs.LineAnswers.{IsTranslatedLine}
+use Rattle.tdl_run.specs.Loads.{FilesGive, Stop, missing}
+use Rattle.tdl_run.specs.Runs.{AskedRun, Counts, DefinedRun, InputFits, IsDoneOrMemory, IsMissing, IsWithin, LoadsAll, NoneRises, World, by_request, by_usage, ran, stops}
+use Rattle.tdl_run.specs.Works.{CommandRun, Doorway, Leaves, Outcome, canonizing, input_limit, translating}
+use Rattle.tdl_run.proofs.RunLemmas.{defined_of, read_error_of}
+
+-- ---- what is defined is answered
+
+done_or_rejected : (any_rejected : Bool) → is_answered (if any_rejected then status.SomeRefused else status.Done) ≡ true
+done_or_rejected true = refl
+done_or_rejected false = refl
+
+-- the status of lines within the limit
+answered_within : (bytes : List ℕ) (any_rejected : Bool) → length bytes ≤ input_limit → is_answered (status_of input_limit bytes any_rejected) ≡ true
+answered_within bytes any_rejected fits = rw (le-ltb input_limit (length bytes) fits) (done_or_rejected any_rejected)
+
+known_bytes : (input : Option (List ℕ)) (known bytes : List ℕ) → input ≡ Some known → IsKnown input bytes → bytes ≡ known
+known_bytes input known bytes e t = let f : IsKnown (Some known) bytes = rw e at t in f
+
+answered_lines : (Is : List ℕ → LineAnswer → Type 0) (input : Option (List ℕ)) (output : List ℕ) (s : Status) → IsWithin input_limit input → AnswersInput Is input_limit input output s → is_answered s ≡ true
+answered_lines Is input output s within a =
+    let same : a.bytes ≡ within.bytes = known_bytes input within.bytes a.bytes within.is_known a.of_input in
+    let fits : length a.bytes ≤ input_limit = rw same within.fits in
+    rw a.has_status (answered_within a.bytes a.any_rejected fits)
+
+-- the outcomes of a command, whose input fits where it answers its lines
+answered_command : (command : Command) (values : Values) (loaded : Loaded) (input : Option (List ℕ)) (door : Doorway) (outcome : Outcome) → (answers_lines command ≡ true → IsWithin input_limit input) → CommandRun command values loaded input door outcome → is_answered outcome.status ≡ true
+answered_command (Canon form) values loaded input door outcome fits r = answered_lines (IsTranslatedLine (canonizing loaded form)) input outcome.output outcome.status (fits refl) r.0
+answered_command (Translate from to) values loaded input door outcome fits r = answered_lines (IsTranslatedLine (translating loaded values from to)) input outcome.output outcome.status (fits refl) r.0
+answered_command Check values loaded input door outcome fits r = ap (λ (o : Outcome). is_answered o.status) r
+answered_command Resolve values loaded input door outcome fits r = ap is_answered r.done
+answered_command Serve values loaded input door outcome fits r = ap (λ (o : Outcome). is_answered o.status) r.is
+answered_command (Gen lines) values loaded input door outcome fits r = ap is_answered r.done
+
+answered_asked : (asked : Asked) (world : World) (outcome : Outcome) → ((stop : Stop) → FilesGive world.files asked (Err stop) → ⊥) → (answers_lines asked.command ≡ true → IsWithin input_limit world.input) → AskedRun asked world outcome → is_answered outcome.status ≡ true
+answered_asked asked world outcome goes_on fits (ran loaded gives r) = answered_command asked.command asked.values loaded world.input world.door outcome fits r
+answered_asked asked world outcome goes_on fits (stops stop gives e) = absurd (goes_on stop gives)
+
+pub answered_run : (words : List (List ℕ)) (world : World) (outcome : Outcome) → LoadsAll words world.files → InputFits words world.input → DefinedRun words world outcome → is_answered outcome.status ≡ true
+answered_run words world outcome loads fits (by_request asked order r) =
+    let same : asked ≡ loads.asked = one_request words asked loads.asked order loads.order in
+    let goes_on : (stop : Stop) → FilesGive world.files asked (Err stop) → ⊥ = rw same loads.goes_on in
+    answered_asked asked world outcome goes_on (λ passes. fits (record { asked = asked; order = order; passes = passes })) r
+answered_run words world outcome loads fits (by_usage not e) = absurd (not loads.asked loads.order)
+
+-- ---- no other status comes
+
+-- no read error has a cause
+no_cause : (words : List (List ℕ)) (world : World) (before now : Counts) → LoadsAll words world.files → NoneRises before now → (Rises before.input_errors now.input_errors ⊎ Rises before.door_errors now.door_errors) ⊎ (Rises before.file_errors now.file_errors ⊎ IsMissing words world.files) → ⊥
+no_cause words world before now loads none (inl (inl rises)) = none.input rises
+no_cause words world before now loads none (inl (inr rises)) = none.door rises
+no_cause words world before now loads none (inr (inl rises)) = none.files rises
+no_cause words world before now loads none (inr (inr m)) =
+    let same : m.asked ≡ loads.asked = one_request words m.asked loads.asked m.order loads.order in
+    let gives : FilesGive world.files loads.asked (Err missing) = rw same at m.gives in
+    loads.goes_on missing gives
+
+module _ (words : List (List ℕ)) (world : World) (before now : Counts) (held holds : Option (List ℕ)) (ended ended' : Option (List Finished)) (loads : LoadsAll words world.files) (fits : InputFits words world.input) (none : NoneRises before now) where
+  -- all that is defined was written
+  done_by : (s : Status) → Leaves held holds ended ended' s (DefinedRun words world) → IsDoneOrMemory s
+  done_by s a =
+      let w = a.2 in
+      inl (answered_run words world (record { output = w.0; finished = a.0; status = s }) loads fits w.2)
+
+  pub complete_of : (s : Status) → OnWritten s (Leaves held holds ended ended' s (DefinedRun words world)) → OnReadFault s ((Rises before.input_errors now.input_errors ⊎ Rises before.door_errors now.door_errors) ⊎ (Rises before.file_errors now.file_errors ⊎ IsMissing words world.files)) → OnWriteFault s (Rises before.output_errors now.output_errors) → IsDoneOrMemory s
+  complete_of status.Done defined read write = done_by status.Done defined
+  complete_of status.SomeRefused defined read write = done_by status.SomeRefused defined
+  complete_of status.Usage defined read write = done_by status.Usage defined
+  complete_of status.Refused defined read write = done_by status.Refused defined
+  complete_of status.InputLong defined read write = done_by status.InputLong defined
+  complete_of status.ReadFault defined read write = absurd (no_cause words world before now loads none read)
+  complete_of status.WriteFault defined read write = absurd (none.output write)
+  complete_of status.Memory defined read write = inr refl
+
+-- what was done of what the arguments ask for
+pub complete_asked : (words : List (List ℕ)) (asked : Asked) (world : World) (before now : Counts) (left held holds : Option (List ℕ)) (ended ended' : Option (List Finished)) (s : Status) → WordsInOrder words asked → Leaves held holds ended ended' s (AskedRan asked world before now left) → LoadsAll words world.files → InputFits words world.input → NoneRises before now → IsDoneOrMemory s
+complete_asked words asked world before now left held holds ended ended' s order a loads fits none =
+    let w = a.2 in
+    complete_of words world before now held holds ended ended' loads fits none s
+    (defined_of words asked world before now left held holds ended ended' s order a)
+    (read_error_of words asked world before now left (record { output = w.0; finished = a.0; status = s }) order w.2)
+    w.2.write_error

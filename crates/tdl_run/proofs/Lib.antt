@@ -1,0 +1,17 @@
+pub mod FileLoads
+pub mod OpenedNames
+pub mod PrefixLoads
+pub mod LinkLoads
+pub mod LoadSteps
+pub mod LoadLemmas
+pub mod ReadLemmas
+pub mod RanLemmas
+pub mod LineLemmas
+pub mod SiteLemmas
+pub mod ServeLemmas
+pub mod GenLemmas
+pub mod CanonLaws
+pub mod AskedLemmas
+pub mod RunLemmas
+pub mod CompleteLemmas
+pub mod RunLaws

@@ -1,0 +1,201 @@
+-- What files give: one answer, and no other but for the text of an ambiguous level.
+use Rattle.std.proofs.Common.{◌≡◌, ℕ, ◌<◌, ◌≤◌, List, [], Option, Some, None, length, refl, sym, ◌∙◌, ap, inl, inr, arith}
+use Rattle.std.specs.Prelude.{Result, Ok, Err}
+use Rattle.std.proofs.lemmas.Bool.Decides.{leb_tells}
+use Rattle.gs_ai.specs.declared.row.AiRow.{AiRow}
+use Rattle.gs_tables_document.specs.declared.error.LoadFault.{LoadFault}
+use Rattle.gs_tables_document.specs.declared.level_name.LevelName.{LevelName}
+use Rattle.gs_links.specs.declared.link.Link.{Link}
+use Rattle.gs_linkset.specs.Answers.{read_answer}
+use Rattle.gs_port.specs.Files.{IsAbsent, IsFile, file_of}
+use Rattle.gs_prefix.specs.Answers.{load_answer}
+use Rattle.gs_prefix.specs.declared.entry.PrefixEntry.{PrefixEntry}
+use Rattle.gs_tables.specs.Judgements.{Judged}
+use Rattle.gs_tables.specs.Shapes.{AreAlike, BuiltInAnswer, HasMemory, LoadAnswer, Shape, but_text, same}
+use Rattle.gs_tables.specs.Tables.{TableRows}
+use Rattle.gs_tables.proofs.JudgedAnswers.{IsRuling, judged_alike, judged_some}
+use Rattle.gs_tables.proofs.OneAnswer.{RuledRows, ruling_of_builtin, ruling_of_bytes}
+use Rattle.gs_translate.specs.Steps.{Then, goes_on, rejects}
+use Rattle.gs_translate.specs.StepsSupport.{HasSome}
+use Rattle.gs_translate.proofs.StepLaws.{then_some}
+use Rattle.tdl_messages.specs.declared.file_kind.FileKind.{FileKind}
+use Rattle.tdl_messages.specs.declared.file_kind.FileKind.TheVariants as kind
+use Rattle.tdl_messages.specs.declared.rejection.FileFault.{FileFault}
+use Rattle.tdl_messages.specs.declared.rejection.FileFault.TheVariants.{Over}
+use Rattle.tdl_messages.specs.Rejections.{file_limit}
+use Rattle.tdl_arguments.specs.Requests.{Asked}
+use Rattle.tdl_run.specs.declared.loads.Loaded.{Loaded}
+use Rattle.tdl_run.specs.Loads.{AreSettings, DescriptionGives, FileGives, FilesGive, Gives, GivesBehind, GivesLinks, GivesSettings, IsLoadedOf, AreNone, IsNoLink, IsNoPrefix, AreBytes, JudgesLinks, JudgesPrefixes, JudgesTables, LinksGive, PrefixesGive, SettingsGive, Stop, TablesGive, links_verdict, prefixes_verdict, absent, judged, missing, of_verdict, tables_verdict, too_large}
+use Rattle.tdl_run.specs.Runs.{ambiguous}
+
+-- ---- at most one answer
+
+same_file : (files : List (List ℕ × List ℕ)) (name bytes other : List ℕ) → IsFile (Some files) name bytes → IsFile (Some files) name other → bytes ≡ other
+same_file files name bytes other a b = let e : Some bytes ≡ Some other = sym a ∙ b in cc
+
+not_absent : (files : List (List ℕ × List ℕ)) (name bytes : List ℕ) → IsAbsent (Some files) name → IsFile (Some files) name bytes → ⊥
+not_absent files name bytes a b = let e : None ≡ Some bytes = sym a ∙ b in cc
+
+-- two answers of a step are one, or both stop at one ambiguous level and one pair of its options, by texts that may differ
+pub data AlikeStops {A : Type 0} (one other : Result A Stop) : Type 0 where
+  one_stop : one ≡ other → AlikeStops one other
+  two_texts : (name : LevelName) (i j : ℕ) (text text' : List ℕ) → one ≡ Err (ambiguous name i j text) → other ≡ Err (ambiguous name i j text') → AlikeStops one other
+
+-- verdicts on a kind of file are alike for a run
+abbrev AlikeVerdicts : {A : Type 0} → FileKind → (Result A FileFault → Type 0) → Type 0
+AlikeVerdicts {A = A} kind Judges = (one other : Result A FileFault) → Judges one → Judges other → AlikeStops (of_verdict kind one) (of_verdict kind other)
+
+file_one : {A : Type 0} (files : List (List ℕ × List ℕ)) (kind : FileKind) (Judges : List ℕ → Result A FileFault → Type 0) (name : List ℕ) → ((bytes : List ℕ) → AlikeVerdicts kind (Judges bytes)) → (a b : Result A Stop) → FileGives (Some files) kind Judges name a → FileGives (Some files) kind Judges name b → AlikeStops a b
+file_one files kind Judges name one a b (absent n e) (absent n' e') = one_stop (e ∙ sym e')
+file_one files kind Judges name one a b (absent n e) (too_large bytes is more e') = absurd (not_absent files name bytes n is)
+file_one files kind Judges name one a b (absent n e) (judged bytes verdict is few j e') = absurd (not_absent files name bytes n is)
+file_one files kind Judges name one a b (too_large bytes is more e) (absent n e') = absurd (not_absent files name bytes n is)
+file_one files kind Judges name one a b (too_large bytes is more e) (too_large bytes' is' more' e') = one_stop (e ∙ sym e')
+file_one files kind Judges name one a b (too_large bytes is more e) (judged bytes' verdict is' few j e') =
+    absurd (let same : bytes ≡ bytes' = same_file files name bytes bytes' is is' in let f : length bytes ≤ file_limit kind = rw same few in omega arith)
+file_one files kind Judges name one a b (judged bytes verdict is few j e) (absent n e') = absurd (not_absent files name bytes n is)
+file_one files kind Judges name one a b (judged bytes verdict is few j e) (too_large bytes' is' more e') =
+    absurd (let same : bytes ≡ bytes' = same_file files name bytes bytes' is is' in let f : file_limit kind < length bytes = rw same more in omega arith)
+file_one files kind Judges name one a b (judged bytes verdict is few j e) (judged bytes' verdict' is' few' j' e') =
+    let same : bytes ≡ bytes' = same_file files name bytes bytes' is is' in
+    let moved : Judges bytes verdict' = rw same j' in
+    rw (e, e') (one bytes verdict verdict' j moved)
+
+gives_one : {A : Type 0} (files : List (List ℕ × List ℕ)) (kind : FileKind) (Judges : List ℕ → Result A FileFault → Type 0) (Unnamed : Result A FileFault → Type 0) (name : Option (List ℕ)) → ((bytes : List ℕ) → AlikeVerdicts kind (Judges bytes)) → AlikeVerdicts kind Unnamed → (a b : Result A Stop) → Gives (Some files) kind Judges Unnamed name a → Gives (Some files) kind Judges Unnamed name b → AlikeStops a b
+gives_one files kind Judges Unnamed None one other a b x y = rw (x.is, y.is) (other x.verdict y.verdict x.judged y.judged)
+gives_one files kind Judges Unnamed (Some name) one other a b x y = file_one files kind Judges name one a b x y
+
+abbrev tables_stop : Result TableRows LoadFault → Result TableRows Stop
+tables_stop answer = of_verdict kind.Tables (tables_verdict answer)
+
+alike_answers : (one other : Result TableRows LoadFault) → AreAlike one other → AlikeStops (tables_stop one) (tables_stop other)
+alike_answers one other (same e) = one_stop (ap tables_stop e)
+alike_answers one other (but_text name i j text text' e f) = two_texts name i j text text' (ap tables_stop e) (ap tables_stop f)
+
+tables_one : (Ruled : Result TableRows LoadFault → Type 0) → IsRuling Ruled → AlikeVerdicts kind.Tables (JudgesTables (Judged Ruled))
+tables_one Ruled ruling a b x y = rw (x.is, y.is) (alike_answers x.answer y.answer (judged_alike Ruled ruling x.answer y.answer x.is_answer y.is_answer x.enough y.enough))
+
+-- what is given and a stop are not alike, and two of what is given that are alike are one
+not_alike : {A : Type 0} (stop : Stop) (a : A) → AlikeStops (Ok a) (Err stop) → ⊥
+not_alike stop a (one_stop e) = let f : Ok a ≡ Err stop = e in cc
+not_alike stop a (two_texts name i j text text' e f) = let g : Ok a ≡ Err (ambiguous name i j text) = e in cc
+
+same_given : {A : Type 0} (a a' : A) → AlikeStops (Ok a) (Ok a') → a ≡ a'
+same_given a a' (one_stop e) = let f : Ok a ≡ Ok a' = e in cc
+same_given a a' (two_texts name i j text text' e f) = absurd (let g : Ok a ≡ Err (ambiguous name i j text) = e in cc)
+
+-- the answers of a step are alike
+abbrev AreAlikeAll : {A : Type 0} → (Result A Stop → Type 0) → Type 0
+AreAlikeAll {A = A} Step = (one other : Result A Stop) → Step one → Step other → AlikeStops one other
+
+then_alike : {A B : Type 0} (First : Result A Stop → Type 0) (Next : A → Result B Stop → Type 0) → AreAlikeAll First → ((a : A) → AreAlikeAll (Next a)) → AreAlikeAll (Then First Next)
+then_alike {A = A} {B = B} First Next alike next x y (rejects stop gives e) (rejects stop' gives' e') = rw (e, e') (same_rejection stop stop' (alike (Err stop) (Err stop') gives gives'))
+  where
+    same_rejection : (stop stop' : Stop) → AlikeStops {A = A} (Err stop) (Err stop') → AlikeStops {A = B} (Err stop) (Err stop')
+    same_rejection stop stop' (one_stop f) = let is : stop ≡ stop' = cc in one_stop (ap Err is)
+    same_rejection stop stop' (two_texts name i j text text' f g) =
+        let is : stop ≡ ambiguous name i j text = cc in
+        let is' : stop' ≡ ambiguous name i j text' = cc in
+        two_texts name i j text text' (ap Err is) (ap Err is')
+then_alike First Next alike next x y (rejects stop gives e) (goes_on a gives' n') = absurd (not_alike stop a (alike (Ok a) (Err stop) gives' gives))
+then_alike First Next alike next x y (goes_on a gives n) (rejects stop gives' e') = absurd (not_alike stop a (alike (Ok a) (Err stop) gives gives'))
+then_alike First Next alike next x y (goes_on a gives n) (goes_on a' gives' n') =
+    let same : a ≡ a' = same_given a a' (alike (Ok a) (Ok a') gives gives') in
+    let moved : Next a y = rw same n' in
+    next a x y n moved
+
+prefixes_one : (files : List (List ℕ × List ℕ)) (name : Option (List ℕ)) → AreAlikeAll (PrefixesGive (Some files) name)
+prefixes_one files name = gives_one files kind.Prefixes JudgesPrefixes IsNoPrefix name
+    (λ bytes x y e f. one_stop (ap (of_verdict kind.Prefixes) (e ∙ sym f)))
+    (λ x y e f. one_stop (ap (of_verdict kind.Prefixes) (e ∙ sym f)))
+
+links_one : (files : List (List ℕ × List ℕ)) (ais : List AiRow) (voc : List ℕ) (name : Option (List ℕ)) → AreAlikeAll (LinksGive (Some files) ais voc name)
+links_one files ais voc name = gives_one files kind.Links (JudgesLinks ais voc) IsNoLink name
+    (λ bytes x y e f. one_stop (ap (of_verdict kind.Links) (e ∙ sym f)))
+    (λ x y e f. one_stop (ap (of_verdict kind.Links) (e ∙ sym f)))
+
+description_one : (files : List (List ℕ × List ℕ)) (name : Option (List ℕ)) → AreAlikeAll (DescriptionGives (Some files) name)
+description_one files name = gives_one files kind.Describe AreBytes AreNone name
+    (λ bytes x y e f. one_stop (ap (of_verdict kind.Describe) (e ∙ sym f)))
+    (λ x y e f. one_stop (ap (of_verdict kind.Describe) (e ∙ sym f)))
+
+settings_one : (files : List (List ℕ × List ℕ)) (asked : Asked) → AreAlikeAll (SettingsGive (Some files) asked)
+settings_one files asked = then_alike (DescriptionGives (Some files) asked.files.describe) (AreSettings asked.values.voc)
+    (description_one files asked.files.describe)
+    (λ describe x y e f. one_stop (e ∙ sym f))
+
+last_one : (files : List (List ℕ × List ℕ)) (asked : Asked) (set : TableRows) (list : List PrefixEntry) (links : List Link) → AreAlikeAll (GivesSettings (Some files) asked set list links)
+last_one files asked set list links = then_alike (SettingsGive (Some files) asked) (IsLoadedOf set list links) (settings_one files asked)
+    (λ settings x y e f. one_stop (e ∙ sym f))
+
+with_links_one : (files : List (List ℕ × List ℕ)) (asked : Asked) (set : TableRows) (list : List PrefixEntry) → AreAlikeAll (GivesLinks (Some files) asked set list)
+with_links_one files asked set list = then_alike (LinksGive (Some files) set.ais asked.values.voc asked.files.links) (GivesSettings (Some files) asked set list)
+    (links_one files set.ais asked.values.voc asked.files.links)
+    (last_one files asked set list)
+
+behind_one : (files : List (List ℕ × List ℕ)) (asked : Asked) (set : TableRows) → AreAlikeAll (GivesBehind (Some files) asked set)
+behind_one files asked set = then_alike (PrefixesGive (Some files) asked.files.prefixes) (GivesLinks (Some files) asked set) (prefixes_one files asked.files.prefixes)
+    (with_links_one files asked set)
+
+pub files_one : (files : List (List ℕ × List ℕ)) (asked : Asked) (a b : Result Loaded Stop) → FilesGive (Some files) asked a → FilesGive (Some files) asked b → AlikeStops a b
+files_one files asked = then_alike (TablesGive (Some files) asked.files.tables) (GivesBehind (Some files) asked)
+    (gives_one files kind.Tables (λ bytes. JudgesTables (LoadAnswer bytes)) (JudgesTables BuiltInAnswer) asked.files.tables
+    (λ bytes. tables_one (Shape bytes) (ruling_of_bytes bytes)) (tables_one RuledRows ruling_of_builtin))
+    (behind_one files asked)
+
+-- ---- an answer
+
+file_some_by : {A : Type 0} (files : Option (List (List ℕ × List ℕ))) (kind : FileKind) (Judges : List ℕ → Result A FileFault → Type 0) (name bytes : List ℕ) → IsFile files name bytes → ((bytes : List ℕ) → HasSome (Judges bytes)) → HasSome (FileGives files kind Judges name)
+file_some_by files kind Judges name bytes is some = elim (leb_tells (length bytes) (file_limit kind)) as (λ _. HasSome (FileGives files kind Judges name)) [
+  | inl few ↦ let j = some bytes in (of_verdict kind j.0, judged bytes j.0 is few.1 j.1 refl)
+  | inr more ↦ (of_verdict kind (Err Over), too_large bytes is more.1 refl)
+]
+
+-- a known file, or its absence
+file_some_in : {A : Type 0} (files : List (List ℕ × List ℕ)) (kind : FileKind) (Judges : List ℕ → Result A FileFault → Type 0) (name : List ℕ) (found : Option (List ℕ)) → file_of files name ≡ found → ((bytes : List ℕ) → HasSome (Judges bytes)) → HasSome (FileGives (Some files) kind Judges name)
+file_some_in files kind Judges name None e some = (Err missing, absent e refl)
+file_some_in files kind Judges name (Some bytes) e some = file_some_by (Some files) kind Judges name bytes e some
+
+file_some : {A : Type 0} (files : Option (List (List ℕ × List ℕ))) (kind : FileKind) (Judges : List ℕ → Result A FileFault → Type 0) (name : List ℕ) → ((bytes : List ℕ) → HasSome (Judges bytes)) → HasSome (FileGives files kind Judges name)
+file_some None kind Judges name some = file_some_by None kind Judges name [] tt some
+file_some (Some files) kind Judges name some = file_some_in files kind Judges name (file_of files name) refl some
+
+gives_some : {A : Type 0} (files : Option (List (List ℕ × List ℕ))) (kind : FileKind) (Judges : List ℕ → Result A FileFault → Type 0) (Unnamed : Result A FileFault → Type 0) (name : Option (List ℕ)) → ((bytes : List ℕ) → HasSome (Judges bytes)) → HasSome Unnamed → HasSome (Gives files kind Judges Unnamed name)
+gives_some files kind Judges Unnamed None some other = (of_verdict kind other.0, record { verdict = other.0; judged = other.1; is = refl })
+gives_some files kind Judges Unnamed (Some name) some other = file_some files kind Judges name some
+
+tables_some : (Answer : Result TableRows LoadFault → Type 0) → ((answer : Result TableRows LoadFault) × HasMemory answer × Answer answer) → HasSome (JudgesTables Answer)
+tables_some Answer some = (tables_verdict some.0, record { answer = some.0; enough = some.1; is_answer = some.2; is = refl })
+
+prefixes_some : (files : Option (List (List ℕ × List ℕ))) (name : Option (List ℕ)) → HasSome (PrefixesGive files name)
+prefixes_some files name = gives_some files kind.Prefixes JudgesPrefixes IsNoPrefix name (λ bytes. (prefixes_verdict (load_answer bytes), refl)) (Ok [], refl)
+
+links_some : (files : Option (List (List ℕ × List ℕ))) (ais : List AiRow) (voc : List ℕ) (name : Option (List ℕ)) → HasSome (LinksGive files ais voc name)
+links_some files ais voc name = gives_some files kind.Links (JudgesLinks ais voc) IsNoLink name (λ bytes. (links_verdict ais voc (read_answer bytes), refl)) (Ok [], refl)
+
+description_some : (files : Option (List (List ℕ × List ℕ))) (name : Option (List ℕ)) → HasSome (DescriptionGives files name)
+description_some files name = gives_some files kind.Describe AreBytes AreNone name (λ bytes. (Ok (Some bytes), refl)) (Ok None, refl)
+
+settings_some : (files : Option (List (List ℕ × List ℕ))) (asked : Asked) → HasSome (SettingsGive files asked)
+settings_some files asked = then_some (DescriptionGives files asked.files.describe) (AreSettings asked.values.voc)
+    (description_some files asked.files.describe)
+    (λ describe gives. (Ok (record { voc = asked.values.voc; describe = describe }), refl))
+
+last_some : (files : Option (List (List ℕ × List ℕ))) (asked : Asked) (set : TableRows) (list : List PrefixEntry) (links : List Link) → HasSome (GivesSettings files asked set list links)
+last_some files asked set list links = then_some (SettingsGive files asked) (IsLoadedOf set list links) (settings_some files asked)
+    (λ settings gives. (Ok (record { tables = set; prefixes = list; links = links; settings = settings }), refl))
+
+with_links_some : (files : Option (List (List ℕ × List ℕ))) (asked : Asked) (set : TableRows) (list : List PrefixEntry) → HasSome (GivesLinks files asked set list)
+with_links_some files asked set list = then_some (LinksGive files set.ais asked.values.voc asked.files.links) (GivesSettings files asked set list)
+    (links_some files set.ais asked.values.voc asked.files.links)
+    (λ links gives. last_some files asked set list links)
+
+behind_some : (files : Option (List (List ℕ × List ℕ))) (asked : Asked) (set : TableRows) → HasSome (GivesBehind files asked set)
+behind_some files asked set = then_some (PrefixesGive files asked.files.prefixes) (GivesLinks files asked set) (prefixes_some files asked.files.prefixes)
+    (λ list gives. with_links_some files asked set list)
+
+pub files_some : (files : Option (List (List ℕ × List ℕ))) (asked : Asked) → HasSome (FilesGive files asked)
+files_some files asked = then_some (TablesGive files asked.files.tables) (GivesBehind files asked)
+    (gives_some files kind.Tables (λ bytes. JudgesTables (LoadAnswer bytes)) (JudgesTables BuiltInAnswer) asked.files.tables
+    (λ bytes. tables_some (LoadAnswer bytes) (judged_some (Shape bytes) (ruling_of_bytes bytes))) (tables_some BuiltInAnswer (judged_some RuledRows ruling_of_builtin)))
+    (λ set gives. behind_some files asked set)

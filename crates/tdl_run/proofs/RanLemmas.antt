@@ -1,0 +1,122 @@
+-- What commands did, by the lines that they answered or the line that they printed.
+use Rattle.std.proofs.Common.{◌≡◌, ◌≢◌, ℕ, ◌+◌, ◌++◌, ◌≤◌, Bool, true, false, List, [], Option, None, Some, append-nil, ap, refl, sym, ◌∙◌, arith}
+use Rattle.std.specs.Prelude.{option_map}
+use Rattle.tdl_lines.specs.declared.status.Status.{Status}
+use Rattle.tdl_lines.specs.declared.status.Status.TheVariants as status
+use Rattle.tdl_lines.specs.Inputs.{IsAtEnd, TakesAtMost, TakesMoreThan}
+use Rattle.tdl_lines.specs.Outputs.{AnswersEnded, AnswersInput, Appends, BeginsInput, LineAnswer, WritesAnswers}
+use Rattle.tdl_lines.specs.OutputsSupport.{HasAnswers}
+use Rattle.tdl_lines.specs.Printers.{IsInitialPart, PrintedAs}
+use Rattle.tdl_lines.specs.Statuses.{OnAnswered, OnCutShort, OnInputLong, OnReadFault, OnWriteFault, OnWritten, is_answered, is_cut_short, is_read_error, is_written}
+use Rattle.tdl_lines.proofs.OneOutcome.{whole_of_part}
+use Rattle.tdl_lines.proofs.StatusLemmas.{when_always, when_map}
+use Rattle.gs_port.specs.Connections.{Finished}
+use Rattle.gs_port.specs.Contents.{prepend_nothing}
+use Rattle.gs_port.specs.Counts.{Rises}
+use Rattle.gs_translate.specs.StepsSupport.{HasSome}
+use Rattle.tdl_run.specs.CommandRuns.{BeginsOne, Moment, Ran}
+use Rattle.tdl_run.specs.Works.{Leaves, Outcome, input_limit, outcome_of}
+
+-- ---- counts
+
+-- a count that is as it was does not fall
+pub same_count : (before now : ℕ) → before ≡ now → before ≤ now
+same_count before now e = omega arith
+
+-- ---- lines
+
+begins_by : (Is : List ℕ → LineAnswer → Type 0) (input : Option (List ℕ)) (output : List ℕ) → HasAnswers Is → BeginsInput Is input_limit input output → BeginsOne (λ outcome. AnswersInput Is input_limit input outcome.output outcome.status × (outcome.finished ≡ [])) output
+begins_by Is input output some b =
+    let h = whole_of_part Is input_limit input output some b in
+    record { outcome = outcome_of h.output h.status; is = (h.answers, refl); begins = h.begins }
+
+-- A command that answers the lines of its input, by what is an answer to a text.
+pub ran_of_lines : (Is : List ℕ → LineAnswer → Type 0) (before now : Moment) (output : List ℕ) (s : Status) → HasAnswers Is → WritesAnswers Is input_limit before.input now.input output s → OnAnswered s (IsAtEnd now.input) → OnInputLong s (TakesMoreThan input_limit before.input now.input) → TakesAtMost (input_limit + 1) before.input now.input → OnReadFault s (Rises before.input_errors now.input_errors) → OnWriteFault s (Rises before.output_errors now.output_errors) → before.input_errors ≤ now.input_errors → before.output_errors ≤ now.output_errors → s ≢ status.Usage → s ≢ status.Refused → Ran (λ o. AnswersInput Is input_limit before.input o.output o.status × (o.finished ≡ [])) (AnswersEnded Is before.input now.input) (λ status finished. finished ≡ []) (Rises before.input_errors now.input_errors) true before now (outcome_of output s)
+ran_of_lines Is before now output s some writes end long few read write inputs outputs usage rejection = record {
+  written = when_map (is_written s) (λ a. (a, refl)) writes.all;
+  begun = when_map (is_cut_short s) (begins_by Is before.input output some) writes.first;
+  finished = when_always (is_cut_short s) refl;
+  read_error = read;
+  ended = writes.ended;
+  write_error = write;
+  to_end = when_map (is_answered s) (λ e lines. e) end;
+  long = long;
+  few = λ lines. few;
+  input_counts = inputs;
+  output_counts = outputs;
+  no_usage = usage;
+  no_rejection = rejection;
+}
+
+-- ---- one line
+
+-- how the printing of a line ended
+pub data PrintedCase (ending : Status) (line output : List ℕ) (s : Status) : Type 0 where
+  whole : s ≡ ending → output ≡ line → PrintedCase ending line output s
+  error : s ≡ status.WriteFault → IsInitialPart output line → PrintedCase ending line output s
+  no_memory : s ≡ status.Memory → IsInitialPart output line → PrintedCase ending line output s
+
+pub printed_case : (ending : Status) (line output : List ℕ) (s : Status) → PrintedAs ending line output s → PrintedCase ending line output s
+printed_case ending line output status.Done p = whole p.0 p.1
+printed_case ending line output status.SomeRefused p = whole p.0 p.1
+printed_case ending line output status.Usage p = whole p.0 p.1
+printed_case ending line output status.Refused p = whole p.0 p.1
+printed_case ending line output status.ReadFault p = whole p.0 p.1
+printed_case ending line output status.InputLong p = whole p.0 p.1
+printed_case ending line output status.WriteFault p = error refl p
+printed_case ending line output status.Memory p = no_memory refl p
+
+pub takes_nothing : (most : ℕ) (input : Option (List ℕ)) → TakesAtMost most input input
+takes_nothing most input = ([], omega arith, sym (prepend_nothing input))
+
+-- the facts of a command that leaves the input, by its status, which is no read error
+-- and that finished no connection
+module _ (Is : Outcome → Type 0) (Ended : List ℕ → Type 0) (Cause : Type 0) (lines : Bool) where
+  ran_by : (before now : Moment) (output : List ℕ) (s : Status) → OnWritten s (Is (outcome_of output s)) → OnCutShort s (BeginsOne Is output) → is_read_error s ≡ false → OnWriteFault s (Rises before.output_errors now.output_errors) → OnAnswered s (lines ≡ true → IsAtEnd now.input) → OnInputLong s (TakesMoreThan input_limit before.input now.input) → before.input ≡ now.input → before.input_errors ≡ now.input_errors → before.output_errors ≤ now.output_errors → s ≢ status.Usage → s ≢ status.Refused → Ran Is Ended (λ status finished. finished ≡ []) Cause lines before now (outcome_of output s)
+  ran_by before now output s written begun errorless write end long same inputs outputs usage rejection = record {
+    written = written;
+    begun = begun;
+    finished = when_always (is_cut_short s) refl;
+    read_error = rw errorless tt;
+    ended = rw errorless tt;
+    write_error = write;
+    to_end = end;
+    long = long;
+    few = λ lines. rw same (takes_nothing (input_limit + 1) now.input);
+    input_counts = same_count _ _ inputs;
+    output_counts = outputs;
+    no_usage = usage;
+    no_rejection = rejection;
+  }
+
+  begins_some : (line output : List ℕ) (s : Status) → Is (outcome_of line s) → IsInitialPart output line → BeginsOne Is output
+  begins_some line output s is part = record { outcome = outcome_of line s; is = is; begins = part }
+
+  -- A command that reads nothing, and prints one line.
+  pub ran_of_line : (line : List ℕ) (before now : Moment) (output : List ℕ) (s : Status) → Is (outcome_of line status.Done) → PrintedAs status.Done line output s → OnWriteFault s (Rises before.output_errors now.output_errors) → lines ≡ false → before.input ≡ now.input → before.input_errors ≡ now.input_errors → before.output_errors ≤ now.output_errors → Ran Is Ended (λ status finished. finished ≡ []) Cause lines before now (outcome_of output s)
+  ran_of_line line before now output s is printed write none same inputs outputs = by (printed_case status.Done line output s printed)
+    where
+      no_lines : lines ≡ true → IsAtEnd now.input
+      no_lines does = absurd (let e : false ≡ true = sym none ∙ does in cc)
+
+      by : PrintedCase status.Done line output s → Ran Is Ended (λ status finished. finished ≡ []) Cause lines before now (outcome_of output s)
+      by (whole e f) = rw (e, f) (ran_by before now line status.Done is tt refl tt no_lines tt same inputs outputs (λ e. cc) (λ e. cc))
+      by (error e p) = let w : Rises before.output_errors now.output_errors = rw e at write in rw e (ran_by before now output status.WriteFault tt (begins_some line output status.Done is p) refl w tt tt same inputs outputs (λ e. cc) (λ e. cc))
+      by (no_memory e p) = rw e (ran_by before now output status.Memory tt (begins_some line output status.Done is p) refl tt tt tt same inputs outputs (λ e. cc) (λ e. cc))
+
+  begins_any : HasSome Is → BeginsOne Is []
+  begins_any some = record { outcome = some.0; is = some.1; begins = (0, refl) }
+
+  -- A command that did nothing, since memory ran out.
+  pub ran_of_memory : (before : Moment) → HasSome Is → Ran Is Ended (λ status finished. finished ≡ []) Cause lines before before (outcome_of [] status.Memory)
+  ran_of_memory before some = ran_by before before [] status.Memory tt (begins_any some) refl tt tt tt refl refl (omega arith) (λ e. cc) (λ e. cc)
+
+-- ---- the door
+
+pub none_more : (ended : Option (List Finished)) → ended ≡ option_map (λ before. before ++ []) ended
+none_more None = refl
+none_more (Some before) = ap Some (sym (append-nil before))
+
+-- what was written, where the door is as it was
+pub leaves_door : (held holds : Option (List ℕ)) (ended : Option (List Finished)) (s : Status) (fact : Outcome → Type 0) → Appends held holds (λ output. fact (outcome_of output s)) → Leaves held holds ended ended s fact
+leaves_door held holds ended s fact a = ([], none_more ended, a)

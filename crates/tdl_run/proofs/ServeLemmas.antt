@@ -1,0 +1,222 @@
+-- What serving connections did.
+use Rattle.std.proofs.Common.{◌≡◌, ◌≢◌, ◌⊎◌, inl, inr, ℕ, ◌≤◌, zero, suc, true, false, List, [], ◌∷◌, ◌++◌, length, take, Option, None, Some, append-nil, refl, sym, ◌∙◌, ap, arith}
+use Rattle.std.specs.Prelude.{IfSome, option_map}
+use Rattle.std.proofs.lemmas.List.{take_all, length-map}
+use Rattle.std.proofs.Math.Seq.{take-append_seam}
+use Rattle.gs_http.specs.ServedStreams.{reads_when, writes_when}
+use Rattle.tdl_lines.specs.declared.status.Status.{Status}
+use Rattle.tdl_lines.specs.declared.status.Status.TheVariants as status
+use Rattle.tdl_lines.specs.Outputs.{Appends}
+use Rattle.tdl_lines.specs.Printers.{IsInitialPart}
+use Rattle.tdl_lines.specs.Statuses.{OnReadFault, OnWriteFault}
+use Rattle.gs_port.specs.Counts.{Rises}
+use Rattle.tdl_serve.specs.Doors.{IsOver, ServeRan, line_of}
+use Rattle.gs_http.specs.Sites.{SiteData}
+use Rattle.tdl_serve.specs.Sites.{AreSiteReplies, Replied}
+use Rattle.tdl_serve.specs.Visits.{AreVisits, DoorState, IsVisit, Visit, Visited, entries_of, inputs_of, is_done, no_visit, one_visit, wants_memory}
+use Rattle.tdl_serve.proofs.DoneVisits.{done_visit, is_done_visit}
+use Rattle.gs_translate.specs.StepsSupport.{HasSome}
+use Rattle.tdl_arguments.specs.declared.command.Command.TheVariants.{Serve}
+use Rattle.tdl_arguments.specs.Requests.{Values}
+use Rattle.tdl_run.specs.declared.loads.Loaded.{Loaded}
+use Rattle.tdl_run.specs.CommandRuns.{BeginsOne, Moment}
+use Rattle.tdl_run.specs.RanSupport.{CommandRan}
+use Rattle.tdl_run.specs.Runs.{AlikeServed, AlikeVisits, more_visits, no_visits}
+use Rattle.tdl_run.specs.Works.{Doorway, Leaves, Outcome, Serves, ServesFirst, doorway_of, served_outcome, site_of}
+use Rattle.tdl_run.proofs.RanLemmas.{same_count}
+use Rattle.tdl_run.proofs.SiteLemmas.{no_lines, one_replies_of_site}
+
+-- ---- some connections are served
+
+-- the first of the inputs, at most so many
+done_visits : SiteData → ℕ → List (List ℕ) → List Visit
+done_visits site zero inputs = []
+done_visits site (suc n) [] = []
+done_visits site (suc n) (input ∷ inputs) = done_visit site input ∷ done_visits site n inputs
+
+are_done_visits : (site : SiteData) (reads writes n : ℕ) (inputs : List (List ℕ)) → AreVisits site true reads writes (done_visits site n inputs) reads writes
+unfolding done_visits done_visit
+are_done_visits site reads writes zero inputs = no_visit reads writes
+are_done_visits site reads writes (suc n) [] = no_visit reads writes
+are_done_visits site reads writes (suc n) (input ∷ inputs) =
+    one_visit reads writes (done_visit site input) (done_visits site n inputs) reads writes (is_done_visit site reads writes input) (are_done_visits site reads writes n inputs)
+
+done_inputs : (site : SiteData) (n : ℕ) (inputs : List (List ℕ)) → inputs_of (done_visits site n inputs) ≡ take n inputs
+unfolding done_visits done_visit
+done_inputs site zero inputs = refl
+done_inputs site (suc n) [] = refl
+done_inputs site (suc n) (input ∷ inputs) = ap (λ (rest : List (List ℕ)). input ∷ rest) (done_inputs site n inputs)
+
+done_few : (site : SiteData) (n : ℕ) (inputs : List (List ℕ)) → length (done_visits site n inputs) ≤ n
+unfolding done_visits
+done_few site zero inputs = omega arith
+done_few site (suc n) [] = omega arith
+done_few site (suc n) (input ∷ inputs) = let few = done_few site n inputs in omega arith
+
+done_whole : (site : SiteData) (n : ℕ) (inputs : List (List ℕ)) → wants_memory (done_visits site n inputs) ≡ false
+unfolding done_visits done_visit
+done_whole site zero inputs = refl
+done_whole site (suc n) [] = refl
+done_whole site (suc n) (input ∷ inputs) = done_whole site n inputs
+
+pub serves_some : (site : SiteData) (count : ℕ) (door : Doorway) → HasSome (Serves site count door)
+serves_some site count door = by door.waiting refl
+  where
+    by : (waiting : Option (List (List ℕ))) → door.waiting ≡ waiting → HasSome (Serves site count door)
+    by None e = (
+      served_outcome [],
+      record {
+        visits = [];
+        reads = door.reads;
+        writes = door.writes;
+        are_visits = no_visit door.reads door.writes;
+        few = omega arith;
+        first = rw e tt;
+        whole = refl;
+        is = refl;
+      },
+    )
+    by (Some waiting) e = (
+      served_outcome (done_visits site count waiting),
+      record {
+        visits = done_visits site count waiting;
+        reads = door.reads;
+        writes = door.writes;
+        are_visits = rw e (are_done_visits site door.reads door.writes count waiting);
+        few = done_few site count waiting;
+        first = rw e (done_inputs site count waiting);
+        whole = done_whole site count waiting;
+        is = refl;
+      },
+    )
+
+-- ---- the connections that were served
+
+-- the first of those that waited, up to the last or to so many
+first_of : (waiting waiting' : Option (List (List ℕ))) (inputs : List (List ℕ)) (count : ℕ) → waiting ≡ option_map (λ rest. inputs ++ rest) waiting' → length inputs ≤ count → (length inputs ≡ count) ⊎ IfSome waiting' (λ rest. rest ≡ []) → IfSome waiting (λ all. inputs ≡ take count all)
+first_of None waiting' inputs count e few over = tt
+first_of (Some all) None inputs count e few over = absurd (let f : Some all ≡ None = e in cc)
+first_of (Some all) (Some rest) inputs count e few (inl is) =
+    let f : Some all ≡ Some (inputs ++ rest) = e in
+    let g : all ≡ inputs ++ rest = cc in
+    rw (g, ← is) (sym (take-append_seam inputs rest))
+first_of (Some all) (Some rest) inputs count e few (inr none) =
+    let f : Some all ≡ Some (inputs ++ rest) = e in
+    let g : all ≡ inputs ++ rest = cc in
+    let h : all ≡ inputs = g ∙ ap (λ (more : List (List ℕ)). inputs ++ more) none ∙ append-nil inputs in
+    rw h (sym (take_all count inputs few))
+
+front_of : (waiting waiting' : Option (List (List ℕ))) (inputs : List (List ℕ)) → waiting ≡ option_map (λ rest. inputs ++ rest) waiting' → IfSome waiting (λ all. inputs ≡ take (length inputs) all)
+front_of None waiting' inputs e = tt
+front_of (Some all) None inputs e = absurd (let f : Some all ≡ None = e in cc)
+front_of (Some all) (Some rest) inputs e =
+    let f : Some all ≡ Some (inputs ++ rest) = e in
+    let g : all ≡ inputs ++ rest = cc in
+    rw g (sym (take-append_seam inputs rest))
+
+count_inputs : (visits : List Visit) → length (inputs_of visits) ≡ length visits
+count_inputs visits = length-map visits (λ (visit : Visit). visit.input)
+
+over_of : (visits : List Visit) (count : ℕ) (none : Type 0) → (length visits ≡ count) ⊎ none → (length (inputs_of visits) ≡ count) ⊎ none
+over_of visits count none (inl is) = inl (count_inputs visits ∙ is)
+over_of visits count none (inr x) = inr x
+
+serves_of : (site : SiteData) (count : ℕ) (door door' : DoorState) (visits : List Visit) → Visited site door door' visits → length visits ≤ count → IsOver count door' visits → Serves site count (doorway_of door.aside door.reads door.writes) (served_outcome visits)
+serves_of site count door door' visits visited few over =
+    let number = count_inputs visits in
+    record {
+      visits = visits;
+      reads = door'.reads;
+      writes = door'.writes;
+      are_visits = visited.are_visits;
+      few = few;
+      first = first_of door.aside.waiting door'.aside.waiting (inputs_of visits) count visited.waited (omega arith) (over_of visits count _ over.reached);
+      whole = over.served;
+      is = refl;
+    }
+
+module _ (loaded : Loaded) (values : Values) (errors errors' : ℕ) (before now : Moment) (door door' : DoorState) where
+  -- what is known of the door before
+  abbrev Way : Doorway
+  Way = doorway_of door.aside door.reads door.writes
+
+  first_served : (output : List ℕ) (s : Status) (r : ServeRan (site_of loaded) values.count door door' output s) → (s ≢ status.Memory → wants_memory r.visits ≡ false) → ServesFirst (site_of loaded) values.count Way s (entries_of r.visits)
+  first_served output s r whole =
+      let visited = r.visited in
+      let front = front_of door.aside.waiting door'.aside.waiting (inputs_of r.visits) visited.waited in
+      record {
+        visits = r.visits;
+        reads = door'.reads;
+        writes = door'.writes;
+        are_visits = visited.are_visits;
+        few = r.few;
+        first = rw (count_inputs r.visits) at front;
+        whole = whole;
+        last = r.last;
+        entries = refl;
+      }
+
+  begins_line : (visits : List Visit) (output : List ℕ) → Visited (site_of loaded) door door' visits → length visits ≤ values.count → IsOver values.count door' visits → IsInitialPart output (line_of visits) → BeginsOne (Serves (site_of loaded) values.count Way) output
+  begins_line visits output visited few over part = record { outcome = served_outcome visits; is = serves_of (site_of loaded) values.count door door' visits visited few over; begins = part }
+
+  begins_nothing : (output : List ℕ) → output ≡ [] → BeginsOne (Serves (site_of loaded) values.count Way) output
+  begins_nothing output none = let o = serves_some (site_of loaded) values.count Way in record { outcome = o.0; is = o.1; begins = (0, none) }
+
+  begins_either : (output : List ℕ) (r : ServeRan (site_of loaded) values.count door door' output status.Memory) → (IsOver values.count door' r.visits × IsInitialPart output (line_of r.visits)) ⊎ (output ≡ []) → BeginsOne (Serves (site_of loaded) values.count Way) output
+  begins_either output r (inl both) = begins_line r.visits output r.visited r.few both.0 both.1
+  begins_either output r (inr none) = begins_nothing output none
+
+  served_as : (output : List ℕ) (s : Status) (r : ServeRan (site_of loaded) values.count door door' output s) → before.input ≡ now.input → before.input_errors ≡ now.input_errors → OnReadFault s (Rises errors errors') → OnWriteFault s (Rises before.output_errors now.output_errors) → before.output_errors ≤ now.output_errors → CommandRan Serve values loaded Way errors errors' before now (record { output = output; finished = entries_of r.visits; status = s })
+  served_as output status.Done r same inputs read write outputs =
+      let p = r.prints in
+      record { written = rw p.1 (serves_of (site_of loaded) values.count door door' r.visits r.visited r.few p.0); begun = tt; finished = tt; read_error = tt; ended = tt; write_error = tt; to_end = λ e. no_lines e; long = tt; few = λ e. no_lines e; input_counts = same_count _ _ inputs; output_counts = outputs; no_usage = λ e. cc; no_rejection = λ e. cc }
+  served_as output status.ReadFault r same inputs read write outputs =
+      let p = r.prints in
+      record { written = tt; begun = begins_nothing output p.1; finished = first_served output status.ReadFault r (λ e. p.0); read_error = read; ended = p.1; write_error = tt; to_end = tt; long = tt; few = λ e. no_lines e; input_counts = same_count _ _ inputs; output_counts = outputs; no_usage = λ e. cc; no_rejection = λ e. cc }
+  served_as output status.WriteFault r same inputs read write outputs =
+      let p = r.prints in
+      let over = p.0 in
+      record { written = tt; begun = begins_line r.visits output r.visited r.few p.0 p.1; finished = first_served output status.WriteFault r (λ e. over.served); read_error = tt; ended = tt; write_error = write; to_end = tt; long = tt; few = λ e. no_lines e; input_counts = same_count _ _ inputs; output_counts = outputs; no_usage = λ e. cc; no_rejection = λ e. cc }
+  served_as output status.Memory r same inputs read write outputs =
+      record { written = tt; begun = begins_either output r r.prints; finished = first_served output status.Memory r (λ e. absurd (e refl)); read_error = tt; ended = tt; write_error = tt; to_end = tt; long = tt; few = λ e. no_lines e; input_counts = same_count _ _ inputs; output_counts = outputs; no_usage = λ e. cc; no_rejection = λ e. cc }
+  served_as output status.SomeRefused r same inputs read write outputs = absurd r.prints
+  served_as output status.Usage r same inputs read write outputs = absurd r.prints
+  served_as output status.Refused r same inputs read write outputs = absurd r.prints
+  served_as output status.InputLong r same inputs read write outputs = absurd r.prints
+
+  pub serve_ran : (held holds : Option (List ℕ)) (s : Status) → Appends held holds (λ output. ServeRan (site_of loaded) values.count door door' output s) → before.input ≡ now.input → before.input_errors ≡ now.input_errors → OnReadFault s (Rises errors errors') → OnWriteFault s (Rises before.output_errors now.output_errors) → before.output_errors ≤ now.output_errors → Leaves held holds door.aside.finished door'.aside.finished s (CommandRan Serve values loaded Way errors errors' before now)
+  serve_ran held holds s a same inputs read write outputs =
+      let r = a.2 in
+      let visited = r.visited in
+      (entries_of r.visits, visited.finished, (a.0, a.1, served_as a.0 s r same inputs read write outputs))
+
+-- ---- two outcomes of one service
+
+-- all replies of a site to one input
+same_replies : (site : SiteData) (input input' output output' : List ℕ) → input ≡ input' → Replied site input true output → Replied site input' true output' → output ≡ output'
+same_replies site input input' output output' e a b =
+    let moved : AreSiteReplies site input b.replies = rw e b.are_replies in
+    let same = one_replies_of_site site input a.replies b.replies a.are_replies moved in
+    a.all ∙ same ∙ sym b.all
+
+same_written : (site : SiteData) (reads writes reads' writes' : ℕ) (one other : Visit) → one.input ≡ other.input → IsVisit site true reads writes one → IsVisit site true reads' writes' other → is_done one.served ≡ true → is_done other.served ≡ true → one.entry.written ≡ other.entry.written
+same_written site reads writes reads' writes' one other e a b done done' =
+    let replied : Replied site one.input true a.written = rw done at a.replied in
+    let replied' : Replied site other.input true b.written = rw done' at b.replied in
+    let same = same_replies site one.input other.input a.written b.written e replied replied' in
+    a.is_written ∙ ap Some same ∙ sym b.is_written
+
+alike_visits : (site : SiteData) (reads writes reads' writes' : ℕ) (ones others : List Visit) (r w r' w' : ℕ) → inputs_of ones ≡ inputs_of others → AreVisits site true reads writes ones r w → AreVisits site true reads' writes' others r' w' → AlikeVisits ones others
+alike_visits site reads writes reads' writes' [] [] r w r' w' e a b = no_visits
+alike_visits site reads writes reads' writes' [] (other ∷ others) r w r' w' e a b = absurd (let f : [] ≡ other.input ∷ inputs_of others = e in cc)
+alike_visits site reads writes reads' writes' (one ∷ ones) [] r w r' w' e a b = absurd (let f : one.input ∷ inputs_of ones ≡ [] = e in cc)
+alike_visits site reads writes reads' writes' (one ∷ ones) (other ∷ others) r w r' w' e (one_visit _ _ _ _ _ _ visit more) (one_visit _ _ _ _ _ _ visit' more') =
+    let f : one.input ∷ inputs_of ones ≡ other.input ∷ inputs_of others = e in
+    let first : one.input ≡ other.input = cc in
+    let rest : inputs_of ones ≡ inputs_of others = cc in
+    more_visits one other ones others first (same_written site reads writes reads' writes' one other first visit visit') (alike_visits site (reads_when one.served reads) (writes_when one.served writes) (reads_when other.served reads') (writes_when other.served writes') ones others r w r' w' rest more more')
+
+pub serves_alike : (site : SiteData) (count : ℕ) (waiting : List (List ℕ)) (reads writes : ℕ) (one other : Outcome) → Serves site count (record { waiting = Some waiting; reads = reads; writes = writes }) one → Serves site count (record { waiting = Some waiting; reads = reads; writes = writes }) other → AlikeServed one other
+serves_alike site count waiting reads writes one other a b =
+    let inputs : inputs_of a.visits ≡ inputs_of b.visits = a.first ∙ sym b.first in
+    record { visits = a.visits; others = b.visits; alike = alike_visits site reads writes reads writes a.visits b.visits _ _ _ _ inputs a.are_visits b.are_visits; one_is = a.is; other_is = b.is }

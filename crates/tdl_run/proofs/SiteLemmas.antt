@@ -1,0 +1,82 @@
+-- The replies to a stream, and what resolving it did.
+use Rattle.std.proofs.Common.{◌≡◌, ℕ, ◌≤◌, true, false, List, [], Option, None, Some, refl, sym, ◌∙◌, ap}
+use Rattle.gs_http.specs.Streams.{heads_of, replies_of}
+use Rattle.gs_http.proofs.StreamLaws.{one_replies, some_replies}
+use Rattle.tdl_lines.specs.declared.status.Status.{Status}
+use Rattle.tdl_lines.specs.declared.status.Status.TheVariants as status
+use Rattle.tdl_lines.specs.Inputs.{IsKnown}
+use Rattle.tdl_lines.specs.Statuses.{OnReadFault, OnWriteFault}
+use Rattle.gs_port.specs.Counts.{Rises}
+use Rattle.tdl_serve.specs.Resolutions.{Resolved, Resolves}
+use Rattle.gs_http.specs.Sites.{SiteData}
+use Rattle.tdl_serve.specs.Sites.{AreSiteReplies}
+use Rattle.gs_translate.specs.StepsSupport.{HasOne, HasSome}
+use Rattle.tdl_arguments.specs.declared.command.Command.TheVariants.{Resolve}
+use Rattle.tdl_arguments.specs.Requests.{Values}
+use Rattle.tdl_run.specs.declared.loads.Loaded.{Loaded}
+use Rattle.tdl_run.specs.CommandRuns.{BeginsOne, Moment}
+use Rattle.tdl_run.specs.RanSupport.{CommandRan}
+use Rattle.tdl_run.specs.Works.{Doorway, LeavesOutput, outcome_of, site_of}
+
+-- ---- a stream has one answer
+
+pub some_replies_of_site : (site : SiteData) (stream : List ℕ) → HasSome (AreSiteReplies site stream)
+some_replies_of_site site stream =
+    let r = some_replies site.table site.links site.settings 1000 (heads_of 1000 stream) in
+    (replies_of r.0, record { replies = r.0; are_replies = r.1; is_output = refl })
+
+pub one_replies_of_site : (site : SiteData) (stream : List ℕ) → HasOne (AreSiteReplies site stream)
+one_replies_of_site site stream one other a b =
+    let same = one_replies site.table site.links site.settings 1000 (heads_of 1000 stream) a.replies b.replies a.are_replies b.are_replies in
+    a.is_output ∙ ap replies_of same ∙ sym b.is_output
+
+-- some bytes of an input
+stream_of : (input : Option (List ℕ)) → (stream : List ℕ) × IsKnown input stream
+stream_of None = ([], tt)
+stream_of (Some bytes) = (bytes, refl)
+
+pub some_resolved : (site : SiteData) (input : Option (List ℕ)) → HasSome (Resolves site input)
+some_resolved site input =
+    let s = stream_of input in
+    let r = some_replies_of_site site s.0 in
+    (r.0, record { stream = s.0; is_stream = s.1; are_replies = r.1 })
+
+pub one_resolved : (site : SiteData) (input : List ℕ) → HasOne (Resolves site (Some input))
+one_resolved site input one other a b =
+    let same : a.stream ≡ b.stream = a.is_stream ∙ sym b.is_stream in
+    let moved : AreSiteReplies site a.stream other = rw same b.are_replies in
+    one_replies_of_site site a.stream one other a.are_replies moved
+
+-- ---- the command
+
+-- the whole replies, of which what was written is a prefix
+replies_begin : (site : SiteData) (input : Option (List ℕ)) (output : List ℕ) (s : Status) → Resolved site input output s → BeginsOne (LeavesOutput (Resolves site input)) output
+replies_begin site input output s r =
+    let replied = r.replied in
+    record {
+      outcome = outcome_of replied.replies status.Done;
+      is = record { is_output = record { stream = r.stream; is_stream = r.is_stream; are_replies = replied.are_replies }; none_finished = refl; done = refl };
+      begins = replied.begun;
+    }
+
+replies_whole : (site : SiteData) (input : Option (List ℕ)) (output : List ℕ) → Resolved site input output status.Done → LeavesOutput (Resolves site input) (outcome_of output status.Done)
+replies_whole site input output r =
+    let replied = r.replied in
+    let all : output ≡ replied.replies = replied.all in
+    let are : AreSiteReplies site r.stream output = rw all replied.are_replies in
+    record { is_output = record { stream = r.stream; is_stream = r.is_stream; are_replies = are }; none_finished = refl; done = refl }
+
+-- no command that answers lines
+pub no_lines : {fact : Type 0} → false ≡ true → fact
+no_lines e = absurd (let f : false ≡ true = e in cc)
+
+module _ (loaded : Loaded) (values : Values) (door : Doorway) (errors errors' : ℕ) (before now : Moment) (output : List ℕ) where
+  pub resolve_ran : (s : Status) → Resolved (site_of loaded) before.input output s → OnReadFault s (Rises before.input_errors now.input_errors) → OnWriteFault s (Rises before.output_errors now.output_errors) → before.input_errors ≤ now.input_errors → before.output_errors ≤ now.output_errors → CommandRan Resolve values loaded door errors errors' before now (outcome_of output s)
+  resolve_ran status.Done r read write inputs outputs = record { written = replies_whole (site_of loaded) before.input output r; begun = tt; finished = tt; read_error = tt; ended = tt; write_error = tt; to_end = λ e. no_lines e; long = tt; few = λ e. no_lines e; input_counts = inputs; output_counts = outputs; no_usage = λ e. cc; no_rejection = λ e. cc }
+  resolve_ran status.ReadFault r read write inputs outputs = record { written = tt; begun = replies_begin (site_of loaded) before.input output status.ReadFault r; finished = refl; read_error = read; ended = r; write_error = tt; to_end = tt; long = tt; few = λ e. no_lines e; input_counts = inputs; output_counts = outputs; no_usage = λ e. cc; no_rejection = λ e. cc }
+  resolve_ran status.WriteFault r read write inputs outputs = record { written = tt; begun = replies_begin (site_of loaded) before.input output status.WriteFault r; finished = refl; read_error = tt; ended = tt; write_error = write; to_end = tt; long = tt; few = λ e. no_lines e; input_counts = inputs; output_counts = outputs; no_usage = λ e. cc; no_rejection = λ e. cc }
+  resolve_ran status.Memory r read write inputs outputs = record { written = tt; begun = replies_begin (site_of loaded) before.input output status.Memory r; finished = refl; read_error = tt; ended = tt; write_error = tt; to_end = tt; long = tt; few = λ e. no_lines e; input_counts = inputs; output_counts = outputs; no_usage = λ e. cc; no_rejection = λ e. cc }
+  resolve_ran status.SomeRefused r read write inputs outputs = absurd (let e : status.SomeRefused ≡ status.Done = r.done in cc)
+  resolve_ran status.Usage r read write inputs outputs = absurd (let e : status.Usage ≡ status.Done = r.done in cc)
+  resolve_ran status.Refused r read write inputs outputs = absurd (let e : status.Refused ≡ status.Done = r.done in cc)
+  resolve_ran status.InputLong r read write inputs outputs = absurd (let e : status.InputLong ≡ status.Done = r.done in cc)

@@ -1,0 +1,105 @@
+use Rattle.std.proofs.Common.{[], None, refl, arith, sym}
+use Rattle.std.proofs.lemmas.Bool.{false≢true}
+use Rattle.tdl_arguments.specs.Requests.{known_values}
+use Rattle.tdl_run.proofs.RanLemmas.{none_more, ran_of_line}
+use Rattle.tdl_run.proofs.GenLemmas.{gen_ran}
+use Rattle.tdl_run.proofs.ServeLemmas.{serve_ran}
+use Rattle.tdl_run.proofs.SiteLemmas.{resolve_ran}
+use Rattle.tdl_run.proofs.commands.run_command.Goals as goal
+
+pub returns-in-Canon-clause-ran : goal.returns-in-Canon-clause-ran
+returns-in-Canon-clause-ran g c = rw c.in-Canon.is ([], none_more _, c.canonize.ensures)
+
+pub returns-in-Translate-clause-ran : goal.returns-in-Translate-clause-ran
+returns-in-Translate-clause-ran g c = rw c.in-Translate.is ([], none_more _, c.translate_loaded.ensures)
+
+pub returns-in-Check-clause-ran : goal.returns-in-Check-clause-ran
+returns-in-Check-clause-ran g c =
+    let w = c.check.ensures.written in
+    rw c.in-Check.is ([], none_more _, (w.0, w.1, ran_of_line _ _ _ _ _ _ _ w.0 c.check.result refl w.2 c.check.ensures.error refl refl refl c.check.ensures.counts))
+
+pub returns-in-Resolve-clause-ran : goal.returns-in-Resolve-clause-ran
+returns-in-Resolve-clause-ran g c =
+    let e = c.resolve.ensures in
+    let w = e.written in
+    rw c.in-Resolve.is ([], none_more _, (w.0, w.1, resolve_ran c.args.loaded.now (known_values c.args.values) (record { waiting = None; reads = 0; writes = 0 }) 0 0 _ _ w.0 c.resolve.result (rw c.site_of.ensures at w.2) e.read_error e.write_error e.input_counts e.output_counts))
+
+pub returns-in-Serve-clause-ran : goal.returns-in-Serve-clause-ran
+returns-in-Serve-clause-ran g c =
+    let e = c.serve.ensures in
+    rw c.in-Serve.is (serve_ran c.args.loaded.now (known_values c.args.values) _ _ _ _ _ _ _ _ c.serve.result (rw c.site_of-in-Serve.ensures at e.ran) refl refl e.read_error e.write_error e.output_counts)
+
+pub returns-in-Gen-clause-ran : goal.returns-in-Gen-clause-ran
+returns-in-Gen-clause-ran g c =
+    let e = c.generate.ensures in
+    let w = e.written in
+    rw c.in-Gen.is ([], none_more _, (w.0, w.1, gen_ran c.args.loaded.now (known_values c.args.values) c.in-Gen.lines (record { waiting = None; reads = 0; writes = 0 }) 0 0 _ _ w.0 c.generate.result w.2 e.error e.counts refl refl))
+
+pub returns-in-Resolve-clause-served : goal.returns-in-Resolve-clause-served
+returns-in-Resolve-clause-served g c = λ heads. rw c.site_of.ensures at c.resolve.ensures.served
+
+pub returns-in-Canon-clause-unserved : goal.returns-in-Canon-clause-unserved
+returns-in-Canon-clause-unserved g c = λ none. refl
+
+pub returns-in-Canon-clause-door_counts : goal.returns-in-Canon-clause-door_counts
+returns-in-Canon-clause-door_counts g c = omega arith
+
+pub returns-in-Translate-clause-unserved : goal.returns-in-Translate-clause-unserved
+returns-in-Translate-clause-unserved g c = λ none. refl
+
+pub returns-in-Translate-clause-door_counts : goal.returns-in-Translate-clause-door_counts
+returns-in-Translate-clause-door_counts g c = omega arith
+
+pub returns-in-Check-clause-unread : goal.returns-in-Check-clause-unread
+returns-in-Check-clause-unread g c = λ none. refl
+
+pub returns-in-Check-clause-unserved : goal.returns-in-Check-clause-unserved
+returns-in-Check-clause-unserved g c = λ none. refl
+
+pub returns-in-Check-clause-door_counts : goal.returns-in-Check-clause-door_counts
+returns-in-Check-clause-door_counts g c = omega arith
+
+pub returns-in-Gen-clause-unread : goal.returns-in-Gen-clause-unread
+returns-in-Gen-clause-unread g c = λ none. refl
+
+pub returns-in-Gen-clause-unserved : goal.returns-in-Gen-clause-unserved
+returns-in-Gen-clause-unserved g c = λ none. refl
+
+pub returns-in-Gen-clause-door_counts : goal.returns-in-Gen-clause-door_counts
+returns-in-Gen-clause-door_counts g c = omega arith
+
+pub returns-in-Serve-clause-unread : goal.returns-in-Serve-clause-unread
+returns-in-Serve-clause-unread g c = λ none. refl
+
+pub returns-in-Resolve-clause-unserved : goal.returns-in-Resolve-clause-unserved
+returns-in-Resolve-clause-unserved g c = λ none. refl
+
+pub returns-in-Resolve-clause-door_counts : goal.returns-in-Resolve-clause-door_counts
+returns-in-Resolve-clause-door_counts g c = omega arith
+
+pub returns-in-Canon-clause-served : goal.returns-in-Canon-clause-served
+returns-in-Canon-clause-served g c = rw c.in-Canon.is (λ heads. absurd (false≢true heads))
+
+pub returns-in-Translate-clause-served : goal.returns-in-Translate-clause-served
+returns-in-Translate-clause-served g c = rw c.in-Translate.is (λ heads. absurd (false≢true heads))
+
+pub returns-in-Check-clause-served : goal.returns-in-Check-clause-served
+returns-in-Check-clause-served g c = rw c.in-Check.is (λ heads. absurd (false≢true heads))
+
+pub returns-in-Serve-clause-served : goal.returns-in-Serve-clause-served
+returns-in-Serve-clause-served g c = rw c.in-Serve.is (λ heads. absurd (false≢true heads))
+
+pub returns-in-Gen-clause-served : goal.returns-in-Gen-clause-served
+returns-in-Gen-clause-served g c = rw c.in-Gen.is (λ heads. absurd (false≢true heads))
+
+pub returns-in-Canon-clause-unread : goal.returns-in-Canon-clause-unread
+returns-in-Canon-clause-unread g c = rw c.in-Canon.is (λ none. absurd (false≢true (sym none)))
+
+pub returns-in-Translate-clause-unread : goal.returns-in-Translate-clause-unread
+returns-in-Translate-clause-unread g c = rw c.in-Translate.is (λ none. absurd (false≢true (sym none)))
+
+pub returns-in-Resolve-clause-unread : goal.returns-in-Resolve-clause-unread
+returns-in-Resolve-clause-unread g c = rw c.in-Resolve.is (λ none. absurd (false≢true (sym none)))
+
+pub returns-in-Serve-clause-unserved : goal.returns-in-Serve-clause-unserved
+returns-in-Serve-clause-unserved g c = rw c.in-Serve.is (λ none. absurd (false≢true (sym none)))

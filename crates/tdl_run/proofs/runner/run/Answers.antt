@@ -1,0 +1,152 @@
+use Rattle.std.proofs.Common.{map, string_bytes, refl, arith}
+use Rattle.tdl_lines.specs.Statuses.{is_answered, is_rejection, is_usage}
+use Rattle.tdl_lines.proofs.StatusLemmas.{when_always, when_map}
+use Rattle.tdl_arguments.specs.Commands.{reads_input, uses_door}
+use Rattle.tdl_arguments.specs.Requests.{known_request}
+use Rattle.tdl_arguments.proofs.ValueLemmas.{options_fit, vocabulary_fits}
+use Rattle.tdl_run.specs.Runs.{named}
+use Rattle.tdl_run.proofs.CompleteLemmas.{complete_asked}
+use Rattle.tdl_run.proofs.RunLemmas.{asks_not, begun_of, defined_of, few_of, finished_of, read_error_of, rejected_of, served_of, unopened_of, usage_begun, usage_defined, usage_finished}
+use Rattle.tdl_run.proofs.runner.run.Goals as goal
+
+pub run_request-requires-clause-vocabulary : goal.run_request-requires-clause-vocabulary
+run_request-requires-clause-vocabulary g c = vocabulary_fits (map string_bytes c.args.words.now) (known_request c.in-Some.request) c.in-Some.ensures.request
+
+pub run_request-requires-clause-options : goal.run_request-requires-clause-options
+run_request-requires-clause-options g c = options_fit (map string_bytes c.args.words.now) (known_request c.in-Some.request) c.in-Some.ensures.request
+
+pub returns-in-Some-clause-defined : goal.returns-in-Some-clause-defined
+returns-in-Some-clause-defined g c =
+    defined_of (map string_bytes c.args.words.now) (known_request c.in-Some.request) _ _ _ _ _ _ _ _ c.run_request.result c.in-Some.ensures.request c.run_request.ensures.ran
+
+pub returns-in-Some-clause-rejected : goal.returns-in-Some-clause-rejected
+returns-in-Some-clause-rejected g c =
+    rejected_of (map string_bytes c.args.words.now) (known_request c.in-Some.request) _ _ _ _ _ c.in-Some.ensures.request c.run_request.ensures.ran.2.2
+
+pub returns-in-Some-clause-few : goal.returns-in-Some-clause-few
+returns-in-Some-clause-few g c =
+    few_of (map string_bytes c.args.words.now) (known_request c.in-Some.request) _ _ c.in-Some.ensures.request c.run_request.ensures.ran.2.2.few
+
+pub returns-in-Some-clause-unopened : goal.returns-in-Some-clause-unopened
+returns-in-Some-clause-unopened g c =
+    λ none. c.run_request.ensures.unopened (unopened_of (map string_bytes c.args.words.now) (known_request c.in-Some.request) c.in-Some.ensures.request none)
+
+pub returns-in-Some-clause-opened : goal.returns-in-Some-clause-opened
+returns-in-Some-clause-opened g c =
+    named (known_request c.in-Some.request) c.in-Some.ensures.request c.run_request.ensures.opened
+
+pub returns-in-Some-clause-all_opened : goal.returns-in-Some-clause-all_opened
+returns-in-Some-clause-all_opened g c =
+    when_map (is_answered c.run_request.result) (λ all. record { asked = known_request c.in-Some.request; order = c.in-Some.ensures.request; all = all }) c.run_request.ensures.all_opened
+
+pub returns-in-Some-clause-read_error : goal.returns-in-Some-clause-read_error
+returns-in-Some-clause-read_error g c =
+    read_error_of (map string_bytes c.args.words.now) (known_request c.in-Some.request) _ _ _ _ _ c.in-Some.ensures.request c.run_request.ensures.ran.2.2
+
+pub returns-in-Some-clause-begun : goal.returns-in-Some-clause-begun
+returns-in-Some-clause-begun g c =
+    begun_of (map string_bytes c.args.words.now) (known_request c.in-Some.request) _ _ _ _ _ _ _ _ c.run_request.result c.in-Some.ensures.request c.run_request.ensures.ran
+
+pub returns-in-Some-clause-unserved : goal.returns-in-Some-clause-unserved
+returns-in-Some-clause-unserved g c =
+    λ none. c.run_request.ensures.unserved (asks_not uses_door (map string_bytes c.args.words.now) (known_request c.in-Some.request) c.in-Some.ensures.request none)
+
+pub returns-in-None-clause-defined : goal.returns-in-None-clause-defined
+returns-in-None-clause-defined g c =
+    usage_defined (map string_bytes c.args.words.now) _ _ _ _ c.print_line.result c.in-None.ensures.none c.print_line.ensures.written
+
+pub returns-in-None-clause-begun : goal.returns-in-None-clause-begun
+returns-in-None-clause-begun g c =
+    usage_begun (map string_bytes c.args.words.now) _ _ _ c.print_line.result c.in-None.ensures.none c.print_line.ensures.written
+
+pub returns-in-Some-clause-finished : goal.returns-in-Some-clause-finished
+returns-in-Some-clause-finished g c =
+    finished_of (map string_bytes c.args.words.now) (known_request c.in-Some.request) _ _ _ _ _ _ _ _ c.run_request.result c.in-Some.ensures.request c.run_request.ensures.ran
+
+pub returns-in-None-clause-finished : goal.returns-in-None-clause-finished
+returns-in-None-clause-finished g c =
+    usage_finished (map string_bytes c.args.words.now) _ _ _ _ c.print_line.result c.in-None.ensures.none c.print_line.ensures.written
+
+pub returns-in-Some-clause-complete : goal.returns-in-Some-clause-complete
+returns-in-Some-clause-complete g c =
+    λ loads fits none. complete_asked (map string_bytes c.args.words.now) (known_request c.in-Some.request) _ _ _ _ _ _ _ _ c.run_request.result c.in-Some.ensures.request c.run_request.ensures.ran loads fits none
+
+pub returns-in-None-clause-complete : goal.returns-in-None-clause-complete
+returns-in-None-clause-complete g c = λ loads fits none. absurd (c.in-None.ensures.none loads.asked loads.order)
+
+pub returns-in-Some-clause-served : goal.returns-in-Some-clause-served
+returns-in-Some-clause-served g c =
+    λ heads. served_of _ (map string_bytes c.args.words.now) (known_request c.in-Some.request) _ _ _ _ _ c.run_request.result c.in-Some.ensures.request c.run_request.ensures.served heads
+
+pub returns-in-None-clause-served : goal.returns-in-None-clause-served
+returns-in-None-clause-served g c = λ heads. absurd (c.in-None.ensures.none heads.asked heads.order)
+
+pub returns-in-Some-clause-write_error : goal.returns-in-Some-clause-write_error
+returns-in-Some-clause-write_error g c = c.run_request.ensures.ran.2.2.write_error
+
+pub returns-in-Some-clause-input_long : goal.returns-in-Some-clause-input_long
+returns-in-Some-clause-input_long g c = c.run_request.ensures.ran.2.2.long
+
+pub returns-in-Some-clause-input_counts : goal.returns-in-Some-clause-input_counts
+returns-in-Some-clause-input_counts g c = c.run_request.ensures.ran.2.2.input_counts
+
+pub returns-in-Some-clause-file_counts : goal.returns-in-Some-clause-file_counts
+returns-in-Some-clause-file_counts g c = c.run_request.ensures.ran.2.2.file_counts
+
+pub returns-in-Some-clause-output_counts : goal.returns-in-Some-clause-output_counts
+returns-in-Some-clause-output_counts g c = c.run_request.ensures.ran.2.2.output_counts
+
+pub returns-in-Some-clause-door_counts : goal.returns-in-Some-clause-door_counts
+returns-in-Some-clause-door_counts g c = c.run_request.ensures.door_counts
+
+pub returns-in-Some-clause-known : goal.returns-in-Some-clause-known
+returns-in-Some-clause-known g c = c.run_request.ensures.known
+
+pub returns-in-Some-clause-unread_rejected : goal.returns-in-Some-clause-unread_rejected
+returns-in-Some-clause-unread_rejected g c = c.run_request.ensures.unread_rejected
+
+pub returns-in-Some-clause-unserved_rejected : goal.returns-in-Some-clause-unserved_rejected
+returns-in-Some-clause-unserved_rejected g c = c.run_request.ensures.unserved_rejected
+
+pub returns-in-Some-clause-unread : goal.returns-in-Some-clause-unread
+returns-in-Some-clause-unread g c =
+    λ none. c.run_request.ensures.unread (asks_not reads_input (map string_bytes c.args.words.now) (known_request c.in-Some.request) c.in-Some.ensures.request none)
+
+pub returns-in-Some-clause-not_in_order : goal.returns-in-Some-clause-not_in_order
+returns-in-Some-clause-not_in_order g c = λ none. absurd (none (known_request c.in-Some.request) c.in-Some.ensures.request)
+
+pub returns-in-None-clause-known : goal.returns-in-None-clause-known
+returns-in-None-clause-known g c = refl
+
+pub returns-in-None-clause-unread : goal.returns-in-None-clause-unread
+returns-in-None-clause-unread g c = λ none. refl
+
+pub returns-in-None-clause-unserved : goal.returns-in-None-clause-unserved
+returns-in-None-clause-unserved g c = λ none. refl
+
+pub returns-in-None-clause-unopened : goal.returns-in-None-clause-unopened
+returns-in-None-clause-unopened g c = λ none. refl
+
+pub returns-in-None-clause-usage : goal.returns-in-None-clause-usage
+returns-in-None-clause-usage g c = when_always (is_usage c.print_line.result) c.in-None.ensures.none
+
+pub returns-in-None-clause-unread_rejected : goal.returns-in-None-clause-unread_rejected
+returns-in-None-clause-unread_rejected g c = when_always (is_rejection c.print_line.result) refl
+
+pub returns-in-None-clause-unserved_rejected : goal.returns-in-None-clause-unserved_rejected
+returns-in-None-clause-unserved_rejected g c = when_always (is_rejection c.print_line.result) refl
+
+pub returns-in-None-clause-input_counts : goal.returns-in-None-clause-input_counts
+returns-in-None-clause-input_counts g c = omega arith
+
+pub returns-in-None-clause-file_counts : goal.returns-in-None-clause-file_counts
+returns-in-None-clause-file_counts g c = omega arith
+
+pub returns-in-None-clause-door_counts : goal.returns-in-None-clause-door_counts
+returns-in-None-clause-door_counts g c = omega arith
+
+pub returns-in-None-clause-output_counts : goal.returns-in-None-clause-output_counts
+returns-in-None-clause-output_counts g c = c.print_line.ensures.counts
+
+pub returns-in-None-clause-write_error : goal.returns-in-None-clause-write_error
+returns-in-None-clause-write_error g c = c.print_line.ensures.error

@@ -1,0 +1,10 @@
+pub mod Loads
+pub mod LoadsSupport
+pub mod Reads
+pub mod LineAnswers
+pub mod LongLines
+pub mod Works
+pub mod CommandRuns
+pub mod RanSupport
+pub mod Runs
+pub mod Requests

@@ -1,0 +1,47 @@
+-- How the reading of a file and the load of tables end, for a run.
+use Rattle.std.specs.Prelude.{◌≡◌, ◌≢◌, ◌⊎◌, ℕ, ◌<◌, ◌≤◌, List, length, Option, Result, Ok, Err}
+use Rattle.gs_tables_document.specs.declared.error.LoadFault.{LoadFault}
+use Rattle.gs_port.specs.Counts.{Rises}
+use Rattle.gs_port.specs.Files.{IsAbsent, IsFile}
+use Rattle.gs_prefix.specs.declared.entry.PrefixEntry.{PrefixEntry}
+use Rattle.gs_prefix.specs.declared.error.PrefixFault.{PrefixFault}
+use Rattle.gs_prefix.specs.declared.error.PrefixFault.TheVariants as prefix
+use Rattle.gs_tables.specs.Shapes.{HasMemory}
+use Rattle.gs_tables.specs.Tables.{TableRows}
+use Rattle.tdl_messages.specs.declared.file_kind.FileKind.{FileKind}
+use Rattle.tdl_messages.specs.declared.file_kind.FileKind.TheVariants as kind
+use Rattle.tdl_messages.specs.declared.rejection.FileFault.{FileFault}
+use Rattle.tdl_messages.specs.declared.rejection.FileFault.TheVariants.{Over}
+use Rattle.tdl_messages.specs.Rejections.{file_limit}
+use Rattle.tdl_run.specs.declared.loads.Unloaded.{Unloaded}
+use Rattle.tdl_run.specs.declared.loads.Unloaded.TheVariants.{Refused, ReadFault, Memory}
+use Rattle.tdl_run.specs.Loads.{FilesInMemory, of_verdict, prefixes_verdict, rejected, tables_verdict}
+
+-- the bytes of a named file, that it has too many, or an error
+abbrev pub ReadBy : Option FilesInMemory → FileKind → List ℕ → ℕ → ℕ → Result (List ℕ) Unloaded → Type 0
+ReadBy files kind name before now (Ok bytes) = IsFile files name bytes × (length bytes ≤ file_limit kind)
+ReadBy files kind name before now (Err (Refused rejection)) = (bytes : List ℕ) × IsFile files name bytes × (file_limit kind < length bytes) × (rejection ≡ record { kind = kind; error = Over })
+ReadBy files kind name before now (Err ReadFault) = Rises before now ⊎ IsAbsent files name
+ReadBy files kind name before now (Err Memory) = Unit {0}
+
+-- the answer of a load of tables, with out of memory as no rejection
+abbrev pub UnloadedAs : Result TableRows LoadFault → Result TableRows Unloaded → Type 0
+UnloadedAs answer (Ok set) = answer ≡ Ok set
+UnloadedAs answer (Err Memory) = Unit {0}
+UnloadedAs answer (Err ReadFault) = ⊥
+UnloadedAs answer (Err (Refused rejection)) = HasMemory answer × (of_verdict kind.Tables (tables_verdict answer) ≡ Err (rejected rejection))
+
+-- a verdict on a file of a kind, with out of memory in place of any
+abbrev pub JudgedAs : {A : Type 0} → FileKind → Result A FileFault → Result A Unloaded → Type 0
+JudgedAs kind verdict (Ok a) = verdict ≡ Ok a
+JudgedAs kind verdict (Err Memory) = Unit {0}
+JudgedAs kind verdict (Err ReadFault) = ⊥
+JudgedAs kind verdict (Err (Refused rejection)) = of_verdict kind verdict ≡ Err (rejected rejection)
+
+-- the answer of a load of company prefix lengths, with out of memory as no rejection
+abbrev pub PrefixesUnloadedAs : Result (List PrefixEntry) PrefixFault → Result (List PrefixEntry) Unloaded → Type 0
+PrefixesUnloadedAs answer (Ok list) = answer ≡ Ok list
+PrefixesUnloadedAs answer (Err Memory) = Unit {0}
+PrefixesUnloadedAs answer (Err ReadFault) = ⊥
+PrefixesUnloadedAs answer (Err (Refused rejection)) =
+    (answer ≢ Err prefix.Memory) × (of_verdict kind.Prefixes (prefixes_verdict answer) ≡ Err (rejected rejection))

@@ -1,0 +1,153 @@
+-- What each command does, over what was loaded.
+use Rattle.std.specs.Prelude.{◌≡◌, ◌≢◌, ℕ, ◌≤◌, ◌-◌, false, List, [], ◌∷◌, ◌++◌, length, take, codes, decimal, IfSome, Option, is_some, option_map}
+use Rattle.tdl_lines.specs.declared.status.Status.{Status}
+use Rattle.tdl_gen.specs.Counts.{Generated}
+use Rattle.tdl_lines.specs.declared.status.Status.TheVariants.{Done, Memory, ReadFault}
+use Rattle.tdl_lines.specs.Inputs.{TakesMoreThan}
+use Rattle.tdl_lines.specs.Outputs.{AnswersEnded, AnswersInput, Appends}
+use Rattle.tdl_lines.specs.Printers.{PrintedAs}
+use Rattle.gs_port.specs.Connections.{Aside, Finished}
+use Rattle.tdl_serve.specs.Doors.{line_of}
+use Rattle.tdl_serve.specs.Resolutions.{Resolved, Resolves}
+use Rattle.gs_http.specs.Sites.{SiteData}
+use Rattle.tdl_serve.specs.Visits.{AreVisits, Visit, entries_of, inputs_of, wants_memory}
+use Rattle.gs_translate.specs.declared.form.Form.{Form}
+use Rattle.gs_translate.specs.declared.target.Target.{Target}
+use Rattle.gs_translate.specs.declared.target.Target.TheVariants as target
+use Rattle.gs_translate.specs.Translations.{Translating, translating_by}
+use Rattle.tdl_arguments.specs.declared.command.Command.{Command}
+use Rattle.tdl_arguments.specs.declared.command.Command.TheVariants.{Canon, Translate, Check, Resolve, Serve, Gen}
+use Rattle.tdl_arguments.specs.Requests.{Values, no_options, options_of}
+use Rattle.tdl_run.specs.declared.loads.Loaded.{Loaded}
+use Rattle.tdl_run.specs.LineAnswers.{IsTranslatedLine}
+
+-- trusted, own: what a run leaves: what it wrote, the connections that it finished, and its status
+pub record Outcome : Type 0 where
+  pub output : List ℕ
+  pub finished : List Finished
+  pub status : Status
+
+-- trusted, own: what is left where no connection was finished
+abbrev pub outcome_of : List ℕ → Status → Outcome
+outcome_of output status = record { output = output; finished = []; status = status }
+
+-- trusted, own: What a run leaves at a sink and at a door, as far as that is known: bytes behind those that the sink held,
+-- and connections behind those that were finished.
+abbrev pub Leaves : Option (List ℕ) → Option (List ℕ) → Option (List Finished) → Option (List Finished) → Status → (Outcome → Type 0) → Type 0
+Leaves held held' ended ended' status fact =
+    (finished : List Finished) × (ended' ≡ option_map (λ before. before ++ finished) ended)
+    × Appends held held' (λ output. fact (record { output = output; finished = finished; status = status }))
+
+-- trusted, own: the most bytes of an input
+abbrev pub input_limit : ℕ
+input_limit = 4294967296
+
+-- trusted, own: the numbers of application identifiers, of kinds, of the options of each level, of prefixes and of links
+abbrev pub counts_line : Loaded → List ℕ
+counts_line loaded =
+    codes "ok" ++ codes " ais " ++ decimal (length loaded.tables.ais) ++ codes " kinds " ++ decimal (length loaded.tables.kinds)
+    ++ codes " binary " ++ decimal (length loaded.tables.binary.info) ++ codes " tag " ++ decimal (length loaded.tables.tag.info)
+    ++ codes " pure " ++ decimal (length loaded.tables.pure.info) ++ codes " prefixes " ++ decimal (length loaded.prefixes)
+    ++ codes " links " ++ decimal (length loaded.links) ++ 10 ∷ []
+
+-- trusted, own: the line of counts was written to a sink, or a prefix of it, by the status
+abbrev pub PrintsCounts : Loaded → Status → Option (List ℕ) → Option (List ℕ) → Type 0
+PrintsCounts loaded ending held held' = Appends held held' (λ output. PrintedAs Done (counts_line loaded) output ending)
+
+-- trusted, own: more than 4,294,967,296 bytes were taken of an input
+abbrev pub PassesLimit : Option (List ℕ) → Option (List ℕ) → Type 0
+PassesLimit before now = TakesMoreThan input_limit before now
+
+-- trusted, own: what is left where the lines of an input are translated
+abbrev pub Translated : Translating → Option (List ℕ) → Outcome → Type 0
+Translated t input outcome =
+    AnswersInput (IsTranslatedLine t) input_limit input outcome.output outcome.status × (outcome.finished ≡ [])
+
+-- trusted, own: what was written of translated lines after an error of the input
+abbrev pub TranslatedEnded : Translating → Option (List ℕ) → Option (List ℕ) → List ℕ → Type 0
+TranslatedEnded t before now output = AnswersEnded (IsTranslatedLine t) before now output
+
+-- trusted, own: `canon` translates to canonical links, by no prefix and no options
+abbrev pub canonizing : Loaded → Form → Translating
+canonizing loaded form = translating_by loaded.tables [] no_options form target.Canon
+
+-- trusted, own: `translate` translates by the prefixes that are loaded and by the values that are named
+abbrev pub translating : Loaded → Values → Form → Target → Translating
+translating loaded values from to = translating_by loaded.tables loaded.prefixes (options_of values) from to
+
+-- trusted, own: what is left by a command that writes this output, and finishes no connection
+pub record LeavesOutput (IsOutput : List ℕ → Type 0) (outcome : Outcome) : Type 0 where
+  pub is_output : IsOutput outcome.output
+  pub none_finished : outcome.finished ≡ []
+  pub done : outcome.status ≡ Done
+
+-- trusted, own: what requests are answered from
+abbrev pub site_of : Loaded → SiteData
+site_of loaded = record { table = loaded.tables.ais; links = loaded.links; settings = loaded.settings }
+
+-- trusted, own: what is known of a door: the inputs of the waiting connections, where they are known, and its counts of
+-- failed reads and writes
+pub record Doorway : Type 0 where
+  pub waiting : Option (List (List ℕ))
+  pub reads : ℕ
+  pub writes : ℕ
+
+-- trusted, own: what is known of a door that sets this aside, at these counts
+abbrev pub doorway_of : Aside → ℕ → ℕ → Doorway
+doorway_of aside reads writes = record { waiting = aside.waiting; reads = reads; writes = writes }
+
+-- trusted, own: what is left of connections that were served: their numbers are written, and they are finished
+abbrev pub served_outcome : List Visit → Outcome
+served_outcome visits = record { output = line_of visits; finished = entries_of visits; status = Done }
+
+-- trusted, own: Connections were served: the first of those that wait, at most so many, one after the other, up to the last
+-- or to so many; all were answered up to their end or to an error.
+pub record Serves (site : SiteData) (count : ℕ) (door : Doorway) (outcome : Outcome) : Type 0 where
+  pub visits : List Visit
+  pub reads : ℕ
+  pub writes : ℕ
+  pub are_visits : AreVisits site (is_some door.waiting) door.reads door.writes visits reads writes
+  pub few : length visits ≤ count
+  pub first : IfSome door.waiting (λ waiting. inputs_of visits ≡ take count waiting)
+  pub whole : wants_memory visits ≡ false
+  pub is : outcome ≡ served_outcome visits
+
+-- trusted, own: Connections were served, and perhaps not all: the first of those that wait, at most so many; memory ran out
+-- at the last alone, and where the status says so.
+pub record ServesFirst (site : SiteData) (count : ℕ) (door : Doorway) (status : Status) (finished : List Finished) : Type 0 where
+  pub visits : List Visit
+  pub reads : ℕ
+  pub writes : ℕ
+  pub are_visits : AreVisits site (is_some door.waiting) door.reads door.writes visits reads writes
+  pub few : length visits ≤ count
+  pub first : IfSome door.waiting (λ waiting. inputs_of visits ≡ take (length visits) waiting)
+  pub whole : status ≢ Memory → wants_memory visits ≡ false
+  pub last : wants_memory (take (length visits - 1) visits) ≡ false
+  pub entries : finished ≡ entries_of visits
+
+-- trusted, own: what a command leaves, by its values, over what was loaded, an input, as far as it is known, and a door
+abbrev pub CommandRun : Command → Values → Loaded → Option (List ℕ) → Doorway → Outcome → Type 0
+CommandRun (Canon form) values loaded input door outcome = Translated (canonizing loaded form) input outcome
+CommandRun (Translate from to) values loaded input door outcome = Translated (translating loaded values from to) input outcome
+CommandRun Check values loaded input door outcome = outcome ≡ outcome_of (counts_line loaded) Done
+CommandRun Resolve values loaded input door outcome = LeavesOutput (Resolves (site_of loaded) input) outcome
+CommandRun Serve values loaded input door outcome = Serves (site_of loaded) values.count door outcome
+CommandRun (Gen lines) values loaded input door outcome = LeavesOutput (Generated loaded.tables lines) outcome
+
+-- trusted, own: what a command has written after an error of the input, by what was taken of it
+abbrev pub CommandEnded : Command → Values → Loaded → Option (List ℕ) → Option (List ℕ) → List ℕ → Type 0
+CommandEnded (Canon form) values loaded before now output = TranslatedEnded (canonizing loaded form) before now output
+CommandEnded (Translate from to) values loaded before now output = TranslatedEnded (translating loaded values from to) before now output
+CommandEnded Check values loaded before now output = ⊥
+CommandEnded Resolve values loaded before now output = Resolved (site_of loaded) before output ReadFault
+CommandEnded Serve values loaded before now output = output ≡ []
+CommandEnded (Gen lines) values loaded before now output = ⊥
+
+-- trusted, own: what a command has finished where less than what is defined may have been written, by its status
+abbrev pub CommandFinished : Command → Values → Loaded → Doorway → Status → List Finished → Type 0
+CommandFinished (Canon form) values loaded door status finished = finished ≡ []
+CommandFinished (Translate from to) values loaded door status finished = finished ≡ []
+CommandFinished Check values loaded door status finished = finished ≡ []
+CommandFinished Resolve values loaded door status finished = finished ≡ []
+CommandFinished Serve values loaded door status finished = ServesFirst (site_of loaded) values.count door status finished
+CommandFinished (Gen lines) values loaded door status finished = finished ≡ []

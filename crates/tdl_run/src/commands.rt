@@ -1,0 +1,76 @@
+ghost use Rattle.std.specs.Prelude.{◌≡◌, ◌≤◌, None, false, true};
+ghost use Rattle.tdl_serve.specs.Resolutions.{StreamServed};
+ghost use Rattle.gs_tables.specs.Judgements.{IsLoaded};
+ghost use Rattle.gs_translate.specs.Translations.{AreInOrder};
+ghost use Rattle.tdl_arguments.specs.Commands.{answers_heads, reads_input, uses_door};
+ghost use Rattle.tdl_arguments.specs.Requests.{options_of, known_values};
+ghost use Rattle.tdl_run.specs.CommandRuns.{moment_of};
+ghost use Rattle.tdl_run.specs.RanSupport.{CommandRan};
+ghost use Rattle.tdl_run.specs.Works.{Leaves, doorway_of, site_of};
+
+use crate::check_command::check;
+use crate::loads::Loaded;
+use crate::translate_command::{canonize, translate_loaded};
+use gs_http::Site;
+use gs_port::{Door, Sink, Source};
+use std::alloc::Global;
+use tdl_arguments::{Command, NamedValues};
+use tdl_gen::generate;
+use tdl_lines::Status;
+use tdl_serve::{resolve, serve};
+
+/// What requests are answered from.
+fn site_of(loaded: &Loaded) -> Site<'_>
+    ensures { result ≡ site_of loaded.now }
+{
+    Site {
+        table: loaded.tables.ais(),
+        store: &loaded.links,
+        settings: &loaded.settings,
+    }
+}
+
+/// Runs a command over what was loaded. An input or a door that the command does not use is as it was.
+pub fn run_command<S: Source, K: Sink, D: Door>(
+    alloc: Global,
+    command: Command,
+    values: NamedValues<'_>,
+    loaded: &Loaded,
+    input: &mut S,
+    output: &mut K,
+    door: &mut D,
+) -> Status
+    requires none_open { D.is_open door.old ≡ false }
+    requires loaded { IsLoaded loaded.now.tables }
+    requires options { AreInOrder (options_of (known_values values)) }
+    ensures ran { Leaves (K.held output.old) (K.held output.new)
+        (D.aside door.old).finished (D.aside door.new).finished result
+        (CommandRan command (known_values values.entry) loaded.now
+        (doorway_of (D.aside door.old) (D.reads door.old) (D.writes door.old))
+        (D.aside door.old).errors (D.aside door.new).errors
+        (moment_of (S.left input.old) (S.errors input.old) (K.errors output.old))
+        (moment_of (S.left input.new) (S.errors input.new) (K.errors output.new))) }
+    ensures served { answers_heads command ≡ true → StreamServed (site_of loaded.now) result
+        (S.left input.old) (S.left input.new) None None (K.held output.old) (K.held output.new) }
+    ensures unread { reads_input command ≡ false → input.new ≡ input.old }
+    ensures unserved { uses_door command ≡ false → door.new ≡ door.old }
+    ensures door_counts { (D.aside door.old).errors ≤ (D.aside door.new).errors }
+{
+    match command {
+        Command::Canon(form) => canonize(alloc, form, values, loaded, input, output),
+        Command::Translate(from, to) => {
+            translate_loaded(alloc, from, to, values, loaded, input, output)
+        }
+        Command::Check => check(alloc, loaded, output),
+        Command::Resolve => resolve(alloc, &site_of(loaded), input, output),
+        Command::Serve => serve(
+            alloc,
+            &site_of(loaded),
+            values.listen,
+            values.count,
+            door,
+            output,
+        ),
+        Command::Gen(lines) => generate(alloc, &loaded.tables, lines, output),
+    }
+}

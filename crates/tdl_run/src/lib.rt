@@ -1,0 +1,39 @@
+//! The program: what its arguments ask for, the files that they name, its commands, and whole runs.
+//!
+//! - `run` is the call that `main` of tdl makes: arguments, files, input and output in, a status out. Its clauses are what the
+//!   README guarantees. `without_program_name` gives the arguments of a process without the program's name.
+//!
+//! # Example
+//!
+//! A whole run over objects in memory: the arguments, no files, an input that is read two bytes at a time, and an output that
+//! takes three at a time. The gate runs this case, for which crates/vectors_runs/src/runs.rt makes the call: the status, the
+//! output, and what is left of the input.
+//!
+//! ```text
+//! tdl_run::run canon pure / - / 2 - urn:epc:id:sgtin:0614141.812345.6789\x0A / 3 -
+//! Done ok\x20https://id.gs1.org/01/80614141123458/21/6789\x0A \e
+//! ```
+//!
+//! # Where it differs from the standards
+//!
+//! - No standard has a command line for these translations: the commands, names, statuses and printed texts are this
+//!   project's own (docs/FORMATS.md, 'The command line' and 'Statuses').
+#![tactic(auto)]
+
+mod check_command;
+mod commands;
+mod laws;
+mod links;
+mod loads;
+mod named_files;
+mod prefixes;
+mod requests;
+mod runner;
+mod tables;
+mod translate_command;
+mod translated_lines;
+
+pub use runner::run;
+pub use tdl_arguments::without_program_name;
+pub use tdl_lines::Status;
+pub use translated_lines::answer_lines;

@@ -1,0 +1,93 @@
+ghost use Rattle.std.specs.Prelude.{◌≡◌, true};
+ghost use Rattle.tdl_arguments.specs.Ranges.{is_vocabulary};
+ghost use Rattle.tdl_arguments.specs.Requests.{all_named, known_request};
+ghost use Rattle.tdl_run.specs.Loads.{FilesGive};
+ghost use Rattle.tdl_run.specs.LoadsSupport.{Loads, files_known};
+
+use crate::links::load_links;
+use crate::named_files::read_if_named;
+use crate::prefixes::load_prefixes;
+use crate::tables::load_tables;
+use gs_chars::{Memory, Text};
+use gs_http::Settings;
+use gs_links::Store;
+use gs_port::Files;
+use gs_prefix::PrefixList;
+use gs_tables::TableSet;
+use std::alloc::Global;
+use tdl_arguments::Request;
+use tdl_messages::{FileKind, Rejection};
+
+/// What a run has loaded.
+pub struct Loaded {
+    /// The tables.
+    pub tables: TableSet,
+    /// The company prefix lengths.
+    pub prefixes: PrefixList,
+    /// The links.
+    pub links: Store,
+    /// How requests are answered: the vocabulary, and the description of the resolver.
+    pub settings: Settings,
+}
+
+// by hand, so that a function that drops what was loaded calls this one: a derived drop is written out at each of its exits
+impl Drop for Loaded {
+    fn drop(self) {
+        let Loaded {
+            tables: _,
+            prefixes: _,
+            links: _,
+            settings: _,
+        } = self;
+    }
+}
+
+/// Why a run has not loaded its files.
+#[derive(Drop)]
+pub enum Unloaded {
+    /// A file is rejected.
+    Refused(Rejection),
+    /// An error of the files was counted, or a file is not there.
+    ReadFault,
+    /// Out of memory.
+    Memory,
+}
+
+impl From<Memory> for Unloaded {
+    ghost use Rattle.std.specs.Prelude.{◌≡◌};
+    ghost use Rattle.tdl_run.specs.declared.loads.Unloaded.TheVariants.{Memory as OutOfMemory};
+
+    ghost from_gives = { λ _ e. e ≡ OutOfMemory };
+
+    fn from(_rejected: Memory) -> Unloaded {
+        Unloaded::Memory
+    }
+}
+
+/// Loads the files in their order, tables, company prefix lengths, links and then the description, up to the first that is not
+/// there, cannot be read or is rejected. What is not named is the built-in tables, and no prefix, no link and no description.
+pub fn load_files<F: Files>(
+    alloc: Global,
+    request: Request<'_>,
+    files: &mut F,
+) -> Result<Loaded, Unloaded>
+    requires { is_vocabulary request.values.voc.now ≡ true }
+    ensures { Loads (λ known. FilesGive known (known_request request.entry)) (all_named request.entry)
+        (files.new ≡ files.old)
+        (files_known (F.files files.old) (F.opened files.old) (F.errors files.old))
+        (files_known (F.files files.new) (F.opened files.new) (F.errors files.new)) result }
+{
+    let named = request.files;
+    let voc = request.values.voc;
+    let tables = load_tables(alloc, named.tables, files)?;
+    let prefixes = load_prefixes(alloc, named.prefixes, files)?;
+    let links = load_links(alloc, tables.ais(), voc, named.links, files)?;
+    let describe = read_if_named(alloc, FileKind::Describe, named.describe, files)?;
+    let voc = Text::from_bytes(alloc, voc.as_bytes())?;
+    Ok(Loaded {
+        tables,
+        prefixes,
+        links,
+        settings: Settings { voc, describe },
+    })
+}

@@ -1,0 +1,97 @@
+ghost use Rattle.std.specs.Prelude.{◌≡◌, ◌≤◌, [], false, true};
+ghost use Rattle.tdl_lines.specs.Statuses.{OnReadFault, OnRefused, OnWriteFault};
+ghost use Rattle.gs_port.specs.Counts.{Rises};
+ghost use Rattle.gs_translate.specs.Translations.{AreInOrder};
+ghost use Rattle.tdl_messages.specs.Rejections.{rejected_line};
+ghost use Rattle.tdl_arguments.specs.Commands.{answers_heads, reads_input, uses_door};
+ghost use Rattle.tdl_arguments.specs.Ranges.{is_vocabulary};
+ghost use Rattle.tdl_arguments.specs.Requests.{all_named, options_of, known_request};
+ghost use Rattle.tdl_run.specs.Requests.{AskedRan, PrintsRejection, Reports};
+ghost use Rattle.tdl_run.specs.Loads.{OpensFirst};
+ghost use Rattle.tdl_run.specs.Runs.{AskedEnded, AskedServes, OpensAsked, WritesAfterError, counts_of, world_of};
+ghost use Rattle.tdl_run.specs.Works.{Leaves};
+
+use crate::commands::run_command;
+use crate::loads::{Unloaded, load_files};
+use gs_chars::Memory;
+use gs_port::{Door, Files, Sink, Source};
+use std::alloc::Global;
+use tdl_arguments::Request;
+use tdl_lines::{Status, print_line};
+use tdl_messages::{Rejection, rejected_line};
+
+/// Writes the line of a rejected file.
+fn print_rejection<K: Sink>(alloc: Global, rejection: &Rejection, output: &mut K) -> Status
+    ensures written { PrintsRejection rejection.now result (K.held output.old) (K.held output.new) }
+    ensures error { OnWriteFault result (Rises (K.errors output.old) (K.errors output.new)) }
+    ensures counts { K.errors output.old ≤ K.errors output.new }
+{
+    match rejected_line(alloc, rejection) {
+        Ok(line) => print_line(output, line.as_slice(), Status::Refused),
+        Err(Memory) => Status::Memory,
+    }
+}
+
+/// Writes the line of a rejected file, and nothing where a file is not there or cannot be read.
+fn report<K: Sink>(alloc: Global, unloaded: &Unloaded, output: &mut K) -> Status
+    ensures written { Reports unloaded.now result (K.held output.old) (K.held output.new) }
+    ensures error { OnWriteFault result (Rises (K.errors output.old) (K.errors output.new)) }
+    ensures counts { K.errors output.old ≤ K.errors output.new }
+{
+    match unloaded {
+        Unloaded::Refused(rejection) => print_rejection(alloc, rejection, output),
+        Unloaded::ReadFault => Status::ReadFault,
+        Unloaded::Memory => Status::Memory,
+    }
+}
+
+/// Does what is asked: loads the files, and runs the command. Where a file is rejected one line says why, and where one is
+/// not there or cannot be read nothing is written; in both cases the input and the door are as they were.
+pub fn run_request<F: Files, S: Source, K: Sink, D: Door>(
+    alloc: Global,
+    request: Request<'_>,
+    files: &mut F,
+    input: &mut S,
+    output: &mut K,
+    door: &mut D,
+) -> Status
+    requires none_open { D.is_open door.old ≡ false }
+    requires vocabulary { is_vocabulary request.values.voc.now ≡ true }
+    requires options { AreInOrder (options_of (known_request request).values) }
+    ensures ran { Leaves (K.held output.old) (K.held output.new)
+        (D.aside door.old).finished (D.aside door.new).finished result
+        (AskedRan (known_request request.entry)
+        (world_of (F.files files.old) (S.left input.old)
+        (D.aside door.old) (D.reads door.old) (D.writes door.old))
+        (counts_of (F.errors files.old) (S.errors input.old) (K.errors output.old) (D.aside door.old))
+        (counts_of (F.errors files.new) (S.errors input.new) (K.errors output.new) (D.aside door.new))
+        (S.left input.new)) }
+    ensures read_error { OnReadFault result (WritesAfterError (input.new ≡ input.old)
+        (Rises (S.errors input.old) (S.errors input.new)) (K.held output.old) (K.held output.new)
+        (AskedEnded (known_request request.entry) (F.files files.old) (S.left input.old) (S.left input.new))) }
+    ensures served { answers_heads (known_request request.entry).command ≡ true
+        → AskedServes (input.new ≡ input.old) (known_request request.entry) (F.files files.old) result
+        (S.left input.old) (S.left input.new) (K.held output.old) (K.held output.new) }
+    ensures unread { reads_input (known_request request.entry).command ≡ false → input.new ≡ input.old }
+    ensures unread_rejected { OnRefused result (input.new ≡ input.old) }
+    ensures unserved { uses_door (known_request request.entry).command ≡ false → door.new ≡ door.old }
+    ensures unserved_rejected { OnRefused result (door.new ≡ door.old) }
+    ensures door_counts { (D.aside door.old).errors ≤ (D.aside door.new).errors }
+    ensures opened { OpensFirst (all_named request.entry) (F.opened files.old) (F.opened files.new) }
+    ensures all_opened { OpensAsked result request.entry (F.opened files.old) (F.opened files.new) }
+    ensures unopened { all_named request.entry ≡ [] → files.new ≡ files.old }
+    ensures known { F.files files.new ≡ F.files files.old }
+{
+    match load_files(alloc, request, files) {
+        Ok(loaded) => run_command(
+            alloc,
+            request.command,
+            request.values,
+            &loaded,
+            input,
+            output,
+            door,
+        ),
+        Err(unloaded) => report(alloc, &unloaded, output),
+    }
+}

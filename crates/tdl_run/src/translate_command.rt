@@ -1,0 +1,89 @@
+ghost use Rattle.std.specs.Prelude.{◌≡◌, IfOk};
+ghost use Rattle.gs_tables.specs.Judgements.{IsLoaded};
+ghost use Rattle.gs_translate.specs.Translations.{AreInOrder};
+ghost use Rattle.tdl_arguments.specs.Requests.{options_of, known_values};
+ghost use Rattle.tdl_run.specs.CommandRuns.{Translates, moment_of};
+ghost use Rattle.tdl_run.specs.Works.{canonizing, translating};
+
+use crate::loads::Loaded;
+use crate::translated_lines::answer_lines;
+use gs_chars::{Memory, Text};
+use gs_port::{Sink, Source};
+use gs_translate::{Form, Options, Target};
+use std::alloc::Global;
+use tdl_arguments::NamedValues;
+use tdl_lines::Status;
+
+/// The most bytes of an input.
+const INPUT_LIMIT: u64 = 4_294_967_296;
+
+/// What the values say of translations.
+fn options_of(alloc: Global, values: NamedValues<'_>) -> Result<Options, Memory>
+    ensures { IfOk result (λ options. options ≡ options_of (known_values values.entry)) }
+{
+    Ok(Options {
+        filter: values.filter,
+        gcp: values.gcp,
+        encoding: Text::from_bytes(alloc, values.encoding.as_bytes())?,
+        keys_only: values.keys_only,
+        stem: Text::from_bytes(alloc, values.stem.as_bytes())?,
+    })
+}
+
+/// Answers the lines of the input, texts of a form, by their translations to another, by the prefixes that are loaded and the
+/// values that are named. The options are made once.
+pub fn translate_loaded<S: Source, K: Sink>(
+    alloc: Global,
+    from: Form,
+    to: Target,
+    values: NamedValues<'_>,
+    loaded: &Loaded,
+    input: &mut S,
+    output: &mut K,
+) -> Status
+    requires loaded { IsLoaded loaded.now.tables }
+    requires options { AreInOrder (options_of (known_values values)) }
+    ensures { Translates (translating loaded.now (known_values values.entry) from to) result
+        (K.held output.old) (K.held output.new)
+        (moment_of (S.left input.old) (S.errors input.old) (K.errors output.old))
+        (moment_of (S.left input.new) (S.errors input.new) (K.errors output.new)) }
+{
+    match options_of(alloc, values) {
+        Ok(options) => answer_lines(
+            alloc,
+            &loaded.tables,
+            &loaded.prefixes,
+            &options,
+            from,
+            to,
+            input,
+            output,
+            INPUT_LIMIT,
+        ),
+        Err(Memory) => Status::Memory,
+    }
+}
+
+/// Answers the lines of the input, texts of a form, by their canonical links, whatever is named. Of such a link neither the
+/// prefixes nor the options but `keys_only` say anything.
+pub fn canonize<S: Source, K: Sink>(
+    alloc: Global,
+    form: Form,
+    values: NamedValues<'_>,
+    loaded: &Loaded,
+    input: &mut S,
+    output: &mut K,
+) -> Status
+    requires loaded { IsLoaded loaded.now.tables }
+    requires options { AreInOrder (options_of (known_values values)) }
+    ensures { Translates (canonizing loaded.now form) result
+        (K.held output.old) (K.held output.new)
+        (moment_of (S.left input.old) (S.errors input.old) (K.errors output.old))
+        (moment_of (S.left input.new) (S.errors input.new) (K.errors output.new)) }
+{
+    let whole = NamedValues {
+        keys_only: false,
+        ..values
+    };
+    translate_loaded(alloc, form, Target::Canon, whole, loaded, input, output)
+}

@@ -1,0 +1,96 @@
+-- What is written for a stream.
+use Rattle.std.proofs.Common.{◌≡◌, ℕ, List, [], ◌++◌, append-nil, inl, inr, Option, Some, None, take, length, refl, sym, ap, ◌∙◌, subst}
+use Rattle.std.specs.Prelude.{◌⊎◌, IfSome}
+use Rattle.std.proofs.Math.Seq.{take-append_seam}
+use Rattle.gs_http.specs.declared.outcomes.Served.{Served}
+use Rattle.gs_http.specs.declared.outcomes.Served.TheVariants as served
+use Rattle.gs_http.specs.ServedStreams.{IsServed, OnDone}
+use Rattle.gs_http.specs.Streams.{replies_of}
+use Rattle.tdl_lines.specs.declared.status.Status.{Status}
+use Rattle.tdl_lines.specs.declared.status.Status.TheVariants.{Done}
+use Rattle.tdl_lines.specs.Inputs.{IsKnown}
+use Rattle.tdl_lines.specs.Outputs.{Appends}
+use Rattle.tdl_lines.specs.Printers.{IsInitialPart}
+use Rattle.tdl_lines.specs.Statuses.{OnWritten, When, is_written}
+use Rattle.gs_port.specs.Contents.{prepend_known}
+use Rattle.tdl_serve.specs.Resolutions.{Resolved, StreamServed, status_of}
+use Rattle.gs_http.specs.Sites.{SiteData}
+use Rattle.tdl_serve.specs.Sites.{Replied}
+use Rattle.tdl_serve.specs.Visits.{ReadsAsAnswered, is_done}
+
+-- a prefix is a prefix
+pub front_is_part : (front rest : List ℕ) → IsInitialPart front (front ++ rest)
+front_is_part front rest = (length front, sym (take-append_seam front rest))
+
+-- what was read and what is left are what was left before
+pub known_whole : (left left' : Option (List ℕ)) (read rest : List ℕ) → left ≡ prepend_known read left' → IfSome left' (λ bytes. bytes ≡ rest) → IsKnown left (read ++ rest)
+known_whole left None read rest moved is = subst (λ known. IsKnown known (read ++ rest)) (sym moved) tt
+known_whole left (Some bytes) read rest moved is = subst (λ known. IsKnown known (read ++ rest)) (sym moved) (ap (λ more. read ++ more) (sym is))
+
+when_done : (served : Served) (A B : Type 0) → OnDone served (A × B) → When (is_done served) A
+when_done served.Done A B both = both.0
+when_done served.ReadFault A B both = tt
+when_done served.WriteFault A B both = tt
+when_done served.Memory A B both = tt
+
+-- a prefix of the replies to the whole stream was written, and all of these where serving was done
+pub replied : (site : SiteData) (served : Served) (left left' taken taken' held held' : Option (List ℕ))
+    → (is : IsServed 1000 site.table site.links site.settings served left left' taken taken' held held')
+    → Replied site (is.read ++ is.rest) (is_done served) is.written
+replied site served left left' taken taken' held held' is = record {
+  replies = replies_of is.replies;
+  are_replies = record { replies = is.replies; are_replies = is.are_replies; is_output = refl };
+  begun = (length is.written, sym (take-append_seam is.written is.begun.0) ∙ ap (take (length is.written)) (sym is.begun.1));
+  all = when_done served _ _ is.whole;
+}
+
+unread : (served : Served) (read rest : List ℕ) (written closing : Type 0) → OnDone served (written × ((rest ≡ []) ⊎ closing)) → OnDone served ((read ≡ read ++ rest) ⊎ closing)
+unread served.Done read rest written closing both = elim both.1 [
+  | inl none ↦ inl (sym (append-nil read) ∙ ap (λ more. read ++ more) (sym none))
+  | inr closes ↦ inr closes
+]
+unread served.ReadFault read rest written closing both = tt
+unread served.WriteFault read rest written closing both = tt
+unread served.Memory read rest written closing both = tt
+
+-- of so many heads the replies were written, and little was read beyond these
+pub as_answered : (site : SiteData) (served : Served) (left left' taken taken' held held' : Option (List ℕ))
+    → (is : IsServed 1000 site.table site.links site.settings served left left' taken taken' held held')
+    → ReadsAsAnswered site (is.read ++ is.rest) served is.read is.written
+as_answered site served left left' taken taken' held held' is = record {
+  replies = is.replies;
+  answered = is.answered;
+  are_replies = is.are_replies;
+  front = is.front;
+  few = is.few;
+  unread = unread served is.read is.rest _ _ is.whole;
+}
+
+same_when : (served : Served) → is_done served ≡ is_written (status_of served)
+same_when served.Done = refl
+same_when served.ReadFault = refl
+same_when served.WriteFault = refl
+same_when served.Memory = refl
+
+done_when : (served : Served) → OnWritten (status_of served) (status_of served ≡ Done)
+done_when served.Done = refl
+done_when served.ReadFault = tt
+done_when served.WriteFault = tt
+done_when served.Memory = tt
+
+-- what was written for a stream that was served
+pub resolved : (site : SiteData) (status : Status) (left left' taken taken' held held' : Option (List ℕ)) → StreamServed site status left left' taken taken' held held'
+    → Appends held held' (λ output. Resolved site left output status)
+resolved site status left left' taken taken' held held' s =
+    let is = s.is_served in
+    let all : Replied site (is.read ++ is.rest) (is_written (status_of s.served)) is.written =
+    subst (λ whole. Replied site (is.read ++ is.rest) whole is.written) (same_when s.served) (replied site s.served left left' taken taken' held held' is) in (
+      is.written,
+      is.wrote,
+      subst (λ ended. Resolved site left is.written ended) (sym s.has_status) (record {
+        stream = is.read ++ is.rest;
+        is_stream = known_whole left left' is.read is.rest is.moved is.is_rest;
+        replied = all;
+        done = done_when s.served;
+      }),
+    )

@@ -1,0 +1,84 @@
+use Rattle.std.proofs.Common.{refl, ap, ◌∙◌, arith}
+use Rattle.gs_port.specs.Counts.{counted}
+use Rattle.tdl_serve.proofs.SessionLemmas.{at_start, goes_on, memory_ran_out, none_accepted, none_came}
+use Rattle.tdl_serve.proofs.sessions.serve_turns.Goals as goal
+
+pub loop-finished-init : goal.loop-finished-init
+loop-finished-init g c = record {
+  so_far = at_start c.args.resolver.now _;
+  within = omega arith;
+  none_open = c.requires.none_open;
+  listens = c.requires.listening;
+  own_count = refl;
+  same_ends = refl;
+}
+
+pub returns-in-Closed-clause-did : goal.returns-in-Closed-clause-did
+returns-in-Closed-clause-did g c =
+    none_came c.args.resolver.now _ _ _ _ _ c.args.count c.loop-finished.invariant.so_far c.in-Closed.ensures.did c.loop-finished.invariant.within c.in-Closed.ensures.listens
+
+pub returns-in-Failed-clause-did : goal.returns-in-Failed-clause-did
+returns-in-Failed-clause-did g c =
+    none_accepted c.args.resolver.now _ _ _ _ _ c.args.count c.loop-finished.invariant.so_far c.in-Failed.ensures.did c.loop-finished.invariant.within
+
+pub returns-in-Memory-clause-did : goal.returns-in-Memory-clause-did
+returns-in-Memory-clause-did g c =
+    memory_ran_out c.args.resolver.now _ _ _ _ _ c.args.count c.loop-finished.invariant.so_far c.in-Memory.ensures.did (let more = c.loop-finished-test.true in omega arith)
+
+pub loop-finished-preserved : goal.loop-finished-preserved
+loop-finished-preserved g c = record {
+  so_far = rw c.with_error-errors.ensures (goes_on c.args.resolver.now _ _ _ _ _ c.in-Finished.errored c.loop-finished.invariant.so_far c.in-Finished.ensures.did);
+  within = let more = c.loop-finished-test.true in omega arith;
+  none_open = c.in-Finished.ensures.closed;
+  listens = c.in-Finished.ensures.listens;
+  own_count = c.in-Finished.ensures.own_count ∙ c.loop-finished.invariant.own_count;
+  same_ends = c.in-Finished.ensures.same_ends ∙ c.loop-finished.invariant.same_ends;
+}
+
+pub returns-in-Closed-clause-closed : goal.returns-in-Closed-clause-closed
+returns-in-Closed-clause-closed g c = c.in-Closed.ensures.closed
+
+pub returns-in-Closed-clause-own_count : goal.returns-in-Closed-clause-own_count
+returns-in-Closed-clause-own_count g c = c.in-Closed.ensures.own_count ∙ c.loop-finished.invariant.own_count
+
+pub returns-in-Closed-clause-own_counts : goal.returns-in-Closed-clause-own_counts
+returns-in-Closed-clause-own_counts g c = omega (arith, c.loop-finished.invariant.own_count, c.in-Closed.ensures.own_counts)
+
+pub returns-in-Closed-clause-same_ends : goal.returns-in-Closed-clause-same_ends
+returns-in-Closed-clause-same_ends g c = c.in-Closed.ensures.same_ends ∙ c.loop-finished.invariant.same_ends
+
+pub returns-in-Failed-clause-closed : goal.returns-in-Failed-clause-closed
+returns-in-Failed-clause-closed g c = c.in-Failed.ensures.closed
+
+pub returns-in-Failed-clause-own_count : goal.returns-in-Failed-clause-own_count
+returns-in-Failed-clause-own_count g c = c.in-Failed.ensures.own_count ∙ ap counted c.loop-finished.invariant.own_count
+
+pub returns-in-Failed-clause-own_counts : goal.returns-in-Failed-clause-own_counts
+returns-in-Failed-clause-own_counts g c = omega (arith, c.loop-finished.invariant.own_count, c.in-Failed.ensures.own_counts)
+
+pub returns-in-Failed-clause-same_ends : goal.returns-in-Failed-clause-same_ends
+returns-in-Failed-clause-same_ends g c = c.in-Failed.ensures.same_ends ∙ c.loop-finished.invariant.same_ends
+
+pub returns-in-Memory-clause-closed : goal.returns-in-Memory-clause-closed
+returns-in-Memory-clause-closed g c = c.in-Memory.ensures.closed
+
+pub returns-in-Memory-clause-own_count : goal.returns-in-Memory-clause-own_count
+returns-in-Memory-clause-own_count g c = c.in-Memory.ensures.own_count ∙ c.loop-finished.invariant.own_count
+
+pub returns-in-Memory-clause-own_counts : goal.returns-in-Memory-clause-own_counts
+returns-in-Memory-clause-own_counts g c = omega (arith, c.loop-finished.invariant.own_count, c.in-Memory.ensures.own_counts)
+
+pub returns-in-Memory-clause-same_ends : goal.returns-in-Memory-clause-same_ends
+returns-in-Memory-clause-same_ends g c = c.in-Memory.ensures.same_ends ∙ c.loop-finished.invariant.same_ends
+
+pub returns-clause-closed : goal.returns-clause-closed
+returns-clause-closed g c = c.loop-finished.invariant.none_open
+
+pub returns-clause-own_count : goal.returns-clause-own_count
+returns-clause-own_count g c = c.loop-finished.invariant.own_count
+
+pub returns-clause-own_counts : goal.returns-clause-own_counts
+returns-clause-own_counts g c = omega (arith, c.loop-finished.invariant.own_count)
+
+pub returns-clause-same_ends : goal.returns-clause-same_ends
+returns-clause-same_ends g c = c.loop-finished.invariant.same_ends

@@ -1,0 +1,5 @@
+pub mod Sites
+pub mod Resolutions
+pub mod Visits
+pub mod Doors
+pub mod Turns

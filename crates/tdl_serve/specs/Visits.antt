@@ -1,0 +1,118 @@
+-- The connections that a site served, one after the other.
+use Rattle.std.specs.Prelude.{◌≡◌, ◌⊎◌, ◌≤◌, ℕ, ◌+◌, ◌-◌, ◌==◌, not, Bool, true, false, List, [], ◌∷◌, ◌++◌, Option, Some, None, is_some, option_map, if◌then◌else◌, length, map, take}
+use Rattle.std.specs.List.{filter, list_any}
+use Rattle.gs_http.specs.declared.outcomes.Served.{Served}
+use Rattle.gs_http.specs.declared.outcomes.Served.TheVariants.{Done, ReadFault, WriteFault, Memory}
+use Rattle.gs_http.specs.declared.replies.Reply.{Reply}
+use Rattle.gs_http.specs.ServedStreams.{OnDone, reads_when, writes_when}
+use Rattle.gs_http.specs.Streams.{AreReplies, BeginsWith, all_bytes, bytes_of, has_closing, heads_of}
+use Rattle.tdl_lines.specs.Printers.{IsInitialPart}
+use Rattle.gs_port.specs.Connections.{Aside, Finished}
+use Rattle.gs_http.specs.Sites.{SiteData}
+use Rattle.tdl_serve.specs.Sites.{Replied}
+
+-- trusted, own: all was answered
+abbrev pub is_done : Served → Bool
+is_done Done = true
+is_done ReadFault = false
+is_done WriteFault = false
+is_done Memory = false
+
+-- trusted, own: a read or a write failed
+abbrev pub is_error : Served → Bool
+is_error Done = false
+is_error ReadFault = true
+is_error WriteFault = true
+is_error Memory = false
+
+-- trusted, own: memory ran out
+abbrev pub is_want : Served → Bool
+is_want Done = false
+is_want ReadFault = false
+is_want WriteFault = false
+is_want Memory = true
+
+-- trusted, own: a connection that was served and finished: its whole input, how serving it ended, and what is known of it
+-- at the door
+pub record Visit : Type 0 where
+  pub input : List ℕ
+  pub served : Served
+  pub entry : Finished
+
+-- trusted, own: the inputs of connections
+abbrev pub inputs_of : List Visit → List (List ℕ)
+inputs_of visits = map (λ (visit : Visit). visit.input) visits
+
+-- trusted, own: what is known of connections at the door
+abbrev pub entries_of : List Visit → List Finished
+entries_of visits = map (λ (visit : Visit). visit.entry) visits
+
+-- trusted, own: the number of the connections that ended by an error
+abbrev pub errors_of : List Visit → ℕ
+errors_of visits = length (filter (λ (visit : Visit). is_error visit.served) visits)
+
+-- trusted, own: memory ran out at one of the connections
+abbrev pub wants_memory : List Visit → Bool
+wants_memory visits = list_any (λ (visit : Visit). is_want visit.served) visits
+
+-- trusted, own: bytes, where a door has its connections known
+abbrev pub known_if : Bool → List ℕ → Option (List ℕ)
+known_if known bytes = if known then Some bytes else None
+
+-- trusted, the number of bytes is own: What was read of a connection, by what was written to it: of so many heads the
+-- replies were written, and at most 12,288 bytes were read beyond these heads; where serving was done nothing is unread,
+-- but behind a reply that ends the connection.
+pub record ReadsAsAnswered (site : SiteData) (input : List ℕ) (served : Served) (read written : List ℕ) : Type 0 where
+  pub replies : List Reply
+  pub answered : ℕ
+  pub are_replies : AreReplies site.table site.links site.settings 1000 (heads_of 1000 input) replies
+  pub front : BeginsWith written (all_bytes (take answered replies))
+  pub few : length read ≤ length (bytes_of (take answered (heads_of 1000 input))) + 12288
+  pub unread : OnDone served ((read ≡ input) ⊎ (has_closing replies ≡ true))
+
+-- trusted, own: Serving a connection, from these counts of reads and of writes: a prefix of its input was read, and a
+-- prefix of the replies to its whole input was written, all of them where serving was done; a count rose where serving
+-- ended by an error.
+pub record IsVisit (site : SiteData) (known : Bool) (reads writes : ℕ) (visit : Visit) : Type 0 where
+  pub read : List ℕ
+  pub written : List ℕ
+  pub is_read : visit.entry.read ≡ known_if known read
+  pub is_written : visit.entry.written ≡ known_if known written
+  pub of_input : IsInitialPart read visit.input
+  pub replied : Replied site visit.input (is_done visit.served) written
+  pub as_answered : ReadsAsAnswered site visit.input visit.served read written
+  pub read_count : visit.entry.reads ≡ reads_when visit.served reads - reads
+  pub write_count : visit.entry.writes ≡ writes_when visit.served writes - writes
+
+-- trusted, own: Connections were served one after the other, between these counts of reads and of writes: each from the
+-- counts at which the one before it ended.
+pub data AreVisits (site : SiteData) (known : Bool) : ℕ → ℕ → List Visit → ℕ → ℕ → Type 0 where
+  no_visit : (reads writes : ℕ) → AreVisits site known reads writes [] reads writes
+  one_visit : (reads writes : ℕ) (visit : Visit) (visits : List Visit) (reads' writes' : ℕ) → IsVisit site known reads writes visit
+      → AreVisits site known (reads_when visit.served reads) (writes_when visit.served writes) visits reads' writes' → AreVisits site known reads writes (visit ∷ visits) reads' writes'
+
+-- trusted, own: what is known of a door: what reads and writes leave as it was, and the counts of the reads and of the
+-- writes that failed
+pub record DoorState : Type 0 where
+  pub aside : Aside
+  pub reads : ℕ
+  pub writes : ℕ
+
+-- trusted, own: what is known of a door that sets this aside, at these counts
+abbrev pub state_of : Aside → ℕ → ℕ → DoorState
+state_of aside reads writes = record { aside = aside; reads = reads; writes = writes }
+
+-- trusted, own: Between two moments the first of the waiting connections were served, in their order, and stand behind
+-- those that were finished before.
+pub record Visited (site : SiteData) (before now : DoorState) (visits : List Visit) : Type 0 where
+  pub waited : before.aside.waiting ≡ option_map (λ rest. inputs_of visits ++ rest) now.aside.waiting
+  pub finished : now.aside.finished ≡ option_map (λ earlier. earlier ++ entries_of visits) before.aside.finished
+  pub are_visits : AreVisits site (is_some before.aside.waiting) before.reads before.writes visits now.reads now.writes
+
+-- trusted, own: a count of an entry rose
+abbrev pub has_rise : Finished → Bool
+has_rise entry = not (entry.reads + entry.writes == 0)
+
+-- trusted, own: the entries with a rise are those of the connections that ended by an error
+abbrev pub RisesTellErrors : List Visit → Type 0
+RisesTellErrors visits = map (λ (visit : Visit). has_rise visit.entry) visits ≡ map (λ (visit : Visit). is_error visit.served) visits
