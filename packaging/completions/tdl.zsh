@@ -1,0 +1,31 @@
+#compdef tdl
+# zsh completion of tdl(1)
+
+local -a forms names
+forms=(hex tag pure raw bracketed link)
+case $CURRENT:$words[2] in
+2:*) compadd -- canon translate check resolve serve gen ;;
+3:canon | 3:translate) compadd -- $forms ;;
+4:translate) compadd -- $forms canon ;;
+3:gen) ;;
+*)
+    case $words[CURRENT-1] in
+    --tables | --prefixes | --links | --describe) _files ;;
+    --keys-only) compadd -- yes no ;;
+    --filter) compadd -- {0..7} ;;
+    --gcp) compadd -- {1..12} ;;
+    --voc | --count | --listen | --encoding | --stem) ;;
+    *)
+        case $words[2] in
+        canon | gen) names=(--tables) ;;
+        translate) names=(--tables --prefixes --filter --gcp --encoding --keys-only --stem) ;;
+        check) names=(--tables --prefixes --links --voc) ;;
+        resolve) names=(--links --tables --voc --describe) ;;
+        serve) names=(--links --count --tables --voc --describe --listen) ;;
+        esac
+        # a name stands once
+        compadd -- ${names:|words}
+        ;;
+    esac
+    ;;
+esac

@@ -1,0 +1,105 @@
+"""The fields of tag bits and of EPC URIs, found by the options of the tables."""
+from __future__ import annotations
+
+import re
+from dataclasses import dataclass
+from functools import lru_cache
+from typing import List, Optional, Tuple
+
+from .rows import Option, Rows
+
+ESCAPED = r"%[0-9A-Fa-f]{2}|[^\"%&/<>?]"
+
+
+@dataclass(frozen=True)
+class Field:
+    """A field: its name, its symbols from `start` to `end`, and its value in characters."""
+
+    name: str
+    start: int
+    end: int
+    value: str
+
+
+@dataclass(frozen=True)
+class Reading:
+    """The fields of a text, or of bits, and the option by which they are read."""
+
+    option: Option
+    symbols: str
+    fields: Tuple[Field, ...]
+
+    def field(self, name: str) -> Optional[Field]:
+        """The field of this name, or None."""
+        return next((field for field in self.fields if field.name == name), None)
+
+
+def bits_of(text: str) -> str:
+    """The bits of hexadecimal digits."""
+    return "".join(f"{int(digit, 16):04b}" for digit in text)
+
+
+def _pattern(item: Tuple) -> str:
+    """The words of an item, or more than them: `_value` has the last word."""
+    name, *rest = item
+    if name == "lit":
+        return re.escape(rest[0])
+    if name == "fill":
+        return f"0{{{rest[0]}}}|0{{{rest[1]}}}"
+    if name in ("num", "numpad", "ascii7"):
+        return f"[01]{{{rest[-1] if name == 'ascii7' else rest[1]}}}"
+    return {"pad": f"[0-9]{{{rest[1]}}}", "int": "0|[1-9][0-9]*", "esc": f"(?:{ESCAPED}){{{rest[1]},{rest[-1]}}}"}[name]
+
+
+@lru_cache(maxsize=512)
+def _compiled(option: Option) -> "re.Pattern[str]":
+    return re.compile("".join(f"({_pattern(item)})" for item in option.items), re.S)
+
+
+def _value(item: Tuple, word: str) -> Optional[str]:
+    """The value that a word of an item stands for, or None where it is no word of it."""
+    name, *rest = item
+    if name in ("lit", "fill"):
+        return word
+    if name == "esc":
+        return re.sub("%(..)", lambda found: chr(int(found[1], 16)), word)
+    if name == "ascii7":
+        letters = [int(word[at : at + 7], 2) for at in range(0, len(word) - 6, 7)]
+        text = "".join(map(chr, letters)).rstrip("\0")
+        return text if rest[1] <= len(text) <= rest[2] and "\0" not in text else None
+    if name == "numpad":
+        digits = str(int(word, 2)).zfill(rest[2])
+        return digits if len(digits) == rest[2] else None
+    if name == "pad":
+        return word
+    number = int(word, 2 if name == "num" else 10)
+    return str(number) if number <= rest[-1] else None
+
+
+def _names(option: Option) -> List[str]:
+    """The name of each item: that of its field, and of the literals what they are by their place."""
+    names: List[str] = []
+    for place, (sort, *rest) in enumerate(option.items):
+        if sort == "lit":
+            names.append("header" if place == 0 else "partition" if names[-1] == "filter" and set(rest[0]) <= {"0", "1"} else "fixed")
+        else:
+            names.append("padding" if sort == "fill" else rest[0])
+    return names
+
+
+def _begins(option: Option, symbols: str) -> bool:
+    return option.items[0][0] != "lit" or symbols.startswith(option.items[0][1])
+
+
+def read_fields(form: str, text: str, rows: Rows) -> Optional[Reading]:
+    """The fields of a text of the form `hex`, `tag` or `pure` that the program reads, or None."""
+    symbols = bits_of(text) if form == "hex" else text
+    for option in rows.options[form]:
+        found = _compiled(option).fullmatch(symbols) if _begins(option, symbols) else None
+        if not found:
+            continue
+        values = [_value(item, word) for item, word in zip(option.items, found.groups())]
+        if None not in values:
+            spans = map(found.span, range(1, len(values) + 1))
+            return Reading(option, symbols, tuple(Field(name, *span, value) for name, span, value in zip(_names(option), spans, values)))
+    return None

@@ -1,0 +1,128 @@
+"""The server of the page, at 127.0.0.1 and for this machine alone.
+
+It gives the files of page/ and answers questions, each a JSON object that the page posts. Another site that a browser shows can ask
+nothing: the host of a request has to be this server's own, and so has its origin. The page may load nothing from elsewhere.
+"""
+from __future__ import annotations
+
+import json
+from http import HTTPStatus
+from http.server import BaseHTTPRequestHandler, ThreadingHTTPServer
+from pathlib import Path
+from typing import Optional
+
+from ..errors import FilesRejected, ProgramError
+from .analysis import Inspector
+from .questions import Question
+
+HOST = "127.0.0.1"
+PAGE = Path(__file__).resolve().parent / "page"
+FILES = {
+    "/": ("page.html", "text/html; charset=utf-8"),
+    "/page.css": ("page.css", "text/css; charset=utf-8"),
+    "/page.js": ("page.js", "text/javascript; charset=utf-8"),
+    "/icon.svg": ("icon.svg", "image/svg+xml"),
+}
+POLICY = (
+    "default-src 'none'; script-src 'self'; style-src 'self'; img-src 'self'; connect-src 'self'; base-uri 'none'; form-action 'none'; "
+    "frame-ancestors 'none'; require-trusted-types-for 'script'; trusted-types 'none'"
+)
+HEADERS = {
+    "Content-Security-Policy": POLICY,
+    "X-Content-Type-Options": "nosniff",
+    "Referrer-Policy": "no-referrer",
+    "Cross-Origin-Opener-Policy": "same-origin",
+    "Cross-Origin-Resource-Policy": "same-origin",
+    "Cache-Control": "no-store",
+}
+MOST_BYTES = 8_388_608
+JSON = "application/json"
+
+
+class Handler(BaseHTTPRequestHandler):
+    """One connection of a browser."""
+
+    protocol_version = "HTTP/1.1"
+    server_version, sys_version = "tdl", ""
+    timeout = 60
+    server: "Server"
+
+    def do_GET(self) -> None:
+        """A file of the page."""
+        name, sort = FILES.get(self.path, ("", ""))
+        if not self._is_own() or not name:
+            self._reply(HTTPStatus.NOT_FOUND, b"", "text/plain")
+        else:
+            self._reply(HTTPStatus.OK, (PAGE / name).read_bytes(), sort)
+
+    def do_POST(self) -> None:
+        """The answer to a question."""
+        length = self.headers.get("Content-Length", "")
+        is_json = self.headers.get_content_type() == JSON
+        if not self._is_own() or self.path != "/inspect" or not is_json or not (length.isascii() and length.isdigit()):
+            self.close_connection = True
+            self._reply(HTTPStatus.FORBIDDEN, b"", "text/plain")
+        elif int(length) > MOST_BYTES:
+            self.close_connection = True
+            self._tell(HTTPStatus.REQUEST_ENTITY_TOO_LARGE, {"error": "this is more than the page takes: give it to the program itself"})
+        else:
+            self._answer(self.rfile.read(int(length)))
+
+    def _answer(self, body: bytes) -> None:
+        try:
+            self._tell(HTTPStatus.OK, self.server.inspector.inspect(Question.of(json.loads(body))))
+        except (FilesRejected, ProgramError, OSError, MemoryError) as error:
+            self._tell(HTTPStatus.INTERNAL_SERVER_ERROR, {"error": str(error)})
+        except (ValueError, RecursionError) as error:
+            self._tell(HTTPStatus.BAD_REQUEST, {"error": str(error)})
+
+    def _is_own(self) -> bool:
+        """Whether a request is meant for this server and comes from its page."""
+        hosts = [f"{name}:{self.server.server_port}" for name in (HOST, "localhost")]
+        origin = self.headers.get("Origin")
+        return self.headers.get("Host") in hosts and (origin is None or origin in [f"http://{host}" for host in hosts])
+
+    def _tell(self, status: HTTPStatus, told: object) -> None:
+        self._reply(status, json.dumps(told).encode("ascii"), JSON)
+
+    def _reply(self, status: HTTPStatus, body: bytes, sort: str) -> None:
+        self.send_response(status)
+        closing = {"Connection": "close"} if self.close_connection else {}
+        for name, value in {**HEADERS, **closing, "Content-Type": sort, "Content-Length": str(len(body))}.items():
+            self.send_header(name, value)
+        self.end_headers()
+        self.wfile.write(body)
+
+    def log_message(self, format: str, *words: object) -> None:
+        """Nothing: what is inspected is nobody else's."""
+
+
+class Server(ThreadingHTTPServer):
+    """The server with the inspector that answers."""
+
+    daemon_threads = True
+
+    def __init__(self, port: int, inspector: Inspector) -> None:
+        super().__init__((HOST, port), Handler)
+        self.inspector = inspector
+
+    @property
+    def address(self) -> str:
+        """The page's address."""
+        return f"http://{HOST}:{self.server_port}/"
+
+    def handle_error(self, request: object, client_address: object) -> None:
+        """Nothing: a browser that goes away is no error of the server."""
+
+
+def serve(port: int, *, tables: Optional[str] = None, prefixes: Optional[str] = None, program: Optional[str] = None) -> None:
+    """Serves the page until it is interrupted. Port 0 is any that is free; the page's address is printed."""
+    inspector = Inspector(tables=tables, prefixes=prefixes, program=program)
+    try:
+        with Server(port, inspector) as server:
+            print(f"{server.address} shows what a code says; Ctrl-C ends it", flush=True)
+            server.serve_forever()
+    except KeyboardInterrupt:
+        print()
+    finally:
+        inspector.close()

@@ -1,0 +1,218 @@
+"""The module over the program: $TDL names it."""
+import os
+import signal
+import subprocess
+import sys
+import tempfile
+import threading
+import time
+import unittest
+from pathlib import Path
+
+sys.path.insert(0, str(Path(__file__).resolve().parent.parent / "src"))
+
+import tdl  # noqa: E402
+from tdl.program import find_program  # noqa: E402
+
+PURE = "urn:epc:id:sgtin:0614141.812345.6789"
+LINK = "https://id.gs1.org/01/80614141123458/21/6789"
+FORMS = {
+    "hex": lambda n: f"{0x3074257BF7194E4000000000 + n:024X}",
+    "tag": lambda n: f"urn:epc:tag:sgtin-96:3.0614141.812345.{n}",
+    "pure": lambda n: f"urn:epc:id:sgtin:0614141.812345.{n}",
+    "raw": lambda n: f"018061414112345821{n}",
+    "bracketed": lambda n: f"(01)80614141123458(21){n}",
+    "link": lambda n: f"https://shop.example/01/80614141123458/21/{n}",
+}
+COUNT = 20_000
+
+
+def printed(text):
+    """What the program prints for an answer."""
+    return f"no {text.reason}" if isinstance(text, tdl.Rejected) else f"ok {text}"
+
+
+class Answers(unittest.TestCase):
+    def test_one_text(self):
+        self.assertEqual(tdl.canon("pure", PURE), LINK)
+        self.assertEqual(tdl.canon("pure", PURE.encode()), LINK)
+
+    def test_options(self):
+        with tdl.Translator("link", "hex", filter=3, gcp=7) as bits:
+            self.assertEqual(bits.translate(LINK), "3074257BF7194E4000001A85")
+        with tdl.Translator("bracketed", "link", stem="https://r.example/g") as links:
+            self.assertEqual(links.translate("(01)09506000134352(21)A\\(B"), "https://r.example/g/01/09506000134352/21/A%28B")
+
+    def test_reasons(self):
+        with tdl.Translator("link") as links:
+            for text, kind, place, character, code in (
+                ("https://id.gs1.org/01/09506000134353", "check", 19, None, None),
+                ("https://x/01/09506000134352/21/%4", "escape", 28, None, None),
+                ("ftp://x/01/09506000134352", "http", None, None, None),
+            ):
+                with self.assertRaises(tdl.Rejected) as caught:
+                    links.translate(text)
+                found = caught.exception
+                self.assertEqual((found.kind, found.place, found.character, found.code), (kind, place, character, code))
+                self.assertEqual(found.text, text.encode())
+        with tdl.Translator("bracketed") as labels, self.assertRaises(tdl.Rejected) as caught:
+            labels.translate("(414)0614141000012(254)4(254)5")
+        self.assertEqual((caught.exception.reason, caught.exception.code), ("repeat 254", "254"))
+
+    def test_each_form_as_the_program(self):
+        for form, make in FORMS.items():
+            texts = [make(number) for number in range(COUNT)] + ["", "x", make(1) + "\r", "a" * 3_000]
+            ran = subprocess.run([find_program(), "canon", form], input="".join(f"{it}\r\n" for it in texts).encode(), stdout=subprocess.PIPE)
+            with tdl.Translator(form) as translator:
+                self.assertEqual([printed(it) for it in translator.translate_all(texts)], ran.stdout.decode().splitlines(), form)
+
+    def test_batches(self):
+        texts = [FORMS["pure"](number) for number in range(100)]
+        with tdl.Translator("pure") as translator:
+            wanted = [translator.translate(text) for text in texts]
+            for batch in (1, 2, 3, 99, 100, 101):
+                self.assertEqual(list(translator.translate_all(texts, batch=batch)), wanted)
+            self.assertEqual(list(translator.translate_all([])), [])
+
+    def test_a_batch_of_one_is_answered_before_the_next_is_taken(self):
+        taken = []
+
+        def source():
+            for number in range(5):
+                taken.append(number)
+                yield FORMS["pure"](number)
+
+        with tdl.Translator("pure") as translator:
+            for number, _ in enumerate(translator.translate_all(source(), batch=1)):
+                self.assertEqual(len(taken), number + 1)
+
+
+class Hostile(unittest.TestCase):
+    def test_line_feed(self):
+        with tdl.Translator("pure") as translator:
+            for text in ("a\nb", b"\n"):
+                self.assertRaises(ValueError, translator.translate, text)
+            self.assertEqual(translator.translate(PURE), LINK)
+
+    def test_long_text(self):
+        with tdl.Translator("pure") as translator:
+            with self.assertRaises(tdl.Rejected) as caught:
+                translator.translate("a" * 10_000_000)
+            self.assertEqual(caught.exception.reason, "long")
+            self.assertEqual(translator.translate(PURE), LINK)
+
+    def test_texts_that_are_no_utf8(self):
+        with tdl.Translator("pure") as translator:
+            self.assertRaises(tdl.Rejected, translator.translate, bytes(set(range(256)) - {10}))
+            self.assertRaises(tdl.Rejected, translator.translate, "\udc80")
+
+    def test_wrong_arguments(self):
+        for named, error in (({"gcp": 13}, ValueError), ({"tables": "/not/there"}, FileNotFoundError), ({"program": "/not/there"}, tdl.ProgramError)):
+            with tdl.Translator("pure", **named) as translator:
+                for call in (lambda: translator.translate(PURE), lambda: list(translator.translate_all([PURE]))):
+                    with self.assertRaises(error) as caught:
+                        call()
+                    self.assertNotIsInstance(caught.exception, tdl.Rejected)
+
+    def test_rejected_files(self):
+        with tempfile.NamedTemporaryFile(suffix=".json") as file:
+            file.write(b"{")
+            file.flush()
+            with self.assertRaises(tdl.FilesRejected) as caught:
+                tdl.Tables(file.name).check()
+            self.assertEqual((caught.exception.which, caught.exception.reason), ("tables", "json syntax"))
+            with tdl.Translator("pure", tables=file.name) as translator:
+                self.assertRaises(tdl.FilesRejected, translator.translate, PURE)
+
+    def test_closed(self):
+        translator = tdl.Translator("pure")
+        translator.translate(PURE)
+        translator.close()
+        translator.close()
+        self.assertRaises(ValueError, translator.translate, PURE)
+
+    def test_source_that_fails(self):
+        def source():
+            yield PURE
+            raise KeyError("none")
+
+        with tdl.Translator("pure") as translator:
+            self.assertRaises(KeyError, list, translator.translate_all(source()))
+
+
+class Processes(unittest.TestCase):
+    def process_of(self, translator):
+        return translator._run._process
+
+    def test_started_once_more_where_it_was_killed(self):
+        with tdl.Translator("pure") as translator:
+            translator.translate(PURE)
+            first = self.process_of(translator)
+            os.kill(first.pid, signal.SIGKILL)
+            first.wait()
+            self.assertEqual(translator.translate(PURE), LINK)
+            self.assertNotEqual(self.process_of(translator).pid, first.pid)
+
+    def test_killed_twice(self):
+        with tempfile.NamedTemporaryFile("w", suffix=".sh", delete=False) as file:
+            file.write("#!/bin/sh\nread line\nkill -9 $$\n")
+        os.chmod(file.name, 0o755)
+        try:
+            with tdl.Translator("pure", program=file.name) as translator:
+                self.assertRaises(tdl.ProgramError, translator.translate, PURE)
+        finally:
+            os.unlink(file.name)
+
+    def test_threads(self):
+        with tdl.Translator("pure") as translator:
+            wrong = []
+
+            def work(first):
+                for number in range(first, first + 200):
+                    if translator.translate(FORMS["pure"](number)) != f"https://id.gs1.org/01/80614141123458/21/{number}":
+                        wrong.append(number)
+
+            threads = [threading.Thread(target=work, args=(1_000 * it,)) for it in range(8)]
+            for thread in threads:
+                thread.start()
+            for thread in threads:
+                thread.join()
+            self.assertEqual(wrong, [])
+
+    def test_fork(self):
+        translator = tdl.Translator("pure")
+        translator.translate(PURE)
+        child = os.fork()
+        if child == 0:
+            try:
+                right = translator.translate(PURE) == LINK
+                translator.close()
+                os._exit(0 if right else 1)
+            except BaseException:
+                os._exit(2)
+        self.assertEqual(os.waitpid(child, 0)[1], 0)
+        self.assertEqual(translator.translate(PURE), LINK)
+        process = self.process_of(translator)
+        began = time.monotonic()
+        translator.close()
+        self.assertLess(time.monotonic() - began, 5)
+        self.assertEqual(process.returncode, 0)
+
+    def test_no_run_is_left(self):
+        translator = tdl.Translator("pure")
+        translator.translate(PURE)
+        process = self.process_of(translator)
+        del translator
+        self.assertEqual(process.returncode, 0)
+        generator = tdl.Translator("pure").translate_all(FORMS["pure"](number) for number in range(10_000))
+        next(generator)
+        generator.close()
+
+    def test_counts(self):
+        counts = tdl.Tables().check()
+        self.assertGreater(counts.ais, 50)
+        self.assertEqual(counts.links, 0)
+
+
+if __name__ == "__main__":
+    unittest.main()
