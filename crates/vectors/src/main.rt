@@ -26,6 +26,7 @@ impl Calls for Libraries {
                 vectors_runs::answer(alloc, &self.set, library, call, args)
             }
             "gs_ai"
+            | "gs_http_documents"
             | "gs_ident"
             | "gs_tables"
             | "gs_element"

@@ -3,6 +3,7 @@
 #![tactic(auto)]
 
 mod digital_links;
+mod documents;
 mod elements;
 mod epc_writer;
 mod epcs;
@@ -24,6 +25,7 @@ use vectors_cases::{Answer, Done, Line, Rejection, named};
 #[derive(Clone, Copy)]
 enum Library {
     DigitalLinks,
+    Documents,
     Elements,
     Epcs,
     Identifiers,
@@ -34,11 +36,12 @@ enum Library {
     Translations,
 }
 
-const LIBRARIES: [(&str, Library); 9] = [
+const LIBRARIES: [(&str, Library); 10] = [
     ("gs_ai", Library::Identifiers),
     ("gs_dlink", Library::DigitalLinks),
     ("gs_element", Library::Elements),
     ("gs_epc", Library::Epcs),
+    ("gs_http_documents", Library::Documents),
     ("gs_ident", Library::Identities),
     ("gs_links", Library::Links),
     ("gs_tables", Library::Tables),
@@ -57,6 +60,7 @@ fn write(
 ) -> Done {
     match named(&LIBRARIES, library) {
         Some(Library::DigitalLinks) => digital_links::answer(alloc, line, set.ais(), call, args),
+        Some(Library::Documents) => documents::answer(alloc, line, set.ais(), call, args),
         Some(Library::Elements) => elements::answer(alloc, line, set.ais(), call, args),
         Some(Library::Epcs) => epcs::answer(alloc, line, set, call, args),
         Some(Library::Identifiers) => identifiers::answer(alloc, line, set.ais(), call, args),
