@@ -1,5 +1,5 @@
 -- What files give: one answer, and no other but for the text of an ambiguous level.
-use Rattle.std.proofs.Common.{◌≡◌, ℕ, ◌<◌, ◌≤◌, List, [], Option, Some, None, length, refl, sym, ◌∙◌, ap, inl, inr, arith}
+use Rattle.std.proofs.Common.{◌≡◌, ℕ, ◌<◌, ◌≤◌, List, [], Option, Some, None, length, refl, sym, ◌∙◌, ap, inl, inr, arith, false}
 use Rattle.std.specs.Prelude.{Result, Ok, Err}
 use Rattle.std.proofs.lemmas.Bool.Decides.{leb_tells}
 use Rattle.gs_ai.specs.declared.row.AiRow.{AiRow}
@@ -179,7 +179,7 @@ description_some files name = gives_some files kind.Describe AreBytes AreNone na
 settings_some : (files : Option (List (List ℕ × List ℕ))) (asked : Asked) → HasSome (SettingsGive files asked)
 settings_some files asked = then_some (DescriptionGives files asked.files.describe) (AreSettings asked.values.voc)
     (description_some files asked.files.describe)
-    (λ describe gives. (Ok (record { voc = asked.values.voc; describe = describe }), refl))
+    (λ describe gives. (Ok (record { voc = asked.values.voc; describe = describe; templates = false }), refl))
 
 last_some : (files : Option (List (List ℕ × List ℕ))) (asked : Asked) (set : TableRows) (list : List PrefixEntry) (links : List Link) → HasSome (GivesSettings files asked set list links)
 last_some files asked set list links = then_some (SettingsGive files asked) (IsLoadedOf set list links) (settings_some files asked)

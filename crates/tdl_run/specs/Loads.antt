@@ -1,5 +1,5 @@
 -- What files give, and the rows in their place where they are not named.
-use Rattle.std.specs.Prelude.{◌≡◌, ℕ, ◌<◌, ◌≤◌, List, [], length, take, Option, Some, None, Result, Ok, Err, IfOk}
+use Rattle.std.specs.Prelude.{◌≡◌, ℕ, ◌<◌, ◌≤◌, List, [], length, take, Option, Some, None, Result, Ok, Err, IfOk, false}
 use Rattle.gs_ai.specs.declared.row.AiRow.{AiRow}
 use Rattle.gs_tables_document.specs.declared.error.LoadFault.{LoadFault}
 use Rattle.gs_http.specs.declared.settings.Settings.{Settings}
@@ -132,7 +132,7 @@ DescriptionGives files name answer = BytesGive files kind.Describe name answer
 
 -- trusted, own: how requests are answered, with a vocabulary and a description
 abbrev pub AreSettings : List ℕ → Option (List ℕ) → Result Settings Stop → Type 0
-AreSettings voc describe answer = answer ≡ Ok (record { voc = voc; describe = describe })
+AreSettings voc describe answer = answer ≡ Ok (record { voc = voc; describe = describe; templates = false })
 
 -- trusted, own: how requests are answered, by the vocabulary and by what the file of the description gives
 abbrev pub SettingsGive : Option FilesInMemory → Asked → Result Settings Stop → Type 0

@@ -88,6 +88,10 @@ pub fn load_files<F: Files>(
         tables,
         prefixes,
         links,
-        settings: Settings { voc, describe },
+        settings: Settings {
+            voc,
+            describe,
+            templates: false,
+        },
     })
 }

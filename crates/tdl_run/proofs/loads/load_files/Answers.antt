@@ -1,4 +1,4 @@
-use Rattle.std.proofs.Common.{List, ◌≡◌, ◌∙◌, ap, refl, subst, option_to_list}
+use Rattle.std.proofs.Common.{List, ◌≡◌, ◌∙◌, ap, refl, subst, option_to_list, false}
 use Rattle.std.specs.Prelude.{Ok, Err}
 use Rattle.std.proofs.lemmas.Result.{err_from_is_err_and}
 use Rattle.gs_ai.specs.declared.row.AiRow.{AiRow}
@@ -61,4 +61,4 @@ returns g c =
     (loads_then (λ known. PrefixesGive known asked.files.prefixes) (λ known. GivesLinks known asked c.in_ok-tables.tables) (option_to_list asked.files.prefixes) (names_last asked.files) _ _ _ _ _ _ c.in_ok-prefixes.prefixes _ (λ one other. other ∙ one) c.in_ok-prefixes.ensures
     (loads_then (λ known. LinksGive known c.in_ok-tables.tables.ais asked.values.voc asked.files.links) (λ known. GivesSettings known asked c.in_ok-tables.tables c.in_ok-prefixes.prefixes) (option_to_list asked.files.links) (option_to_list asked.files.describe) _ _ _ _ _ _ c.in_ok-links.links _ (λ one other. other ∙ one) links
     (loads_given (λ known. BytesGive known kind.Describe asked.files.describe) (λ known. GivesSettings known asked c.in_ok-tables.tables c.in_ok-prefixes.prefixes c.in_ok-links.links) _ _ _ _ c.in_ok-describe.describe _ c.in_ok-describe.ensures
-    (goes_on _ (goes_on c.in_ok-describe.describe c.in_ok-describe.ensures.loaded (ap (λ v. Ok (record { voc = v; describe = c.in_ok-describe.describe })) voc)) refl))))
+    (goes_on _ (goes_on c.in_ok-describe.describe c.in_ok-describe.ensures.loaded (ap (λ v. Ok (record { voc = v; describe = c.in_ok-describe.describe; templates = false })) voc)) refl))))
