@@ -154,7 +154,7 @@ description_named files = option_to_list files.describe
 
 -- trusted, own: the names of the files that are read, in their order
 abbrev pub names_in_order : FileNames → List (List ℕ)
-names_in_order files = tables_named files ++ links_named files ++ description_named files
+names_in_order files = tables_named files ++ (links_named files ++ description_named files)
 
 -- trusted, own: the arguments name a file
 pub record NamesFile (words : List (List ℕ)) (name : List ℕ) : Type 0 where
