@@ -205,3 +205,29 @@ returns-in-DumpWrite-clause-waiting g c = none_finish _
 
 pub returns-in-DumpWrite-clause-listens : goal.returns-in-DumpWrite-clause-listens
 returns-in-DumpWrite-clause-listens g c = rw c.in-DumpWrite.is (λ uses. absurd (false≢true uses))
+
+pub returns-in-Merge-clause-ran : goal.returns-in-Merge-clause-ran
+returns-in-Merge-clause-ran g c =
+    let w = c.print_merged.ensures.written in
+    rw c.in-Merge.is ([], none_more _, (w.0, w.1, ran_of_line _ _ _ _ _ _ _ w.0 c.print_merged.result (record { is_output = refl; none_finished = refl; done = refl }) w.2 c.print_merged.ensures.error refl refl refl c.print_merged.ensures.counts))
+
+pub returns-in-Merge-clause-served : goal.returns-in-Merge-clause-served
+returns-in-Merge-clause-served g c = rw c.in-Merge.is (λ heads. absurd (false≢true heads))
+
+pub returns-in-Merge-clause-unread : goal.returns-in-Merge-clause-unread
+returns-in-Merge-clause-unread g c = λ none. refl
+
+pub returns-in-Merge-clause-unserved : goal.returns-in-Merge-clause-unserved
+returns-in-Merge-clause-unserved g c = λ none. refl
+
+pub returns-in-Merge-clause-door_counts : goal.returns-in-Merge-clause-door_counts
+returns-in-Merge-clause-door_counts g c = omega arith
+
+pub returns-in-Merge-clause-closed : goal.returns-in-Merge-clause-closed
+returns-in-Merge-clause-closed g c = c.requires.none_open
+
+pub returns-in-Merge-clause-waiting : goal.returns-in-Merge-clause-waiting
+returns-in-Merge-clause-waiting g c = none_finish _
+
+pub returns-in-Merge-clause-listens : goal.returns-in-Merge-clause-listens
+returns-in-Merge-clause-listens g c = rw c.in-Merge.is (λ uses. absurd (false≢true uses))
