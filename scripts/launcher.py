@@ -31,9 +31,10 @@ COMMANDS = [
     ("resolve --links FILE", "answers the HTTP requests on standard input by a linkset", True),
     ("serve --links FILE --count N", "answers the requests of N connections by a linkset", False),
     ("gen N", "translates N generated lines, to measure with", False),
+    ("merge --links FILE --second FILE", "merges linksets to one", False),
 ]
 # the names whose value is the name of a file
-FILE_NAMES = {"--tables", "--prefixes", "--links", "--describe"}
+FILE_NAMES = {"--tables", "--prefixes", "--links", "--link-text", "--second", "--third", "--describe"}
 DOCUMENTS = [
     ("docs/EXAMPLES.md", "runs and recipes"),
     ("docs/FORMATS.md", "forms, names, limits, reasons, statuses"),
