@@ -2,7 +2,6 @@
 use Rattle.std.proofs.Common.{◌≡◌, ◌≢◌, ◌⊎◌, inl, inr, ℕ, ◌+◌, ◌≤◌, false, List, [], Option, refl, sym, ap, ◌∙◌}
 use Rattle.std.specs.Prelude.{Result, Ok, Err}
 use Rattle.tdl_lines.specs.declared.status.Status.{Status}
-use Rattle.tdl_gen.proofs.OneCount.{some_generated}
 use Rattle.tdl_lines.specs.declared.status.Status.TheVariants as status
 use Rattle.tdl_lines.specs.Outputs.{Appends}
 use Rattle.tdl_lines.specs.Printers.{IsInitialPart, PrintedAs}
@@ -11,14 +10,11 @@ use Rattle.tdl_lines.proofs.StatusLemmas.{when_map}
 use Rattle.gs_port.specs.Connections.{Finished}
 use Rattle.gs_port.specs.Contents.{append_known, append_nothing}
 use Rattle.gs_port.specs.Counts.{Rises}
-use Rattle.gs_tables.specs.Judgements.{IsLoaded}
 use Rattle.gs_translate.specs.StepsSupport.{HasSome}
 use Rattle.tdl_messages.specs.declared.rejection.Rejection.{Rejection}
 use Rattle.tdl_messages.specs.Rejections.{rejected_line}
-use Rattle.tdl_arguments.specs.declared.command.Command.{Command}
-use Rattle.tdl_arguments.specs.declared.command.Command.TheVariants.{Canon, Translate, Check, Resolve, Serve, Gen}
-use Rattle.tdl_arguments.specs.Commands.{reads_input}
-use Rattle.tdl_arguments.specs.Requests.{Asked, Values}
+use Rattle.tdl_arguments.specs.Commands.{reads_input, work_of}
+use Rattle.tdl_arguments.specs.Requests.{Asked}
 use Rattle.tdl_run.specs.declared.loads.Loaded.{Loaded}
 use Rattle.tdl_run.specs.declared.loads.Unloaded.{Unloaded}
 use Rattle.tdl_run.specs.declared.loads.Unloaded.TheVariants as unloaded
@@ -26,32 +22,20 @@ use Rattle.tdl_run.specs.Requests.{AskedRan, Reports}
 use Rattle.tdl_run.specs.Loads.{FilesGive, Stop, missing, rejected}
 use Rattle.tdl_run.specs.LoadsSupport.{LoadedBy}
 use Rattle.tdl_run.specs.CommandRuns.{BeginsOne, Moment}
-use Rattle.tdl_run.specs.RanSupport.{CommandCause, CommandRan}
+use Rattle.tdl_run.specs.RanSupport.{CommandRan}
 use Rattle.tdl_run.specs.Runs.{AskedEnded, AskedRun, Counts, World, WritesAfterError, none_finished, ran, some_finished, stopped, stops}
-use Rattle.tdl_run.specs.Works.{CommandEnded, CommandRun, Doorway, Leaves, LeavesOutput, Outcome, canonizing, counts_line, input_limit, outcome_of, site_of, translating}
-use Rattle.tdl_run.proofs.LineLemmas.{translated_some}
+use Rattle.tdl_run.specs.Works.{CommandEnded, CommandRun, Doorway, Leaves, Outcome, doing_of, input_limit, outcome_of, site_of}
+use Rattle.tdl_run.proofs.DoingLemmas.{command_defined, doing_some, either_cause, ended_by}
 use Rattle.tdl_run.proofs.LoadLemmas.{files_some}
 use Rattle.tdl_run.proofs.RanLemmas.{PrintedCase, error, no_memory, printed_case, same_count, takes_nothing, whole}
 use Rattle.tdl_run.proofs.ReadLemmas.{loaded_of}
-use Rattle.tdl_run.proofs.ServeLemmas.{serves_some}
-use Rattle.tdl_run.proofs.SiteLemmas.{some_resolved}
 
 -- ---- what is asked has an outcome
 
-leaves_some : (IsOutput : List ℕ → Type 0) → HasSome IsOutput → HasSome (LeavesOutput IsOutput)
-leaves_some IsOutput some = (outcome_of some.0 status.Done, record { is_output = some.1; none_finished = refl; done = refl })
-
-command_some : (command : Command) (values : Values) (loaded : Loaded) (input : Option (List ℕ)) (door : Doorway) → IsLoaded loaded.tables → HasSome (CommandRun command values loaded input door)
-command_some (Canon form) values loaded input door keeps = translated_some (canonizing loaded form) input keeps
-command_some (Translate from to) values loaded input door keeps = translated_some (translating loaded values from to) input keeps
-command_some Check values loaded input door keeps = (outcome_of (counts_line loaded) status.Done, refl)
-command_some Resolve values loaded input door keeps = leaves_some _ (some_resolved (site_of loaded) input)
-command_some Serve values loaded input door keeps = serves_some (site_of loaded) values.count door
-command_some (Gen lines) values loaded input door keeps = leaves_some _ (some_generated loaded.tables keeps lines)
-
 asked_from : (asked : Asked) (world : World) (answer : Result Loaded Stop) → FilesGive world.files asked answer → HasSome (AskedRun asked world)
 asked_from asked world (Ok loaded) gives =
-    let c = command_some asked.command asked.values loaded world.input world.door (loaded_of world.files asked loaded gives) in
+    let defined = command_defined asked.command asked.values loaded (loaded_of world.files asked loaded gives) in
+    let c = doing_some (doing_of asked.command asked.values loaded) (site_of loaded) world.input world.door defined in
     (c.0, ran loaded gives c.1)
 asked_from asked world (Err stop) gives = (stopped stop, stops stop gives refl)
 
@@ -76,20 +60,12 @@ never_rejected status.Memory fact un = tt
 begins_asked : (asked : Asked) (world : World) (loaded : Loaded) (output : List ℕ) → FilesGive world.files asked (Ok loaded) → BeginsOne (CommandRun asked.command asked.values loaded world.input world.door) output → BeginsOne (AskedRun asked world) output
 begins_asked asked world loaded output gives b = record { outcome = b.outcome; is = ran loaded gives b.is; begins = b.begins }
 
-either_cause : (command : Command) (A B : Type 0) → CommandCause command A B → A ⊎ B
-either_cause (Canon form) A B cause = inl cause
-either_cause (Translate from to) A B cause = inl cause
-either_cause Check A B cause = inl cause
-either_cause Resolve A B cause = inl cause
-either_cause Serve A B cause = inr cause
-either_cause (Gen lines) A B cause = inl cause
-
 pub asked_of_command : (asked : Asked) (world : World) (before now : Counts) (left : Option (List ℕ)) (loaded : Loaded) (outcome : Outcome) → FilesGive world.files asked (Ok loaded) → before.file_errors ≤ now.file_errors → CommandRan asked.command asked.values loaded world.door before.door_errors now.door_errors (record { input = world.input; input_errors = before.input_errors; output_errors = before.output_errors }) (record { input = left; input_errors = now.input_errors; output_errors = now.output_errors }) outcome → AskedRan asked world before now left outcome
 asked_of_command asked world before now left loaded outcome gives counts r = record {
   written = when_map (is_written outcome.status) (λ run. ran loaded gives run) r.written;
   begun = when_map (is_cut_short outcome.status) (begins_asked asked world loaded outcome.output gives) r.begun;
   finished = when_map (is_cut_short outcome.status) (λ served. some_finished loaded gives served) r.finished;
-  read_error = when_map (is_read_error outcome.status) (λ cause. inl (either_cause asked.command _ _ cause)) r.read_error;
+  read_error = when_map (is_read_error outcome.status) (λ cause. inl (either_cause (work_of asked.command) _ _ cause)) r.read_error;
   write_error = r.write_error;
   rejection = never_rejected outcome.status _ r.no_rejection;
   to_end = r.to_end;
@@ -101,25 +77,6 @@ asked_of_command asked world before now left loaded outcome gives counts r = rec
   no_usage = r.no_usage;
 }
 
-when_both : (A B : Type 0) (s : Status) → OnReadFault s A → OnReadFault s B → OnReadFault s (A × B)
-when_both A B status.Done a b = tt
-when_both A B status.SomeRefused a b = tt
-when_both A B status.Usage a b = tt
-when_both A B status.Refused a b = tt
-when_both A B status.ReadFault a b = (a, b)
-when_both A B status.WriteFault a b = tt
-when_both A B status.InputLong a b = tt
-when_both A B status.Memory a b = tt
-
--- a command by whose read error the input is as it was and nothing was written, or the input counted an error
-ended_by : (Same A B : Type 0) (command : Command) (values : Values) (loaded : Loaded) (before now : Option (List ℕ)) (output : List ℕ) (s : Status) → (reads_input command ≡ false → Same) → OnReadFault s (CommandCause command A B) → OnReadFault s (CommandEnded command values loaded before now output) → OnReadFault s ((Same × (output ≡ [])) ⊎ (A × CommandEnded command values loaded before now output))
-ended_by Same A B (Canon form) values loaded before now output s same cause ended = when_map (is_read_error s) (λ both. inr both) (when_both _ _ s cause ended)
-ended_by Same A B (Translate from to) values loaded before now output s same cause ended = when_map (is_read_error s) (λ both. inr both) (when_both _ _ s cause ended)
-ended_by Same A B Check values loaded before now output s same cause ended = when_map (is_read_error s) (λ e. absurd e) ended
-ended_by Same A B Resolve values loaded before now output s same cause ended = when_map (is_read_error s) (λ both. inr both) (when_both _ _ s cause ended)
-ended_by Same A B Serve values loaded before now output s same cause ended = when_map (is_read_error s) (λ none. inl (same refl, none)) ended
-ended_by Same A B (Gen lines) values loaded before now output s same cause ended = when_map (is_read_error s) (λ e. absurd e) ended
-
 -- what was written of what is asked after a read error
 ended_asked : (Same A : Type 0) (asked : Asked) (files : Option (List (List ℕ × List ℕ))) (before now held holds : Option (List ℕ)) (loaded : Loaded) (output : List ℕ) → FilesGive files asked (Ok loaded) → holds ≡ append_known held output → (Same × (output ≡ [])) ⊎ (A × CommandEnded asked.command asked.values loaded before now output) → (Same × Appends held holds (λ out. out ≡ [])) ⊎ (A × Appends held holds (AskedEnded asked files before now))
 ended_asked Same A asked files before now held holds loaded output gives wrote (inl both) = inl (both.0, (output, wrote, both.1))
@@ -130,7 +87,7 @@ pub ended_of_command : (Same : Type 0) (asked : Asked) (files : Option (List (Li
 ended_of_command Same asked files door errors errors' before now held holds ended ended' loaded s gives same a =
     let w = a.2 in
     when_map (is_read_error s) (ended_asked Same _ asked files before.input now.input held holds loaded w.0 gives w.1)
-    (ended_by Same (Rises before.input_errors now.input_errors) (Rises errors errors') asked.command asked.values loaded before.input now.input w.0 s same w.2.read_error w.2.ended)
+    (ended_by Same (Rises before.input_errors now.input_errors) (Rises errors errors') (doing_of asked.command asked.values loaded) (site_of loaded) before.input now.input w.0 s same w.2.read_error w.2.ended)
 
 -- ---- a file is rejected
 

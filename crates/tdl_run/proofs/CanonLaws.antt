@@ -12,7 +12,7 @@ use Rattle.gs_translate.specs.Translations.{NameOne}
 use Rattle.gs_translate.proofs.SameLinks.{canonical_translation, equal_links}
 use Rattle.tdl_arguments.specs.Requests.{no_options}
 use Rattle.tdl_run.specs.declared.loads.Loaded.{Loaded}
-use Rattle.tdl_run.specs.LineAnswers.{IsCanonLine, IsTranslatedLine}
+use Rattle.tdl_answers.specs.TranslatedAnswers.{IsCanonLine, IsTranslatedLine}
 use Rattle.tdl_messages.specs.AnswerLines.{line_of}
 use Rattle.tdl_run.specs.Works.{canonizing}
 
@@ -26,7 +26,7 @@ canon_lines loaded form text line = (
 accepted_answer : (set : TableRows) (form : Form) (text link : List ℕ) → IsCanonLine set form text (accepted link) → IsAnswer set form text (Ok link)
 accepted_answer set form text link l = by l.answer l.is_answer l.is
   where
-    by : (answer : Result (List ℕ) Reason) → IsAnswer set form text answer → accepted link ≡ line_of answer → IsAnswer set form text (Ok link)
+    by : (answer : Result (List ℕ) Reason) → IsAnswer set form text answer → accepted link ≡ line_of reason_text answer → IsAnswer set form text (Ok link)
     by (Ok found) a e = let same : link ≡ found = cc in rw same a
     by (Err reason) a e = absurd (let f : accepted link ≡ rejected (reason_text reason) = e in cc)
 

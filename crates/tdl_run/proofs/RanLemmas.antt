@@ -4,18 +4,18 @@ use Rattle.std.specs.Prelude.{option_map}
 use Rattle.tdl_lines.specs.declared.status.Status.{Status}
 use Rattle.tdl_lines.specs.declared.status.Status.TheVariants as status
 use Rattle.tdl_lines.specs.Inputs.{IsAtEnd, TakesAtMost, TakesMoreThan}
-use Rattle.tdl_lines.specs.Outputs.{AnswersEnded, AnswersInput, Appends, BeginsInput, LineAnswer, WritesAnswers}
+use Rattle.tdl_lines.specs.Outputs.{Appends, BeginsInput, LineAnswer, WritesAnswers}
 use Rattle.tdl_lines.specs.OutputsSupport.{HasAnswers}
 use Rattle.tdl_lines.specs.Printers.{IsInitialPart, PrintedAs}
 use Rattle.tdl_lines.specs.Statuses.{OnAnswered, OnCutShort, OnInputLong, OnReadFault, OnWriteFault, OnWritten, is_answered, is_cut_short, is_read_error, is_written}
-use Rattle.tdl_lines.proofs.OneOutcome.{whole_of_part}
+use Rattle.tdl_lines.proofs.OneOutcome.{some_outcome, whole_of_part}
 use Rattle.tdl_lines.proofs.StatusLemmas.{when_always, when_map}
 use Rattle.gs_port.specs.Connections.{Finished}
 use Rattle.gs_port.specs.Contents.{prepend_nothing}
 use Rattle.gs_port.specs.Counts.{Rises}
 use Rattle.gs_translate.specs.StepsSupport.{HasSome}
-use Rattle.tdl_run.specs.CommandRuns.{BeginsOne, Moment, Ran}
-use Rattle.tdl_run.specs.Works.{Leaves, Outcome, input_limit, outcome_of}
+use Rattle.tdl_run.specs.CommandRuns.{BeginsOne, LinesRan, Moment, Ran}
+use Rattle.tdl_run.specs.Works.{Leaves, LinesAnswered, Outcome, input_limit, outcome_of}
 
 -- ---- counts
 
@@ -25,13 +25,17 @@ same_count before now e = omega arith
 
 -- ---- lines
 
-begins_by : (Is : List ℕ → LineAnswer → Type 0) (input : Option (List ℕ)) (output : List ℕ) → HasAnswers Is → BeginsInput Is input_limit input output → BeginsOne (λ outcome. AnswersInput Is input_limit input outcome.output outcome.status × (outcome.finished ≡ [])) output
+-- the lines of an input have some answers
+pub lines_some : (Is : List ℕ → LineAnswer → Type 0) (input : Option (List ℕ)) → HasAnswers Is → HasSome (LinesAnswered Is input)
+lines_some Is input some = let o = some_outcome Is input_limit input some in (outcome_of o.output o.status, (o.answers, refl))
+
+begins_by : (Is : List ℕ → LineAnswer → Type 0) (input : Option (List ℕ)) (output : List ℕ) → HasAnswers Is → BeginsInput Is input_limit input output → BeginsOne (LinesAnswered Is input) output
 begins_by Is input output some b =
     let h = whole_of_part Is input_limit input output some b in
     record { outcome = outcome_of h.output h.status; is = (h.answers, refl); begins = h.begins }
 
 -- A command that answers the lines of its input, by what is an answer to a text.
-pub ran_of_lines : (Is : List ℕ → LineAnswer → Type 0) (before now : Moment) (output : List ℕ) (s : Status) → HasAnswers Is → WritesAnswers Is input_limit before.input now.input output s → OnAnswered s (IsAtEnd now.input) → OnInputLong s (TakesMoreThan input_limit before.input now.input) → TakesAtMost (input_limit + 1) before.input now.input → OnReadFault s (Rises before.input_errors now.input_errors) → OnWriteFault s (Rises before.output_errors now.output_errors) → before.input_errors ≤ now.input_errors → before.output_errors ≤ now.output_errors → s ≢ status.Usage → s ≢ status.Refused → Ran (λ o. AnswersInput Is input_limit before.input o.output o.status × (o.finished ≡ [])) (AnswersEnded Is before.input now.input) (λ status finished. finished ≡ []) (Rises before.input_errors now.input_errors) true before now (outcome_of output s)
+pub ran_of_lines : (Is : List ℕ → LineAnswer → Type 0) (before now : Moment) (output : List ℕ) (s : Status) → HasAnswers Is → WritesAnswers Is input_limit before.input now.input output s → OnAnswered s (IsAtEnd now.input) → OnInputLong s (TakesMoreThan input_limit before.input now.input) → TakesAtMost (input_limit + 1) before.input now.input → OnReadFault s (Rises before.input_errors now.input_errors) → OnWriteFault s (Rises before.output_errors now.output_errors) → before.input_errors ≤ now.input_errors → before.output_errors ≤ now.output_errors → s ≢ status.Usage → s ≢ status.Refused → LinesRan Is before now (outcome_of output s)
 ran_of_lines Is before now output s some writes end long few read write inputs outputs usage rejection = record {
   written = when_map (is_written s) (λ a. (a, refl)) writes.all;
   begun = when_map (is_cut_short s) (begins_by Is before.input output some) writes.first;

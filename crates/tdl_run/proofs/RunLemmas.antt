@@ -1,5 +1,5 @@
 -- Each clause of a run, by what was done of what the arguments ask for.
-use Rattle.std.proofs.Common.{◌≡◌, ◌≢◌, ◌⊎◌, inl, inr, ℕ, ◌+◌, Bool, true, false, List, [], ◌∷◌, Option, refl, ◌∙◌, ap, arith}
+use Rattle.std.proofs.Common.{◌≡◌, ◌⊎◌, inl, inr, ℕ, ◌+◌, Bool, true, false, List, [], ◌∷◌, Option, refl, ◌∙◌, ap, arith}
 use Rattle.std.specs.List.{Contains}
 use Rattle.tdl_lines.specs.declared.status.Status.{Status}
 use Rattle.tdl_lines.specs.declared.status.Status.TheVariants as status

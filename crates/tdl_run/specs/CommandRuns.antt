@@ -3,13 +3,12 @@ use Rattle.std.specs.Prelude.{◌≡◌, ◌≢◌, ℕ, ◌+◌, ◌≤◌, Boo
 use Rattle.tdl_lines.specs.declared.status.Status.{Status}
 use Rattle.tdl_lines.specs.declared.status.Status.TheVariants.{Usage, Refused}
 use Rattle.tdl_lines.specs.Inputs.{IsAtEnd, TakesAtMost, TakesMoreThan}
-use Rattle.tdl_lines.specs.Outputs.{Appends}
+use Rattle.tdl_lines.specs.Outputs.{AnswersEnded, Appends, LineAnswer}
 use Rattle.tdl_lines.specs.Printers.{IsInitialPart}
 use Rattle.tdl_lines.specs.Statuses.{OnAnswered, OnCutShort, OnInputLong, OnReadFault, OnWriteFault, OnWritten}
 use Rattle.gs_port.specs.Connections.{Finished}
 use Rattle.gs_port.specs.Counts.{Rises}
-use Rattle.gs_translate.specs.Translations.{Translating}
-use Rattle.tdl_run.specs.Works.{Outcome, Translated, TranslatedEnded, input_limit, outcome_of}
+use Rattle.tdl_run.specs.Works.{LinesAnswered, Outcome, input_limit, outcome_of}
 
 -- trusted, own: what is known of the input at a moment, and the counts of errors of the input and of the output
 pub record Moment : Type 0 where
@@ -45,12 +44,12 @@ pub record Ran (IsOutcome : Outcome → Type 0) (IsEnded : List ℕ → Type 0) 
   pub no_usage : outcome.status ≢ Usage
   pub no_rejection : outcome.status ≢ Refused
 
--- trusted, own: what a translation of the lines of an input did
-abbrev pub TranslationRan : Translating → Moment → Moment → Outcome → Type 0
-TranslationRan t before now outcome =
-    Ran (Translated t before.input) (TranslatedEnded t before.input now.input) (λ status finished. finished ≡ []) (Rises before.input_errors now.input_errors) true
+-- trusted, own: what the answering of the lines of an input did, by what is an answer to a text
+abbrev pub LinesRan : (List ℕ → LineAnswer → Type 0) → Moment → Moment → Outcome → Type 0
+LinesRan Is before now outcome =
+    Ran (LinesAnswered Is before.input) (AnswersEnded Is before.input now.input) (λ status finished. finished ≡ []) (Rises before.input_errors now.input_errors) true
     before now outcome
 
--- trusted, own: what a translation of the lines of an input did between two moments, and wrote to a sink, with this status
-abbrev pub Translates : Translating → Status → Option (List ℕ) → Option (List ℕ) → Moment → Moment → Type 0
-Translates t ending held held' before now = Appends held held' (λ output. TranslationRan t before now (outcome_of output ending))
+-- trusted, own: what the answering of the lines of an input did between two moments, and wrote to a sink, with this status
+abbrev pub AnswersLines : (List ℕ → LineAnswer → Type 0) → Status → Option (List ℕ) → Option (List ℕ) → Moment → Moment → Type 0
+AnswersLines Is ending held held' before now = Appends held held' (λ output. LinesRan Is before now (outcome_of output ending))

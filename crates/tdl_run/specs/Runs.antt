@@ -67,9 +67,13 @@ pub data DefinedRun (words : List (List ℕ)) (world : World) (outcome : Outcome
   by_request : (asked : Asked) → WordsInOrder words asked → AskedRun asked world outcome → DefinedRun words world outcome
   by_usage : NotInOrder words → outcome ≡ outcome_of usage_line status.Usage → DefinedRun words world outcome
 
--- trusted, own: what a run stops at whose tables have an ambiguous level, by a text
-abbrev pub ambiguous : LevelName → ℕ → ℕ → List ℕ → Stop
-ambiguous name i j text = rejected (record { kind = Tables; error = Errored (Ambiguous name i j text) })
+-- trusted, own: where two derivations of one text were found: at a level of the tables, by a pair of its options
+pub data Ambiguity : Type 0 where
+  of_tables : LevelName → ℕ → ℕ → Ambiguity
+
+-- trusted, own: what a run stops at where two derivations of this text were found
+abbrev pub ambiguous : Ambiguity → List ℕ → Stop
+ambiguous (of_tables name i j) text = rejected (record { kind = Tables; error = Errored (Ambiguous name i j text) })
 
 -- trusted, own: the same connections were served twice: those at which serving was done both times were written the same
 pub data AlikeVisits : List Visit → List Visit → Type 0 where
@@ -85,13 +89,12 @@ pub record AlikeServed (one other : Outcome) : Type 0 where
   pub one_is : one ≡ served_outcome visits
   pub other_is : other ≡ served_outcome others
 
--- trusted, own: Two outcomes are one, or are alike but for the errors of connections, or both tell that a level of the
--- tables is ambiguous, by one level and one pair of its options, and by texts that may differ: such a text is any that
--- shows a list with two derivations.
+-- trusted, own: Two outcomes are one, or are alike but for the errors of connections, or both tell of one place where a text
+-- has two derivations, by texts that may differ: such a text is any that shows a list with two derivations.
 pub data AreAlike (one other : Outcome) : Type 0 where
   same : one ≡ other → AreAlike one other
   but_errors : AlikeServed one other → AreAlike one other
-  but_text : (name : LevelName) (i j : ℕ) (text text' : List ℕ) → one ≡ stopped (ambiguous name i j text) → other ≡ stopped (ambiguous name i j text') → AreAlike one other
+  but_text : (place : Ambiguity) (text text' : List ℕ) → one ≡ stopped (ambiguous place text) → other ≡ stopped (ambiguous place text') → AreAlike one other
 
 -- trusted, own: arguments have one outcome over what is known, and no other but such as is alike
 abbrev pub HasOneOutcome : List (List ℕ) → Type 0

@@ -20,6 +20,7 @@
 //!   project's own (docs/FORMATS.md, 'The command line' and 'Statuses').
 #![tactic(auto)]
 
+mod answered_input;
 mod check_command;
 mod commands;
 mod laws;
@@ -31,9 +32,8 @@ mod requests;
 mod runner;
 mod tables;
 mod translate_command;
-mod translated_lines;
 
 pub use runner::run;
+pub use tdl_answers::answer_lines;
 pub use tdl_arguments::without_program_name;
 pub use tdl_lines::Status;
-pub use translated_lines::answer_lines;

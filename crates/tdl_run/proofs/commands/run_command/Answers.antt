@@ -16,7 +16,7 @@ returns-in-Translate-clause-ran g c = rw c.in-Translate.is ([], none_more _, c.t
 pub returns-in-Check-clause-ran : goal.returns-in-Check-clause-ran
 returns-in-Check-clause-ran g c =
     let w = c.check.ensures.written in
-    rw c.in-Check.is ([], none_more _, (w.0, w.1, ran_of_line _ _ _ _ _ _ _ w.0 c.check.result refl w.2 c.check.ensures.error refl refl refl c.check.ensures.counts))
+    rw c.in-Check.is ([], none_more _, (w.0, w.1, ran_of_line _ _ _ _ _ _ _ w.0 c.check.result (record { is_output = refl; none_finished = refl; done = refl }) w.2 c.check.ensures.error refl refl refl c.check.ensures.counts))
 
 pub returns-in-Resolve-clause-ran : goal.returns-in-Resolve-clause-ran
 returns-in-Resolve-clause-ran g c =

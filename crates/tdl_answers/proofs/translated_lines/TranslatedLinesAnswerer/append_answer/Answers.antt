@@ -1,5 +1,5 @@
-use Rattle.tdl_run.proofs.LineLemmas.{adds_translated}
-use Rattle.tdl_run.proofs.translated_lines.TranslatedLinesAnswerer.append_answer.Goals as goal
+use Rattle.tdl_answers.proofs.LineLemmas.{adds_translated}
+use Rattle.tdl_answers.proofs.translated_lines.TranslatedLinesAnswerer.append_answer.Goals as goal
 
 pub returns : goal.returns
 returns c =

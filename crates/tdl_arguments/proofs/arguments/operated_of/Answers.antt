@@ -1,6 +1,6 @@
 use Rattle.std.proofs.Common.{sym, arith, string_bytes}
 use Rattle.tdl_arguments.proofs.WordLemmas.{first_word}
-use Rattle.tdl_arguments.proofs.arguments.command_of.Goals as goal
+use Rattle.tdl_arguments.proofs.arguments.operated_of.Goals as goal
 
 pub returns : goal.returns
 returns c =

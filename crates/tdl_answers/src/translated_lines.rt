@@ -4,8 +4,8 @@ ghost use Rattle.gs_translate.specs.Translations.{AreInOrder, translating_by};
 ghost use Rattle.tdl_lines.specs.Inputs.{IsAtEnd, TakesAtMost, TakesMoreThan};
 ghost use Rattle.tdl_lines.specs.Outputs.{Appends, WritesAnswers};
 ghost use Rattle.tdl_lines.specs.Statuses.{OnAnswered, OnInputLong, OnReadFault, OnWriteFault};
-ghost use Rattle.tdl_run.specs.LineAnswers.{IsTranslatedLine};
-ghost use Rattle.tdl_run.specs.LongLines.{long_translated};
+ghost use Rattle.tdl_answers.specs.TranslatedAnswers.{IsTranslatedLine};
+ghost use Rattle.tdl_answers.specs.LongLines.{long_translated};
 
 use gs_chars::Memory;
 use gs_port::{Sink, Source};
@@ -18,12 +18,13 @@ use tdl_messages::append_line;
 
 /// Answers the texts of lines by their translations.
 #[derive(Drop)]
-struct TranslatedLines<'a> {
-    translator: Translator<'a>,
+pub struct TranslatedLines<'a> {
+    /// What translates the texts.
+    pub translator: Translator<'a>,
 }
 
 impl Answerer for TranslatedLines<'_> {
-    ghost use Rattle.tdl_run.specs.LineAnswers.{IsTranslatedLine};
+    ghost use Rattle.tdl_answers.specs.TranslatedAnswers.{IsTranslatedLine};
 
     ghost is_answer = { λ s. IsTranslatedLine s.translator };
 

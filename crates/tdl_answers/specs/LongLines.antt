@@ -10,9 +10,10 @@ use Rattle.gs_translate.specs.Meanings.{IsRead, longest_text, short, too_long}
 use Rattle.gs_translate.specs.Steps.{Then, goes_on, rejects}
 use Rattle.gs_translate.specs.Targets.{kept}
 use Rattle.gs_translate.specs.Translations.{IsSpelling, Translating}
-use Rattle.tdl_run.specs.LineAnswers.{IsTranslatedLine}
+use Rattle.tdl_answers.specs.TranslatedAnswers.{IsTranslatedLine}
 
-long_read : (set : TableRows) (form : Form) (text other : List ℕ) (read : Result Meaning Reason) → longest_text < length text → longest_text < length other → IsRead set form text read → IsRead set form other read
+-- a text that is long is read as any other that is
+pub long_read : (set : TableRows) (form : Form) (text other : List ℕ) (read : Result Meaning Reason) → longest_text < length text → longest_text < length other → IsRead set form text read → IsRead set form other read
 long_read set form text other read long more (too_long _ is) = too_long more is
 long_read set form text other read long more (short few _) = absurd (not-le_of_lt long few)
 

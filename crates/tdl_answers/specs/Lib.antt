@@ -1,0 +1,2 @@
+pub mod TranslatedAnswers
+pub mod LongLines
