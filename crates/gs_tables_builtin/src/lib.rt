@@ -5,11 +5,11 @@
 //!
 //! # Example
 //!
-//! The numbers of the application identifiers, kinds, and options of tag bits, of tag URIs and of pure identity URIs, when
-//! gs_tables has judged them. The gate runs this case, for which crates/vectors_texts/src/tables.rt makes the call.
+//! The numbers of the rows of application identifiers, of kinds, and of options of tag bits, of tag URIs and of pure identity
+//! URIs. The gate runs this case, for which crates/vectors_texts/src/rows.rt makes the call.
 //!
 //! ```text
-//! gs_tables::builtin
+//! gs_tables_builtin::document
 //! 55 7 84 84 49
 //! ```
 //!
