@@ -5,7 +5,7 @@ use Rattle.tdl_lines.specs.declared.status.Status.{Status}
 use Rattle.tdl_lines.specs.declared.status.Status.TheVariants as status
 use Rattle.tdl_lines.specs.Outputs.{Appends}
 use Rattle.tdl_lines.specs.Printers.{IsInitialPart, PrintedAs}
-use Rattle.tdl_lines.specs.Statuses.{OnAnswered, OnCutShort, OnReadFault, OnRefused, OnWriteFault, OnWritten, is_answered, is_cut_short, is_read_error, is_written}
+use Rattle.tdl_lines.specs.Statuses.{OnAnswered, OnCutShort, OnReadFault, OnRefused, OnWriteFault, OnWritten, is_answered, is_cut_short, is_read_error, is_write_error, is_written}
 use Rattle.tdl_lines.proofs.StatusLemmas.{when_map}
 use Rattle.gs_port.specs.Connections.{Finished}
 use Rattle.gs_port.specs.Contents.{append_known, append_nothing}
@@ -21,7 +21,7 @@ use Rattle.tdl_run.specs.declared.loads.Unloaded.TheVariants as unloaded
 use Rattle.tdl_run.specs.Requests.{AskedRan, Reports}
 use Rattle.tdl_run.specs.Loads.{FilesGive, Stop, missing, rejected}
 use Rattle.tdl_run.specs.LoadsSupport.{LoadedBy}
-use Rattle.tdl_run.specs.CommandRuns.{BeginsOne, Moment}
+use Rattle.tdl_run.specs.CommandRuns.{BeginsOne, CutShort, Moment}
 use Rattle.tdl_run.specs.RanSupport.{CommandRan}
 use Rattle.tdl_run.specs.Runs.{AskedEnded, AskedRun, Counts, World, WritesAfterError, none_finished, ran, some_finished, stopped, stops}
 use Rattle.tdl_run.specs.Works.{CommandEnded, CommandRun, Doorway, Leaves, Outcome, doing_of, input_limit, outcome_of, site_of}
@@ -60,11 +60,15 @@ never_rejected status.Memory fact un = tt
 begins_asked : (asked : Asked) (world : World) (loaded : Loaded) (output : List ℕ) → FilesGive world.files asked (Ok loaded) → BeginsOne (CommandRun asked.command asked.values loaded world.input world.door) output → BeginsOne (AskedRun asked world) output
 begins_asked asked world loaded output gives b = record { outcome = b.outcome; is = ran loaded gives b.is; begins = b.begins }
 
+cut_asked : (asked : Asked) (world : World) (loaded : Loaded) (outcome : Outcome) → FilesGive world.files asked (Ok loaded) → CutShort (CommandRun asked.command asked.values loaded world.input world.door) outcome → CutShort (AskedRun asked world) outcome
+cut_asked asked world loaded outcome gives c = record { outcome = c.outcome; is = ran loaded gives c.is; begins = c.begins; same_finished = c.same_finished }
+
 pub asked_of_command : (asked : Asked) (world : World) (before now : Counts) (left : Option (List ℕ)) (loaded : Loaded) (outcome : Outcome) → FilesGive world.files asked (Ok loaded) → before.file_errors ≤ now.file_errors → CommandRan asked.command asked.values loaded world.door before.door_errors now.door_errors (record { input = world.input; input_errors = before.input_errors; output_errors = before.output_errors }) (record { input = left; input_errors = now.input_errors; output_errors = now.output_errors }) outcome → AskedRan asked world before now left outcome
 asked_of_command asked world before now left loaded outcome gives counts r = record {
   written = when_map (is_written outcome.status) (λ run. ran loaded gives run) r.written;
   begun = when_map (is_cut_short outcome.status) (begins_asked asked world loaded outcome.output gives) r.begun;
   finished = when_map (is_cut_short outcome.status) (λ served. some_finished loaded gives served) r.finished;
+  cut = when_map (is_write_error outcome.status) (cut_asked asked world loaded outcome gives) r.cut;
   read_error = when_map (is_read_error outcome.status) (λ cause. inl (either_cause (work_of asked.command) _ _ cause)) r.read_error;
   write_error = r.write_error;
   rejection = never_rejected outcome.status _ r.no_rejection;
@@ -95,24 +99,28 @@ begins_rejection : (asked : Asked) (world : World) (rejection : Rejection) (outp
 begins_rejection asked world rejection output gives part =
     record { outcome = stopped (rejected rejection); is = stops (rejected rejection) gives refl; begins = part }
 
+cut_rejection : (asked : Asked) (world : World) (rejection : Rejection) (output : List ℕ) → FilesGive world.files asked (Err (rejected rejection)) → IsInitialPart output (rejected_line rejection) → CutShort (AskedRun asked world) (outcome_of output status.WriteFault)
+cut_rejection asked world rejection output gives part =
+    record { outcome = stopped (rejected rejection); is = stops (rejected rejection) gives refl; begins = part; same_finished = refl }
+
 -- the facts of a run that leaves its input
-asked_by : (asked : Asked) (world : World) (before now : Counts) (output : List ℕ) (s : Status) → OnWritten s (AskedRun asked world (outcome_of output s)) → OnCutShort s (BeginsOne (AskedRun asked world) output) → OnReadFault s (Rises before.file_errors now.file_errors ⊎ FilesGive world.files asked (Err missing)) → OnWriteFault s (Rises before.output_errors now.output_errors) → OnRefused s ((rejection : Rejection) × FilesGive world.files asked (Err (rejected rejection))) → s ≢ status.Done → s ≢ status.SomeRefused → s ≢ status.InputLong → s ≢ status.Usage → before.file_errors ≤ now.file_errors → before.input_errors ≡ now.input_errors → before.output_errors ≤ now.output_errors → AskedRan asked world before now world.input (outcome_of output s)
-asked_by asked world before now output status.Done written begun read write rejection done some long usage files inputs outputs = absurd (done refl)
-asked_by asked world before now output status.SomeRefused written begun read write rejection done some long usage files inputs outputs = absurd (some refl)
-asked_by asked world before now output status.InputLong written begun read write rejection done some long usage files inputs outputs = absurd (long refl)
-asked_by asked world before now output status.Usage written begun read write rejection done some long usage files inputs outputs = absurd (usage refl)
-asked_by asked world before now output status.Refused written begun read write rejection done some long usage files inputs outputs = record { written = written; begun = tt; finished = tt; read_error = tt; write_error = tt; rejection = rejection; to_end = tt; long = tt; few = λ lines. takes_nothing (input_limit + 1) world.input; file_counts = files; input_counts = same_count _ _ inputs; output_counts = outputs; no_usage = usage }
-asked_by asked world before now output status.ReadFault written begun read write rejection done some long usage files inputs outputs = record { written = tt; begun = begun; finished = none_finished refl; read_error = inr read; write_error = tt; rejection = tt; to_end = tt; long = tt; few = λ lines. takes_nothing (input_limit + 1) world.input; file_counts = files; input_counts = same_count _ _ inputs; output_counts = outputs; no_usage = usage }
-asked_by asked world before now output status.WriteFault written begun read write rejection done some long usage files inputs outputs = record { written = tt; begun = begun; finished = none_finished refl; read_error = tt; write_error = write; rejection = tt; to_end = tt; long = tt; few = λ lines. takes_nothing (input_limit + 1) world.input; file_counts = files; input_counts = same_count _ _ inputs; output_counts = outputs; no_usage = usage }
-asked_by asked world before now output status.Memory written begun read write rejection done some long usage files inputs outputs = record { written = tt; begun = begun; finished = none_finished refl; read_error = tt; write_error = tt; rejection = tt; to_end = tt; long = tt; few = λ lines. takes_nothing (input_limit + 1) world.input; file_counts = files; input_counts = same_count _ _ inputs; output_counts = outputs; no_usage = usage }
+asked_by : (asked : Asked) (world : World) (before now : Counts) (output : List ℕ) (s : Status) → OnWritten s (AskedRun asked world (outcome_of output s)) → OnCutShort s (BeginsOne (AskedRun asked world) output) → OnWriteFault s (CutShort (AskedRun asked world) (outcome_of output s)) → OnReadFault s (Rises before.file_errors now.file_errors ⊎ FilesGive world.files asked (Err missing)) → OnWriteFault s (Rises before.output_errors now.output_errors) → OnRefused s ((rejection : Rejection) × FilesGive world.files asked (Err (rejected rejection))) → s ≢ status.Done → s ≢ status.SomeRefused → s ≢ status.InputLong → s ≢ status.Usage → before.file_errors ≤ now.file_errors → before.input_errors ≡ now.input_errors → before.output_errors ≤ now.output_errors → AskedRan asked world before now world.input (outcome_of output s)
+asked_by asked world before now output status.Done written begun cut read write rejection done some long usage files inputs outputs = absurd (done refl)
+asked_by asked world before now output status.SomeRefused written begun cut read write rejection done some long usage files inputs outputs = absurd (some refl)
+asked_by asked world before now output status.InputLong written begun cut read write rejection done some long usage files inputs outputs = absurd (long refl)
+asked_by asked world before now output status.Usage written begun cut read write rejection done some long usage files inputs outputs = absurd (usage refl)
+asked_by asked world before now output status.Refused written begun cut read write rejection done some long usage files inputs outputs = record { written = written; begun = tt; finished = tt; cut = tt; read_error = tt; write_error = tt; rejection = rejection; to_end = tt; long = tt; few = λ lines. takes_nothing (input_limit + 1) world.input; file_counts = files; input_counts = same_count _ _ inputs; output_counts = outputs; no_usage = usage }
+asked_by asked world before now output status.ReadFault written begun cut read write rejection done some long usage files inputs outputs = record { written = tt; begun = begun; finished = none_finished refl; cut = tt; read_error = inr read; write_error = tt; rejection = tt; to_end = tt; long = tt; few = λ lines. takes_nothing (input_limit + 1) world.input; file_counts = files; input_counts = same_count _ _ inputs; output_counts = outputs; no_usage = usage }
+asked_by asked world before now output status.WriteFault written begun cut read write rejection done some long usage files inputs outputs = record { written = tt; begun = begun; finished = none_finished refl; cut = cut; read_error = tt; write_error = write; rejection = tt; to_end = tt; long = tt; few = λ lines. takes_nothing (input_limit + 1) world.input; file_counts = files; input_counts = same_count _ _ inputs; output_counts = outputs; no_usage = usage }
+asked_by asked world before now output status.Memory written begun cut read write rejection done some long usage files inputs outputs = record { written = tt; begun = begun; finished = none_finished refl; cut = tt; read_error = tt; write_error = tt; rejection = tt; to_end = tt; long = tt; few = λ lines. takes_nothing (input_limit + 1) world.input; file_counts = files; input_counts = same_count _ _ inputs; output_counts = outputs; no_usage = usage }
 
 asked_of_rejection : (asked : Asked) (world : World) (before now : Counts) (rejection : Rejection) (output : List ℕ) (s : Status) → FilesGive world.files asked (Err (rejected rejection)) → PrintedAs status.Refused (rejected_line rejection) output s → OnWriteFault s (Rises before.output_errors now.output_errors) → before.file_errors ≤ now.file_errors → before.input_errors ≡ now.input_errors → before.output_errors ≤ now.output_errors → AskedRan asked world before now world.input (outcome_of output s)
 asked_of_rejection asked world before now rejection output s gives printed write files inputs outputs = by (printed_case status.Refused (rejected_line rejection) output s printed)
   where
     by : PrintedCase status.Refused (rejected_line rejection) output s → AskedRan asked world before now world.input (outcome_of output s)
-    by (whole e f) = rw (e, f) (asked_by asked world before now (rejected_line rejection) status.Refused (stops (rejected rejection) gives refl) tt tt tt (rejection, gives) (λ e. cc) (λ e. cc) (λ e. cc) (λ e. cc) files inputs outputs)
-    by (error e p) = let w : Rises before.output_errors now.output_errors = rw e at write in rw e (asked_by asked world before now output status.WriteFault tt (begins_rejection asked world rejection output gives p) tt w tt (λ e. cc) (λ e. cc) (λ e. cc) (λ e. cc) files inputs outputs)
-    by (no_memory e p) = rw e (asked_by asked world before now output status.Memory tt (begins_rejection asked world rejection output gives p) tt tt tt (λ e. cc) (λ e. cc) (λ e. cc) (λ e. cc) files inputs outputs)
+    by (whole e f) = rw (e, f) (asked_by asked world before now (rejected_line rejection) status.Refused (stops (rejected rejection) gives refl) tt tt tt tt (rejection, gives) (λ e. cc) (λ e. cc) (λ e. cc) (λ e. cc) files inputs outputs)
+    by (error e p) = let w : Rises before.output_errors now.output_errors = rw e at write in rw e (asked_by asked world before now output status.WriteFault tt (begins_rejection asked world rejection output gives p) (cut_rejection asked world rejection output gives p) tt w tt (λ e. cc) (λ e. cc) (λ e. cc) (λ e. cc) files inputs outputs)
+    by (no_memory e p) = rw e (asked_by asked world before now output status.Memory tt (begins_rejection asked world rejection output gives p) tt tt tt tt (λ e. cc) (λ e. cc) (λ e. cc) (λ e. cc) files inputs outputs)
 
 -- a rejection that is printed is no read error
 no_read_error : (fact : Type 0) (line output : List ℕ) (s : Status) → PrintedAs status.Refused line output s → OnReadFault s fact
@@ -127,11 +135,11 @@ no_read_error fact line output s printed = by (printed_case status.Refused line 
 
 asked_of_error : (asked : Asked) (world : World) (before now : Counts) → LoadedBy (FilesGive world.files asked) before.file_errors now.file_errors (Err unloaded.ReadFault) → before.file_errors ≤ now.file_errors → before.input_errors ≡ now.input_errors → before.output_errors ≤ now.output_errors → AskedRan asked world before now world.input (outcome_of [] status.ReadFault)
 asked_of_error asked world before now cause files inputs outputs =
-    asked_by asked world before now [] status.ReadFault tt (begins_nothing asked world) cause tt tt (λ e. cc) (λ e. cc) (λ e. cc) (λ e. cc) files inputs outputs
+    asked_by asked world before now [] status.ReadFault tt (begins_nothing asked world) tt cause tt tt (λ e. cc) (λ e. cc) (λ e. cc) (λ e. cc) files inputs outputs
 
 asked_of_memory : (asked : Asked) (world : World) (before now : Counts) → before.file_errors ≤ now.file_errors → before.input_errors ≡ now.input_errors → before.output_errors ≤ now.output_errors → AskedRan asked world before now world.input (outcome_of [] status.Memory)
 asked_of_memory asked world before now files inputs outputs =
-    asked_by asked world before now [] status.Memory tt (begins_nothing asked world) tt tt tt (λ e. cc) (λ e. cc) (λ e. cc) (λ e. cc) files inputs outputs
+    asked_by asked world before now [] status.Memory tt (begins_nothing asked world) tt tt tt tt (λ e. cc) (λ e. cc) (λ e. cc) (λ e. cc) files inputs outputs
 
 -- the line of a rejection answers nothing
 rejection_answered : (fact : Type 0) (line output : List ℕ) (s : Status) → PrintedAs status.Refused line output s → OnAnswered s fact

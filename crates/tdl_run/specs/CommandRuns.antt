@@ -26,6 +26,13 @@ pub record BeginsOne (IsOutcome : Outcome → Type 0) (output : List ℕ) : Type
   pub is : IsOutcome outcome
   pub begins : IsInitialPart output outcome.output
 
+-- trusted, own: of some outcome the output has a prefix, and the same connections are finished
+pub record CutShort (IsOutcome : Outcome → Type 0) (cut : Outcome) : Type 0 where
+  pub outcome : Outcome
+  pub is : IsOutcome outcome
+  pub begins : IsInitialPart cut.output outcome.output
+  pub same_finished : cut.finished ≡ outcome.finished
+
 -- trusted, own: What every command ensures, between two moments: what it wrote and its status, and the cause of each; by
 -- its outcomes, by what it has written after a read error, by the connections that it has finished where less than what is
 -- defined may have been written, by the cause of a read error, and by whether it answers the lines of the input.
@@ -33,6 +40,7 @@ pub record Ran (IsOutcome : Outcome → Type 0) (IsEnded : List ℕ → Type 0) 
   pub written : OnWritten outcome.status (IsOutcome outcome)
   pub begun : OnCutShort outcome.status (BeginsOne IsOutcome outcome.output)
   pub finished : OnCutShort outcome.status (HasFinished outcome.status outcome.finished)
+  pub cut : OnWriteFault outcome.status (CutShort IsOutcome outcome)
   pub read_error : OnReadFault outcome.status Cause
   pub ended : OnReadFault outcome.status (IsEnded outcome.output)
   pub write_error : OnWriteFault outcome.status (Rises before.output_errors now.output_errors)

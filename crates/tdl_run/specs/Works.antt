@@ -1,5 +1,5 @@
 -- What each command does, over what was loaded.
-use Rattle.std.specs.Prelude.{◌≡◌, ◌≢◌, ℕ, ◌≤◌, ◌-◌, false, List, [], ◌∷◌, ◌++◌, length, take, codes, decimal, IfSome, Option, is_some, option_map}
+use Rattle.std.specs.Prelude.{◌≡◌, ◌≢◌, ℕ, ◌≤◌, ◌-◌, Bool, false, List, [], ◌∷◌, ◌++◌, length, take, codes, decimal, IfSome, Option, Ok, is_some, option_map}
 use Rattle.tdl_lines.specs.declared.status.Status.{Status}
 use Rattle.tdl_gen.specs.Counts.{Generated}
 use Rattle.tdl_lines.specs.declared.status.Status.TheVariants.{Done, Memory, ReadFault}
@@ -10,10 +10,14 @@ use Rattle.gs_port.specs.Connections.{Aside, Finished}
 use Rattle.tdl_serve.specs.Doors.{line_of}
 use Rattle.tdl_serve.specs.Resolutions.{Resolved, Resolves}
 use Rattle.gs_http.specs.Sites.{SiteData}
+use Rattle.gs_tables.specs.Tables.{TableRows}
 use Rattle.tdl_serve.specs.Visits.{AreVisits, Visit, entries_of, inputs_of, wants_memory}
 use Rattle.gs_translate.specs.declared.form.Form.{Form}
 use Rattle.gs_translate.specs.declared.target.Target.{Target}
 use Rattle.gs_translate.specs.declared.target.Target.TheVariants as target
+use Rattle.gs_translate.specs.declared.meaning.Meaning.{Meaning}
+use Rattle.gs_translate.specs.Meanings.{IsRead}
+use Rattle.gs_translate.specs.Targets.{kept}
 use Rattle.gs_translate.specs.Translations.{Translating, translating_by}
 use Rattle.tdl_arguments.specs.declared.command.Command.{Command}
 use Rattle.tdl_arguments.specs.declared.command.Command.TheVariants.{Canon, Translate, Check, Resolve, Serve, Gen}
@@ -38,6 +42,15 @@ abbrev pub Leaves : Option (List ℕ) → Option (List ℕ) → Option (List Fin
 Leaves held held' ended ended' status fact =
     (finished : List Finished) × (ended' ≡ option_map (λ before. before ++ finished) ended)
     × Appends held held' (λ output. fact (record { output = output; finished = finished; status = status }))
+
+-- trusted, own: Between two moments the first of the connections that waited at a door were finished, and those behind them wait
+-- still: as many stand behind those that were finished before.
+pub record FinishesFirst (before now : Aside) : Type 0 where
+  pub inputs : List (List ℕ)
+  pub entries : List Finished
+  pub waited : before.waiting ≡ option_map (λ behind. inputs ++ behind) now.waiting
+  pub finished : now.finished ≡ option_map (λ earlier. earlier ++ entries) before.finished
+  pub as_many : length inputs ≡ length entries
 
 -- trusted, own: the most bytes of an input
 abbrev pub input_limit : ℕ
@@ -71,6 +84,11 @@ canonizing loaded form = translating_by loaded.tables [] no_options form target.
 -- trusted, own: `translate` translates by the prefixes that are loaded and by the values that are named
 abbrev pub translating : Loaded → Values → Form → Target → Translating
 translating loaded values from to = translating_by loaded.tables loaded.prefixes (options_of values) from to
+
+-- trusted, own: of what two texts mean the same elements are kept, all or only the keys
+abbrev pub KeepOne : TableRows → Bool → Form → List ℕ → Form → List ℕ → Type 0
+KeepOne set keys_only form text other given =
+    (one two : Meaning) → IsRead set form text (Ok one) → IsRead set other given (Ok two) → (kept set keys_only one).identity ≡ (kept set keys_only two).identity
 
 -- trusted, own: what is left by a command that writes this output, and finishes no connection
 pub record LeavesOutput (IsOutput : List ℕ → Type 0) (outcome : Outcome) : Type 0 where

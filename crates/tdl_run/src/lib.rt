@@ -33,6 +33,10 @@ mod runner;
 mod tables;
 mod translate_command;
 
+pub use laws::{
+    canon_answers_by_canonical_links, canonical_answers_by_kept_elements, words_ask_for_one_thing,
+    words_have_one_outcome, words_in_order_are_answered,
+};
 pub use runner::run;
 pub use tdl_answers::answer_lines;
 pub use tdl_arguments::without_program_name;

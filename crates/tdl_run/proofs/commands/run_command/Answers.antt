@@ -3,7 +3,7 @@ use Rattle.std.proofs.lemmas.Bool.{false≢true}
 use Rattle.tdl_arguments.specs.Requests.{known_values}
 use Rattle.tdl_run.proofs.RanLemmas.{none_more, ran_of_line}
 use Rattle.tdl_run.proofs.GenLemmas.{gen_ran}
-use Rattle.tdl_run.proofs.ServeLemmas.{serve_ran}
+use Rattle.tdl_run.proofs.ServeLemmas.{none_finish, serve_ran, visits_finish}
 use Rattle.tdl_run.proofs.SiteLemmas.{resolve_ran}
 use Rattle.tdl_run.proofs.commands.run_command.Goals as goal
 
@@ -103,3 +103,57 @@ returns-in-Resolve-clause-unread g c = rw c.in-Resolve.is (λ none. absurd (fals
 
 pub returns-in-Serve-clause-unserved : goal.returns-in-Serve-clause-unserved
 returns-in-Serve-clause-unserved g c = rw c.in-Serve.is (λ none. absurd (false≢true (sym none)))
+
+pub returns-in-Canon-clause-closed : goal.returns-in-Canon-clause-closed
+returns-in-Canon-clause-closed g c = c.requires.none_open
+
+pub returns-in-Canon-clause-waiting : goal.returns-in-Canon-clause-waiting
+returns-in-Canon-clause-waiting g c = none_finish _
+
+pub returns-in-Canon-clause-listens : goal.returns-in-Canon-clause-listens
+returns-in-Canon-clause-listens g c = rw c.in-Canon.is (λ uses. absurd (false≢true uses))
+
+pub returns-in-Translate-clause-closed : goal.returns-in-Translate-clause-closed
+returns-in-Translate-clause-closed g c = c.requires.none_open
+
+pub returns-in-Translate-clause-waiting : goal.returns-in-Translate-clause-waiting
+returns-in-Translate-clause-waiting g c = none_finish _
+
+pub returns-in-Translate-clause-listens : goal.returns-in-Translate-clause-listens
+returns-in-Translate-clause-listens g c = rw c.in-Translate.is (λ uses. absurd (false≢true uses))
+
+pub returns-in-Check-clause-closed : goal.returns-in-Check-clause-closed
+returns-in-Check-clause-closed g c = c.requires.none_open
+
+pub returns-in-Check-clause-waiting : goal.returns-in-Check-clause-waiting
+returns-in-Check-clause-waiting g c = none_finish _
+
+pub returns-in-Check-clause-listens : goal.returns-in-Check-clause-listens
+returns-in-Check-clause-listens g c = rw c.in-Check.is (λ uses. absurd (false≢true uses))
+
+pub returns-in-Resolve-clause-closed : goal.returns-in-Resolve-clause-closed
+returns-in-Resolve-clause-closed g c = c.requires.none_open
+
+pub returns-in-Resolve-clause-waiting : goal.returns-in-Resolve-clause-waiting
+returns-in-Resolve-clause-waiting g c = none_finish _
+
+pub returns-in-Resolve-clause-listens : goal.returns-in-Resolve-clause-listens
+returns-in-Resolve-clause-listens g c = rw c.in-Resolve.is (λ uses. absurd (false≢true uses))
+
+pub returns-in-Gen-clause-closed : goal.returns-in-Gen-clause-closed
+returns-in-Gen-clause-closed g c = c.requires.none_open
+
+pub returns-in-Gen-clause-waiting : goal.returns-in-Gen-clause-waiting
+returns-in-Gen-clause-waiting g c = none_finish _
+
+pub returns-in-Gen-clause-listens : goal.returns-in-Gen-clause-listens
+returns-in-Gen-clause-listens g c = rw c.in-Gen.is (λ uses. absurd (false≢true uses))
+
+pub returns-in-Serve-clause-closed : goal.returns-in-Serve-clause-closed
+returns-in-Serve-clause-closed g c = c.serve.ensures.closed
+
+pub returns-in-Serve-clause-waiting : goal.returns-in-Serve-clause-waiting
+returns-in-Serve-clause-waiting g c = visits_finish _ _ _ _ _ _ c.serve.result c.serve.ensures.ran
+
+pub returns-in-Serve-clause-listens : goal.returns-in-Serve-clause-listens
+returns-in-Serve-clause-listens g c = λ uses. c.serve.ensures.opens
