@@ -10,6 +10,7 @@ ghost use Rattle.tdl_run.specs.RanSupport.{CommandRan};
 ghost use Rattle.tdl_run.specs.Works.{FinishesFirst, Leaves, doorway_of, site_of};
 
 use crate::check_command::check;
+use crate::dump_command::{show_dumps, write_dumps};
 use crate::loads::Loaded;
 use crate::translate_command::{canonize, translate_loaded};
 use gs_http::Site;
@@ -77,5 +78,7 @@ pub fn run_command<S: Source, K: Sink, D: Door>(
             output,
         ),
         Command::Gen(lines) => generate(alloc, &loaded.tables, lines, output),
+        Command::DumpRead => show_dumps(alloc, loaded, input, output),
+        Command::DumpWrite => write_dumps(alloc, loaded, input, output),
     }
 }

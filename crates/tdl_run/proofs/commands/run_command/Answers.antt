@@ -157,3 +157,51 @@ returns-in-Serve-clause-waiting g c = visits_finish _ _ _ _ _ _ c.serve.result c
 
 pub returns-in-Serve-clause-listens : goal.returns-in-Serve-clause-listens
 returns-in-Serve-clause-listens g c = λ uses. c.serve.ensures.opens
+
+pub returns-in-DumpRead-clause-ran : goal.returns-in-DumpRead-clause-ran
+returns-in-DumpRead-clause-ran g c = rw c.in-DumpRead.is ([], none_more _, c.show_dumps.ensures)
+
+pub returns-in-DumpRead-clause-served : goal.returns-in-DumpRead-clause-served
+returns-in-DumpRead-clause-served g c = rw c.in-DumpRead.is (λ heads. absurd (false≢true heads))
+
+pub returns-in-DumpRead-clause-unread : goal.returns-in-DumpRead-clause-unread
+returns-in-DumpRead-clause-unread g c = rw c.in-DumpRead.is (λ none. absurd (false≢true (sym none)))
+
+pub returns-in-DumpRead-clause-unserved : goal.returns-in-DumpRead-clause-unserved
+returns-in-DumpRead-clause-unserved g c = λ none. refl
+
+pub returns-in-DumpRead-clause-door_counts : goal.returns-in-DumpRead-clause-door_counts
+returns-in-DumpRead-clause-door_counts g c = omega arith
+
+pub returns-in-DumpWrite-clause-ran : goal.returns-in-DumpWrite-clause-ran
+returns-in-DumpWrite-clause-ran g c = rw c.in-DumpWrite.is ([], none_more _, c.write_dumps.ensures)
+
+pub returns-in-DumpWrite-clause-served : goal.returns-in-DumpWrite-clause-served
+returns-in-DumpWrite-clause-served g c = rw c.in-DumpWrite.is (λ heads. absurd (false≢true heads))
+
+pub returns-in-DumpWrite-clause-unread : goal.returns-in-DumpWrite-clause-unread
+returns-in-DumpWrite-clause-unread g c = rw c.in-DumpWrite.is (λ none. absurd (false≢true (sym none)))
+
+pub returns-in-DumpWrite-clause-unserved : goal.returns-in-DumpWrite-clause-unserved
+returns-in-DumpWrite-clause-unserved g c = λ none. refl
+
+pub returns-in-DumpWrite-clause-door_counts : goal.returns-in-DumpWrite-clause-door_counts
+returns-in-DumpWrite-clause-door_counts g c = omega arith
+
+pub returns-in-DumpRead-clause-closed : goal.returns-in-DumpRead-clause-closed
+returns-in-DumpRead-clause-closed g c = c.requires.none_open
+
+pub returns-in-DumpRead-clause-waiting : goal.returns-in-DumpRead-clause-waiting
+returns-in-DumpRead-clause-waiting g c = none_finish _
+
+pub returns-in-DumpRead-clause-listens : goal.returns-in-DumpRead-clause-listens
+returns-in-DumpRead-clause-listens g c = rw c.in-DumpRead.is (λ uses. absurd (false≢true uses))
+
+pub returns-in-DumpWrite-clause-closed : goal.returns-in-DumpWrite-clause-closed
+returns-in-DumpWrite-clause-closed g c = c.requires.none_open
+
+pub returns-in-DumpWrite-clause-waiting : goal.returns-in-DumpWrite-clause-waiting
+returns-in-DumpWrite-clause-waiting g c = none_finish _
+
+pub returns-in-DumpWrite-clause-listens : goal.returns-in-DumpWrite-clause-listens
+returns-in-DumpWrite-clause-listens g c = rw c.in-DumpWrite.is (λ uses. absurd (false≢true uses))
