@@ -11,3 +11,4 @@ pub mod ReadAgain
 pub mod RoundTrips
 pub mod StartLemmas
 pub mod WriteLemmas
+pub mod OneDump

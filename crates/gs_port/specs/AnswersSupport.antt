@@ -2,7 +2,6 @@
 use Rattle.std.specs.Prelude.{◌≡◌, ℕ, List, Option, Result, Ok, Err, IfSome, min, length}
 use Rattle.gs_port.specs.Counts.{counted}
 use Rattle.gs_port.specs.declared.source.ReadAnswer.{ReadAnswer}
-use Rattle.gs_port.specs.declared.source.ReadAnswer.TheVariants as read
 use Rattle.gs_port.specs.declared.files.OpenAnswer.{OpenAnswer}
 use Rattle.gs_port.specs.declared.files.OpenAnswer.TheVariants as opening
 use Rattle.gs_port.specs.declared.door.AcceptAnswer.{AcceptAnswer}

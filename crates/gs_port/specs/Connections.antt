@@ -15,11 +15,13 @@ pub record Finished : Type 0 where
   pub writes : ℕ
 
 -- trusted, own: what the reads and writes of a connection leave as it was, that is, of a door: its own count of errors, of
--- opens and of accepts; whether it was opened; the inputs of the waiting connections and the finished connections, in
--- order, where they are known; and the counts of reads and of writes that stood at its last accept
+-- opens and of accepts; whether it was opened; the addresses at which it was to be opened, the inputs of the waiting
+-- connections and the finished connections, in order, where they are known; and the counts of reads and of writes that
+-- stood at its last accept
 pub record Aside : Type 0 where
   pub errors : ℕ
   pub opened : Bool
+  pub addresses : Option (List (List ℕ))
   pub waiting : Option (List (List ℕ))
   pub finished : Option (List Finished)
   pub reads_then : ℕ
@@ -35,7 +37,7 @@ SameOpened before now = now.opened ≡ before.opened
 
 -- trusted, own: of what is no door
 abbrev pub no_aside : Aside
-no_aside = record { errors = 0; opened = false; waiting = None; finished = None; reads_then = 0; writes_then = 0 }
+no_aside = record { errors = 0; opened = false; addresses = None; waiting = None; finished = None; reads_then = 0; writes_then = 0 }
 
 -- trusted, own: the input of the first waiting connection, where it is known and one waits
 abbrev pub first_input : Option (List (List ℕ)) → Option (List ℕ)
@@ -57,11 +59,11 @@ behind_first None = None
 behind_first (Some []) = Some []
 behind_first (Some (input ∷ rest)) = Some rest
 
--- trusted, own: what an open leaves: the door was opened, or an error was counted
-abbrev pub after_open : OpenAnswer → Aside → Aside
-after_open opening.Opened aside = record aside { opened = true }
-after_open opening.Failed aside = record aside { errors = counted aside.errors }
-after_open opening.Memory aside = aside
+-- trusted, own: what an open leaves, after which these are its addresses: the door was opened, or an error was counted
+abbrev pub after_open : OpenAnswer → Option (List (List ℕ)) → Aside → Aside
+after_open opening.Opened addresses aside = record aside { opened = true; addresses = addresses }
+after_open opening.Failed addresses aside = record aside { errors = counted aside.errors; addresses = addresses }
+after_open opening.Memory addresses aside = record aside { addresses = addresses }
 
 -- trusted, own: what an accept leaves, at these counts of reads and of writes
 abbrev pub after_accept : AcceptAnswer → ℕ → ℕ → Aside → Aside

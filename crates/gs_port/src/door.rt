@@ -1,6 +1,7 @@
-ghost use Rattle.std.specs.Prelude.{◌≡◌, ◌≢◌, ◌≤◌, [], true, false, IfSome, Some};
+ghost use Rattle.std.specs.Prelude.{◌≡◌, ◌≢◌, ◌≤◌, [], ◌∷◌, true, false, IfSome, Some};
 ghost use Rattle.gs_port.specs.Connections.{ErrorRises, SameOpened, after_accept, after_finish_of, after_open, begun_next};
 ghost use Rattle.gs_port.specs.Connections.{first_input};
+ghost use Rattle.gs_port.specs.Files.{AddsNames};
 ghost use Rattle.gs_port.specs.Answers.{OnAcceptFailed, OnAccepted, OnClosed, OnNotAccepted, OnNotOpened, OnOpenFailed, OnOpened};
 
 use crate::conn::Conn;
@@ -18,17 +19,19 @@ pub enum AcceptAnswer {
 }
 
 /// A door at which connections come, of which one is open at a time. What it sets aside of its reads and writes is its own
-/// count of errors, which are those of `open` and `accept`; whether it was opened; its waiting and its finished
-/// connections, where they are known; and the counts of reads and of writes that stood at its last `accept`.
+/// count of errors, which are those of `open` and `accept`; whether it was opened; the addresses at which it was to be, its
+/// waiting and its finished connections, where they are known; and the counts of reads and of writes that stood at its last `accept`.
 pub trait Door: Conn {
     /// Begins to listen at the address. `Failed` comes only where an error was counted; it begins nothing, and neither does
-    /// `Memory`. What was opened stays so, and the connections stay as they are.
+    /// `Memory`. What was opened stays so, and the connections stay as they are. After any answer the address is the last of
+    /// those at which it was to be opened, where they are still known.
     fn open(&mut self, address: &str) -> OpenAnswer
         ensures opened { OnOpened result ((Self.aside self.new).opened ≡ true) }
         ensures not_opened { OnNotOpened result (SameOpened (Self.aside self.old) (Self.aside self.new)) }
         ensures failed { OnOpenFailed result (ErrorRises (Self.aside self.old) (Self.aside self.new)) }
         ensures counts { (Self.aside self.old).errors ≤ (Self.aside self.new).errors }
-        ensures aside { Self.aside self.new ≡ after_open result (Self.aside self.old) }
+        ensures addressed { AddsNames (Self.aside self.old).addresses (address.now ∷ []) (Self.aside self.new).addresses }
+        ensures aside { Self.aside self.new ≡ after_open result (Self.aside self.new).addresses (Self.aside self.old) }
         ensures same_current { Self.is_open self.new ≡ Self.is_open self.old }
         ensures same_left { Self.left self.new ≡ Self.left self.old }
         ensures same_taken { Self.taken self.new ≡ Self.taken self.old }

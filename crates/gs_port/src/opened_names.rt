@@ -1,5 +1,5 @@
-ghost use Rattle.std.specs.Prelude.{◌≡◌, [], ◌∷◌, ◌++◌, IfOk, Some};
-ghost use Rattle.gs_port.specs.Files.{AddsNames};
+ghost use Rattle.std.specs.Prelude.{◌≡◌, [], ◌∷◌, ◌++◌, IfOk, None, OnErr, OnOk, Some, option_map};
+ghost use Rattle.gs_port.specs.Files.{AddsNames, with_names};
 
 use gs_chars::{List, Memory, Text};
 use std::alloc::Global;
@@ -40,14 +40,31 @@ impl OpenedNames {
         }
     }
 
-    /// Adds a name.
+    /// Adds a name, or forgets all, where memory runs out for it.
     pub fn add(&mut self, name: &str)
         ensures { AddsNames self.old (name.now ∷ []) self.new }
     {
-        let known = self.names.take();
-        self.names = match known {
-            Some(names) => with_name(self.alloc, names, name).ok(),
+        let _ = self.try_add(name);
+    }
+
+    /// Adds a name, where names are known. The one error is out of memory, from which on they are not known.
+    pub fn try_add(&mut self, name: &str) -> Result<(), Memory>
+        ensures added { OnOk result (self.new ≡ with_names self.old (name.now ∷ [])) }
+        ensures forgotten { OnErr result (self.new ≡ None) }
+    {
+        if let Some(names) = self.names.take() {
+            self.names = Some(with_name(self.alloc, names, name)?);
+        }
+        Ok(())
+    }
+
+    /// The names that were opened, in order. `None` comes exactly where they are not known any more.
+    pub fn names(&self) -> Option<&[Text]>
+        ensures { option_map (λ names. names.now) result ≡ self.now }
+    {
+        match &self.names {
+            Some(names) => Some(names.items()),
             None => None,
-        };
+        }
     }
 }

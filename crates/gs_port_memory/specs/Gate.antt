@@ -1,5 +1,5 @@
 -- What is known of a door in memory.
-use Rattle.std.specs.Prelude.{ℕ, false, List, [], Option, None, Vec, map, slice_index_or}
+use Rattle.std.specs.Prelude.{ℕ, false, List, [], Option, Some, None, Vec, map, slice_index_or}
 use Rattle.std.specs.declared.alloc.Global.{Global}
 use Rattle.gs_port.specs.Connections.{Finished}
 use Rattle.gs_port.specs.Memory.{uncalled}
@@ -11,7 +11,7 @@ known_inputs inputs = map (λ input. input.items) inputs
 
 -- trusted, own: a door with these inputs that was not opened yet
 abbrev pub shut_gate : List (List ℕ) → ℕ → List ℕ → MemGate
-shut_gate inputs most fails = record { opened = false; waiting = inputs; current = None; finished = []; most = most; plan = uncalled fails; errors = 0; reads = 0; writes = 0; reads_then = 0; writes_then = 0 }
+shut_gate inputs most fails = record { opened = false; addresses = Some []; waiting = inputs; current = None; finished = []; most = most; plan = uncalled fails; errors = 0; reads = 0; writes = 0; reads_then = 0; writes_then = 0 }
 
 -- trusted, own: what was written to the finished connection with the number
 abbrev pub written_at : List Finished → ℕ → Option (List ℕ)

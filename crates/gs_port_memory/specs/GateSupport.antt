@@ -33,7 +33,7 @@ held_of gate = option_map (λ stream. stream.kept) gate.current
 
 -- what reads and writes leave as it was
 abbrev pub aside_of : MemGate → Aside
-aside_of gate = record { errors = gate.errors; opened = gate.opened; waiting = Some gate.waiting; finished = Some gate.finished; reads_then = gate.reads_then; writes_then = gate.writes_then }
+aside_of gate = record { errors = gate.errors; opened = gate.opened; addresses = gate.addresses; waiting = Some gate.waiting; finished = Some gate.finished; reads_then = gate.reads_then; writes_then = gate.writes_then }
 
 -- the same after an accept
 abbrev pub aside_after_accept : AcceptAnswer → MemGate → Aside

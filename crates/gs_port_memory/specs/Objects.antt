@@ -23,11 +23,12 @@ pub record MemConnection : Type 0 where
   pub taken : List ℕ
   pub kept : List ℕ
 
--- trusted, own: a door in memory: whether it was opened, the inputs of the waiting connections, the open one, the finished
--- ones, the most that one read or write moves, the plan of the calls, the count of its own errors, the counts of reads and
--- of writes, and those that stood at the last accept
+-- trusted, own: a door in memory: whether it was opened; the addresses at which it was to be, in order, where they are known;
+-- the inputs of the waiting connections, the open one, the finished ones, the most that one read or write moves, the plan of
+-- the calls, the count of its own errors, the counts of reads and of writes, and those that stood at the last accept
 pub record MemGate : Type 0 where
   pub opened : Bool
+  pub addresses : Option (List (List ℕ))
   pub waiting : List (List ℕ)
   pub current : Option MemConnection
   pub finished : List Finished

@@ -15,7 +15,7 @@
 //!
 //! # Where it differs from the system
 //!
-//! - A name is the bytes that it is written with, and stands for nothing else. An address is not looked at.
+//! - A name is the bytes that it is written with, and stands for nothing else. Addresses are kept, and not looked at.
 //! - Connections come in the order of their inputs, and after the last one none comes any more.
 #![tactic(auto)]
 

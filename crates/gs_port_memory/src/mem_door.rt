@@ -1,6 +1,7 @@
-ghost use Rattle.std.specs.Prelude.{◌≡◌, ◌≢◌, ◌<◌, ◌≤◌, [], true, false, IfOk, None, Some, is_some, length, min};
+ghost use Rattle.std.specs.Prelude.{◌≡◌, ◌≢◌, ◌<◌, ◌≤◌, [], ◌∷◌, true, false, IfOk, None, Some, is_some, length, min, option_map};
 ghost use Rattle.gs_port.specs.Connections.{ErrorRises, SameOpened, after_open, begun_next, first_input};
 ghost use Rattle.gs_port.specs.Counts.{Rises};
+ghost use Rattle.gs_port.specs.Files.{AddsNames};
 ghost use Rattle.gs_port.specs.Memory.{FailsNow, after_call};
 ghost use Rattle.gs_port_memory.specs.Gate.{shut_gate, known_inputs};
 ghost use Rattle.gs_port_memory.specs.GateSupport.{aside_after_accept, aside_after_finish, aside_of, held_of, left_of, taken_of};
@@ -11,8 +12,10 @@ ghost use Rattle.gs_port.specs.Answers.{OnAccepted, OnClosed, OnNotAccepted, OnN
 ghost use Rattle.gs_port.specs.Answers.{OnReadFailed, OnWriteFailed, count_after_read, count_after_write};
 
 use crate::mem_stream::MemStream;
-use gs_chars::Memory;
-use gs_port::{AcceptAnswer, CallPlan, Conn, Door, OpenAnswer, ReadAnswer, WriteAnswer};
+use gs_chars::{Memory, Text};
+use gs_port::{
+    AcceptAnswer, CallPlan, Conn, Door, OpenAnswer, OpenedNames, ReadAnswer, WriteAnswer,
+};
 use std::alloc::Global;
 use std::collections::VecDeque;
 use std::marker::Model;
@@ -40,6 +43,7 @@ impl Model for Ended {
 pub struct MemDoor {
     alloc: Global,
     opened: bool,
+    addresses: OpenedNames,
     waiting: VecDeque<Vec<u8>>,
     current: Option<MemStream>,
     finished: Vec<Ended>,
@@ -62,6 +66,7 @@ impl Model for MemDoor {
 
     ghost view = { λ a. record {
       opened = a.opened;
+      addresses = a.addresses;
       waiting = known_inputs a.waiting.items;
       current = a.current;
       finished = a.finished.items;
@@ -94,6 +99,7 @@ impl MemDoor {
         Ok(MemDoor {
             alloc,
             opened: false,
+            addresses: OpenedNames::new(alloc),
             waiting: VecDeque::from(inputs),
             current: None,
             finished,
@@ -105,6 +111,13 @@ impl MemDoor {
             reads_then: 0,
             writes_then: 0,
         })
+    }
+
+    /// The addresses at which it was to be opened, in order. `None` comes exactly where they are not known any more.
+    pub fn addresses(&self) -> Option<&[Text]>
+        ensures { option_map (λ addresses. addresses.now) result ≡ self.now.addresses }
+    {
+        self.addresses.names()
     }
 
     /// The number of finished connections.
@@ -211,12 +224,13 @@ impl Conn for MemDoor {
 }
 
 impl Door for MemDoor {
-    fn open(&mut self, _address: &str) -> OpenAnswer
+    fn open(&mut self, address: &str) -> OpenAnswer
         ensures opened { OnOpened result (self.new.opened ≡ true) }
         ensures not_opened { OnNotOpened result (SameOpened (aside_of self.old) (aside_of self.new)) }
         ensures failed { OnOpenFailed result (ErrorRises (aside_of self.old) (aside_of self.new)) }
         ensures counts { self.old.errors ≤ self.new.errors }
-        ensures aside { aside_of self.new ≡ after_open result (aside_of self.old) }
+        ensures addressed { AddsNames self.old.addresses (address.now ∷ []) self.new.addresses }
+        ensures aside { aside_of self.new ≡ after_open result self.new.addresses (aside_of self.old) }
         ensures same_current { is_some self.new.current ≡ is_some self.old.current }
         ensures same_left { left_of self.new ≡ left_of self.old }
         ensures same_taken { taken_of self.new ≡ taken_of self.old }
@@ -229,6 +243,7 @@ impl Door for MemDoor {
         ensures same_most { self.new.most ≡ self.old.most }
         ensures plan { self.new.plan ≡ after_call self.old.plan }
     {
+        self.addresses.add(address);
         if self.plan.next_fails() {
             self.errors = self.errors.saturating_add(1);
             return OpenAnswer::Failed;

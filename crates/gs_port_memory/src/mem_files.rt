@@ -1,4 +1,4 @@
-ghost use Rattle.std.specs.Prelude.{◌≡◌, ◌<◌, ◌≤◌, false, true, [], ◌∷◌, Some, is_some, length};
+ghost use Rattle.std.specs.Prelude.{◌≡◌, ◌<◌, ◌≤◌, false, true, [], ◌∷◌, Some, is_some, length, option_map};
 ghost use Rattle.gs_port.specs.Counts.{Rises};
 ghost use Rattle.gs_port.specs.Files.{AddsNames, IsAbsent, known_file};
 ghost use Rattle.gs_port.specs.Memory.{FailsNow, after_call};
@@ -9,6 +9,7 @@ ghost use Rattle.gs_port.specs.Answers.{CountsOpen, IfGot, IsZeroAtEnd, MovesFro
 ghost use Rattle.gs_port.specs.AnswersSupport.{MovesMost};
 ghost use Rattle.gs_port.specs.Answers.{OpenFails, count_after_read};
 
+use gs_chars::Text;
 use gs_port::{CallPlan, Files, OpenAnswer, OpenedNames, ReadAnswer, copy_front};
 use std::alloc::Global;
 use std::marker::Model;
@@ -82,6 +83,13 @@ impl MemFiles {
             errors: 0,
             opened: OpenedNames::new(alloc),
         }
+    }
+
+    /// The names that were opened, in order. `None` comes exactly where they are not known any more.
+    pub fn opened(&self) -> Option<&[Text]>
+        ensures { option_map (λ names. names.now) result ≡ self.now.opened }
+    {
+        self.opened.names()
     }
 }
 

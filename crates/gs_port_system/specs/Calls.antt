@@ -1,5 +1,5 @@
 -- What the calls of the outside do, by the one call of the system that each makes.
-use Rattle.std.specs.Prelude.{◌≡◌, ◌≢◌, ◌↔◌, ℕ, zero, suc, ◌-◌, ◌^◌, ◌⊎◌, List, Option, Some, None, Result, Ok, Err, length}
+use Rattle.std.specs.Prelude.{◌≡◌, ◌≢◌, ◌↔◌, ℕ, zero, suc, ◌-◌, ◌^◌, ◌⊎◌, List, [], ◌∷◌, Option, Some, None, Result, Ok, Err, length}
 use Rattle.std.specs.IoError.{error_kind}
 use Rattle.std.specs.declared.io.ErrorKind.TheVariants as kinds
 use Rattle.std.specs.declared.io.Error.{Error as SystemError}
@@ -8,6 +8,7 @@ use Rattle.gs_port.specs.declared.sink.WriteAnswer.{WriteAnswer}
 use Rattle.gs_port.specs.declared.files.OpenAnswer.{OpenAnswer}
 use Rattle.gs_port.specs.declared.files.OpenAnswer.TheVariants as opening
 use Rattle.gs_port.specs.declared.door.AcceptAnswer.{AcceptAnswer}
+use Rattle.gs_port.specs.Files.{with_names}
 use Rattle.gs_port_system.specs.System.{IsTriedAgain, accept_answer_of, accepted_now, read_answer_of, write_answer_of}
 
 -- trusted, own: One call was made to read, and this is the answer to what it said: the number of its bytes, or an error.
@@ -41,6 +42,18 @@ pub record OpensOnce {S F : Type 0} (opens : S → List ℕ → Result F SystemE
   pub called : opens before name said now
   pub answered : AnswersOpen said answer
   pub current_is : current ≡ given said
+
+-- trusted, own: No call was made, for lack of memory.
+pub record LacksMemory {S F : Type 0} (before : S) (answer : OpenAnswer) (current : Option F) (now : S) : Type 0 where
+  pub same : now ≡ before
+  pub answered : answer ≡ opening.Memory
+  pub none : current ≡ None
+
+-- trusted, own: One call was made to open the named file, and its name is the last of those that were opened; or no call was
+-- made, for lack of memory for the name.
+abbrev pub OpensNamed : {S F : Type 0} → (S → List ℕ → Result F SystemError → S → Type 0) → S → List ℕ → Option (List (List ℕ)) → OpenAnswer → Option F → Option (List (List ℕ)) → S → Type 0
+OpensNamed opens before name names answer current names_now now =
+    LacksMemory before answer current now ⊎ (OpensOnce opens before name answer current now × (names_now ≡ with_names names (name ∷ [])))
 
 -- trusted, own: One call was made to read what is current, which stays so.
 pub record ReadsCurrent {R : Type 0} (reads : R → List ℕ → Result ℕ SystemError → R → Type 0) (current : Option R) (buffer : List ℕ) (answer : ReadAnswer) (current_now : Option R) : Type 0 where

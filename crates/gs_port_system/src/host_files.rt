@@ -3,7 +3,7 @@ ghost use Rattle.gs_port.specs.Answers.{CountsOpen, IfGot, IsZeroAtEnd, MovesFro
 ghost use Rattle.gs_port.specs.Answers.{count_after_read};
 ghost use Rattle.gs_port.specs.Counts.{Rises};
 ghost use Rattle.gs_port.specs.Files.{AddsNames};
-ghost use Rattle.gs_port_system.specs.Calls.{OpensOnce, ReadsCurrent};
+ghost use Rattle.gs_port_system.specs.Calls.{OpensNamed, ReadsCurrent};
 
 use crate::calls::FileCalls;
 use crate::system::{open_error, read_current};
@@ -11,7 +11,8 @@ use gs_port::{Files, OpenAnswer, OpenedNames, ReadAnswer};
 use std::alloc::Global;
 
 /// The files of the system, or of what stands for it. An open or a read is one call. Each error of one is counted, but for an
-/// error of out of memory, which an open answers by `Memory`. Nothing is known of the files but the names that were opened.
+/// error of out of memory, which an open answers by `Memory`; so it does, without a call, where memory runs out for the name.
+/// Nothing is known of the files but the names that were opened.
 #[derive(Drop)]
 pub struct HostFiles<S, F> {
     system: S,
@@ -48,7 +49,8 @@ impl<S: FileCalls> Files for HostFiles<S, S::File> {
     ghost opened = { λ s. s.opened };
 
     fn open(&mut self, name: &str) -> OpenAnswer
-        ensures called { OpensOnce S.opens self.old.system name.now result self.new.current self.new.system }
+        ensures called { OpensNamed S.opens self.old.system name.now self.old.opened result self.new.current
+            self.new.opened self.new.system }
         ensures opened { OnOpened result (is_some self.new.current ≡ true) }
         ensures not_opened { OnNotOpened result (is_some self.new.current ≡ false) }
         ensures failed { OpenFails result None name.now self.old.errors self.new.errors }
@@ -57,7 +59,9 @@ impl<S: FileCalls> Files for HostFiles<S, S::File> {
         ensures named { AddsNames self.old.opened (name.now ∷ []) self.new.opened }
     {
         self.current = None;
-        self.opened.add(name);
+        if self.opened.try_add(name).is_err() {
+            return OpenAnswer::Memory;
+        }
         match self.system.open_once(name) {
             Ok(file) => {
                 self.current = Some(file);

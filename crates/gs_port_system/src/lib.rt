@@ -1,7 +1,8 @@
 //! The system's objects of the outside: standard input and output, files, and a door that listens by TCP.
 //!
 //! - `StdinSource`, `StdoutSink`, `HostFiles` and `TcpDoor` count each error, but for an error of out of memory. Nothing is known
-//!   of their contents but the names that were opened. Each call of one makes one call of the system, and answers what that said.
+//!   of their contents but the names that were opened. Each call of one makes one call of the system, and answers what that said;
+//!   an open of a file makes none where memory runs out for its name.
 //! - `ReadCall`, `WriteCall`, `FileCalls` and `DoorCalls` are those calls of the system. `ScriptedCalls` makes them up.
 //!
 //! # Where it differs from the system

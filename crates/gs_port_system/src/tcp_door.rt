@@ -14,7 +14,7 @@ use std::io::{Error, ErrorKind, Result};
 
 /// A listener of the system's TCP, or of what stands for it, and one connection at a time. A read or a write is one call, and
 /// one that waits too long is an error. Each error is counted, but for an error of out of memory, which an open answers by
-/// `Memory`. Nothing is known of the connections.
+/// `Memory`. Nothing is known of the addresses and the connections.
 #[derive(Drop)]
 pub struct TcpDoor<S, L, T> {
     system: S,
@@ -147,7 +147,7 @@ impl<S: DoorCalls> Door for TcpDoor<S, S::Listener, S::Stream> {
         ensures failed { OnOpenFailed result (Rises self.old.errors self.new.errors) }
         ensures counts { self.old.errors ≤ self.new.errors }
         ensures aside { unknown_aside self.new.errors (is_some self.new.listener) self.new.reads_then self.new.writes_then
-            ≡ after_open result
+            ≡ after_open result None
             (unknown_aside self.old.errors (is_some self.old.listener) self.old.reads_then self.old.writes_then) }
         ensures same_current { self.new.current ≡ self.old.current }
         ensures same_reads { self.new.reads ≡ self.old.reads }

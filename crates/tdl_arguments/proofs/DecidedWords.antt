@@ -1,15 +1,14 @@
 -- Arguments ask for something, or for nothing.
 use Rattle.std.proofs.Common.{◌≡◌, ◌⊎◌, inl, inr, ℕ, true, false, List, [], ◌∷◌, Option, None, Some, refl, sym, ◌∙◌, ap}
-use Rattle.std.specs.Prelude.{is_none}
 use Rattle.gs_chars.proofs.TruthsAndLists.{true_or_false}
 use Rattle.gs_translate.specs.StepsSupport.{HasSome}
 use Rattle.tdl_arguments.specs.declared.command.Command.{Command}
 use Rattle.tdl_arguments.specs.declared.name.NameRow.{NameRow}
 use Rattle.tdl_arguments.specs.CommandReads.{command_of}
 use Rattle.tdl_arguments.specs.Commands.{names_of}
-use Rattle.tdl_arguments.specs.Names.{AreOfRows, ArePairs, has_required, look_up, takes}
+use Rattle.tdl_arguments.specs.Names.{AreOfRows, has_required, takes}
 use Rattle.tdl_arguments.specs.Requests.{Asked, Asks, WordsInOrder, asked_of}
-use Rattle.tdl_arguments.proofs.PairLemmas.{not_behind, not_once, not_taken, of_no_word, of_one_word, one_more, same_pairs}
+use Rattle.tdl_arguments.proofs.PairLemmas.{TakesBeside, not_behind, not_taken, of_no_word, of_one_word, one_more, same_pairs}
 use Rattle.tdl_arguments.proofs.RequestLemmas.{asks_of, not_in_order, order_of}
 
 -- a thing of which the fact holds, or none
@@ -21,17 +20,14 @@ Decided {X = X} Fact = HasSome Fact ⊎ ((x : X) → Fact x → ⊥)
 abbrev ArePairsOf : List NameRow → List (List ℕ) → Type 0
 ArePairsOf rows words = Decided (λ (pairs : List (List ℕ × List ℕ)). AreOfRows rows words pairs)
 
--- what is found is found in all lists of pairs that the arguments are, since they are one list
-found_in_all : (rows : List NameRow) (name : List ℕ) (words : List (List ℕ)) (pairs : List (List ℕ × List ℕ)) → AreOfRows rows words pairs → (others : List (List ℕ × List ℕ)) → ArePairs words others → look_up name pairs ≡ look_up name others
-found_in_all rows name words pairs of others are = ap (look_up name) (same_pairs words pairs others of.are are)
+-- what is taken is taken beside all lists of pairs that the arguments are, since they are one list
+taken_beside : (rows : List NameRow) (n v : List ℕ) (words : List (List ℕ)) (pairs : List (List ℕ × List ℕ)) → AreOfRows rows words pairs → TakesBeside rows n v words (takes rows n v pairs)
+taken_beside rows n v words pairs of others are = ap (takes rows n v) (same_pairs words pairs others of.are are)
 
 first_pair : (rows : List NameRow) (n v : List ℕ) (words : List (List ℕ)) (behind : HasSome (λ (pairs : List (List ℕ × List ℕ)). AreOfRows rows words pairs)) → ArePairsOf rows (n ∷ v ∷ words)
-first_pair rows n v words behind = elim (true_or_false (takes rows n v)) as (λ _. ArePairsOf rows (n ∷ v ∷ words)) [
-  | inr none ↦ inr (λ pairs. not_taken rows n v words pairs none)
-  | inl first ↦ elim (true_or_false (is_none (look_up n behind.0))) as (λ _. ArePairsOf rows (n ∷ v ∷ words)) [
-    | inl once ↦ inl (one_more rows n v words (look_up n behind.0) behind first once (found_in_all rows n words behind.0 behind.1))
-    | inr twice ↦ inr (λ pairs. not_once rows n v words pairs (look_up n behind.0) twice (found_in_all rows n words behind.0 behind.1))
-  ]
+first_pair rows n v words behind = elim (true_or_false (takes rows n v behind.0)) as (λ _. ArePairsOf rows (n ∷ v ∷ words)) [
+  | inl first ↦ inl (one_more rows n v words (takes rows n v behind.0) behind first (taken_beside rows n v words behind.0 behind.1))
+  | inr none ↦ inr (λ pairs. not_taken rows n v words pairs (takes rows n v behind.0) none (taken_beside rows n v words behind.0 behind.1))
 ]
 
 pairs_or_none : (rows : List NameRow) (words : List (List ℕ)) → ArePairsOf rows words

@@ -1,11 +1,9 @@
 -- Arguments that are pairs, and the look-up of a name in them.
-use Rattle.std.proofs.Common.{◌≡◌, ℕ, ◌<◌, Bool, true, false, List, [], ◌∷◌, Option, Some, None, length, refl, sym, ◌∙◌, ap, arith}
-use Rattle.std.specs.Prelude.{is_none, is_some, map, not, ◌==◌}
-use Rattle.std.specs.Borrow.{Bor}
+use Rattle.std.proofs.Common.{◌≡◌, ℕ, Bool, true, false, List, [], ◌∷◌, length, refl, sym, ◌∙◌, ap, arith}
+use Rattle.std.specs.Prelude.{map, ◌==◌}
 use Rattle.std.proofs.lemmas.Bool.{eqb-true}
 use Rattle.tdl_arguments.specs.declared.name.NameRow.{NameRow}
-use Rattle.tdl_arguments.specs.Requests.{known_name}
-use Rattle.tdl_arguments.specs.Names.{AreOfRows, ArePairs, AreTaken, look_up, no_pair, none_taken, one_pair, one_taken, takes}
+use Rattle.tdl_arguments.specs.Names.{AreOfRows, ArePairs, AreTaken, no_pair, none_taken, one_pair, one_taken, takes}
 
 -- ---- pairs that rows take
 
@@ -20,15 +18,14 @@ of_one_word rows [] pairs e of = absurd (omega arith)
 of_one_word rows (x ∷ []) pairs e of = one_word_no_pair x pairs of.are
 of_one_word rows (x ∷ y ∷ words) pairs e of = absurd (omega arith)
 
--- the other pairs, and that the first is taken and its name is none of theirs
+-- the other pairs, and that the first is taken beside them
 record Behind (rows : List NameRow) (n v : List ℕ) (words : List (List ℕ)) : Type 0 where
   others : List (List ℕ × List ℕ)
   of_rows : AreOfRows rows words others
-  takes_first : takes rows n v ≡ true
-  once : look_up n others ≡ None
+  takes_first : takes rows n v others ≡ true
 
 behind_from : (rows : List NameRow) (n v : List ℕ) (words : List (List ℕ)) (others : List (List ℕ × List ℕ)) → ArePairs words others → AreTaken rows ((n, v) ∷ others) → Behind rows n v words
-behind_from rows n v words others are (one_taken _ _ _ first once taken) = record { others = others; of_rows = record { are = are; taken = taken }; takes_first = first; once = once }
+behind_from rows n v words others are (one_taken _ _ _ first taken) = record { others = others; of_rows = record { are = are; taken = taken }; takes_first = first }
 
 behind_of : (rows : List NameRow) (n v : List ℕ) (words : List (List ℕ)) (pairs : List (List ℕ × List ℕ)) → ArePairs (n ∷ v ∷ words) pairs → AreTaken rows pairs → Behind rows n v words
 behind_of rows n v words pairs (one_pair _ _ _ others are) taken = behind_from rows n v words others are taken
@@ -36,39 +33,26 @@ behind_of rows n v words pairs (one_pair _ _ _ others are) taken = behind_from r
 pub not_behind : (rows : List NameRow) (n v : List ℕ) (words : List (List ℕ)) (pairs : List (List ℕ × List ℕ)) → ((others : List (List ℕ × List ℕ)) → AreOfRows rows words others → ⊥) → AreOfRows rows (n ∷ v ∷ words) pairs → ⊥
 not_behind rows n v words pairs none of = let b = behind_of rows n v words pairs of.are of.taken in none b.others b.of_rows
 
-pub not_taken : (rows : List NameRow) (n v : List ℕ) (words : List (List ℕ)) (pairs : List (List ℕ × List ℕ)) → takes rows n v ≡ false → AreOfRows rows (n ∷ v ∷ words) pairs → ⊥
-not_taken rows n v words pairs e of =
+-- whether a pair is taken beside the pairs that the other arguments are
+abbrev pub TakesBeside : List NameRow → List ℕ → List ℕ → List (List ℕ) → Bool → Type 0
+TakesBeside rows n v words taken = (others : List (List ℕ × List ℕ)) → ArePairs words others → taken ≡ takes rows n v others
+
+pub not_taken : (rows : List NameRow) (n v : List ℕ) (words : List (List ℕ)) (pairs : List (List ℕ × List ℕ)) (taken : Bool) → taken ≡ false → TakesBeside rows n v words taken → AreOfRows rows (n ∷ v ∷ words) pairs → ⊥
+not_taken rows n v words pairs taken e beside of =
     let b = behind_of rows n v words pairs of.are of.taken in
+    let is : taken ≡ takes rows n v b.others = beside b.others b.of_rows.are in
     let first = b.takes_first in
-    let same : false ≡ true = sym e ∙ first in cc
+    let same : false ≡ true = sym e ∙ is ∙ first in cc
 
-none_found : {X : Type 0} (o p : Option X) → is_none o ≡ false → o ≡ p → p ≡ None → ⊥
-none_found None p e same none = let f : true ≡ false = e in cc
-none_found (Some x) p e same none = let f : Some x ≡ None = same ∙ none in cc
-
-pub not_once : (rows : List NameRow) (n v : List ℕ) (words : List (List ℕ)) (pairs : List (List ℕ × List ℕ)) (found : Option (List ℕ)) → is_none found ≡ false → ((others : List (List ℕ × List ℕ)) → ArePairs words others → found ≡ look_up n others) → AreOfRows rows (n ∷ v ∷ words) pairs → ⊥
-not_once rows n v words pairs found e h of =
-    let b = behind_of rows n v words pairs of.are of.taken in
-    none_found found (look_up n b.others) e (h b.others b.of_rows.are) b.once
-
-none_is : {X : Type 0} (o : Option X) → is_none o ≡ true → o ≡ None
-none_is None e = refl
-none_is (Some x) e = absurd (let f : false ≡ true = e in cc)
-
-pub one_more : (rows : List NameRow) (n v : List ℕ) (words : List (List ℕ)) (found : Option (List ℕ)) → ((others : List (List ℕ × List ℕ)) × AreOfRows rows words others) → takes rows n v ≡ true → is_none found ≡ true → ((others : List (List ℕ × List ℕ)) → ArePairs words others → found ≡ look_up n others) → (pairs : List (List ℕ × List ℕ)) × AreOfRows rows (n ∷ v ∷ words) pairs
-one_more rows n v words found behind first e h =
-    let once : look_up n behind.0 ≡ None = sym (h behind.0 behind.1.are) ∙ none_is found e in
-    ((n, v) ∷ behind.0, record { are = one_pair n v words behind.0 behind.1.are; taken = one_taken n v behind.0 first once behind.1.taken })
+pub one_more : (rows : List NameRow) (n v : List ℕ) (words : List (List ℕ)) (taken : Bool) → ((others : List (List ℕ × List ℕ)) × AreOfRows rows words others) → taken ≡ true → TakesBeside rows n v words taken → (pairs : List (List ℕ × List ℕ)) × AreOfRows rows (n ∷ v ∷ words) pairs
+one_more rows n v words taken behind e beside =
+    let first : takes rows n v behind.0 ≡ true = sym (beside behind.0 behind.1.are) ∙ e in
+    ((n, v) ∷ behind.0, record { are = one_pair n v words behind.0 behind.1.are; taken = one_taken n v behind.0 first behind.1.taken })
 
 -- no argument is no pair, and is taken
 pub of_empty : {S : Type 0} (bytes : S → List ℕ) (rows : List NameRow) (words : List S) → true ≡ (length words == 0) → (pairs : List (List ℕ × List ℕ)) × AreOfRows rows (map bytes words) pairs
 of_empty bytes rows [] e = ([], of_no_word rows)
 of_empty bytes rows (x ∷ words) e = absurd (let n : length (x ∷ words) ≡ 0 = eqb-true (length (x ∷ words)) 0 (sym e) in omega arith)
-
--- no value was found
-pub known_none : (o : Option (Bor (List ℕ))) (none : Bool) → is_some o ≡ not none → none ≡ true → is_none (known_name o) ≡ true
-known_none None none e h = refl
-known_none (Some name) none e h = absurd (let f : true ≡ false = e ∙ ap not h in cc)
 
 -- ---- one request
 

@@ -1,8 +1,9 @@
 -- What arguments ask for.
-use Rattle.std.proofs.Common.{◌≡◌, ℕ, ◌≤◌, true, List, [], ◌∷◌, ◌++◌, Option, None, Some, arith, refl, subst, sym, ◌∙◌, ap, inl, inr}
+use Rattle.std.proofs.Common.{◌≡◌, ℕ, ◌≤◌, ◌&&◌, Bool, true, false, List, [], ◌∷◌, ◌++◌, Option, None, Some, append-nil, arith, drop, length, refl, subst, sym, ◌∙◌, ap, inl, inr}
+use Rattle.std.specs.List.{list_all}
 use Rattle.std.proofs.lemmas.Bool.{le-leb, leb-true}
-use Rattle.std.specs.Prelude.{bytes_eq, codes, option_and_then, option_map}
-use Rattle.gs_chars.proofs.TruthsAndLists.{equal_bytes, mapped_some, true_or_false}
+use Rattle.std.specs.Prelude.{bytes_eq, codes, find, option_and_then, option_map}
+use Rattle.gs_chars.proofs.TruthsAndLists.{and_parts, equal_bytes, mapped_some, true_or_false}
 use Rattle.gs_ident.proofs.PairLemmas.{found_passes}
 use Rattle.gs_translate.specs.declared.form.Form.{Form}
 use Rattle.gs_translate.specs.declared.form.Form.TheVariants as form
@@ -10,9 +11,9 @@ use Rattle.gs_translate.specs.declared.target.Target.{Target}
 use Rattle.gs_translate.specs.declared.target.Target.TheVariants as target
 use Rattle.gs_translate.specs.StepsSupport.{HasOne}
 use Rattle.tdl_arguments.specs.declared.command.Command.{Command}
-use Rattle.tdl_arguments.specs.declared.command.Command.TheVariants.{Canon, Translate, Check, Resolve, Serve, Gen}
-use Rattle.tdl_arguments.specs.CommandReads.{canon_of, command_of, gen_of, form_named, forms, target_named, targets, translation_of}
-use Rattle.tdl_arguments.specs.Commands.{command_words, form_word, operands_in_range, target_word}
+use Rattle.tdl_arguments.specs.declared.command.Command.TheVariants.{Canon, Translate, Check, Resolve, Serve, Gen, DumpRead, DumpWrite}
+use Rattle.tdl_arguments.specs.CommandReads.{behind_name, canon_of, command_of, gen_of, form_named, forms, operated_of, or_else, plain_command, plain_commands, plain_of, stands_before, target_named, targets, translation_of}
+use Rattle.tdl_arguments.specs.Commands.{command_name, command_words, form_word, operands_in_range, operands_of, target_word}
 use Rattle.tdl_arguments.specs.Requests.{Asked, Asks, NotInOrder, WordsInOrder, asked_of}
 use Rattle.tdl_arguments.specs.Ranges.{lines_of, most_lines}
 use Rattle.tdl_arguments.proofs.NumeralLemmas.{number_read, number_spelled}
@@ -59,6 +60,8 @@ command_read (Translate from to) behind fits = rw (form_read from, target_read t
 command_read Check behind fits = refl
 command_read Resolve behind fits = refl
 command_read Serve behind fits = refl
+command_read DumpRead behind fits = refl
+command_read DumpWrite behind fits = refl
 command_read (Gen lines) behind fits =
     let few : lines ≤ most_lines = leb-true lines most_lines fits in
     rw (number_read 0 most_lines lines (omega arith) (omega arith) few) refl
@@ -67,11 +70,42 @@ command_read (Gen lines) behind fits =
 abbrev AreOf : List (List ℕ) → Parts → Type 0
 AreOf words parts = (words ≡ command_words parts.0 ++ parts.1) × (operands_in_range parts.0 ≡ true)
 
+-- words that stand in front of arguments, and what stands behind them
+stands_split : (front words : List (List ℕ)) → stands_before front words ≡ true → words ≡ front ++ drop (length front) words
+stands_split [] words e = refl
+stands_split (word ∷ front) [] e = absurd (let f : false ≡ true = e in cc)
+stands_split (word ∷ front) (first ∷ words) e =
+    let both = and_parts (bytes_eq first word) (stands_before front words) e in
+    rw (equal_bytes first word both.0) (ap (λ ws. word ∷ ws) (stands_split front words both.1))
+
+-- what is found among those that all have a property has it
+found_has : {X : Type 0} (p property : X → Bool) (xs : List X) (x : X) → list_all property xs ≡ true → find p xs ≡ Some x → property x ≡ true
+found_has p property [] x all e = absurd (let f : None ≡ Some x = e in cc)
+found_has p property (y ∷ xs) x all e = elim (true_or_false (p y)) as (λ _. property x ≡ true) [
+  | inl is ↦
+      let found : Some y ≡ Some x = rw is at e in
+      let same : y ≡ x = cc in
+      rw same at (and_parts (property y) (list_all property xs) all).0
+  | inr not ↦ found_has p property xs x (and_parts (property y) (list_all property xs) all).1 (rw not at e)
+]
+
+abbrev is_empty : List (List ℕ) → Bool
+is_empty [] = true
+is_empty (word ∷ words) = false
+
+no_word : (words : List (List ℕ)) → is_empty words ≡ true → words ≡ []
+no_word [] e = refl
+no_word (word ∷ words) e = absurd (let f : false ≡ true = e in cc)
+
 -- a command without operands
-plain_spelled : (word : List ℕ) (words : List (List ℕ)) (command : Command) (parts : Parts) → command_words command ≡ word ∷ [] → operands_in_range command ≡ true → Some (command, words) ≡ Some parts → AreOf (word ∷ words) parts
-plain_spelled word words command parts spelled fits e =
-    let same = same_parts (command, words) parts e in
-    rw (← same, spelled) (refl, fits)
+plain_spelled : (words : List (List ℕ)) (parts : Parts) → plain_of words ≡ Some parts → AreOf words parts
+plain_spelled words parts e =
+    let m = mapped_some (behind_name words) (plain_command words) parts e in
+    let stands = found_passes (λ (command : Command). stands_before (command_name command) words) plain_commands m.0 m.1 in
+    let split = stands_split (command_name m.0) words stands in
+    let plain = and_parts _ _ (found_has (λ (command : Command). stands_before (command_name command) words) (λ command. is_empty (operands_of command) && operands_in_range command) plain_commands m.0 refl m.1) in
+    let of_found : AreOf words (behind_name words m.0) = rw (no_word (operands_of m.0) plain.0, append-nil (command_name m.0)) (split, plain.1) in
+    subst (λ (p : Parts). AreOf words p) m.2 of_found
 
 canon_spelled : (words : List (List ℕ)) (parts : Parts) → canon_of words ≡ Some parts → AreOf (codes "canon" ∷ words) parts
 canon_spelled [] parts e = absurd (let f : None ≡ Some parts = e in cc)
@@ -103,28 +137,26 @@ gen_spelled (word ∷ words) parts e =
     let of_made : AreOf (codes "gen" ∷ word ∷ words) made = (ap (λ (w : List ℕ). codes "gen" ∷ w ∷ words) spelled.1, le-leb m.0 most_lines few) in
     subst (λ (p : Parts). AreOf (codes "gen" ∷ word ∷ words) p) m.2 of_made
 
--- arguments that are read as a command are its arguments
-command_spelled : (words : List (List ℕ)) (parts : Parts) → command_of words ≡ Some parts → AreOf words parts
-command_spelled [] parts e = absurd (let f : None ≡ Some parts = e in cc)
-command_spelled (word ∷ words) parts e = elim (true_or_false (bytes_eq word (codes "canon"))) as (λ _. AreOf (word ∷ words) parts) [
+operated_spelled : (words : List (List ℕ)) (parts : Parts) → operated_of words ≡ Some parts → AreOf words parts
+operated_spelled [] parts e = absurd (let f : None ≡ Some parts = e in cc)
+operated_spelled (word ∷ words) parts e = elim (true_or_false (bytes_eq word (codes "canon"))) as (λ _. AreOf (word ∷ words) parts) [
   | inl is ↦ rw (equal_bytes word (codes "canon") is) (canon_spelled words parts (rw is at e))
   | inr canon ↦ elim (true_or_false (bytes_eq word (codes "translate"))) as (λ _. AreOf (word ∷ words) parts) [
     | inl is ↦ rw (equal_bytes word (codes "translate") is) (translation_spelled words parts (rw (canon, is) at e))
-    | inr translate ↦ elim (true_or_false (bytes_eq word (codes "check"))) as (λ _. AreOf (word ∷ words) parts) [
-      | inl is ↦ rw (equal_bytes word (codes "check") is) (plain_spelled (codes "check") words Check parts refl refl (rw (canon, translate, is) at e))
-      | inr check ↦ elim (true_or_false (bytes_eq word (codes "resolve"))) as (λ _. AreOf (word ∷ words) parts) [
-        | inl is ↦ rw (equal_bytes word (codes "resolve") is) (plain_spelled (codes "resolve") words Resolve parts refl refl (rw (canon, translate, check, is) at e))
-        | inr resolve ↦ elim (true_or_false (bytes_eq word (codes "serve"))) as (λ _. AreOf (word ∷ words) parts) [
-          | inl is ↦ rw (equal_bytes word (codes "serve") is) (plain_spelled (codes "serve") words Serve parts refl refl (rw (canon, translate, check, resolve, is) at e))
-          | inr serve ↦ elim (true_or_false (bytes_eq word (codes "gen"))) as (λ _. AreOf (word ∷ words) parts) [
-            | inl is ↦ rw (equal_bytes word (codes "gen") is) (gen_spelled words parts (rw (canon, translate, check, resolve, serve, is) at e))
-            | inr gen ↦ absurd (let f : None ≡ Some parts = rw (canon, translate, check, resolve, serve, gen) at e in cc)
-          ]
-        ]
-      ]
+    | inr translate ↦ elim (true_or_false (bytes_eq word (codes "gen"))) as (λ _. AreOf (word ∷ words) parts) [
+      | inl is ↦ rw (equal_bytes word (codes "gen") is) (gen_spelled words parts (rw (canon, translate, is) at e))
+      | inr gen ↦ absurd (let f : None ≡ Some parts = rw (canon, translate, gen) at e in cc)
     ]
   ]
 ]
+
+-- arguments that are read as a command are its arguments
+command_spelled : (words : List (List ℕ)) (parts : Parts) → command_of words ≡ Some parts → AreOf words parts
+command_spelled words parts e = by (plain_of words) refl e
+  where
+    by : (o : Option Parts) → plain_of words ≡ o → or_else o (operated_of words) ≡ Some parts → AreOf words parts
+    by None m f = operated_spelled words parts f
+    by (Some found) m f = plain_spelled words parts (m ∙ f)
 
 -- ---- what is asked
 

@@ -1,6 +1,7 @@
 -- Values that are named are in range.
 use Rattle.std.proofs.Common.{◌≡◌, ℕ, ◌≤◌, ◌&&◌, Bool, true, false, List, [], ◌∷◌, Option, None, Some, refl, sym, ◌∙◌, ap, inl, inr}
-use Rattle.std.specs.Prelude.{IfSome, bytes_eq, find, if◌then◌else◌, nat_le, option_and_then, unwrap_or}
+use Rattle.std.specs.List.{list_any}
+use Rattle.std.specs.Prelude.{IfSome, bytes_eq, find, if◌then◌else◌, nat_le, not, option_and_then, option_to_list, unwrap_or}
 use Rattle.std.proofs.lemmas.Bool.{leb-true}
 use Rattle.gs_chars.proofs.TruthsAndLists.{and_parts, equal_bytes, true_or_false}
 use Rattle.gs_dlink.specs.Stems.{stem_ok}
@@ -11,7 +12,7 @@ use Rattle.gs_translate.specs.Translations.{AreInOrder}
 use Rattle.tdl_arguments.specs.declared.name.Name.{Name}
 use Rattle.tdl_arguments.specs.declared.name.Name.TheVariants.{Tables, Prefixes, Links, Describe, Voc, Listen, Count, Filter, Gcp, Encoding, KeysOnly, Stem}
 use Rattle.tdl_arguments.specs.declared.name.NameRow.{NameRow}
-use Rattle.tdl_arguments.specs.Names.{AreTaken, in_range, look_up, name_word, none_taken, one_taken, takes}
+use Rattle.tdl_arguments.specs.Names.{AreTaken, in_range, is_given, look_up, name_takes, name_word, none_taken, one_taken, row_takes, takes}
 use Rattle.tdl_arguments.specs.Ranges.{filter_of, is_numeral, is_vocabulary}
 use Rattle.tdl_arguments.specs.Requests.{Asked, WordsInOrder, default_voc, no_options, options_of}
 
@@ -43,25 +44,37 @@ same_name one other e = let f : Some one ≡ Some other = sym (name_read one) �
 
 -- ---- values that are taken
 
+-- a name that takes a pair is the one of its word, whose range has the value
+taken_by_name : (other name : Name) (n value : List ℕ) → name_takes other n value ≡ true → bytes_eq n (name_word name) ≡ true → in_range name value ≡ true
+taken_by_name other name n value t e =
+    let both = and_parts (bytes_eq (name_word other) n) (in_range other value) t in
+    let same = same_name other name (equal_bytes (name_word other) n both.0 ∙ equal_bytes n (name_word name) e) in
+    rw same at both.1
+
+-- one of some names takes a pair
+taken_by_one : (others : List Name) (name : Name) (n value : List ℕ) → list_any (λ other. name_takes other n value) others ≡ true → bytes_eq n (name_word name) ≡ true → in_range name value ≡ true
+taken_by_one [] name n value t e = absurd (let f : false ≡ true = t in cc)
+taken_by_one (other ∷ others) name n value t e = elim (true_or_false (name_takes other n value)) as (λ _. in_range name value ≡ true) [
+  | inl here ↦ taken_by_name other name n value here e
+  | inr none ↦ taken_by_one others name n value (rw none at t) e
+]
+
 -- a row that takes a pair has its name, whose range has the value
-taken_in_range : (rows : List NameRow) (name : Name) (n value : List ℕ) → takes rows n value ≡ true → bytes_eq n (name_word name) ≡ true → in_range name value ≡ true
-taken_in_range [] name n value t e = absurd (let f : false ≡ true = t in cc)
-taken_in_range (row ∷ rows) name n value t e = elim (true_or_false (bytes_eq (name_word row.name) n && in_range row.name value)) as (λ _. in_range name value ≡ true) [
-  | inl here ↦
-      let both = and_parts (bytes_eq (name_word row.name) n) (in_range row.name value) here in
-      let same = same_name row.name name (equal_bytes (name_word row.name) n both.0 ∙ equal_bytes n (name_word name) e) in
-      rw same at both.1
-  | inr other ↦ taken_in_range rows name n value (rw other at t) e
+taken_in_range : (rows : List NameRow) (pairs : List (List ℕ × List ℕ)) (name : Name) (n value : List ℕ) → takes rows n value pairs ≡ true → bytes_eq n (name_word name) ≡ true → in_range name value ≡ true
+taken_in_range [] pairs name n value t e = absurd (let f : false ≡ true = t in cc)
+taken_in_range (row ∷ rows) pairs name n value t e = elim (true_or_false (not (is_given pairs row) && row_takes row n value)) as (λ _. in_range name value ≡ true) [
+  | inl here ↦ taken_by_one (row.name ∷ option_to_list row.instead) name n value (and_parts (not (is_given pairs row)) (row_takes row n value) here).1 e
+  | inr none ↦ taken_in_range rows pairs name n value (rw none at t) e
 ]
 
 -- the value of a name that is taken is in its range
 pub named_in_range : (rows : List NameRow) (pairs : List (List ℕ × List ℕ)) (name : Name) (value : List ℕ) → AreTaken rows pairs → look_up (name_word name) pairs ≡ Some value → in_range name value ≡ true
 named_in_range rows pairs name value none_taken e = absurd (let f : None ≡ Some value = e in cc)
-named_in_range rows pairs name value (one_taken n v others takes_it once rest) e = elim (true_or_false (bytes_eq n (name_word name))) as (λ _. in_range name value ≡ true) [
+named_in_range rows pairs name value (one_taken n v others takes_it rest) e = elim (true_or_false (bytes_eq n (name_word name))) as (λ _. in_range name value ≡ true) [
   | inl is ↦
       let found : Some v ≡ Some value = rw is at e in
       let same : v ≡ value = cc in
-      rw same at (taken_in_range rows name n v takes_it is)
+      rw same at (taken_in_range rows others name n v takes_it is)
   | inr differs ↦ named_in_range rows others name value rest (rw differs at e)
 ]
 

@@ -1,13 +1,14 @@
 -- How the arguments of a command are read, one by one. What a command's arguments are is said by `command_words`; laws join the two.
-use Rattle.std.specs.Prelude.{ℕ, if◌then◌else◌, List, [], ◌∷◌, map, codes, find, Option, Some, None, option_map, option_and_then, bytes_eq, string_bytes}
+use Rattle.std.specs.Prelude.{ℕ, if◌then◌else◌, ◌&&◌, Bool, true, false, List, [], ◌∷◌, length, drop, map, codes, find, Option, Some, None, option_map, option_and_then, bytes_eq, string_bytes}
+use Rattle.std.specs.Borrow.{Bor}
 use Rattle.gs_translate.specs.declared.form.Form.{Form}
 use Rattle.gs_translate.specs.declared.form.Form.TheVariants as form
 use Rattle.gs_translate.specs.declared.target.Target.{Target}
 use Rattle.gs_translate.specs.declared.target.Target.TheVariants as target
 use Rattle.tdl_arguments.specs.declared.command.Command.{Command}
-use Rattle.tdl_arguments.specs.declared.command.Command.TheVariants.{Canon, Translate, Check, Resolve, Serve, Gen}
+use Rattle.tdl_arguments.specs.declared.command.Command.TheVariants.{Canon, Translate, Check, Resolve, Serve, Gen, DumpRead, DumpWrite}
 use Rattle.tdl_arguments.specs.declared.arguments.Split.{Split}
-use Rattle.tdl_arguments.specs.Commands.{form_word, target_word}
+use Rattle.tdl_arguments.specs.Commands.{command_name, form_word, target_word}
 use Rattle.tdl_arguments.specs.Ranges.{lines_of}
 
 -- the forms that texts are read in
@@ -43,21 +44,53 @@ abbrev pub gen_of : List (List ℕ) → Option (Command × List (List ℕ))
 gen_of [] = None
 gen_of (word ∷ words) = option_map (λ lines. (Gen lines, words)) (lines_of word)
 
--- the arguments behind the word of a command
+-- the command with operands of a word and of the arguments behind it
 abbrev pub command_by : List ℕ → List (List ℕ) → Option (Command × List (List ℕ))
 command_by word words =
     if bytes_eq word (codes "canon") then canon_of words
     else if bytes_eq word (codes "translate") then translation_of words
-    else if bytes_eq word (codes "check") then Some (Check, words)
-    else if bytes_eq word (codes "resolve") then Some (Resolve, words)
-    else if bytes_eq word (codes "serve") then Some (Serve, words)
     else if bytes_eq word (codes "gen") then gen_of words
     else None
 
+-- the command with operands that arguments begin with, and the arguments behind it and its operands
+abbrev pub operated_of : List (List ℕ) → Option (Command × List (List ℕ))
+operated_of [] = None
+operated_of (word ∷ words) = command_by word words
+
+-- the words stand in front of the arguments
+abbrev pub stands_before : List (List ℕ) → List (List ℕ) → Bool
+stands_before [] words = true
+stands_before (word ∷ front) [] = false
+stands_before (word ∷ front) (first ∷ words) = bytes_eq first word && stands_before front words
+
+-- the commands without operands
+abbrev pub plain_commands : List Command
+plain_commands = Check ∷ Resolve ∷ Serve ∷ DumpRead ∷ DumpWrite ∷ []
+
+-- the command without operands that arguments begin with
+abbrev pub plain_command : List (List ℕ) → Option Command
+plain_command words = find (λ command. stands_before (command_name command) words) plain_commands
+
+-- the arguments behind the words of a command without operands
+abbrev pub behind_name : List (List ℕ) → Command → Command × List (List ℕ)
+behind_name words command = (command, drop (length (command_name command)) words)
+
+-- the command without operands that arguments begin with, and the arguments behind it
+abbrev pub plain_of : List (List ℕ) → Option (Command × List (List ℕ))
+plain_of words = option_map (behind_name words) (plain_command words)
+
+-- one, or the other where it is none
+abbrev pub or_else : {A : Type 0} → Option A → Option A → Option A
+or_else (Some a) other = Some a
+or_else None other = other
+
 -- the command that arguments begin with, and the arguments behind it and its operands
 abbrev pub command_of : List (List ℕ) → Option (Command × List (List ℕ))
-command_of [] = None
-command_of (word ∷ words) = command_by word words
+command_of words = or_else (plain_of words) (operated_of words)
+
+-- the words of a command, as contracts see them
+abbrev pub known_front : List (Bor (List ℕ)) → List (List ℕ)
+known_front words = map (λ (word : Bor (List ℕ)). word.now) words
 
 -- what was split, as contracts see it
 abbrev pub known_split : Option Split → Option (Command × List (List ℕ))

@@ -1,11 +1,11 @@
 -- The commands: for each the arguments of it and its operands, the names that it takes, and what it uses.
-use Rattle.std.specs.Prelude.{ℕ, nat_le, Bool, true, false, List, [], ◌∷◌, codes, decimal}
+use Rattle.std.specs.Prelude.{ℕ, nat_le, ◌||◌, Bool, true, false, List, [], ◌∷◌, ◌++◌, None, codes, decimal}
 use Rattle.gs_translate.specs.declared.form.Form.{Form}
 use Rattle.gs_translate.specs.declared.form.Form.TheVariants.{Hex, Tag, Pure, Raw, Bracketed, Link}
 use Rattle.tdl_arguments.specs.declared.command.Command.{Command}
 use Rattle.gs_translate.specs.declared.target.Target.{Target}
 use Rattle.gs_translate.specs.declared.target.Target.TheVariants as target
-use Rattle.tdl_arguments.specs.declared.command.Command.TheVariants.{Canon, Translate, Check, Resolve, Serve, Gen}
+use Rattle.tdl_arguments.specs.declared.command.Command.TheVariants.{Canon, Translate, Check, Resolve, Serve, Gen, DumpRead, DumpWrite}
 use Rattle.tdl_arguments.specs.declared.name.Name.{Name}
 use Rattle.tdl_arguments.specs.declared.name.Name.TheVariants.{Tables, Prefixes, Links, Describe, Voc, Listen, Count, Filter, Gcp, Encoding, KeysOnly, Stem}
 use Rattle.tdl_arguments.specs.declared.name.NameRow.{NameRow}
@@ -30,31 +30,40 @@ target_word target.Bracketed = codes "bracketed"
 target_word target.Link = codes "link"
 target_word target.Canon = codes "canon"
 
--- trusted, own: the arguments of a command and its operands
+-- trusted, own: the words of a command, without its operands
+abbrev pub command_name : Command → List (List ℕ)
+command_name (Canon form) = codes "canon" ∷ []
+command_name (Translate from to) = codes "translate" ∷ []
+command_name Check = codes "check" ∷ []
+command_name Resolve = codes "resolve" ∷ []
+command_name Serve = codes "serve" ∷ []
+command_name (Gen lines) = codes "gen" ∷ []
+command_name DumpRead = codes "dump" ∷ codes "read" ∷ []
+command_name DumpWrite = codes "dump" ∷ codes "write" ∷ []
+
+-- trusted, own: the operands of a command
+abbrev pub operands_of : Command → List (List ℕ)
+operands_of (Canon form) = form_word form ∷ []
+operands_of (Translate from to) = form_word from ∷ target_word to ∷ []
+operands_of (Gen lines) = decimal lines ∷ []
+operands_of command = []
+
+-- trusted, own: the words of a command and its operands
 abbrev pub command_words : Command → List (List ℕ)
-command_words (Canon form) = codes "canon" ∷ form_word form ∷ []
-command_words (Translate from to) = codes "translate" ∷ form_word from ∷ target_word to ∷ []
-command_words Check = codes "check" ∷ []
-command_words Resolve = codes "resolve" ∷ []
-command_words Serve = codes "serve" ∷ []
-command_words (Gen lines) = codes "gen" ∷ decimal lines ∷ []
+command_words command = command_name command ++ operands_of command
 
 -- trusted, own: the operands of a command are in range
 abbrev pub operands_in_range : Command → Bool
-operands_in_range (Canon form) = true
-operands_in_range (Translate from to) = true
-operands_in_range Check = true
-operands_in_range Resolve = true
-operands_in_range Serve = true
 operands_in_range (Gen lines) = nat_le lines most_lines
+operands_in_range command = true
 
 -- trusted, own: a name that may be absent
 abbrev pub optional : Name → NameRow
-optional name = record { name = name; required = false }
+optional name = record { name = name; instead = None; required = false }
 
 -- trusted, own: a name that must be there
 abbrev pub needed : Name → NameRow
-needed name = record { name = name; required = true }
+needed name = record { name = name; instead = None; required = true }
 
 -- trusted, own: the names that a command takes
 abbrev pub names_of : Command → List NameRow
@@ -65,39 +74,55 @@ names_of Check = optional Tables ∷ optional Prefixes ∷ optional Links ∷ op
 names_of Resolve = needed Links ∷ optional Tables ∷ optional Voc ∷ optional Describe ∷ []
 names_of Serve = needed Links ∷ needed Count ∷ optional Tables ∷ optional Voc ∷ optional Describe ∷ optional Listen ∷ []
 names_of (Gen lines) = optional Tables ∷ []
+names_of DumpRead = optional Tables ∷ []
+names_of DumpWrite = optional Tables ∷ []
+
+-- trusted, own: what a command works on: the lines of the input, the heads of the input, as those of one connection, the
+-- door, or none of these
+pub data Work : Type 0 where
+  on_lines : Work
+  on_heads : Work
+  on_door : Work
+  on_none : Work
+
+-- trusted, own: what a command works on
+abbrev pub work_of : Command → Work
+work_of (Canon form) = on_lines
+work_of (Translate from to) = on_lines
+work_of Check = on_none
+work_of Resolve = on_heads
+work_of Serve = on_door
+work_of (Gen lines) = on_none
+work_of DumpRead = on_lines
+work_of DumpWrite = on_lines
+
+-- trusted, own: the work is on the lines of the input
+abbrev pub is_on_lines : Work → Bool
+is_on_lines on_lines = true
+is_on_lines work = false
+
+-- trusted, own: the work is on the heads of the input
+abbrev pub is_on_heads : Work → Bool
+is_on_heads on_heads = true
+is_on_heads work = false
+
+-- trusted, own: the work is on the door
+abbrev pub is_on_door : Work → Bool
+is_on_door on_door = true
+is_on_door work = false
 
 -- trusted, own: the command answers the lines of the input
 abbrev pub answers_lines : Command → Bool
-answers_lines (Canon form) = true
-answers_lines (Translate from to) = true
-answers_lines Check = false
-answers_lines Resolve = false
-answers_lines Serve = false
-answers_lines (Gen lines) = false
-
--- trusted, own: the command uses the input
-abbrev pub reads_input : Command → Bool
-reads_input (Canon form) = true
-reads_input (Translate from to) = true
-reads_input Check = false
-reads_input Resolve = true
-reads_input Serve = false
-reads_input (Gen lines) = false
+answers_lines command = is_on_lines (work_of command)
 
 -- trusted, own: the command answers the heads of the input, as those of one connection
 abbrev pub answers_heads : Command → Bool
-answers_heads (Canon form) = false
-answers_heads (Translate from to) = false
-answers_heads Check = false
-answers_heads Resolve = true
-answers_heads Serve = false
-answers_heads (Gen lines) = false
+answers_heads command = is_on_heads (work_of command)
+
+-- trusted, own: the command uses the input
+abbrev pub reads_input : Command → Bool
+reads_input command = answers_lines command || answers_heads command
 
 -- trusted, own: the command uses the door
 abbrev pub uses_door : Command → Bool
-uses_door (Canon form) = false
-uses_door (Translate from to) = false
-uses_door Check = false
-uses_door Resolve = false
-uses_door Serve = true
-uses_door (Gen lines) = false
+uses_door command = is_on_door (work_of command)

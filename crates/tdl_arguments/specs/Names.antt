@@ -1,5 +1,5 @@
 -- Pairs of a name and its value, as they stand among the arguments of the command line.
-use Rattle.std.specs.Prelude.{◌≡◌, ℕ, ◌&&◌, ◌||◌, nat_lt, Bool, true, not, List, [], ◌∷◌, length, codes, Option, None, is_some, bytes_eq}
+use Rattle.std.specs.Prelude.{◌≡◌, ℕ, ◌&&◌, ◌||◌, nat_lt, Bool, true, not, List, [], ◌∷◌, length, codes, Option, is_some, option_to_list, bytes_eq}
 use Rattle.std.specs.List.{find, list_all, list_any}
 use Rattle.std.specs.Option.{option_map}
 use Rattle.gs_dlink.specs.Stems.{stem_ok}
@@ -42,34 +42,54 @@ in_range Encoding value = nat_lt 0 (length value)
 in_range KeysOnly value = bytes_eq value (codes "yes") || bytes_eq value (codes "no")
 in_range Stem value = stem_ok value
 
--- trusted, own: a row takes this name with this value
-abbrev pub takes : List NameRow → List ℕ → List ℕ → Bool
-takes rows name value = list_any (λ (row : NameRow). bytes_eq (name_word row.name) name && in_range row.name value) rows
-
 -- trusted, own: the value of the first pair with the name
 abbrev pub look_up : List ℕ → NamedPairs → Option (List ℕ)
 look_up name pairs = option_map (λ (pair : List ℕ × List ℕ). pair.1) (find (λ (pair : List ℕ × List ℕ). bytes_eq pair.0 name) pairs)
+
+-- trusted, own: pairs have a value of the name
+abbrev pub is_named : NamedPairs → Name → Bool
+is_named pairs name = is_some (look_up (name_word name) pairs)
+
+-- trusted, own: one of the names of a row, its own or that in its stead, has the property
+abbrev pub has_name : (Name → Bool) → NameRow → Bool
+has_name property row = list_any property (row.name ∷ option_to_list row.instead)
+
+-- trusted, own: the word is that of the name, and the name may have the value
+abbrev pub name_takes : Name → List ℕ → List ℕ → Bool
+name_takes name word value = bytes_eq (name_word name) word && in_range name value
+
+-- trusted, own: a row takes this name with this value
+abbrev pub row_takes : NameRow → List ℕ → List ℕ → Bool
+row_takes row word value = has_name (λ name. name_takes name word value) row
+
+-- trusted, own: pairs have a value of one of the names of the row
+abbrev pub is_given : NamedPairs → NameRow → Bool
+is_given pairs row = has_name (is_named pairs) row
+
+-- trusted, own: a row takes this name with this value, and none of its names has a value among the other pairs
+abbrev pub takes : List NameRow → List ℕ → List ℕ → NamedPairs → Bool
+takes rows name value others = list_any (λ (row : NameRow). not (is_given others row) && row_takes row name value) rows
 
 -- trusted, own: the arguments are these pairs, each a name and its value
 pub data ArePairs : List (List ℕ) → NamedPairs → Type 0 where
   no_pair : ArePairs [] []
   one_pair : (name value : List ℕ) (words : List (List ℕ)) (pairs : NamedPairs) → ArePairs words pairs → ArePairs (name ∷ value ∷ words) ((name, value) ∷ pairs)
 
--- trusted, own: the rows take each of the pairs, and each name stands at most once
+-- trusted, own: the rows take each of the pairs, each row at most one
 pub data AreTaken (rows : List NameRow) : NamedPairs → Type 0 where
   none_taken : AreTaken rows []
-  one_taken : (name value : List ℕ) (pairs : NamedPairs) → takes rows name value ≡ true → look_up name pairs ≡ None → AreTaken rows pairs → AreTaken rows ((name, value) ∷ pairs)
+  one_taken : (name value : List ℕ) (pairs : NamedPairs) → takes rows name value pairs ≡ true → AreTaken rows pairs → AreTaken rows ((name, value) ∷ pairs)
 
--- trusted, own: the arguments are pairs that the rows take, each name at most once
+-- trusted, own: the arguments are pairs that the rows take, each row at most one
 pub record AreOfRows (rows : List NameRow) (words : List (List ℕ)) (pairs : NamedPairs) : Type 0 where
   pub are : ArePairs words pairs
   pub taken : AreTaken rows pairs
 
--- trusted, own: the arguments are pairs that the rows take, each name at most once
+-- trusted, own: the arguments are pairs that the rows take, each row at most one
 abbrev pub HasPairs : List NameRow → List (List ℕ) → Type 0
 HasPairs rows words = (pairs : NamedPairs) × AreOfRows rows words pairs
 
--- trusted, own: the arguments are no pairs that the rows take, each name at most once
+-- trusted, own: the arguments are no pairs that the rows take, each row at most one
 abbrev pub HasNoPairs : List NameRow → List (List ℕ) → Type 0
 HasNoPairs rows words = (pairs : NamedPairs) → AreOfRows rows words pairs → ⊥
 
@@ -77,6 +97,6 @@ HasNoPairs rows words = (pairs : NamedPairs) → AreOfRows rows words pairs → 
 abbrev pub OfPairs : List (List ℕ) → (NamedPairs → Type 0) → Type 0
 OfPairs words Fact = (pairs : NamedPairs) → ArePairs words pairs → Fact pairs
 
--- trusted, own: each name that must be there is there
+-- trusted, own: each row that must be there is there by one of its names
 abbrev pub has_required : List NameRow → NamedPairs → Bool
-has_required rows pairs = list_all (λ (row : NameRow). not row.required || is_some (look_up (name_word row.name) pairs)) rows
+has_required rows pairs = list_all (λ (row : NameRow). not row.required || is_given pairs row) rows

@@ -90,8 +90,8 @@ named_values pairs = record {
 abbrev pub asked_of : Command → NamedPairs → Asked
 asked_of command pairs = record { command = command; files = named_files pairs; values = named_values pairs }
 
--- trusted, own: Arguments behind a command and its operands ask for this: they are pairs that the command takes, each name at
--- most once and those there that it must have, and what is asked is the look-up of the names.
+-- trusted, own: Arguments behind a command and its operands ask for this: they are pairs that the command takes, each row of
+-- its names at most once and those there that it must have, and what is asked is the look-up of the names.
 pub record Asks (command : Command) (words : List (List ℕ)) (asked : Asked) : Type 0 where
   pub pairs : NamedPairs
   pub of_rows : AreOfRows (names_of command) words pairs
@@ -140,17 +140,21 @@ options_of values = record { filter = values.filter; gcp = values.gcp; encoding 
 abbrev pub no_options : Options
 no_options = options_of (named_values [])
 
--- trusted, own: the names of the files that are read behind the tables and the company prefix lengths, in their order
-abbrev pub names_last : FileNames → List (List ℕ)
-names_last files = option_to_list files.links ++ option_to_list files.describe
+-- trusted, own: the names of the files of tables and of company prefix lengths, in their order
+abbrev pub tables_named : FileNames → List (List ℕ)
+tables_named files = option_to_list files.tables ++ option_to_list files.prefixes
 
--- trusted, own: the names of the files that are read behind the tables, in their order
-abbrev pub names_behind : FileNames → List (List ℕ)
-names_behind files = option_to_list files.prefixes ++ names_last files
+-- trusted, own: the names of the files of links
+abbrev pub links_named : FileNames → List (List ℕ)
+links_named files = option_to_list files.links
+
+-- trusted, own: the names of the files of the description of a resolver
+abbrev pub description_named : FileNames → List (List ℕ)
+description_named files = option_to_list files.describe
 
 -- trusted, own: the names of the files that are read, in their order
 abbrev pub names_in_order : FileNames → List (List ℕ)
-names_in_order files = option_to_list files.tables ++ names_behind files
+names_in_order files = tables_named files ++ (links_named files ++ description_named files)
 
 -- trusted, own: the arguments name a file
 pub record NamesFile (words : List (List ℕ)) (name : List ℕ) : Type 0 where
@@ -164,7 +168,8 @@ NamesNoFile words = (name : List ℕ) → NamesFile words name → ⊥
 
 -- trusted, own: what is printed where the arguments are not in order
 abbrev pub usage_line : List ℕ
-usage_line = codes "usage: tdl canon FORM | translate FROM TO | check | resolve | serve | gen N, then --name value pairs" ++ 10 ∷ []
+usage_line =
+    codes "usage: tdl canon FORM | translate FROM TO | check | resolve | serve | gen N | dump read | dump write, then --name value pairs" ++ 10 ∷ []
 
 -- trusted, own: the name of a file in a request
 abbrev pub known_name : Option (Bor (List ℕ)) → Option (List ℕ)

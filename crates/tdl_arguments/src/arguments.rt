@@ -1,5 +1,5 @@
 ghost use Rattle.std.specs.Prelude.{◌≡◌, ◌∷◌, IfSome, IfNone, Some, map, string_bytes};
-ghost use Rattle.tdl_arguments.specs.CommandReads.{canon_of, command_by, command_of, form_named, gen_of, target_named, known_split, translation_of};
+ghost use Rattle.tdl_arguments.specs.CommandReads.{canon_of, command_by, command_of, form_named, gen_of, known_front, known_split, operated_of, plain_command, plain_of, stands_before, target_named, translation_of};
 ghost use Rattle.tdl_arguments.specs.Commands.{form_word, target_word};
 ghost use Rattle.tdl_arguments.specs.Requests.{Asks, NotInOrder, WordsInOrder, known_request, known_words};
 ghost use Rattle.tdl_arguments.specs.RequestsSupport.{AsksNothing};
@@ -148,14 +148,47 @@ fn gen_of(words: &[String]) -> Option<Split<'_>>
     gen_by(words[0].as_str(), &words[1..])
 }
 
-/// A command without operands, and the arguments behind it.
-fn plain(command: Command, behind: &[String]) -> Option<Split<'_>>
-    ensures { known_split result ≡ Some (command, map string_bytes behind.now) }
+/// Whether the words stand in front of the arguments.
+fn stands_before(front: &[&str], words: &[String]) -> bool
+    ensures { result ≡ stands_before (known_front front.now) (map string_bytes words.now) }
 {
-    Some(Split { command, behind })
+    if front.is_empty() {
+        return true;
+    }
+    if words.is_empty() {
+        return false;
+    }
+    words[0].as_str() == front[0] && stands_before(&front[1..], &words[1..])
 }
 
-/// The command of a word and of the arguments behind it.
+/// The command without operands that the arguments begin with.
+fn plain_command(words: &[String]) -> Option<Command>
+    ensures { result ≡ plain_command (map string_bytes words.now) }
+{
+    [
+        Command::Check,
+        Command::Resolve,
+        Command::Serve,
+        Command::DumpRead,
+        Command::DumpWrite,
+    ]
+    .iter()
+    .find(|command| stands_before(command.words(), words))
+    .copied()
+}
+
+/// The command without operands that the arguments begin with, and the arguments behind it.
+fn plain_of(words: &[String]) -> Option<Split<'_>>
+    ensures { known_split result ≡ plain_of (map string_bytes words.now) }
+{
+    let command = plain_command(words)?;
+    Some(Split {
+        command,
+        behind: &words[command.words().len()..],
+    })
+}
+
+/// The command with operands of a word and of the arguments behind it.
 fn command_by<'a>(word: &str, behind: &'a [String]) -> Option<Split<'a>>
     ensures { known_split result ≡ command_by word.now (map string_bytes behind.now) }
 {
@@ -165,29 +198,30 @@ fn command_by<'a>(word: &str, behind: &'a [String]) -> Option<Split<'a>>
     if word == "translate" {
         return translation_of(behind);
     }
-    if word == "check" {
-        return plain(Command::Check, behind);
-    }
-    if word == "resolve" {
-        return plain(Command::Resolve, behind);
-    }
-    if word == "serve" {
-        return plain(Command::Serve, behind);
-    }
     if word == "gen" {
         return gen_of(behind);
     }
     None
 }
 
-/// The command that the arguments begin with, and the arguments behind it and its operands.
-fn command_of(words: &[String]) -> Option<Split<'_>>
-    ensures { known_split result ≡ command_of (map string_bytes words.now) }
+/// The command with operands that the arguments begin with, and the arguments behind it and its operands.
+fn operated_of(words: &[String]) -> Option<Split<'_>>
+    ensures { known_split result ≡ operated_of (map string_bytes words.now) }
 {
     if words.is_empty() {
         return None;
     }
     command_by(words[0].as_str(), &words[1..])
+}
+
+/// The command that the arguments begin with, and the arguments behind it and its operands.
+fn command_of(words: &[String]) -> Option<Split<'_>>
+    ensures { known_split result ≡ command_of (map string_bytes words.now) }
+{
+    match plain_of(words) {
+        Some(split) => Some(split),
+        None => operated_of(words),
+    }
 }
 
 /// The request of a command with the arguments behind its operands. `None` comes exactly where these are no pairs that the

@@ -1,5 +1,6 @@
 ghost use Rattle.std.specs.Prelude.{◌≡◌};
-ghost use Rattle.tdl_arguments.specs.Commands.{names_of};
+ghost use Rattle.tdl_arguments.specs.Commands.{command_name, names_of};
+ghost use Rattle.tdl_arguments.specs.CommandReads.{known_front};
 
 use crate::name::{Name, NameRow};
 use gs_translate::{Form, Target};
@@ -19,87 +20,120 @@ pub enum Command {
     Serve,
     /// Translates so many generated lines, and counts the answers.
     Gen(u32),
+    /// Answers each line of the input, a dump of the EPC memory bank, by the line that shows it.
+    DumpRead,
+    /// Answers each line of the input, which shows a dump of the EPC memory bank, by the dump.
+    DumpWrite,
 }
 
 /// The name of the file of tables, which may be absent.
 const TABLES: NameRow = NameRow {
     name: Name::Tables,
+    instead: None,
     required: false,
 };
 
 /// The name of the file of company prefix lengths, which may be absent.
 const PREFIXES: NameRow = NameRow {
     name: Name::Prefixes,
+    instead: None,
     required: false,
 };
 
 /// The name of the file of links, which may be absent.
 const LINKS: NameRow = NameRow {
     name: Name::Links,
+    instead: None,
     required: false,
 };
 
 /// The name of the file of links, which must be there.
 const LINKS_NEEDED: NameRow = NameRow {
     name: Name::Links,
+    instead: None,
     required: true,
 };
 
 /// The name of the description of the resolver, which may be absent.
 const DESCRIBE: NameRow = NameRow {
     name: Name::Describe,
+    instead: None,
     required: false,
 };
 
 /// The name of the address of a server, which may be absent.
 const LISTEN: NameRow = NameRow {
     name: Name::Listen,
+    instead: None,
     required: false,
 };
 
 /// The name of the number of connections, which must be there.
 const COUNT_NEEDED: NameRow = NameRow {
     name: Name::Count,
+    instead: None,
     required: true,
 };
 
 /// The name of the vocabulary, which may be absent.
 const VOC: NameRow = NameRow {
     name: Name::Voc,
+    instead: None,
     required: false,
 };
 
 /// The name of a filter value, which may be absent.
 const FILTER: NameRow = NameRow {
     name: Name::Filter,
+    instead: None,
     required: false,
 };
 
 /// The name of the number of digits of a company prefix, which may be absent.
 const GCP: NameRow = NameRow {
     name: Name::Gcp,
+    instead: None,
     required: false,
 };
 
 /// The name of an encoding of tags, which may be absent.
 const ENCODING: NameRow = NameRow {
     name: Name::Encoding,
+    instead: None,
     required: false,
 };
 
 /// The name of whether keys alone are kept, which may be absent.
 const KEYS_ONLY: NameRow = NameRow {
     name: Name::KeysOnly,
+    instead: None,
     required: false,
 };
 
 /// The name of the stem of links, which may be absent.
 const STEM: NameRow = NameRow {
     name: Name::Stem,
+    instead: None,
     required: false,
 };
 
 impl Command {
+    /// The words of the command, one or two, without its operands.
+    pub fn words(self) -> &'static [&'static str]
+        ensures { known_front result.now ≡ command_name self }
+    {
+        match self {
+            Command::Canon(_) => &["canon"],
+            Command::Translate(_, _) => &["translate"],
+            Command::Check => &["check"],
+            Command::Resolve => &["resolve"],
+            Command::Serve => &["serve"],
+            Command::Gen(_) => &["gen"],
+            Command::DumpRead => &["dump", "read"],
+            Command::DumpWrite => &["dump", "write"],
+        }
+    }
+
     /// The names that the command takes.
     pub fn names(self) -> &'static [NameRow]
         ensures { result.now ≡ names_of self }
@@ -110,7 +144,7 @@ impl Command {
             Command::Check => &[TABLES, PREFIXES, LINKS, VOC],
             Command::Resolve => &[LINKS_NEEDED, TABLES, VOC, DESCRIBE],
             Command::Serve => &[LINKS_NEEDED, COUNT_NEEDED, TABLES, VOC, DESCRIBE, LISTEN],
-            Command::Gen(_) => &[TABLES],
+            Command::Gen(_) | Command::DumpRead | Command::DumpWrite => &[TABLES],
         }
     }
 }

@@ -2,7 +2,6 @@
 //!
 //! - `read_arguments` gives the request of arguments: a command with its operands, the files that they name, and their values, each in range.
 //!   `without_program_name` gives the arguments of a process without the program's name.
-//! - `no_values` has the values where nothing is named.
 //!
 //! # Example
 //!
@@ -33,5 +32,4 @@ pub use arguments::read_arguments;
 pub use command::Command;
 pub use name::{Name, NameRow};
 pub use request::{NamedFiles, NamedValues, Request};
-pub use value_reader::no_values;
 pub use words::without_program_name;

@@ -1,5 +1,5 @@
 ghost use Rattle.std.specs.Prelude.{◌≡◌};
-ghost use Rattle.tdl_arguments.specs.Names.{in_range, name_word};
+ghost use Rattle.tdl_arguments.specs.Names.{in_range, name_takes, name_word, row_takes};
 
 use crate::ranges::{count_of, filter_of, gcp_of, is_vocabulary};
 use gs_dlink::stem_ok;
@@ -71,11 +71,34 @@ impl Name {
     }
 }
 
-/// A name in the row of a command.
+impl Name {
+    /// Whether the word is that of the name, and the name may have the value.
+    pub fn takes(self, word: &str, value: &str) -> bool
+        ensures { result ≡ name_takes self word.now value.now }
+    {
+        self.word() == word && self.has_in_range(value)
+    }
+}
+
+/// A row of the names of a command: a name, or another in its stead, of which one is given at most.
 #[derive(Clone, Copy)]
 pub struct NameRow {
     /// The name.
     pub name: Name,
-    /// Whether the command must have it.
+    /// The name that may stand in its stead.
+    pub instead: Option<Name>,
+    /// Whether the command must have one of the two.
     pub required: bool,
+}
+
+impl NameRow {
+    /// Whether one of the names of the row has this word, and may have this value.
+    pub fn takes(self, word: &str, value: &str) -> bool
+        ensures { result ≡ row_takes self word.now value.now }
+    {
+        match self.instead {
+            Some(other) => self.name.takes(word, value) || other.takes(word, value),
+            None => self.name.takes(word, value),
+        }
+    }
 }

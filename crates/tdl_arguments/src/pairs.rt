@@ -1,9 +1,9 @@
 ghost use Rattle.std.specs.Prelude.{◌≡◌, true, false};
 ghost use Rattle.tdl_arguments.specs.declared.name.NameRow.{NameRow};
-ghost use Rattle.tdl_arguments.specs.Names.{HasNoPairs, HasPairs, OfPairs, has_required, look_up, takes};
+ghost use Rattle.tdl_arguments.specs.Names.{HasNoPairs, HasPairs, OfPairs, has_required, is_given, is_named, look_up, takes};
 ghost use Rattle.tdl_arguments.specs.Requests.{known_name, known_words};
 
-use crate::name::NameRow;
+use crate::name::{Name, NameRow};
 
 /// The value of the first pair with the name, where the arguments are pairs.
 pub fn look_up<'a>(words: &'a [String], name: &str) -> Option<&'a str>
@@ -18,19 +18,37 @@ pub fn look_up<'a>(words: &'a [String], name: &str) -> Option<&'a str>
     look_up(&words[2..], name)
 }
 
-/// Whether a row takes this name with this value.
-fn takes(rows: &[NameRow], name: &str, value: &str) -> bool
-    ensures { result ≡ takes rows.now name.now value.now }
+/// Whether the name has a value, where the arguments are pairs.
+fn is_named(words: &[String], name: Name) -> bool
+    ensures { OfPairs (known_words words.now) (λ pairs. result ≡ is_named pairs name) }
+{
+    look_up(words, name.word()).is_some()
+}
+
+/// Whether a name of the row has a value, where the arguments are pairs.
+fn is_given(words: &[String], row: NameRow) -> bool
+    ensures { OfPairs (known_words words.now) (λ pairs. result ≡ is_given pairs row) }
+{
+    match row.instead {
+        Some(other) => is_named(words, row.name) || is_named(words, other),
+        None => is_named(words, row.name),
+    }
+}
+
+/// Whether a row takes this name with this value, of which no name has a value among the others, where these are pairs.
+fn takes(rows: &[NameRow], name: &str, value: &str, others: &[String]) -> bool
+    ensures { OfPairs (known_words others.now) (λ pairs. result ≡ takes rows.now name.now value.now pairs) }
 {
     for row in rows {
-        if row.name.word() == name && row.name.has_in_range(value) {
+        let given = is_given(others, *row);
+        if !given && row.takes(name, value) {
             return true;
         }
     }
     false
 }
 
-/// Whether the arguments are pairs of names and values that the rows take, each name at most once.
+/// Whether the arguments are pairs of names and values that the rows take, each row at most once.
 pub fn are_of_rows(words: &[String], rows: &[NameRow]) -> bool
     ensures pairs { result ≡ true → HasPairs rows.now (known_words words.now) }
     ensures none { result ≡ false → HasNoPairs rows.now (known_words words.now) }
@@ -41,22 +59,19 @@ pub fn are_of_rows(words: &[String], rows: &[NameRow]) -> bool
     if words.len() == 1 {
         return false;
     }
-    if !are_of_rows(&words[2..], rows) {
+    let others = &words[2..];
+    if !are_of_rows(others, rows) {
         return false;
     }
-    let name = words[0].as_str();
-    if !takes(rows, name, words[1].as_str()) {
-        return false;
-    }
-    look_up(&words[2..], name).is_none()
+    takes(rows, words[0].as_str(), words[1].as_str(), others)
 }
 
-/// Whether each name that must be there is there, where the arguments are pairs.
+/// Whether each row that must be there is there by one of its names, where the arguments are pairs.
 pub fn has_required(words: &[String], rows: &[NameRow]) -> bool
     ensures { OfPairs (known_words words.now) (λ pairs. result ≡ has_required rows.now pairs) }
 {
     for row in rows {
-        if row.required && look_up(words, row.name.word()).is_none() {
+        if row.required && !is_given(words, *row) {
             return false;
         }
     }

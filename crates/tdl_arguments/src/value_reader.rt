@@ -1,4 +1,4 @@
-ghost use Rattle.std.specs.Prelude.{◌≡◌, [], Option, unwrap_or};
+ghost use Rattle.std.specs.Prelude.{◌≡◌, Option, unwrap_or};
 ghost use Rattle.tdl_arguments.specs.Names.{OfPairs};
 ghost use Rattle.tdl_arguments.specs.Ranges.{count_of, filter_of, gcp_of};
 ghost use Rattle.tdl_arguments.specs.Requests.{count_named, named_files, named_values, number_named, known_files, known_values, known_words, value_or};
@@ -75,11 +75,4 @@ pub fn named_values(words: &[String]) -> NamedValues<'_>
         keys_only: value_or(words, Name::KeysOnly, "no") == "yes",
         stem: value_or(words, Name::Stem, CANONICAL_STEM),
     }
-}
-
-/// The values where nothing is named.
-pub fn no_values<'a>() -> NamedValues<'a>
-    ensures { known_values result ≡ named_values [] }
-{
-    named_values(&[])
 }

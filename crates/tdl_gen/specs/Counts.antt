@@ -1,6 +1,7 @@
 -- What is counted of the answers to the first lines of the generator, and how the counts are printed.
 use Rattle.std.specs.Prelude.{◌≡◌, ℕ, suc, false, List, [], ◌∷◌, ◌++◌, Result, Some, None, codes, decimal, count_by, flat_map, is_ok, length}
 use Rattle.gs_ident.specs.Links.{canonical_stem}
+use Rattle.tdl_messages.specs.AnswerLines.{line_of}
 use Rattle.tdl_lines.specs.Outputs.{printed}
 use Rattle.gs_tables.specs.Tables.{TableRows}
 use Rattle.gs_translate.specs.declared.form.Form.{Form}
@@ -9,9 +10,9 @@ use Rattle.gs_translate.specs.declared.options.Options.{Options}
 use Rattle.gs_translate.specs.declared.reason.Reason.{Reason}
 use Rattle.gs_translate.specs.declared.target.Target.{Target}
 use Rattle.gs_translate.specs.declared.target.Target.TheVariants as target
+use Rattle.gs_translate.specs.Reasons.{reason_text}
 use Rattle.gs_translate.specs.Steps.{Then}
 use Rattle.gs_translate.specs.Translations.{IsTranslation}
-use Rattle.tdl_messages.specs.AnswerLines.{line_of}
 use Rattle.tdl_gen.specs.Generator.{generated_line}
 
 -- trusted, own: what is said beside the lines: filter value 1, and all else as it is where nothing is named
@@ -35,7 +36,7 @@ pub data AnswersFirst (set : TableRows) : ℕ → List (Result (List ℕ) Reason
 
 -- trusted, own: the bytes of the line of an answer, with its line feed
 abbrev pub answer_bytes : Result (List ℕ) Reason → List ℕ
-answer_bytes answer = printed (line_of answer)
+answer_bytes answer = printed (line_of reason_text answer)
 
 -- trusted, own: how many answers are texts
 abbrev pub ok_answers : List (Result (List ℕ) Reason) → ℕ

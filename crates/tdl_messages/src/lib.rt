@@ -1,8 +1,9 @@
 //! The lines that the program prints of answers to texts, and of files that are rejected.
 //!
-//! - `append_line` appends the line of an answer, `ok TEXT` or `no REASON`; `append_accepted` and `append_refused` append either.
-//! - `refused_line` is the line that is printed of a rejected file. What it says of each error is a text of docs/FORMATS.md, 'The
-//!   command line'. The texts of reasons stand in gs_translate.
+//! - `append_line` appends the line of an answer, `ok TEXT` or `no REASON`, whatever the reasons are (`Reasoned`); `append_accepted`
+//!   and `append_rejected` append either.
+//! - `rejected_line` is the line that is printed of a rejected file. What it says of each error is a text of docs/FORMATS.md, 'The
+//!   command line'. The texts of the reasons of translations stand in gs_translate.
 //! - `FileKind` has the word of each kind of file, and the most bytes that such a file may have.
 //!
 //! # Example
@@ -23,10 +24,12 @@ mod answer_lines;
 mod file_kind;
 mod link_rejections;
 mod numbers;
+mod reasoned;
 mod rejection;
 mod rejections;
 
 pub use answer_lines::{append_accepted, append_line, append_rejected};
 pub use file_kind::FileKind;
+pub use reasoned::Reasoned;
 pub use rejection::{FileFault, Rejection};
 pub use rejections::rejected_line;

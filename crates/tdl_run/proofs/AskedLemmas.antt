@@ -2,56 +2,40 @@
 use Rattle.std.proofs.Common.{◌≡◌, ◌≢◌, ◌⊎◌, inl, inr, ℕ, ◌+◌, ◌≤◌, false, List, [], Option, refl, sym, ap, ◌∙◌}
 use Rattle.std.specs.Prelude.{Result, Ok, Err}
 use Rattle.tdl_lines.specs.declared.status.Status.{Status}
-use Rattle.tdl_gen.proofs.OneCount.{some_generated}
 use Rattle.tdl_lines.specs.declared.status.Status.TheVariants as status
 use Rattle.tdl_lines.specs.Outputs.{Appends}
 use Rattle.tdl_lines.specs.Printers.{IsInitialPart, PrintedAs}
-use Rattle.tdl_lines.specs.Statuses.{OnAnswered, OnCutShort, OnReadFault, OnRefused, OnWriteFault, OnWritten, is_answered, is_cut_short, is_read_error, is_written}
+use Rattle.tdl_lines.specs.Statuses.{OnAnswered, OnCutShort, OnReadFault, OnRefused, OnWriteFault, OnWritten, is_answered, is_cut_short, is_read_error, is_write_error, is_written}
 use Rattle.tdl_lines.proofs.StatusLemmas.{when_map}
 use Rattle.gs_port.specs.Connections.{Finished}
 use Rattle.gs_port.specs.Contents.{append_known, append_nothing}
 use Rattle.gs_port.specs.Counts.{Rises}
-use Rattle.gs_tables.specs.Judgements.{IsLoaded}
 use Rattle.gs_translate.specs.StepsSupport.{HasSome}
 use Rattle.tdl_messages.specs.declared.rejection.Rejection.{Rejection}
 use Rattle.tdl_messages.specs.Rejections.{rejected_line}
-use Rattle.tdl_arguments.specs.declared.command.Command.{Command}
-use Rattle.tdl_arguments.specs.declared.command.Command.TheVariants.{Canon, Translate, Check, Resolve, Serve, Gen}
-use Rattle.tdl_arguments.specs.Commands.{reads_input}
-use Rattle.tdl_arguments.specs.Requests.{Asked, Values}
+use Rattle.tdl_arguments.specs.Commands.{reads_input, work_of}
+use Rattle.tdl_arguments.specs.Requests.{Asked}
 use Rattle.tdl_run.specs.declared.loads.Loaded.{Loaded}
 use Rattle.tdl_run.specs.declared.loads.Unloaded.{Unloaded}
 use Rattle.tdl_run.specs.declared.loads.Unloaded.TheVariants as unloaded
 use Rattle.tdl_run.specs.Requests.{AskedRan, Reports}
 use Rattle.tdl_run.specs.Loads.{FilesGive, Stop, missing, rejected}
 use Rattle.tdl_run.specs.LoadsSupport.{LoadedBy}
-use Rattle.tdl_run.specs.CommandRuns.{BeginsOne, Moment}
-use Rattle.tdl_run.specs.RanSupport.{CommandCause, CommandRan}
+use Rattle.tdl_run.specs.CommandRuns.{BeginsOne, CutShort, Moment}
+use Rattle.tdl_run.specs.RanSupport.{CommandRan}
 use Rattle.tdl_run.specs.Runs.{AskedEnded, AskedRun, Counts, World, WritesAfterError, none_finished, ran, some_finished, stopped, stops}
-use Rattle.tdl_run.specs.Works.{CommandEnded, CommandRun, Doorway, Leaves, LeavesOutput, Outcome, canonizing, counts_line, input_limit, outcome_of, site_of, translating}
-use Rattle.tdl_run.proofs.LineLemmas.{translated_some}
+use Rattle.tdl_run.specs.Works.{CommandEnded, CommandRun, Doorway, Leaves, Outcome, doing_of, input_limit, outcome_of, site_of}
+use Rattle.tdl_run.proofs.DoingLemmas.{command_defined, doing_some, either_cause, ended_by}
 use Rattle.tdl_run.proofs.LoadLemmas.{files_some}
 use Rattle.tdl_run.proofs.RanLemmas.{PrintedCase, error, no_memory, printed_case, same_count, takes_nothing, whole}
 use Rattle.tdl_run.proofs.ReadLemmas.{loaded_of}
-use Rattle.tdl_run.proofs.ServeLemmas.{serves_some}
-use Rattle.tdl_run.proofs.SiteLemmas.{some_resolved}
 
 -- ---- what is asked has an outcome
 
-leaves_some : (IsOutput : List ℕ → Type 0) → HasSome IsOutput → HasSome (LeavesOutput IsOutput)
-leaves_some IsOutput some = (outcome_of some.0 status.Done, record { is_output = some.1; none_finished = refl; done = refl })
-
-command_some : (command : Command) (values : Values) (loaded : Loaded) (input : Option (List ℕ)) (door : Doorway) → IsLoaded loaded.tables → HasSome (CommandRun command values loaded input door)
-command_some (Canon form) values loaded input door keeps = translated_some (canonizing loaded form) input keeps
-command_some (Translate from to) values loaded input door keeps = translated_some (translating loaded values from to) input keeps
-command_some Check values loaded input door keeps = (outcome_of (counts_line loaded) status.Done, refl)
-command_some Resolve values loaded input door keeps = leaves_some _ (some_resolved (site_of loaded) input)
-command_some Serve values loaded input door keeps = serves_some (site_of loaded) values.count door
-command_some (Gen lines) values loaded input door keeps = leaves_some _ (some_generated loaded.tables keeps lines)
-
 asked_from : (asked : Asked) (world : World) (answer : Result Loaded Stop) → FilesGive world.files asked answer → HasSome (AskedRun asked world)
 asked_from asked world (Ok loaded) gives =
-    let c = command_some asked.command asked.values loaded world.input world.door (loaded_of world.files asked loaded gives) in
+    let defined = command_defined asked.command asked.values loaded (loaded_of world.files asked loaded gives) in
+    let c = doing_some (doing_of asked.command asked.values loaded) (site_of loaded) world.input world.door defined in
     (c.0, ran loaded gives c.1)
 asked_from asked world (Err stop) gives = (stopped stop, stops stop gives refl)
 
@@ -76,20 +60,16 @@ never_rejected status.Memory fact un = tt
 begins_asked : (asked : Asked) (world : World) (loaded : Loaded) (output : List ℕ) → FilesGive world.files asked (Ok loaded) → BeginsOne (CommandRun asked.command asked.values loaded world.input world.door) output → BeginsOne (AskedRun asked world) output
 begins_asked asked world loaded output gives b = record { outcome = b.outcome; is = ran loaded gives b.is; begins = b.begins }
 
-either_cause : (command : Command) (A B : Type 0) → CommandCause command A B → A ⊎ B
-either_cause (Canon form) A B cause = inl cause
-either_cause (Translate from to) A B cause = inl cause
-either_cause Check A B cause = inl cause
-either_cause Resolve A B cause = inl cause
-either_cause Serve A B cause = inr cause
-either_cause (Gen lines) A B cause = inl cause
+cut_asked : (asked : Asked) (world : World) (loaded : Loaded) (outcome : Outcome) → FilesGive world.files asked (Ok loaded) → CutShort (CommandRun asked.command asked.values loaded world.input world.door) outcome → CutShort (AskedRun asked world) outcome
+cut_asked asked world loaded outcome gives c = record { outcome = c.outcome; is = ran loaded gives c.is; begins = c.begins; same_finished = c.same_finished }
 
 pub asked_of_command : (asked : Asked) (world : World) (before now : Counts) (left : Option (List ℕ)) (loaded : Loaded) (outcome : Outcome) → FilesGive world.files asked (Ok loaded) → before.file_errors ≤ now.file_errors → CommandRan asked.command asked.values loaded world.door before.door_errors now.door_errors (record { input = world.input; input_errors = before.input_errors; output_errors = before.output_errors }) (record { input = left; input_errors = now.input_errors; output_errors = now.output_errors }) outcome → AskedRan asked world before now left outcome
 asked_of_command asked world before now left loaded outcome gives counts r = record {
   written = when_map (is_written outcome.status) (λ run. ran loaded gives run) r.written;
   begun = when_map (is_cut_short outcome.status) (begins_asked asked world loaded outcome.output gives) r.begun;
   finished = when_map (is_cut_short outcome.status) (λ served. some_finished loaded gives served) r.finished;
-  read_error = when_map (is_read_error outcome.status) (λ cause. inl (either_cause asked.command _ _ cause)) r.read_error;
+  cut = when_map (is_write_error outcome.status) (cut_asked asked world loaded outcome gives) r.cut;
+  read_error = when_map (is_read_error outcome.status) (λ cause. inl (either_cause (work_of asked.command) _ _ cause)) r.read_error;
   write_error = r.write_error;
   rejection = never_rejected outcome.status _ r.no_rejection;
   to_end = r.to_end;
@@ -101,25 +81,6 @@ asked_of_command asked world before now left loaded outcome gives counts r = rec
   no_usage = r.no_usage;
 }
 
-when_both : (A B : Type 0) (s : Status) → OnReadFault s A → OnReadFault s B → OnReadFault s (A × B)
-when_both A B status.Done a b = tt
-when_both A B status.SomeRefused a b = tt
-when_both A B status.Usage a b = tt
-when_both A B status.Refused a b = tt
-when_both A B status.ReadFault a b = (a, b)
-when_both A B status.WriteFault a b = tt
-when_both A B status.InputLong a b = tt
-when_both A B status.Memory a b = tt
-
--- a command by whose read error the input is as it was and nothing was written, or the input counted an error
-ended_by : (Same A B : Type 0) (command : Command) (values : Values) (loaded : Loaded) (before now : Option (List ℕ)) (output : List ℕ) (s : Status) → (reads_input command ≡ false → Same) → OnReadFault s (CommandCause command A B) → OnReadFault s (CommandEnded command values loaded before now output) → OnReadFault s ((Same × (output ≡ [])) ⊎ (A × CommandEnded command values loaded before now output))
-ended_by Same A B (Canon form) values loaded before now output s same cause ended = when_map (is_read_error s) (λ both. inr both) (when_both _ _ s cause ended)
-ended_by Same A B (Translate from to) values loaded before now output s same cause ended = when_map (is_read_error s) (λ both. inr both) (when_both _ _ s cause ended)
-ended_by Same A B Check values loaded before now output s same cause ended = when_map (is_read_error s) (λ e. absurd e) ended
-ended_by Same A B Resolve values loaded before now output s same cause ended = when_map (is_read_error s) (λ both. inr both) (when_both _ _ s cause ended)
-ended_by Same A B Serve values loaded before now output s same cause ended = when_map (is_read_error s) (λ none. inl (same refl, none)) ended
-ended_by Same A B (Gen lines) values loaded before now output s same cause ended = when_map (is_read_error s) (λ e. absurd e) ended
-
 -- what was written of what is asked after a read error
 ended_asked : (Same A : Type 0) (asked : Asked) (files : Option (List (List ℕ × List ℕ))) (before now held holds : Option (List ℕ)) (loaded : Loaded) (output : List ℕ) → FilesGive files asked (Ok loaded) → holds ≡ append_known held output → (Same × (output ≡ [])) ⊎ (A × CommandEnded asked.command asked.values loaded before now output) → (Same × Appends held holds (λ out. out ≡ [])) ⊎ (A × Appends held holds (AskedEnded asked files before now))
 ended_asked Same A asked files before now held holds loaded output gives wrote (inl both) = inl (both.0, (output, wrote, both.1))
@@ -130,7 +91,7 @@ pub ended_of_command : (Same : Type 0) (asked : Asked) (files : Option (List (Li
 ended_of_command Same asked files door errors errors' before now held holds ended ended' loaded s gives same a =
     let w = a.2 in
     when_map (is_read_error s) (ended_asked Same _ asked files before.input now.input held holds loaded w.0 gives w.1)
-    (ended_by Same (Rises before.input_errors now.input_errors) (Rises errors errors') asked.command asked.values loaded before.input now.input w.0 s same w.2.read_error w.2.ended)
+    (ended_by Same (Rises before.input_errors now.input_errors) (Rises errors errors') (doing_of asked.command asked.values loaded) (site_of loaded) before.input now.input w.0 s same w.2.read_error w.2.ended)
 
 -- ---- a file is rejected
 
@@ -138,24 +99,28 @@ begins_rejection : (asked : Asked) (world : World) (rejection : Rejection) (outp
 begins_rejection asked world rejection output gives part =
     record { outcome = stopped (rejected rejection); is = stops (rejected rejection) gives refl; begins = part }
 
+cut_rejection : (asked : Asked) (world : World) (rejection : Rejection) (output : List ℕ) → FilesGive world.files asked (Err (rejected rejection)) → IsInitialPart output (rejected_line rejection) → CutShort (AskedRun asked world) (outcome_of output status.WriteFault)
+cut_rejection asked world rejection output gives part =
+    record { outcome = stopped (rejected rejection); is = stops (rejected rejection) gives refl; begins = part; same_finished = refl }
+
 -- the facts of a run that leaves its input
-asked_by : (asked : Asked) (world : World) (before now : Counts) (output : List ℕ) (s : Status) → OnWritten s (AskedRun asked world (outcome_of output s)) → OnCutShort s (BeginsOne (AskedRun asked world) output) → OnReadFault s (Rises before.file_errors now.file_errors ⊎ FilesGive world.files asked (Err missing)) → OnWriteFault s (Rises before.output_errors now.output_errors) → OnRefused s ((rejection : Rejection) × FilesGive world.files asked (Err (rejected rejection))) → s ≢ status.Done → s ≢ status.SomeRefused → s ≢ status.InputLong → s ≢ status.Usage → before.file_errors ≤ now.file_errors → before.input_errors ≡ now.input_errors → before.output_errors ≤ now.output_errors → AskedRan asked world before now world.input (outcome_of output s)
-asked_by asked world before now output status.Done written begun read write rejection done some long usage files inputs outputs = absurd (done refl)
-asked_by asked world before now output status.SomeRefused written begun read write rejection done some long usage files inputs outputs = absurd (some refl)
-asked_by asked world before now output status.InputLong written begun read write rejection done some long usage files inputs outputs = absurd (long refl)
-asked_by asked world before now output status.Usage written begun read write rejection done some long usage files inputs outputs = absurd (usage refl)
-asked_by asked world before now output status.Refused written begun read write rejection done some long usage files inputs outputs = record { written = written; begun = tt; finished = tt; read_error = tt; write_error = tt; rejection = rejection; to_end = tt; long = tt; few = λ lines. takes_nothing (input_limit + 1) world.input; file_counts = files; input_counts = same_count _ _ inputs; output_counts = outputs; no_usage = usage }
-asked_by asked world before now output status.ReadFault written begun read write rejection done some long usage files inputs outputs = record { written = tt; begun = begun; finished = none_finished refl; read_error = inr read; write_error = tt; rejection = tt; to_end = tt; long = tt; few = λ lines. takes_nothing (input_limit + 1) world.input; file_counts = files; input_counts = same_count _ _ inputs; output_counts = outputs; no_usage = usage }
-asked_by asked world before now output status.WriteFault written begun read write rejection done some long usage files inputs outputs = record { written = tt; begun = begun; finished = none_finished refl; read_error = tt; write_error = write; rejection = tt; to_end = tt; long = tt; few = λ lines. takes_nothing (input_limit + 1) world.input; file_counts = files; input_counts = same_count _ _ inputs; output_counts = outputs; no_usage = usage }
-asked_by asked world before now output status.Memory written begun read write rejection done some long usage files inputs outputs = record { written = tt; begun = begun; finished = none_finished refl; read_error = tt; write_error = tt; rejection = tt; to_end = tt; long = tt; few = λ lines. takes_nothing (input_limit + 1) world.input; file_counts = files; input_counts = same_count _ _ inputs; output_counts = outputs; no_usage = usage }
+asked_by : (asked : Asked) (world : World) (before now : Counts) (output : List ℕ) (s : Status) → OnWritten s (AskedRun asked world (outcome_of output s)) → OnCutShort s (BeginsOne (AskedRun asked world) output) → OnWriteFault s (CutShort (AskedRun asked world) (outcome_of output s)) → OnReadFault s (Rises before.file_errors now.file_errors ⊎ FilesGive world.files asked (Err missing)) → OnWriteFault s (Rises before.output_errors now.output_errors) → OnRefused s ((rejection : Rejection) × FilesGive world.files asked (Err (rejected rejection))) → s ≢ status.Done → s ≢ status.SomeRefused → s ≢ status.InputLong → s ≢ status.Usage → before.file_errors ≤ now.file_errors → before.input_errors ≡ now.input_errors → before.output_errors ≤ now.output_errors → AskedRan asked world before now world.input (outcome_of output s)
+asked_by asked world before now output status.Done written begun cut read write rejection done some long usage files inputs outputs = absurd (done refl)
+asked_by asked world before now output status.SomeRefused written begun cut read write rejection done some long usage files inputs outputs = absurd (some refl)
+asked_by asked world before now output status.InputLong written begun cut read write rejection done some long usage files inputs outputs = absurd (long refl)
+asked_by asked world before now output status.Usage written begun cut read write rejection done some long usage files inputs outputs = absurd (usage refl)
+asked_by asked world before now output status.Refused written begun cut read write rejection done some long usage files inputs outputs = record { written = written; begun = tt; finished = tt; cut = tt; read_error = tt; write_error = tt; rejection = rejection; to_end = tt; long = tt; few = λ lines. takes_nothing (input_limit + 1) world.input; file_counts = files; input_counts = same_count _ _ inputs; output_counts = outputs; no_usage = usage }
+asked_by asked world before now output status.ReadFault written begun cut read write rejection done some long usage files inputs outputs = record { written = tt; begun = begun; finished = none_finished refl; cut = tt; read_error = inr read; write_error = tt; rejection = tt; to_end = tt; long = tt; few = λ lines. takes_nothing (input_limit + 1) world.input; file_counts = files; input_counts = same_count _ _ inputs; output_counts = outputs; no_usage = usage }
+asked_by asked world before now output status.WriteFault written begun cut read write rejection done some long usage files inputs outputs = record { written = tt; begun = begun; finished = none_finished refl; cut = cut; read_error = tt; write_error = write; rejection = tt; to_end = tt; long = tt; few = λ lines. takes_nothing (input_limit + 1) world.input; file_counts = files; input_counts = same_count _ _ inputs; output_counts = outputs; no_usage = usage }
+asked_by asked world before now output status.Memory written begun cut read write rejection done some long usage files inputs outputs = record { written = tt; begun = begun; finished = none_finished refl; cut = tt; read_error = tt; write_error = tt; rejection = tt; to_end = tt; long = tt; few = λ lines. takes_nothing (input_limit + 1) world.input; file_counts = files; input_counts = same_count _ _ inputs; output_counts = outputs; no_usage = usage }
 
 asked_of_rejection : (asked : Asked) (world : World) (before now : Counts) (rejection : Rejection) (output : List ℕ) (s : Status) → FilesGive world.files asked (Err (rejected rejection)) → PrintedAs status.Refused (rejected_line rejection) output s → OnWriteFault s (Rises before.output_errors now.output_errors) → before.file_errors ≤ now.file_errors → before.input_errors ≡ now.input_errors → before.output_errors ≤ now.output_errors → AskedRan asked world before now world.input (outcome_of output s)
 asked_of_rejection asked world before now rejection output s gives printed write files inputs outputs = by (printed_case status.Refused (rejected_line rejection) output s printed)
   where
     by : PrintedCase status.Refused (rejected_line rejection) output s → AskedRan asked world before now world.input (outcome_of output s)
-    by (whole e f) = rw (e, f) (asked_by asked world before now (rejected_line rejection) status.Refused (stops (rejected rejection) gives refl) tt tt tt (rejection, gives) (λ e. cc) (λ e. cc) (λ e. cc) (λ e. cc) files inputs outputs)
-    by (error e p) = let w : Rises before.output_errors now.output_errors = rw e at write in rw e (asked_by asked world before now output status.WriteFault tt (begins_rejection asked world rejection output gives p) tt w tt (λ e. cc) (λ e. cc) (λ e. cc) (λ e. cc) files inputs outputs)
-    by (no_memory e p) = rw e (asked_by asked world before now output status.Memory tt (begins_rejection asked world rejection output gives p) tt tt tt (λ e. cc) (λ e. cc) (λ e. cc) (λ e. cc) files inputs outputs)
+    by (whole e f) = rw (e, f) (asked_by asked world before now (rejected_line rejection) status.Refused (stops (rejected rejection) gives refl) tt tt tt tt (rejection, gives) (λ e. cc) (λ e. cc) (λ e. cc) (λ e. cc) files inputs outputs)
+    by (error e p) = let w : Rises before.output_errors now.output_errors = rw e at write in rw e (asked_by asked world before now output status.WriteFault tt (begins_rejection asked world rejection output gives p) (cut_rejection asked world rejection output gives p) tt w tt (λ e. cc) (λ e. cc) (λ e. cc) (λ e. cc) files inputs outputs)
+    by (no_memory e p) = rw e (asked_by asked world before now output status.Memory tt (begins_rejection asked world rejection output gives p) tt tt tt tt (λ e. cc) (λ e. cc) (λ e. cc) (λ e. cc) files inputs outputs)
 
 -- a rejection that is printed is no read error
 no_read_error : (fact : Type 0) (line output : List ℕ) (s : Status) → PrintedAs status.Refused line output s → OnReadFault s fact
@@ -170,11 +135,11 @@ no_read_error fact line output s printed = by (printed_case status.Refused line 
 
 asked_of_error : (asked : Asked) (world : World) (before now : Counts) → LoadedBy (FilesGive world.files asked) before.file_errors now.file_errors (Err unloaded.ReadFault) → before.file_errors ≤ now.file_errors → before.input_errors ≡ now.input_errors → before.output_errors ≤ now.output_errors → AskedRan asked world before now world.input (outcome_of [] status.ReadFault)
 asked_of_error asked world before now cause files inputs outputs =
-    asked_by asked world before now [] status.ReadFault tt (begins_nothing asked world) cause tt tt (λ e. cc) (λ e. cc) (λ e. cc) (λ e. cc) files inputs outputs
+    asked_by asked world before now [] status.ReadFault tt (begins_nothing asked world) tt cause tt tt (λ e. cc) (λ e. cc) (λ e. cc) (λ e. cc) files inputs outputs
 
 asked_of_memory : (asked : Asked) (world : World) (before now : Counts) → before.file_errors ≤ now.file_errors → before.input_errors ≡ now.input_errors → before.output_errors ≤ now.output_errors → AskedRan asked world before now world.input (outcome_of [] status.Memory)
 asked_of_memory asked world before now files inputs outputs =
-    asked_by asked world before now [] status.Memory tt (begins_nothing asked world) tt tt tt (λ e. cc) (λ e. cc) (λ e. cc) (λ e. cc) files inputs outputs
+    asked_by asked world before now [] status.Memory tt (begins_nothing asked world) tt tt tt tt (λ e. cc) (λ e. cc) (λ e. cc) (λ e. cc) files inputs outputs
 
 -- the line of a rejection answers nothing
 rejection_answered : (fact : Type 0) (line output : List ℕ) (s : Status) → PrintedAs status.Refused line output s → OnAnswered s fact

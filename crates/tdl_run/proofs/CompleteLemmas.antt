@@ -7,19 +7,16 @@ use Rattle.tdl_lines.specs.declared.status.Status.TheVariants as status
 use Rattle.tdl_lines.specs.Inputs.{IsKnown}
 use Rattle.tdl_lines.specs.Outputs.{AnswersInput, LineAnswer, status_of}
 use Rattle.tdl_lines.specs.Statuses.{OnReadFault, OnWriteFault, OnWritten, is_answered}
+use Rattle.gs_http.specs.Sites.{SiteData}
 use Rattle.gs_port.specs.Connections.{Finished}
 use Rattle.gs_port.specs.Counts.{Rises}
-use Rattle.tdl_arguments.specs.declared.command.Command.{Command}
-use Rattle.tdl_arguments.specs.declared.command.Command.TheVariants.{Canon, Translate, Check, Resolve, Serve, Gen}
-use Rattle.tdl_arguments.specs.Commands.{answers_lines}
-use Rattle.tdl_arguments.specs.Requests.{Asked, Values, WordsInOrder}
+use Rattle.tdl_arguments.specs.Commands.{Work, answers_lines, is_on_lines}
+use Rattle.tdl_arguments.specs.Requests.{Asked, WordsInOrder}
 use Rattle.tdl_arguments.proofs.RequestLemmas.{one_request}
-use Rattle.tdl_run.specs.declared.loads.Loaded.{Loaded}
 use Rattle.tdl_run.specs.Requests.{AskedRan}
-use Rattle.tdl_run.specs.LineAnswers.{IsTranslatedLine}
 use Rattle.tdl_run.specs.Loads.{FilesGive, Stop, missing}
 use Rattle.tdl_run.specs.Runs.{AskedRun, Counts, DefinedRun, InputFits, IsDoneOrMemory, IsMissing, IsWithin, LoadsAll, NoneRises, World, by_request, by_usage, ran, stops}
-use Rattle.tdl_run.specs.Works.{CommandRun, Doorway, Leaves, Outcome, canonizing, input_limit, translating}
+use Rattle.tdl_run.specs.Works.{Doing, DoingRun, Doorway, Leaves, Outcome, answers, doing_of, input_limit, prints, resolves, serves, site_of}
 use Rattle.tdl_run.proofs.RunLemmas.{defined_of, read_error_of}
 
 -- ---- what is defined is answered
@@ -41,17 +38,15 @@ answered_lines Is input output s within a =
     let fits : length a.bytes ≤ input_limit = rw same within.fits in
     rw a.has_status (answered_within a.bytes a.any_rejected fits)
 
--- the outcomes of a command, whose input fits where it answers its lines
-answered_command : (command : Command) (values : Values) (loaded : Loaded) (input : Option (List ℕ)) (door : Doorway) (outcome : Outcome) → (answers_lines command ≡ true → IsWithin input_limit input) → CommandRun command values loaded input door outcome → is_answered outcome.status ≡ true
-answered_command (Canon form) values loaded input door outcome fits r = answered_lines (IsTranslatedLine (canonizing loaded form)) input outcome.output outcome.status (fits refl) r.0
-answered_command (Translate from to) values loaded input door outcome fits r = answered_lines (IsTranslatedLine (translating loaded values from to)) input outcome.output outcome.status (fits refl) r.0
-answered_command Check values loaded input door outcome fits r = ap (λ (o : Outcome). is_answered o.status) r
-answered_command Resolve values loaded input door outcome fits r = ap is_answered r.done
-answered_command Serve values loaded input door outcome fits r = ap (λ (o : Outcome). is_answered o.status) r.is
-answered_command (Gen lines) values loaded input door outcome fits r = ap is_answered r.done
+-- the outcomes of what is done, whose input fits where its lines are answered
+answered_doing : {work : Work} (doing : Doing work) (site : SiteData) (input : Option (List ℕ)) (door : Doorway) (outcome : Outcome) → (is_on_lines work ≡ true → IsWithin input_limit input) → DoingRun doing site input door outcome → is_answered outcome.status ≡ true
+answered_doing (answers Is) site input door outcome fits r = answered_lines Is input outcome.output outcome.status (fits refl) r.0
+answered_doing resolves site input door outcome fits r = ap is_answered r.done
+answered_doing (serves count) site input door outcome fits r = ap (λ (o : Outcome). is_answered o.status) r.is
+answered_doing (prints IsOutput) site input door outcome fits r = ap is_answered r.done
 
 answered_asked : (asked : Asked) (world : World) (outcome : Outcome) → ((stop : Stop) → FilesGive world.files asked (Err stop) → ⊥) → (answers_lines asked.command ≡ true → IsWithin input_limit world.input) → AskedRun asked world outcome → is_answered outcome.status ≡ true
-answered_asked asked world outcome goes_on fits (ran loaded gives r) = answered_command asked.command asked.values loaded world.input world.door outcome fits r
+answered_asked asked world outcome goes_on fits (ran loaded gives r) = answered_doing (doing_of asked.command asked.values loaded) (site_of loaded) world.input world.door outcome fits r
 answered_asked asked world outcome goes_on fits (stops stop gives e) = absurd (goes_on stop gives)
 
 pub answered_run : (words : List (List ℕ)) (world : World) (outcome : Outcome) → LoadsAll words world.files → InputFits words world.input → DefinedRun words world outcome → is_answered outcome.status ≡ true

@@ -1,5 +1,5 @@
 -- What is loaded of a file of a kind, by how it was read and judged.
-use Rattle.std.proofs.Common.{ℕ, ◌≤◌, List, Option, Some, None, length, refl, sym, ap, inl, inr, arith}
+use Rattle.std.proofs.Common.{ℕ, ◌≤◌, List, Option, length, refl, sym, ap, inl, inr, arith}
 use Rattle.std.proofs.lemmas.Grind.{common_steps}
 use Rattle.std.specs.Prelude.{Result, Ok, Err}
 use Rattle.gs_port.specs.Counts.{Rises}

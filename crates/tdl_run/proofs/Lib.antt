@@ -6,11 +6,11 @@ pub mod LoadSteps
 pub mod LoadLemmas
 pub mod ReadLemmas
 pub mod RanLemmas
-pub mod LineLemmas
 pub mod SiteLemmas
 pub mod ServeLemmas
 pub mod GenLemmas
 pub mod CanonLaws
+pub mod DoingLemmas
 pub mod AskedLemmas
 pub mod RunLemmas
 pub mod CompleteLemmas

@@ -4,12 +4,10 @@ use Rattle.std.specs.Prelude.{Result, Ok, Err}
 use Rattle.std.proofs.lemmas.Bool.Decides.{leb_tells}
 use Rattle.gs_ai.specs.declared.row.AiRow.{AiRow}
 use Rattle.gs_tables_document.specs.declared.error.LoadFault.{LoadFault}
-use Rattle.gs_tables_document.specs.declared.level_name.LevelName.{LevelName}
 use Rattle.gs_links.specs.declared.link.Link.{Link}
 use Rattle.gs_linkset.specs.Answers.{read_answer}
 use Rattle.gs_port.specs.Files.{IsAbsent, IsFile, file_of}
 use Rattle.gs_prefix.specs.Answers.{load_answer}
-use Rattle.gs_prefix.specs.declared.entry.PrefixEntry.{PrefixEntry}
 use Rattle.gs_tables.specs.Judgements.{Judged}
 use Rattle.gs_tables.specs.Shapes.{AreAlike, BuiltInAnswer, HasMemory, LoadAnswer, Shape, but_text, same}
 use Rattle.gs_tables.specs.Tables.{TableRows}
@@ -23,10 +21,11 @@ use Rattle.tdl_messages.specs.declared.file_kind.FileKind.TheVariants as kind
 use Rattle.tdl_messages.specs.declared.rejection.FileFault.{FileFault}
 use Rattle.tdl_messages.specs.declared.rejection.FileFault.TheVariants.{Over}
 use Rattle.tdl_messages.specs.Rejections.{file_limit}
-use Rattle.tdl_arguments.specs.Requests.{Asked}
+use Rattle.tdl_arguments.specs.Requests.{Asked, FileNames}
 use Rattle.tdl_run.specs.declared.loads.Loaded.{Loaded}
-use Rattle.tdl_run.specs.Loads.{AreSettings, DescriptionGives, FileGives, FilesGive, Gives, GivesBehind, GivesLinks, GivesSettings, IsLoadedOf, AreNone, IsNoLink, IsNoPrefix, AreBytes, JudgesLinks, JudgesPrefixes, JudgesTables, LinksGive, PrefixesGive, SettingsGive, Stop, TablesGive, links_verdict, prefixes_verdict, absent, judged, missing, of_verdict, tables_verdict, too_large}
-use Rattle.tdl_run.specs.Runs.{ambiguous}
+use Rattle.tdl_run.specs.declared.loads.Tabled.{Tabled}
+use Rattle.tdl_run.specs.Loads.{AreSettings, DescriptionGives, FileGives, FilesGive, Gives, GivesLinks, GivesPrefixes, GivesSettings, IsLoadedOf, AreTabled, AreNone, IsNoLink, IsNoPrefix, AreBytes, JudgesLinks, JudgesPrefixes, JudgesTables, LinksGive, PrefixesGive, SettingsGive, Stop, TabledGive, TablesGive, links_verdict, prefixes_verdict, absent, judged, missing, of_verdict, tables_verdict, too_large}
+use Rattle.tdl_run.specs.Runs.{Ambiguity, ambiguous, of_tables}
 
 -- ---- at most one answer
 
@@ -36,10 +35,10 @@ same_file files name bytes other a b = let e : Some bytes ≡ Some other = sym a
 not_absent : (files : List (List ℕ × List ℕ)) (name bytes : List ℕ) → IsAbsent (Some files) name → IsFile (Some files) name bytes → ⊥
 not_absent files name bytes a b = let e : None ≡ Some bytes = sym a ∙ b in cc
 
--- two answers of a step are one, or both stop at one ambiguous level and one pair of its options, by texts that may differ
+-- two answers of a step are one, or both stop at one place where a text has two derivations, by texts that may differ
 pub data AlikeStops {A : Type 0} (one other : Result A Stop) : Type 0 where
   one_stop : one ≡ other → AlikeStops one other
-  two_texts : (name : LevelName) (i j : ℕ) (text text' : List ℕ) → one ≡ Err (ambiguous name i j text) → other ≡ Err (ambiguous name i j text') → AlikeStops one other
+  two_texts : (place : Ambiguity) (text text' : List ℕ) → one ≡ Err (ambiguous place text) → other ≡ Err (ambiguous place text') → AlikeStops one other
 
 -- verdicts on a kind of file are alike for a run
 abbrev AlikeVerdicts : {A : Type 0} → FileKind → (Result A FileFault → Type 0) → Type 0
@@ -70,7 +69,7 @@ tables_stop answer = of_verdict kind.Tables (tables_verdict answer)
 
 alike_answers : (one other : Result TableRows LoadFault) → AreAlike one other → AlikeStops (tables_stop one) (tables_stop other)
 alike_answers one other (same e) = one_stop (ap tables_stop e)
-alike_answers one other (but_text name i j text text' e f) = two_texts name i j text text' (ap tables_stop e) (ap tables_stop f)
+alike_answers one other (but_text name i j text text' e f) = two_texts (of_tables name i j) text text' (ap tables_stop e) (ap tables_stop f)
 
 tables_one : (Ruled : Result TableRows LoadFault → Type 0) → IsRuling Ruled → AlikeVerdicts kind.Tables (JudgesTables (Judged Ruled))
 tables_one Ruled ruling a b x y = rw (x.is, y.is) (alike_answers x.answer y.answer (judged_alike Ruled ruling x.answer y.answer x.is_answer y.is_answer x.enough y.enough))
@@ -78,11 +77,11 @@ tables_one Ruled ruling a b x y = rw (x.is, y.is) (alike_answers x.answer y.answ
 -- what is given and a stop are not alike, and two of what is given that are alike are one
 not_alike : {A : Type 0} (stop : Stop) (a : A) → AlikeStops (Ok a) (Err stop) → ⊥
 not_alike stop a (one_stop e) = let f : Ok a ≡ Err stop = e in cc
-not_alike stop a (two_texts name i j text text' e f) = let g : Ok a ≡ Err (ambiguous name i j text) = e in cc
+not_alike stop a (two_texts place text text' e f) = let g : Ok a ≡ Err (ambiguous place text) = e in cc
 
 same_given : {A : Type 0} (a a' : A) → AlikeStops (Ok a) (Ok a') → a ≡ a'
 same_given a a' (one_stop e) = let f : Ok a ≡ Ok a' = e in cc
-same_given a a' (two_texts name i j text text' e f) = absurd (let g : Ok a ≡ Err (ambiguous name i j text) = e in cc)
+same_given a a' (two_texts place text text' e f) = absurd (let g : Ok a ≡ Err (ambiguous place text) = e in cc)
 
 -- the answers of a step are alike
 abbrev AreAlikeAll : {A : Type 0} → (Result A Stop → Type 0) → Type 0
@@ -93,10 +92,10 @@ then_alike {A = A} {B = B} First Next alike next x y (rejects stop gives e) (rej
   where
     same_rejection : (stop stop' : Stop) → AlikeStops {A = A} (Err stop) (Err stop') → AlikeStops {A = B} (Err stop) (Err stop')
     same_rejection stop stop' (one_stop f) = let is : stop ≡ stop' = cc in one_stop (ap Err is)
-    same_rejection stop stop' (two_texts name i j text text' f g) =
-        let is : stop ≡ ambiguous name i j text = cc in
-        let is' : stop' ≡ ambiguous name i j text' = cc in
-        two_texts name i j text text' (ap Err is) (ap Err is')
+    same_rejection stop stop' (two_texts place text text' f g) =
+        let is : stop ≡ ambiguous place text = cc in
+        let is' : stop' ≡ ambiguous place text' = cc in
+        two_texts place text text' (ap Err is) (ap Err is')
 then_alike First Next alike next x y (rejects stop gives e) (goes_on a gives' n') = absurd (not_alike stop a (alike (Ok a) (Err stop) gives' gives))
 then_alike First Next alike next x y (goes_on a gives n) (rejects stop gives' e') = absurd (not_alike stop a (alike (Ok a) (Err stop) gives gives'))
 then_alike First Next alike next x y (goes_on a gives n) (goes_on a' gives' n') =
@@ -119,29 +118,36 @@ description_one files name = gives_one files kind.Describe AreBytes AreNone name
     (λ bytes x y e f. one_stop (ap (of_verdict kind.Describe) (e ∙ sym f)))
     (λ x y e f. one_stop (ap (of_verdict kind.Describe) (e ∙ sym f)))
 
-settings_one : (files : List (List ℕ × List ℕ)) (asked : Asked) → AreAlikeAll (SettingsGive (Some files) asked)
-settings_one files asked = then_alike (DescriptionGives (Some files) asked.files.describe) (AreSettings asked.values.voc)
-    (description_one files asked.files.describe)
+settings_one : (files : List (List ℕ × List ℕ)) (names : FileNames) (voc : List ℕ) → AreAlikeAll (SettingsGive (Some files) names voc)
+settings_one files names voc = then_alike (DescriptionGives (Some files) names.describe) (AreSettings voc)
+    (description_one files names.describe)
     (λ describe x y e f. one_stop (e ∙ sym f))
 
-last_one : (files : List (List ℕ × List ℕ)) (asked : Asked) (set : TableRows) (list : List PrefixEntry) (links : List Link) → AreAlikeAll (GivesSettings (Some files) asked set list links)
-last_one files asked set list links = then_alike (SettingsGive (Some files) asked) (IsLoadedOf set list links) (settings_one files asked)
+with_settings_one : (files : List (List ℕ × List ℕ)) (asked : Asked) (tabled : Tabled) (links : List Link) → AreAlikeAll (GivesSettings (Some files) asked tabled links)
+with_settings_one files asked tabled links = then_alike (SettingsGive (Some files) asked.files asked.values.voc) (IsLoadedOf tabled links)
+    (settings_one files asked.files asked.values.voc)
     (λ settings x y e f. one_stop (e ∙ sym f))
 
-with_links_one : (files : List (List ℕ × List ℕ)) (asked : Asked) (set : TableRows) (list : List PrefixEntry) → AreAlikeAll (GivesLinks (Some files) asked set list)
-with_links_one files asked set list = then_alike (LinksGive (Some files) set.ais asked.values.voc asked.files.links) (GivesSettings (Some files) asked set list)
-    (links_one files set.ais asked.values.voc asked.files.links)
-    (last_one files asked set list)
+with_links_one : (files : List (List ℕ × List ℕ)) (asked : Asked) (tabled : Tabled) → AreAlikeAll (GivesLinks (Some files) asked tabled)
+with_links_one files asked tabled = then_alike (LinksGive (Some files) tabled.tables.ais asked.values.voc asked.files.links) (GivesSettings (Some files) asked tabled)
+    (links_one files tabled.tables.ais asked.values.voc asked.files.links)
+    (with_settings_one files asked tabled)
 
-behind_one : (files : List (List ℕ × List ℕ)) (asked : Asked) (set : TableRows) → AreAlikeAll (GivesBehind (Some files) asked set)
-behind_one files asked set = then_alike (PrefixesGive (Some files) asked.files.prefixes) (GivesLinks (Some files) asked set) (prefixes_one files asked.files.prefixes)
-    (with_links_one files asked set)
+with_prefixes_one : (files : List (List ℕ × List ℕ)) (names : FileNames) (set : TableRows) → AreAlikeAll (GivesPrefixes (Some files) names set)
+with_prefixes_one files names set = then_alike (PrefixesGive (Some files) names.prefixes) (AreTabled set)
+    (prefixes_one files names.prefixes)
+    (λ list x y e f. one_stop (e ∙ sym f))
+
+tabled_one : (files : List (List ℕ × List ℕ)) (names : FileNames) → AreAlikeAll (TabledGive (Some files) names)
+tabled_one files names = then_alike (TablesGive (Some files) names.tables) (GivesPrefixes (Some files) names)
+    (gives_one files kind.Tables (λ bytes. JudgesTables (LoadAnswer bytes)) (JudgesTables BuiltInAnswer) names.tables
+    (λ bytes. tables_one (Shape bytes) (ruling_of_bytes bytes)) (tables_one RuledRows ruling_of_builtin))
+    (with_prefixes_one files names)
 
 pub files_one : (files : List (List ℕ × List ℕ)) (asked : Asked) (a b : Result Loaded Stop) → FilesGive (Some files) asked a → FilesGive (Some files) asked b → AlikeStops a b
-files_one files asked = then_alike (TablesGive (Some files) asked.files.tables) (GivesBehind (Some files) asked)
-    (gives_one files kind.Tables (λ bytes. JudgesTables (LoadAnswer bytes)) (JudgesTables BuiltInAnswer) asked.files.tables
-    (λ bytes. tables_one (Shape bytes) (ruling_of_bytes bytes)) (tables_one RuledRows ruling_of_builtin))
-    (behind_one files asked)
+files_one files asked = then_alike (TabledGive (Some files) asked.files) (GivesLinks (Some files) asked)
+    (tabled_one files asked.files)
+    (with_links_one files asked)
 
 -- ---- an answer
 
@@ -176,26 +182,33 @@ links_some files ais voc name = gives_some files kind.Links (JudgesLinks ais voc
 description_some : (files : Option (List (List ℕ × List ℕ))) (name : Option (List ℕ)) → HasSome (DescriptionGives files name)
 description_some files name = gives_some files kind.Describe AreBytes AreNone name (λ bytes. (Ok (Some bytes), refl)) (Ok None, refl)
 
-settings_some : (files : Option (List (List ℕ × List ℕ))) (asked : Asked) → HasSome (SettingsGive files asked)
-settings_some files asked = then_some (DescriptionGives files asked.files.describe) (AreSettings asked.values.voc)
-    (description_some files asked.files.describe)
-    (λ describe gives. (Ok (record { voc = asked.values.voc; describe = describe }), refl))
+settings_some : (files : Option (List (List ℕ × List ℕ))) (names : FileNames) (voc : List ℕ) → HasSome (SettingsGive files names voc)
+settings_some files names voc = then_some (DescriptionGives files names.describe) (AreSettings voc)
+    (description_some files names.describe)
+    (λ describe gives. (Ok (record { voc = voc; describe = describe }), refl))
 
-last_some : (files : Option (List (List ℕ × List ℕ))) (asked : Asked) (set : TableRows) (list : List PrefixEntry) (links : List Link) → HasSome (GivesSettings files asked set list links)
-last_some files asked set list links = then_some (SettingsGive files asked) (IsLoadedOf set list links) (settings_some files asked)
-    (λ settings gives. (Ok (record { tables = set; prefixes = list; links = links; settings = settings }), refl))
+with_settings_some : (files : Option (List (List ℕ × List ℕ))) (asked : Asked) (tabled : Tabled) (links : List Link) → HasSome (GivesSettings files asked tabled links)
+with_settings_some files asked tabled links = then_some (SettingsGive files asked.files asked.values.voc) (IsLoadedOf tabled links)
+    (settings_some files asked.files asked.values.voc)
+    (λ settings gives. (Ok (record { tables = tabled.tables; prefixes = tabled.prefixes; links = links; settings = settings }), refl))
 
-with_links_some : (files : Option (List (List ℕ × List ℕ))) (asked : Asked) (set : TableRows) (list : List PrefixEntry) → HasSome (GivesLinks files asked set list)
-with_links_some files asked set list = then_some (LinksGive files set.ais asked.values.voc asked.files.links) (GivesSettings files asked set list)
-    (links_some files set.ais asked.values.voc asked.files.links)
-    (λ links gives. last_some files asked set list links)
+with_links_some : (files : Option (List (List ℕ × List ℕ))) (asked : Asked) (tabled : Tabled) → HasSome (GivesLinks files asked tabled)
+with_links_some files asked tabled = then_some (LinksGive files tabled.tables.ais asked.values.voc asked.files.links) (GivesSettings files asked tabled)
+    (links_some files tabled.tables.ais asked.values.voc asked.files.links)
+    (λ links gives. with_settings_some files asked tabled links)
 
-behind_some : (files : Option (List (List ℕ × List ℕ))) (asked : Asked) (set : TableRows) → HasSome (GivesBehind files asked set)
-behind_some files asked set = then_some (PrefixesGive files asked.files.prefixes) (GivesLinks files asked set) (prefixes_some files asked.files.prefixes)
-    (λ list gives. with_links_some files asked set list)
+with_prefixes_some : (files : Option (List (List ℕ × List ℕ))) (names : FileNames) (set : TableRows) → HasSome (GivesPrefixes files names set)
+with_prefixes_some files names set = then_some (PrefixesGive files names.prefixes) (AreTabled set)
+    (prefixes_some files names.prefixes)
+    (λ list gives. (Ok (record { tables = set; prefixes = list }), refl))
+
+tabled_some : (files : Option (List (List ℕ × List ℕ))) (names : FileNames) → HasSome (TabledGive files names)
+tabled_some files names = then_some (TablesGive files names.tables) (GivesPrefixes files names)
+    (gives_some files kind.Tables (λ bytes. JudgesTables (LoadAnswer bytes)) (JudgesTables BuiltInAnswer) names.tables
+    (λ bytes. tables_some (LoadAnswer bytes) (judged_some (Shape bytes) (ruling_of_bytes bytes))) (tables_some BuiltInAnswer (judged_some RuledRows ruling_of_builtin)))
+    (λ set gives. with_prefixes_some files names set)
 
 pub files_some : (files : Option (List (List ℕ × List ℕ))) (asked : Asked) → HasSome (FilesGive files asked)
-files_some files asked = then_some (TablesGive files asked.files.tables) (GivesBehind files asked)
-    (gives_some files kind.Tables (λ bytes. JudgesTables (LoadAnswer bytes)) (JudgesTables BuiltInAnswer) asked.files.tables
-    (λ bytes. tables_some (LoadAnswer bytes) (judged_some (Shape bytes) (ruling_of_bytes bytes))) (tables_some BuiltInAnswer (judged_some RuledRows ruling_of_builtin)))
-    (λ set gives. behind_some files asked set)
+files_some files asked = then_some (TabledGive files asked.files) (GivesLinks files asked)
+    (tabled_some files asked.files)
+    (λ tabled gives. with_links_some files asked tabled)

@@ -1,17 +1,15 @@
 -- What a load did of the files, by what its steps did.
 use Rattle.std.proofs.Common.{ℕ, ◌≤◌, List, Option, Some, None, [], ◌++◌, ◌∷◌, ◌≡◌, suc, zero, take, length, refl, sym, ap, subst, ◌∙◌, inl, inr, arith}
-use Rattle.std.proofs.lemmas.Grind.{common_steps}
-use Rattle.std.specs.Prelude.{Result, Ok, Err, option_to_list}
-use Rattle.gs_port.specs.Counts.{Rises}
+use Rattle.std.specs.Prelude.{Result, Ok, Err}
 use Rattle.gs_port.specs.Files.{AddsNames, IsFile}
-use Rattle.gs_translate.specs.Steps.{Then, goes_on, rejects}
+use Rattle.gs_translate.specs.Steps.{Then, goes_on}
 use Rattle.tdl_messages.specs.declared.file_kind.FileKind.{FileKind}
 use Rattle.tdl_messages.specs.declared.rejection.FileFault.{FileFault}
 use Rattle.tdl_messages.specs.declared.rejection.FileFault.TheVariants.{Over}
 use Rattle.tdl_messages.specs.Rejections.{file_limit}
 use Rattle.tdl_run.specs.declared.loads.Unloaded.{Unloaded}
 use Rattle.tdl_run.specs.declared.loads.Unloaded.TheVariants as unloaded
-use Rattle.tdl_run.specs.Loads.{AreBytes, AreNone, BytesGive, FileGives, FilesInMemory, Gives, OpensFirst, StandsFor, Stop, absent, judged, missing, of_verdict, rejected, too_large}
+use Rattle.tdl_run.specs.Loads.{AreBytes, BytesGive, FileGives, FilesInMemory, Gives, OpensFirst, Stop, absent, judged, missing, of_verdict, rejected, too_large}
 use Rattle.tdl_run.specs.LoadsSupport.{FilesKnown, LoadedBy, Loads}
 use Rattle.tdl_run.specs.Reads.{ReadBy}
 use Rattle.tdl_run.proofs.FileLoads.{file_unloaded, loads_on, not_loaded}
@@ -149,8 +147,12 @@ loads_unread kind file As before now u read adds known counts = record {
   counts = counts;
 }
 
--- a description that is not read, as a step before the settings
-pub settings_stop : {A B C : Type 0} (First : Option FilesInMemory → Result A Stop → Type 0) (Middle : Option FilesInMemory → A → Result B Stop → Type 0) (Last : Option FilesInMemory → B → Result C Stop → Type 0) (names : List (List ℕ)) (As : Type 0) (before now : FilesKnown) (u : Unloaded) → Loads First names As before now (Err u) → Loads (Steps (Steps First Middle) Last) names As before now (Err u)
-settings_stop First Middle Last names As before now u l =
-    loads_failed First (Steps (Steps First Middle) Last) names As before now u l
-    (not_loaded (Steps First Middle before.files) (Last before.files) before.errors now.errors u (not_loaded (First before.files) (Middle before.files) before.errors now.errors u l.loaded))
+-- ---- a load, and a last step that reads no file
+
+pub stops_first : {A B : Type 0} (First : Option FilesInMemory → Result A Stop → Type 0) (Last : Option FilesInMemory → A → Result B Stop → Type 0) (names : List (List ℕ)) (As : Type 0) (before now : FilesKnown) (u : Unloaded) → Loads First names As before now (Err u) → Loads (Steps First Last) names As before now (Err u)
+stops_first First Last names As before now u l =
+    loads_failed First (Steps First Last) names As before now u l (not_loaded (First before.files) (Last before.files) before.errors now.errors u l.loaded)
+
+pub gives_last : {A B : Type 0} (First : Option FilesInMemory → Result A Stop → Type 0) (Last : Option FilesInMemory → A → Result B Stop → Type 0) (names : List (List ℕ)) (As : Type 0) (before now : FilesKnown) (a : A) (b : B) → Loads First names As before now (Ok a) → Last before.files a (Ok b) → Loads (Steps First Last) names As before now (Ok b)
+gives_last First Last names As before now a b l is =
+    loads_given First (Steps First Last) names As before now a (Ok b) l (goes_on a l.loaded is)

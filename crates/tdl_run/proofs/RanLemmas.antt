@@ -4,18 +4,18 @@ use Rattle.std.specs.Prelude.{option_map}
 use Rattle.tdl_lines.specs.declared.status.Status.{Status}
 use Rattle.tdl_lines.specs.declared.status.Status.TheVariants as status
 use Rattle.tdl_lines.specs.Inputs.{IsAtEnd, TakesAtMost, TakesMoreThan}
-use Rattle.tdl_lines.specs.Outputs.{AnswersEnded, AnswersInput, Appends, BeginsInput, LineAnswer, WritesAnswers}
+use Rattle.tdl_lines.specs.Outputs.{Appends, BeginsInput, LineAnswer, WritesAnswers}
 use Rattle.tdl_lines.specs.OutputsSupport.{HasAnswers}
 use Rattle.tdl_lines.specs.Printers.{IsInitialPart, PrintedAs}
 use Rattle.tdl_lines.specs.Statuses.{OnAnswered, OnCutShort, OnInputLong, OnReadFault, OnWriteFault, OnWritten, is_answered, is_cut_short, is_read_error, is_written}
-use Rattle.tdl_lines.proofs.OneOutcome.{whole_of_part}
+use Rattle.tdl_lines.proofs.OneOutcome.{some_outcome, whole_of_part}
 use Rattle.tdl_lines.proofs.StatusLemmas.{when_always, when_map}
 use Rattle.gs_port.specs.Connections.{Finished}
 use Rattle.gs_port.specs.Contents.{prepend_nothing}
 use Rattle.gs_port.specs.Counts.{Rises}
 use Rattle.gs_translate.specs.StepsSupport.{HasSome}
-use Rattle.tdl_run.specs.CommandRuns.{BeginsOne, Moment, Ran}
-use Rattle.tdl_run.specs.Works.{Leaves, Outcome, input_limit, outcome_of}
+use Rattle.tdl_run.specs.CommandRuns.{BeginsOne, CutShort, LinesRan, Moment, Ran}
+use Rattle.tdl_run.specs.Works.{Leaves, LinesAnswered, Outcome, input_limit, outcome_of}
 
 -- ---- counts
 
@@ -25,17 +25,38 @@ same_count before now e = omega arith
 
 -- ---- lines
 
-begins_by : (Is : List ℕ → LineAnswer → Type 0) (input : Option (List ℕ)) (output : List ℕ) → HasAnswers Is → BeginsInput Is input_limit input output → BeginsOne (λ outcome. AnswersInput Is input_limit input outcome.output outcome.status × (outcome.finished ≡ [])) output
+-- the lines of an input have some answers
+pub lines_some : (Is : List ℕ → LineAnswer → Type 0) (input : Option (List ℕ)) → HasAnswers Is → HasSome (LinesAnswered Is input)
+lines_some Is input some = let o = some_outcome Is input_limit input some in (outcome_of o.output o.status, (o.answers, refl))
+
+-- of what may be cut short, what is cut short by an error of the output
+pub when_cut : {A B : Type 0} (s : Status) → (A → B) → OnCutShort s A → OnWriteFault s B
+when_cut status.Done f a = tt
+when_cut status.SomeRefused f a = tt
+when_cut status.Usage f a = tt
+when_cut status.Refused f a = tt
+when_cut status.ReadFault f a = tt
+when_cut status.WriteFault f a = f a
+when_cut status.InputLong f a = tt
+when_cut status.Memory f a = tt
+
+begins_by : (Is : List ℕ → LineAnswer → Type 0) (input : Option (List ℕ)) (output : List ℕ) → HasAnswers Is → BeginsInput Is input_limit input output → BeginsOne (LinesAnswered Is input) output
 begins_by Is input output some b =
     let h = whole_of_part Is input_limit input output some b in
     record { outcome = outcome_of h.output h.status; is = (h.answers, refl); begins = h.begins }
 
+cut_by : (Is : List ℕ → LineAnswer → Type 0) (input : Option (List ℕ)) (output : List ℕ) (s : Status) → HasAnswers Is → BeginsInput Is input_limit input output → CutShort (LinesAnswered Is input) (outcome_of output s)
+cut_by Is input output s some b =
+    let h = whole_of_part Is input_limit input output some b in
+    record { outcome = outcome_of h.output h.status; is = (h.answers, refl); begins = h.begins; same_finished = refl }
+
 -- A command that answers the lines of its input, by what is an answer to a text.
-pub ran_of_lines : (Is : List ℕ → LineAnswer → Type 0) (before now : Moment) (output : List ℕ) (s : Status) → HasAnswers Is → WritesAnswers Is input_limit before.input now.input output s → OnAnswered s (IsAtEnd now.input) → OnInputLong s (TakesMoreThan input_limit before.input now.input) → TakesAtMost (input_limit + 1) before.input now.input → OnReadFault s (Rises before.input_errors now.input_errors) → OnWriteFault s (Rises before.output_errors now.output_errors) → before.input_errors ≤ now.input_errors → before.output_errors ≤ now.output_errors → s ≢ status.Usage → s ≢ status.Refused → Ran (λ o. AnswersInput Is input_limit before.input o.output o.status × (o.finished ≡ [])) (AnswersEnded Is before.input now.input) (λ status finished. finished ≡ []) (Rises before.input_errors now.input_errors) true before now (outcome_of output s)
+pub ran_of_lines : (Is : List ℕ → LineAnswer → Type 0) (before now : Moment) (output : List ℕ) (s : Status) → HasAnswers Is → WritesAnswers Is input_limit before.input now.input output s → OnAnswered s (IsAtEnd now.input) → OnInputLong s (TakesMoreThan input_limit before.input now.input) → TakesAtMost (input_limit + 1) before.input now.input → OnReadFault s (Rises before.input_errors now.input_errors) → OnWriteFault s (Rises before.output_errors now.output_errors) → before.input_errors ≤ now.input_errors → before.output_errors ≤ now.output_errors → s ≢ status.Usage → s ≢ status.Refused → LinesRan Is before now (outcome_of output s)
 ran_of_lines Is before now output s some writes end long few read write inputs outputs usage rejection = record {
   written = when_map (is_written s) (λ a. (a, refl)) writes.all;
   begun = when_map (is_cut_short s) (begins_by Is before.input output some) writes.first;
   finished = when_always (is_cut_short s) refl;
+  cut = when_cut s (cut_by Is before.input output s some) writes.first;
   read_error = read;
   ended = writes.ended;
   write_error = write;
@@ -72,11 +93,12 @@ takes_nothing most input = ([], omega arith, sym (prepend_nothing input))
 -- the facts of a command that leaves the input, by its status, which is no read error
 -- and that finished no connection
 module _ (Is : Outcome → Type 0) (Ended : List ℕ → Type 0) (Cause : Type 0) (lines : Bool) where
-  ran_by : (before now : Moment) (output : List ℕ) (s : Status) → OnWritten s (Is (outcome_of output s)) → OnCutShort s (BeginsOne Is output) → is_read_error s ≡ false → OnWriteFault s (Rises before.output_errors now.output_errors) → OnAnswered s (lines ≡ true → IsAtEnd now.input) → OnInputLong s (TakesMoreThan input_limit before.input now.input) → before.input ≡ now.input → before.input_errors ≡ now.input_errors → before.output_errors ≤ now.output_errors → s ≢ status.Usage → s ≢ status.Refused → Ran Is Ended (λ status finished. finished ≡ []) Cause lines before now (outcome_of output s)
-  ran_by before now output s written begun errorless write end long same inputs outputs usage rejection = record {
+  ran_by : (before now : Moment) (output : List ℕ) (s : Status) → OnWritten s (Is (outcome_of output s)) → OnCutShort s (BeginsOne Is output) → OnWriteFault s (CutShort Is (outcome_of output s)) → is_read_error s ≡ false → OnWriteFault s (Rises before.output_errors now.output_errors) → OnAnswered s (lines ≡ true → IsAtEnd now.input) → OnInputLong s (TakesMoreThan input_limit before.input now.input) → before.input ≡ now.input → before.input_errors ≡ now.input_errors → before.output_errors ≤ now.output_errors → s ≢ status.Usage → s ≢ status.Refused → Ran Is Ended (λ status finished. finished ≡ []) Cause lines before now (outcome_of output s)
+  ran_by before now output s written begun cut errorless write end long same inputs outputs usage rejection = record {
     written = written;
     begun = begun;
     finished = when_always (is_cut_short s) refl;
+    cut = cut;
     read_error = rw errorless tt;
     ended = rw errorless tt;
     write_error = write;
@@ -92,6 +114,9 @@ module _ (Is : Outcome → Type 0) (Ended : List ℕ → Type 0) (Cause : Type 0
   begins_some : (line output : List ℕ) (s : Status) → Is (outcome_of line s) → IsInitialPart output line → BeginsOne Is output
   begins_some line output s is part = record { outcome = outcome_of line s; is = is; begins = part }
 
+  cut_some : (line output : List ℕ) (s : Status) → Is (outcome_of line s) → IsInitialPart output line → CutShort Is (outcome_of output status.WriteFault)
+  cut_some line output s is part = record { outcome = outcome_of line s; is = is; begins = part; same_finished = refl }
+
   -- A command that reads nothing, and prints one line.
   pub ran_of_line : (line : List ℕ) (before now : Moment) (output : List ℕ) (s : Status) → Is (outcome_of line status.Done) → PrintedAs status.Done line output s → OnWriteFault s (Rises before.output_errors now.output_errors) → lines ≡ false → before.input ≡ now.input → before.input_errors ≡ now.input_errors → before.output_errors ≤ now.output_errors → Ran Is Ended (λ status finished. finished ≡ []) Cause lines before now (outcome_of output s)
   ran_of_line line before now output s is printed write none same inputs outputs = by (printed_case status.Done line output s printed)
@@ -100,16 +125,16 @@ module _ (Is : Outcome → Type 0) (Ended : List ℕ → Type 0) (Cause : Type 0
       no_lines does = absurd (let e : false ≡ true = sym none ∙ does in cc)
 
       by : PrintedCase status.Done line output s → Ran Is Ended (λ status finished. finished ≡ []) Cause lines before now (outcome_of output s)
-      by (whole e f) = rw (e, f) (ran_by before now line status.Done is tt refl tt no_lines tt same inputs outputs (λ e. cc) (λ e. cc))
-      by (error e p) = let w : Rises before.output_errors now.output_errors = rw e at write in rw e (ran_by before now output status.WriteFault tt (begins_some line output status.Done is p) refl w tt tt same inputs outputs (λ e. cc) (λ e. cc))
-      by (no_memory e p) = rw e (ran_by before now output status.Memory tt (begins_some line output status.Done is p) refl tt tt tt same inputs outputs (λ e. cc) (λ e. cc))
+      by (whole e f) = rw (e, f) (ran_by before now line status.Done is tt tt refl tt no_lines tt same inputs outputs (λ e. cc) (λ e. cc))
+      by (error e p) = let w : Rises before.output_errors now.output_errors = rw e at write in rw e (ran_by before now output status.WriteFault tt (begins_some line output status.Done is p) (cut_some line output status.Done is p) refl w tt tt same inputs outputs (λ e. cc) (λ e. cc))
+      by (no_memory e p) = rw e (ran_by before now output status.Memory tt (begins_some line output status.Done is p) tt refl tt tt tt same inputs outputs (λ e. cc) (λ e. cc))
 
   begins_any : HasSome Is → BeginsOne Is []
   begins_any some = record { outcome = some.0; is = some.1; begins = (0, refl) }
 
   -- A command that did nothing, since memory ran out.
   pub ran_of_memory : (before : Moment) → HasSome Is → Ran Is Ended (λ status finished. finished ≡ []) Cause lines before before (outcome_of [] status.Memory)
-  ran_of_memory before some = ran_by before before [] status.Memory tt (begins_any some) refl tt tt tt refl refl (omega arith) (λ e. cc) (λ e. cc)
+  ran_of_memory before some = ran_by before before [] status.Memory tt (begins_any some) tt refl tt tt tt refl refl (omega arith) (λ e. cc) (λ e. cc)
 
 -- ---- the door
 

@@ -13,11 +13,12 @@ use Rattle.tdl_messages.specs.declared.file_kind.FileKind.TheVariants as kind
 use Rattle.tdl_messages.specs.declared.rejection.FileFault.{FileFault}
 use Rattle.tdl_messages.specs.declared.rejection.FileFault.TheVariants.{Over, Tables}
 use Rattle.tdl_messages.specs.Rejections.{file_limit}
-use Rattle.tdl_arguments.specs.Requests.{Asked}
+use Rattle.tdl_arguments.specs.Requests.{Asked, FileNames}
 use Rattle.tdl_run.specs.declared.loads.Loaded.{Loaded}
+use Rattle.tdl_run.specs.declared.loads.Tabled.{Tabled}
 use Rattle.tdl_run.specs.declared.loads.Unloaded.{Unloaded}
 use Rattle.tdl_run.specs.declared.loads.Unloaded.TheVariants as unloaded
-use Rattle.tdl_run.specs.Loads.{FilesGive, JudgesTables, Stop, TablesGive, absent, judged, missing, of_verdict, rejected, tables_verdict, too_large}
+use Rattle.tdl_run.specs.Loads.{FilesGive, JudgesTables, Stop, TabledGive, TablesGive, absent, judged, missing, of_verdict, rejected, tables_verdict, too_large}
 use Rattle.tdl_run.specs.LoadsSupport.{LoadedBy}
 use Rattle.tdl_run.specs.Reads.{UnloadedAs}
 
@@ -62,11 +63,17 @@ loaded_named : (files : Option (List (List ℕ × List ℕ))) (name : Option (Li
 loaded_named files None set gives = loaded_tables BuiltInAnswer gives.verdict set (judged_loaded RuledRows ruling_of_builtin) gives.judged gives.is
 loaded_named files (Some name) set gives = loaded_file files name set gives
 
+tabled_loaded : (files : Option (List (List ℕ × List ℕ))) (names : FileNames) (tabled : Tabled) → TabledGive files names (Ok tabled) → IsLoaded tabled.tables
+tabled_loaded files names tabled (rejects stop gives e) = absurd (let f : Ok tabled ≡ Err stop = e in cc)
+tabled_loaded files names tabled (goes_on set gives (rejects stop g e)) = absurd (let f : Ok tabled ≡ Err stop = e in cc)
+tabled_loaded files names tabled (goes_on set gives (goes_on list g e)) =
+    let same : tabled ≡ record { tables = set; prefixes = list } = cc in
+    rw same (loaded_named files names.tables set gives)
+
 pub loaded_of : (files : Option (List (List ℕ × List ℕ))) (asked : Asked) (loaded : Loaded) → FilesGive files asked (Ok loaded) → IsLoaded loaded.tables
 loaded_of files asked loaded (rejects stop gives e) = absurd (let f : Ok loaded ≡ Err stop = e in cc)
-loaded_of files asked loaded (goes_on set gives (rejects stop g e)) = absurd (let f : Ok loaded ≡ Err stop = e in cc)
-loaded_of files asked loaded (goes_on set gives (goes_on list g (rejects stop h e))) = absurd (let f : Ok loaded ≡ Err stop = e in cc)
-loaded_of files asked loaded (goes_on set gives (goes_on list g (goes_on links h (rejects stop i e)))) = absurd (let f : Ok loaded ≡ Err stop = e in cc)
-loaded_of files asked loaded (goes_on set gives (goes_on list g (goes_on links h (goes_on settings i e)))) =
-    let same : loaded ≡ record { tables = set; prefixes = list; links = links; settings = settings } = cc in
-    rw same (loaded_named files asked.files.tables set gives)
+loaded_of files asked loaded (goes_on tabled gives (rejects stop g e)) = absurd (let f : Ok loaded ≡ Err stop = e in cc)
+loaded_of files asked loaded (goes_on tabled gives (goes_on links g (rejects stop h e))) = absurd (let f : Ok loaded ≡ Err stop = e in cc)
+loaded_of files asked loaded (goes_on tabled gives (goes_on links g (goes_on settings h e))) =
+    let same : loaded ≡ record { tables = tabled.tables; prefixes = tabled.prefixes; links = links; settings = settings } = cc in
+    rw same (tabled_loaded files asked.files tabled gives)

@@ -9,6 +9,7 @@ use Rattle.tdl_lines.specs.declared.status.Status.TheVariants as status
 use Rattle.tdl_lines.specs.Outputs.{Appends}
 use Rattle.tdl_lines.specs.Printers.{IsInitialPart}
 use Rattle.tdl_lines.specs.Statuses.{OnReadFault, OnWriteFault}
+use Rattle.gs_port.specs.Connections.{Aside}
 use Rattle.gs_port.specs.Counts.{Rises}
 use Rattle.tdl_serve.specs.Doors.{IsOver, ServeRan, line_of}
 use Rattle.gs_http.specs.Sites.{SiteData}
@@ -19,11 +20,11 @@ use Rattle.gs_translate.specs.StepsSupport.{HasSome}
 use Rattle.tdl_arguments.specs.declared.command.Command.TheVariants.{Serve}
 use Rattle.tdl_arguments.specs.Requests.{Values}
 use Rattle.tdl_run.specs.declared.loads.Loaded.{Loaded}
-use Rattle.tdl_run.specs.CommandRuns.{BeginsOne, Moment}
+use Rattle.tdl_run.specs.CommandRuns.{BeginsOne, CutShort, Moment}
 use Rattle.tdl_run.specs.RanSupport.{CommandRan}
 use Rattle.tdl_run.specs.Runs.{AlikeServed, AlikeVisits, more_visits, no_visits}
-use Rattle.tdl_run.specs.Works.{Doorway, Leaves, Outcome, Serves, ServesFirst, doorway_of, served_outcome, site_of}
-use Rattle.tdl_run.proofs.RanLemmas.{same_count}
+use Rattle.tdl_run.specs.Works.{Doorway, FinishesFirst, Leaves, Outcome, Serves, ServesFirst, doorway_of, served_outcome, site_of}
+use Rattle.tdl_run.proofs.RanLemmas.{none_more, same_count}
 use Rattle.tdl_run.proofs.SiteLemmas.{no_lines, one_replies_of_site}
 
 -- ---- some connections are served
@@ -159,6 +160,9 @@ module _ (loaded : Loaded) (values : Values) (errors errors' : ℕ) (before now 
   begins_line : (visits : List Visit) (output : List ℕ) → Visited (site_of loaded) door door' visits → length visits ≤ values.count → IsOver values.count door' visits → IsInitialPart output (line_of visits) → BeginsOne (Serves (site_of loaded) values.count Way) output
   begins_line visits output visited few over part = record { outcome = served_outcome visits; is = serves_of (site_of loaded) values.count door door' visits visited few over; begins = part }
 
+  cut_line : (visits : List Visit) (output : List ℕ) → Visited (site_of loaded) door door' visits → length visits ≤ values.count → IsOver values.count door' visits → IsInitialPart output (line_of visits) → CutShort (Serves (site_of loaded) values.count Way) (record { output = output; finished = entries_of visits; status = status.WriteFault })
+  cut_line visits output visited few over part = record { outcome = served_outcome visits; is = serves_of (site_of loaded) values.count door door' visits visited few over; begins = part; same_finished = refl }
+
   begins_nothing : (output : List ℕ) → output ≡ [] → BeginsOne (Serves (site_of loaded) values.count Way) output
   begins_nothing output none = let o = serves_some (site_of loaded) values.count Way in record { outcome = o.0; is = o.1; begins = (0, none) }
 
@@ -169,16 +173,16 @@ module _ (loaded : Loaded) (values : Values) (errors errors' : ℕ) (before now 
   served_as : (output : List ℕ) (s : Status) (r : ServeRan (site_of loaded) values.count door door' output s) → before.input ≡ now.input → before.input_errors ≡ now.input_errors → OnReadFault s (Rises errors errors') → OnWriteFault s (Rises before.output_errors now.output_errors) → before.output_errors ≤ now.output_errors → CommandRan Serve values loaded Way errors errors' before now (record { output = output; finished = entries_of r.visits; status = s })
   served_as output status.Done r same inputs read write outputs =
       let p = r.prints in
-      record { written = rw p.1 (serves_of (site_of loaded) values.count door door' r.visits r.visited r.few p.0); begun = tt; finished = tt; read_error = tt; ended = tt; write_error = tt; to_end = λ e. no_lines e; long = tt; few = λ e. no_lines e; input_counts = same_count _ _ inputs; output_counts = outputs; no_usage = λ e. cc; no_rejection = λ e. cc }
+      record { written = rw p.1 (serves_of (site_of loaded) values.count door door' r.visits r.visited r.few p.0); begun = tt; finished = tt; cut = tt; read_error = tt; ended = tt; write_error = tt; to_end = λ e. no_lines e; long = tt; few = λ e. no_lines e; input_counts = same_count _ _ inputs; output_counts = outputs; no_usage = λ e. cc; no_rejection = λ e. cc }
   served_as output status.ReadFault r same inputs read write outputs =
       let p = r.prints in
-      record { written = tt; begun = begins_nothing output p.1; finished = first_served output status.ReadFault r (λ e. p.0); read_error = read; ended = p.1; write_error = tt; to_end = tt; long = tt; few = λ e. no_lines e; input_counts = same_count _ _ inputs; output_counts = outputs; no_usage = λ e. cc; no_rejection = λ e. cc }
+      record { written = tt; begun = begins_nothing output p.1; finished = first_served output status.ReadFault r (λ e. p.0); cut = tt; read_error = read; ended = p.1; write_error = tt; to_end = tt; long = tt; few = λ e. no_lines e; input_counts = same_count _ _ inputs; output_counts = outputs; no_usage = λ e. cc; no_rejection = λ e. cc }
   served_as output status.WriteFault r same inputs read write outputs =
       let p = r.prints in
       let over = p.0 in
-      record { written = tt; begun = begins_line r.visits output r.visited r.few p.0 p.1; finished = first_served output status.WriteFault r (λ e. over.served); read_error = tt; ended = tt; write_error = write; to_end = tt; long = tt; few = λ e. no_lines e; input_counts = same_count _ _ inputs; output_counts = outputs; no_usage = λ e. cc; no_rejection = λ e. cc }
+      record { written = tt; begun = begins_line r.visits output r.visited r.few p.0 p.1; finished = first_served output status.WriteFault r (λ e. over.served); cut = cut_line r.visits output r.visited r.few p.0 p.1; read_error = tt; ended = tt; write_error = write; to_end = tt; long = tt; few = λ e. no_lines e; input_counts = same_count _ _ inputs; output_counts = outputs; no_usage = λ e. cc; no_rejection = λ e. cc }
   served_as output status.Memory r same inputs read write outputs =
-      record { written = tt; begun = begins_either output r r.prints; finished = first_served output status.Memory r (λ e. absurd (e refl)); read_error = tt; ended = tt; write_error = tt; to_end = tt; long = tt; few = λ e. no_lines e; input_counts = same_count _ _ inputs; output_counts = outputs; no_usage = λ e. cc; no_rejection = λ e. cc }
+      record { written = tt; begun = begins_either output r r.prints; finished = first_served output status.Memory r (λ e. absurd (e refl)); cut = tt; read_error = tt; ended = tt; write_error = tt; to_end = tt; long = tt; few = λ e. no_lines e; input_counts = same_count _ _ inputs; output_counts = outputs; no_usage = λ e. cc; no_rejection = λ e. cc }
   served_as output status.SomeRefused r same inputs read write outputs = absurd r.prints
   served_as output status.Usage r same inputs read write outputs = absurd r.prints
   served_as output status.Refused r same inputs read write outputs = absurd r.prints
@@ -189,6 +193,28 @@ module _ (loaded : Loaded) (values : Values) (errors errors' : ℕ) (before now 
       let r = a.2 in
       let visited = r.visited in
       (entries_of r.visits, visited.finished, (a.0, a.1, served_as a.0 s r same inputs read write outputs))
+
+-- ---- the connections that wait
+
+still_wait : (waiting : Option (List (List ℕ))) → waiting ≡ option_map (λ behind. [] ++ behind) waiting
+still_wait None = refl
+still_wait (Some waiting) = refl
+
+-- a door that is as it was
+pub none_finish : (aside : Aside) → FinishesFirst aside aside
+none_finish aside = record { inputs = []; entries = []; waited = still_wait aside.waiting; finished = none_more aside.finished; as_many = refl }
+
+pub visits_finish : (site : SiteData) (count : ℕ) (door door' : DoorState) (held holds : Option (List ℕ)) (s : Status) → Appends held holds (λ output. ServeRan site count door door' output s) → FinishesFirst door.aside door'.aside
+visits_finish site count door door' held holds s a =
+    let r = a.2 in
+    let visited = r.visited in
+    record {
+      inputs = inputs_of r.visits;
+      entries = entries_of r.visits;
+      waited = visited.waited;
+      finished = visited.finished;
+      as_many = count_inputs r.visits ∙ sym (length-map r.visits (λ (visit : Visit). visit.entry));
+    }
 
 -- ---- two outcomes of one service
 

@@ -3,13 +3,12 @@ use Rattle.std.specs.Prelude.{◌≡◌, ◌≢◌, ℕ, ◌+◌, ◌≤◌, Boo
 use Rattle.tdl_lines.specs.declared.status.Status.{Status}
 use Rattle.tdl_lines.specs.declared.status.Status.TheVariants.{Usage, Refused}
 use Rattle.tdl_lines.specs.Inputs.{IsAtEnd, TakesAtMost, TakesMoreThan}
-use Rattle.tdl_lines.specs.Outputs.{Appends}
+use Rattle.tdl_lines.specs.Outputs.{AnswersEnded, Appends, LineAnswer}
 use Rattle.tdl_lines.specs.Printers.{IsInitialPart}
 use Rattle.tdl_lines.specs.Statuses.{OnAnswered, OnCutShort, OnInputLong, OnReadFault, OnWriteFault, OnWritten}
 use Rattle.gs_port.specs.Connections.{Finished}
 use Rattle.gs_port.specs.Counts.{Rises}
-use Rattle.gs_translate.specs.Translations.{Translating}
-use Rattle.tdl_run.specs.Works.{Outcome, Translated, TranslatedEnded, input_limit, outcome_of}
+use Rattle.tdl_run.specs.Works.{LinesAnswered, Outcome, input_limit, outcome_of}
 
 -- trusted, own: what is known of the input at a moment, and the counts of errors of the input and of the output
 pub record Moment : Type 0 where
@@ -27,6 +26,13 @@ pub record BeginsOne (IsOutcome : Outcome → Type 0) (output : List ℕ) : Type
   pub is : IsOutcome outcome
   pub begins : IsInitialPart output outcome.output
 
+-- trusted, own: of some outcome the output has a prefix, and the same connections are finished
+pub record CutShort (IsOutcome : Outcome → Type 0) (cut : Outcome) : Type 0 where
+  pub outcome : Outcome
+  pub is : IsOutcome outcome
+  pub begins : IsInitialPart cut.output outcome.output
+  pub same_finished : cut.finished ≡ outcome.finished
+
 -- trusted, own: What every command ensures, between two moments: what it wrote and its status, and the cause of each; by
 -- its outcomes, by what it has written after a read error, by the connections that it has finished where less than what is
 -- defined may have been written, by the cause of a read error, and by whether it answers the lines of the input.
@@ -34,6 +40,7 @@ pub record Ran (IsOutcome : Outcome → Type 0) (IsEnded : List ℕ → Type 0) 
   pub written : OnWritten outcome.status (IsOutcome outcome)
   pub begun : OnCutShort outcome.status (BeginsOne IsOutcome outcome.output)
   pub finished : OnCutShort outcome.status (HasFinished outcome.status outcome.finished)
+  pub cut : OnWriteFault outcome.status (CutShort IsOutcome outcome)
   pub read_error : OnReadFault outcome.status Cause
   pub ended : OnReadFault outcome.status (IsEnded outcome.output)
   pub write_error : OnWriteFault outcome.status (Rises before.output_errors now.output_errors)
@@ -45,12 +52,12 @@ pub record Ran (IsOutcome : Outcome → Type 0) (IsEnded : List ℕ → Type 0) 
   pub no_usage : outcome.status ≢ Usage
   pub no_rejection : outcome.status ≢ Refused
 
--- trusted, own: what a translation of the lines of an input did
-abbrev pub TranslationRan : Translating → Moment → Moment → Outcome → Type 0
-TranslationRan t before now outcome =
-    Ran (Translated t before.input) (TranslatedEnded t before.input now.input) (λ status finished. finished ≡ []) (Rises before.input_errors now.input_errors) true
+-- trusted, own: what the answering of the lines of an input did, by what is an answer to a text
+abbrev pub LinesRan : (List ℕ → LineAnswer → Type 0) → Moment → Moment → Outcome → Type 0
+LinesRan Is before now outcome =
+    Ran (LinesAnswered Is before.input) (AnswersEnded Is before.input now.input) (λ status finished. finished ≡ []) (Rises before.input_errors now.input_errors) true
     before now outcome
 
--- trusted, own: what a translation of the lines of an input did between two moments, and wrote to a sink, with this status
-abbrev pub Translates : Translating → Status → Option (List ℕ) → Option (List ℕ) → Moment → Moment → Type 0
-Translates t ending held held' before now = Appends held held' (λ output. TranslationRan t before now (outcome_of output ending))
+-- trusted, own: what the answering of the lines of an input did between two moments, and wrote to a sink, with this status
+abbrev pub AnswersLines : (List ℕ → LineAnswer → Type 0) → Status → Option (List ℕ) → Option (List ℕ) → Moment → Moment → Type 0
+AnswersLines Is ending held held' before now = Appends held held' (λ output. LinesRan Is before now (outcome_of output ending))

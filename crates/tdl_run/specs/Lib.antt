@@ -1,8 +1,6 @@
 pub mod Loads
 pub mod LoadsSupport
 pub mod Reads
-pub mod LineAnswers
-pub mod LongLines
 pub mod Works
 pub mod CommandRuns
 pub mod RanSupport

@@ -22,8 +22,9 @@ use Rattle.tdl_messages.specs.declared.rejection.FileFault.{FileFault}
 use Rattle.tdl_messages.specs.declared.rejection.FileFault.TheVariants.{Over, Tables, Prefixes, Linkset, Store}
 use Rattle.tdl_messages.specs.declared.rejection.Rejection.{Rejection}
 use Rattle.tdl_messages.specs.Rejections.{file_limit}
-use Rattle.tdl_arguments.specs.Requests.{Asked}
+use Rattle.tdl_arguments.specs.Requests.{Asked, FileNames}
 use Rattle.tdl_run.specs.declared.loads.Loaded.{Loaded}
+use Rattle.tdl_run.specs.declared.loads.Tabled.{Tabled}
 use Rattle.tdl_run.specs.declared.loads.Unloaded.{Unloaded}
 
 -- trusted, own: files in memory, each a name and its bytes
@@ -130,35 +131,44 @@ BytesGive files kind name answer = Gives files kind AreBytes AreNone name answer
 abbrev pub DescriptionGives : Option FilesInMemory → Option (List ℕ) → Result (Option (List ℕ)) Stop → Type 0
 DescriptionGives files name answer = BytesGive files kind.Describe name answer
 
+-- trusted, own: the tables and the company prefix lengths that are loaded are these
+abbrev pub AreTabled : TableRows → List PrefixEntry → Result Tabled Stop → Type 0
+AreTabled set list answer = answer ≡ Ok (record { tables = set; prefixes = list })
+
+-- trusted, own: what the file of company prefix lengths gives behind these tables
+abbrev pub GivesPrefixes : Option FilesInMemory → FileNames → TableRows → Result Tabled Stop → Type 0
+GivesPrefixes files names set answer = Then (PrefixesGive files names.prefixes) (AreTabled set) answer
+
+-- trusted, own: what the files of tables and of company prefix lengths give
+abbrev pub TabledGive : Option FilesInMemory → FileNames → Result Tabled Stop → Type 0
+TabledGive files names answer = Then (TablesGive files names.tables) (GivesPrefixes files names) answer
+
 -- trusted, own: how requests are answered, with a vocabulary and a description
 abbrev pub AreSettings : List ℕ → Option (List ℕ) → Result Settings Stop → Type 0
 AreSettings voc describe answer = answer ≡ Ok (record { voc = voc; describe = describe })
 
 -- trusted, own: how requests are answered, by the vocabulary and by what the file of the description gives
-abbrev pub SettingsGive : Option FilesInMemory → Asked → Result Settings Stop → Type 0
-SettingsGive files asked answer = Then (DescriptionGives files asked.files.describe) (AreSettings asked.values.voc) answer
+abbrev pub SettingsGive : Option FilesInMemory → FileNames → List ℕ → Result Settings Stop → Type 0
+SettingsGive files names voc answer = Then (DescriptionGives files names.describe) (AreSettings voc) answer
 
--- trusted, own: what is loaded of these tables, this list, these links and these settings
-abbrev pub IsLoadedOf : TableRows → List PrefixEntry → List Link → Settings → Result Loaded Stop → Type 0
-IsLoadedOf set list links settings answer = answer ≡ Ok (record { tables = set; prefixes = list; links = links; settings = settings })
+-- trusted, own: what is loaded of these tables and prefixes, these links and these settings
+abbrev pub IsLoadedOf : Tabled → List Link → Settings → Result Loaded Stop → Type 0
+IsLoadedOf tabled links settings answer =
+    answer ≡ Ok (record { tables = tabled.tables; prefixes = tabled.prefixes; links = links; settings = settings })
 
--- trusted, own: what the file of the description gives behind these tables, this list and these links
-abbrev pub GivesSettings : Option FilesInMemory → Asked → TableRows → List PrefixEntry → List Link → Result Loaded Stop → Type 0
-GivesSettings files asked set list links answer = Then (SettingsGive files asked) (IsLoadedOf set list links) answer
+-- trusted, own: what the file of the description gives behind these tables and prefixes, and these links
+abbrev pub GivesSettings : Option FilesInMemory → Asked → Tabled → List Link → Result Loaded Stop → Type 0
+GivesSettings files asked tabled links answer = Then (SettingsGive files asked.files asked.values.voc) (IsLoadedOf tabled links) answer
 
--- trusted, own: what the file of links and that of the description give behind these tables and this list
-abbrev pub GivesLinks : Option FilesInMemory → Asked → TableRows → List PrefixEntry → Result Loaded Stop → Type 0
-GivesLinks files asked set list answer =
-    Then (LinksGive files set.ais asked.values.voc asked.files.links) (GivesSettings files asked set list) answer
-
--- trusted, own: what the files behind the tables give
-abbrev pub GivesBehind : Option FilesInMemory → Asked → TableRows → Result Loaded Stop → Type 0
-GivesBehind files asked set answer = Then (PrefixesGive files asked.files.prefixes) (GivesLinks files asked set) answer
+-- trusted, own: what the file of links and that of the description give behind these tables and prefixes
+abbrev pub GivesLinks : Option FilesInMemory → Asked → Tabled → Result Loaded Stop → Type 0
+GivesLinks files asked tabled answer =
+    Then (LinksGive files tabled.tables.ais asked.values.voc asked.files.links) (GivesSettings files asked tabled) answer
 
 -- trusted, own: What the files give, in their order, of what is asked of each, or the first that is not there, is too large
--- or is rejected.
+-- or is rejected: the tables and the company prefix lengths, the links, and how requests are answered.
 abbrev pub FilesGive : Option FilesInMemory → Asked → Result Loaded Stop → Type 0
-FilesGive files asked answer = Then (TablesGive files asked.files.tables) (GivesBehind files asked) answer
+FilesGive files asked answer = Then (TabledGive files asked.files) (GivesLinks files asked) answer
 
 -- trusted, own: the first of these names were opened, in their order, where it is known
 abbrev pub OpensFirst : List (List ℕ) → Option (List (List ℕ)) → Option (List (List ℕ)) → Type 0

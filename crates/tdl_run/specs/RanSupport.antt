@@ -2,21 +2,16 @@
 use Rattle.std.specs.Prelude.{ℕ}
 use Rattle.gs_port.specs.Counts.{Rises}
 use Rattle.tdl_arguments.specs.declared.command.Command.{Command}
-use Rattle.tdl_arguments.specs.declared.command.Command.TheVariants.{Canon, Translate, Check, Resolve, Serve, Gen}
-use Rattle.tdl_arguments.specs.Commands.{answers_lines}
+use Rattle.tdl_arguments.specs.Commands.{Work, answers_lines, on_door, work_of}
 use Rattle.tdl_arguments.specs.Requests.{Values}
 use Rattle.tdl_run.specs.declared.loads.Loaded.{Loaded}
 use Rattle.tdl_run.specs.Works.{CommandEnded, CommandFinished, CommandRun, Doorway, Outcome}
 use Rattle.tdl_run.specs.CommandRuns.{Moment, Ran}
 
--- the cause of a read error of a command: that the door counted an error of its own where it uses the door, else that the input did
-abbrev pub CommandCause : Command → Type 0 → Type 0 → Type 0
-CommandCause (Canon form) OfInput OfDoor = OfInput
-CommandCause (Translate from to) OfInput OfDoor = OfInput
-CommandCause Check OfInput OfDoor = OfInput
-CommandCause Resolve OfInput OfDoor = OfInput
-CommandCause Serve OfInput OfDoor = OfDoor
-CommandCause (Gen lines) OfInput OfDoor = OfInput
+-- the cause of a read error, by what a command works on: that the door counted an error of its own, else that the input did
+abbrev pub WorkCause : Work → Type 0 → Type 0 → Type 0
+WorkCause on_door OfInput OfDoor = OfDoor
+WorkCause work OfInput OfDoor = OfInput
 
 -- What a command with these values did, over what was loaded and over a door, whose own count of errors was the first number and is
 -- the second.
@@ -24,4 +19,4 @@ abbrev pub CommandRan : Command → Values → Loaded → Doorway → ℕ → �
 CommandRan command values loaded door errors errors' before now outcome =
     Ran (CommandRun command values loaded before.input door) (CommandEnded command values loaded before.input now.input)
     (CommandFinished command values loaded door)
-    (CommandCause command (Rises before.input_errors now.input_errors) (Rises errors errors')) (answers_lines command) before now outcome
+    (WorkCause (work_of command) (Rises before.input_errors now.input_errors) (Rises errors errors')) (answers_lines command) before now outcome

@@ -16,7 +16,7 @@ use Rattle.tdl_run.specs.declared.loads.Unloaded.{Unloaded}
 use Rattle.tdl_run.specs.declared.loads.Unloaded.TheVariants as unloaded
 use Rattle.tdl_run.specs.declared.loads.Unloaded.TheVariants.{Refused}
 use Rattle.tdl_run.specs.Loads.{FilesGive, missing, rejected}
-use Rattle.tdl_run.specs.CommandRuns.{BeginsOne}
+use Rattle.tdl_run.specs.CommandRuns.{BeginsOne, CutShort}
 use Rattle.tdl_run.specs.Runs.{AskedFinished, AskedRun, Counts, World}
 use Rattle.tdl_run.specs.Works.{Outcome, input_limit}
 
@@ -31,6 +31,7 @@ pub record AskedRan (asked : Asked) (world : World) (before now : Counts) (left 
   pub written : OnWritten outcome.status (AskedRun asked world outcome)
   pub begun : OnCutShort outcome.status (BeginsOne (AskedRun asked world) outcome.output)
   pub finished : OnCutShort outcome.status (AskedFinished asked world outcome)
+  pub cut : OnWriteFault outcome.status (CutShort (AskedRun asked world) outcome)
   pub read_error : OnReadFault outcome.status (ReadCause asked world before now)
   pub write_error : OnWriteFault outcome.status (Rises before.output_errors now.output_errors)
   pub rejection : OnRefused outcome.status ((rejection : Rejection) × FilesGive world.files asked (Err (rejected rejection)))

@@ -20,7 +20,7 @@ use Rattle.tdl_arguments.specs.declared.request.Request.{Request}
 use Rattle.tdl_arguments.specs.Requests.{Asked, AsksForLines, NotInOrder, WordsInOrder, all_named, names_in_order, usage_line}
 use Rattle.tdl_run.specs.declared.loads.Loaded.{Loaded}
 use Rattle.tdl_run.specs.Loads.{FilesGive, FilesInMemory, OpensFirst, Stop, missing, rejected}
-use Rattle.tdl_run.specs.CommandRuns.{BeginsOne}
+use Rattle.tdl_run.specs.CommandRuns.{BeginsOne, CutShort}
 use Rattle.tdl_run.specs.Works.{CommandEnded, CommandFinished, CommandRun, Doorway, Outcome, doorway_of, input_limit, outcome_of, served_outcome, site_of}
 
 -- trusted, own: what a run is given, as far as it is known: files, each a name and its bytes, an input, and a door
@@ -67,9 +67,13 @@ pub data DefinedRun (words : List (List ℕ)) (world : World) (outcome : Outcome
   by_request : (asked : Asked) → WordsInOrder words asked → AskedRun asked world outcome → DefinedRun words world outcome
   by_usage : NotInOrder words → outcome ≡ outcome_of usage_line status.Usage → DefinedRun words world outcome
 
--- trusted, own: what a run stops at whose tables have an ambiguous level, by a text
-abbrev pub ambiguous : LevelName → ℕ → ℕ → List ℕ → Stop
-ambiguous name i j text = rejected (record { kind = Tables; error = Errored (Ambiguous name i j text) })
+-- trusted, own: where two derivations of one text were found: at a level of the tables, by a pair of its options
+pub data Ambiguity : Type 0 where
+  of_tables : LevelName → ℕ → ℕ → Ambiguity
+
+-- trusted, own: what a run stops at where two derivations of this text were found
+abbrev pub ambiguous : Ambiguity → List ℕ → Stop
+ambiguous (of_tables name i j) text = rejected (record { kind = Tables; error = Errored (Ambiguous name i j text) })
 
 -- trusted, own: the same connections were served twice: those at which serving was done both times were written the same
 pub data AlikeVisits : List Visit → List Visit → Type 0 where
@@ -85,13 +89,12 @@ pub record AlikeServed (one other : Outcome) : Type 0 where
   pub one_is : one ≡ served_outcome visits
   pub other_is : other ≡ served_outcome others
 
--- trusted, own: Two outcomes are one, or are alike but for the errors of connections, or both tell that a level of the
--- tables is ambiguous, by one level and one pair of its options, and by texts that may differ: such a text is any that
--- shows a list with two derivations.
+-- trusted, own: Two outcomes are one, or are alike but for the errors of connections, or both tell of one place where a text
+-- has two derivations, by texts that may differ: such a text is any that shows a list with two derivations.
 pub data AreAlike (one other : Outcome) : Type 0 where
   same : one ≡ other → AreAlike one other
   but_errors : AlikeServed one other → AreAlike one other
-  but_text : (name : LevelName) (i j : ℕ) (text text' : List ℕ) → one ≡ stopped (ambiguous name i j text) → other ≡ stopped (ambiguous name i j text') → AreAlike one other
+  but_text : (place : Ambiguity) (text text' : List ℕ) → one ≡ stopped (ambiguous place text) → other ≡ stopped (ambiguous place text') → AreAlike one other
 
 -- trusted, own: arguments have one outcome over what is known, and no other but such as is alike
 abbrev pub HasOneOutcome : List (List ℕ) → Type 0
@@ -114,6 +117,10 @@ pub data FinishedRun (words : List (List ℕ)) (world : World) (outcome : Outcom
 -- trusted, own: a prefix of the output of some defined outcome
 abbrev pub BeginsRun : List (List ℕ) → World → List ℕ → Type 0
 BeginsRun words world output = BeginsOne (DefinedRun words world) output
+
+-- trusted, own: a prefix of the output of some defined outcome, with the connections that are finished in it
+abbrev pub CutRun : List (List ℕ) → World → Outcome → Type 0
+CutRun words world outcome = CutShort (DefinedRun words world) outcome
 
 -- trusted, own: what the command that is asked for has written after an error of the input, by what was taken of it
 pub record AskedEnded (asked : Asked) (files : Option FilesInMemory) (before now : Option (List ℕ)) (output : List ℕ) : Type 0 where
@@ -179,6 +186,28 @@ OpensAsked ending request before now = OnAnswered ending (AddsNames before (all_
 pub data OpensNamed (words : List (List ℕ)) (before now : Option (List (List ℕ))) : Type 0 where
   named : (asked : Asked) → WordsInOrder words asked → OpensFirst (names_in_order asked.files) before now → OpensNamed words before now
   none_named : NotInOrder words → now ≡ before → OpensNamed words before now
+
+-- trusted, own: What was done of the addresses of a door where this is asked, a command that uses the door: it was to be opened
+-- once, at the address that is asked for; or the run went no further than its files, and it was not.
+pub data AskedListens (asked : Asked) (ending : Status) (before now : Option (List (List ℕ))) : Type 0 where
+  listens : AddsNames before (asked.values.listen ∷ []) now → AskedListens asked ending before now
+  not_opened : now ≡ before → is_answered ending ≡ false → AskedListens asked ending before now
+
+-- trusted, own: what was done of the addresses of a door where the arguments ask for a command that uses the door
+pub record ListensAt (words : List (List ℕ)) (ending : Status) (before now : Option (List (List ℕ))) : Type 0 where
+  pub asked : Asked
+  pub order : WordsInOrder words asked
+  pub listens : AskedListens asked ending before now
+
+-- trusted, own: all files that are asked for are loaded
+abbrev pub AskedLoads : Asked → Option FilesInMemory → Type 0
+AskedLoads asked files = (loaded : Loaded) × FilesGive files asked (Ok loaded)
+
+-- trusted, own: the arguments are in order, and all files that they ask for are loaded
+pub record LoadsSome (words : List (List ℕ)) (files : Option FilesInMemory) : Type 0 where
+  pub asked : Asked
+  pub order : WordsInOrder words asked
+  pub loads : AskedLoads asked files
 
 -- trusted, own: What was done of the input and of the output where this is asked, a command that answers the heads of the
 -- input: it was served as one connection, over what was loaded: at most 1,000 replies, at most 12,288 bytes taken beyond

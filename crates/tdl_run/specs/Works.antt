@@ -1,25 +1,31 @@
 -- What each command does, over what was loaded.
-use Rattle.std.specs.Prelude.{◌≡◌, ◌≢◌, ℕ, ◌≤◌, ◌-◌, false, List, [], ◌∷◌, ◌++◌, length, take, codes, decimal, IfSome, Option, is_some, option_map}
+use Rattle.std.specs.Prelude.{◌≡◌, ◌≢◌, ℕ, ◌≤◌, ◌-◌, Bool, false, List, [], ◌∷◌, ◌++◌, length, take, codes, decimal, IfSome, Option, Ok, is_some, option_map}
 use Rattle.tdl_lines.specs.declared.status.Status.{Status}
 use Rattle.tdl_gen.specs.Counts.{Generated}
 use Rattle.tdl_lines.specs.declared.status.Status.TheVariants.{Done, Memory, ReadFault}
 use Rattle.tdl_lines.specs.Inputs.{TakesMoreThan}
-use Rattle.tdl_lines.specs.Outputs.{AnswersEnded, AnswersInput, Appends}
+use Rattle.tdl_lines.specs.Outputs.{AnswersEnded, AnswersInput, Appends, LineAnswer}
 use Rattle.tdl_lines.specs.Printers.{PrintedAs}
 use Rattle.gs_port.specs.Connections.{Aside, Finished}
 use Rattle.tdl_serve.specs.Doors.{line_of}
 use Rattle.tdl_serve.specs.Resolutions.{Resolved, Resolves}
 use Rattle.gs_http.specs.Sites.{SiteData}
+use Rattle.gs_tables.specs.Tables.{TableRows}
 use Rattle.tdl_serve.specs.Visits.{AreVisits, Visit, entries_of, inputs_of, wants_memory}
 use Rattle.gs_translate.specs.declared.form.Form.{Form}
 use Rattle.gs_translate.specs.declared.target.Target.{Target}
 use Rattle.gs_translate.specs.declared.target.Target.TheVariants as target
+use Rattle.gs_translate.specs.declared.meaning.Meaning.{Meaning}
+use Rattle.gs_translate.specs.Meanings.{IsRead}
+use Rattle.gs_translate.specs.Targets.{kept}
 use Rattle.gs_translate.specs.Translations.{Translating, translating_by}
 use Rattle.tdl_arguments.specs.declared.command.Command.{Command}
-use Rattle.tdl_arguments.specs.declared.command.Command.TheVariants.{Canon, Translate, Check, Resolve, Serve, Gen}
+use Rattle.tdl_arguments.specs.declared.command.Command.TheVariants.{Canon, Translate, Check, Resolve, Serve, Gen, DumpRead, DumpWrite}
+use Rattle.tdl_answers.specs.DumpAnswers.{IsDumpReadLine, IsDumpWriteLine}
+use Rattle.tdl_answers.specs.TranslatedAnswers.{IsTranslatedLine}
+use Rattle.tdl_arguments.specs.Commands.{Work, on_door, on_heads, on_lines, on_none, work_of}
 use Rattle.tdl_arguments.specs.Requests.{Values, no_options, options_of}
 use Rattle.tdl_run.specs.declared.loads.Loaded.{Loaded}
-use Rattle.tdl_run.specs.LineAnswers.{IsTranslatedLine}
 
 -- trusted, own: what a run leaves: what it wrote, the connections that it finished, and its status
 pub record Outcome : Type 0 where
@@ -37,6 +43,15 @@ abbrev pub Leaves : Option (List ℕ) → Option (List ℕ) → Option (List Fin
 Leaves held held' ended ended' status fact =
     (finished : List Finished) × (ended' ≡ option_map (λ before. before ++ finished) ended)
     × Appends held held' (λ output. fact (record { output = output; finished = finished; status = status }))
+
+-- trusted, own: Between two moments the first of the connections that waited at a door were finished, and those behind them wait
+-- still: as many stand behind those that were finished before.
+pub record FinishesFirst (before now : Aside) : Type 0 where
+  pub inputs : List (List ℕ)
+  pub entries : List Finished
+  pub waited : before.waiting ≡ option_map (λ behind. inputs ++ behind) now.waiting
+  pub finished : now.finished ≡ option_map (λ earlier. earlier ++ entries) before.finished
+  pub as_many : length inputs ≡ length entries
 
 -- trusted, own: the most bytes of an input
 abbrev pub input_limit : ℕ
@@ -58,14 +73,10 @@ PrintsCounts loaded ending held held' = Appends held held' (λ output. PrintedAs
 abbrev pub PassesLimit : Option (List ℕ) → Option (List ℕ) → Type 0
 PassesLimit before now = TakesMoreThan input_limit before now
 
--- trusted, own: what is left where the lines of an input are translated
-abbrev pub Translated : Translating → Option (List ℕ) → Outcome → Type 0
-Translated t input outcome =
-    AnswersInput (IsTranslatedLine t) input_limit input outcome.output outcome.status × (outcome.finished ≡ [])
-
--- trusted, own: what was written of translated lines after an error of the input
-abbrev pub TranslatedEnded : Translating → Option (List ℕ) → Option (List ℕ) → List ℕ → Type 0
-TranslatedEnded t before now output = AnswersEnded (IsTranslatedLine t) before now output
+-- trusted, own: what is left where the lines of an input are answered, by what is an answer to a text
+abbrev pub LinesAnswered : (List ℕ → LineAnswer → Type 0) → Option (List ℕ) → Outcome → Type 0
+LinesAnswered Is input outcome =
+    AnswersInput Is input_limit input outcome.output outcome.status × (outcome.finished ≡ [])
 
 -- trusted, own: `canon` translates to canonical links, by no prefix and no options
 abbrev pub canonizing : Loaded → Form → Translating
@@ -74,6 +85,11 @@ canonizing loaded form = translating_by loaded.tables [] no_options form target.
 -- trusted, own: `translate` translates by the prefixes that are loaded and by the values that are named
 abbrev pub translating : Loaded → Values → Form → Target → Translating
 translating loaded values from to = translating_by loaded.tables loaded.prefixes (options_of values) from to
+
+-- trusted, own: of what two texts mean the same elements are kept, all or only the keys
+abbrev pub KeepOne : TableRows → Bool → Form → List ℕ → Form → List ℕ → Type 0
+KeepOne set keys_only form text other given =
+    (one two : Meaning) → IsRead set form text (Ok one) → IsRead set other given (Ok two) → (kept set keys_only one).identity ≡ (kept set keys_only two).identity
 
 -- trusted, own: what is left by a command that writes this output, and finishes no connection
 pub record LeavesOutput (IsOutput : List ℕ → Type 0) (outcome : Outcome) : Type 0 where
@@ -125,29 +141,54 @@ pub record ServesFirst (site : SiteData) (count : ℕ) (door : Doorway) (status 
   pub last : wants_memory (take (length visits - 1) visits) ≡ false
   pub entries : finished ≡ entries_of visits
 
+-- trusted, own: What a command does, by what it works on: it answers each line of the input, by what is an answer to a
+-- text; or the heads of the input; or so many connections; or it writes an output of which the fact holds.
+pub data Doing : Work → Type 1 where
+  answers : (List ℕ → LineAnswer → Type 0) → Doing on_lines
+  resolves : Doing on_heads
+  serves : ℕ → Doing on_door
+  prints : (List ℕ → Type 0) → Doing on_none
+
+-- trusted, own: what a command does, by its values, over what was loaded
+abbrev pub doing_of : (command : Command) → Values → Loaded → Doing (work_of command)
+doing_of (Canon form) values loaded = answers (IsTranslatedLine (canonizing loaded form))
+doing_of (Translate from to) values loaded = answers (IsTranslatedLine (translating loaded values from to))
+doing_of Check values loaded = prints (λ output. output ≡ counts_line loaded)
+doing_of Resolve values loaded = resolves
+doing_of Serve values loaded = serves values.count
+doing_of (Gen lines) values loaded = prints (Generated loaded.tables lines)
+doing_of DumpRead values loaded = answers (IsDumpReadLine loaded.tables)
+doing_of DumpWrite values loaded = answers (IsDumpWriteLine loaded.tables)
+
+-- trusted, own: what is left by what is done, of what is answered from a site, an input, as far as it is known, and a door
+abbrev pub DoingRun : {work : Work} → Doing work → SiteData → Option (List ℕ) → Doorway → Outcome → Type 0
+DoingRun (answers Is) site input door outcome = LinesAnswered Is input outcome
+DoingRun resolves site input door outcome = LeavesOutput (Resolves site input) outcome
+DoingRun (serves count) site input door outcome = Serves site count door outcome
+DoingRun (prints IsOutput) site input door outcome = LeavesOutput IsOutput outcome
+
+-- trusted, own: what is written by what is done until an error of the input, by what was taken of that
+abbrev pub DoingEnded : {work : Work} → Doing work → SiteData → Option (List ℕ) → Option (List ℕ) → List ℕ → Type 0
+DoingEnded (answers Is) site before now output = AnswersEnded Is before now output
+DoingEnded resolves site before now output = Resolved site before output ReadFault
+DoingEnded (serves count) site before now output = output ≡ []
+DoingEnded (prints IsOutput) site before now output = ⊥
+
+-- trusted, own: what is finished by what is done where less than what is defined may have been written, by the status
+abbrev pub DoingFinished : {work : Work} → Doing work → SiteData → Doorway → Status → List Finished → Type 0
+DoingFinished (answers Is) site door status finished = finished ≡ []
+DoingFinished resolves site door status finished = finished ≡ []
+DoingFinished (serves count) site door status finished = ServesFirst site count door status finished
+DoingFinished (prints IsOutput) site door status finished = finished ≡ []
+
 -- trusted, own: what a command leaves, by its values, over what was loaded, an input, as far as it is known, and a door
 abbrev pub CommandRun : Command → Values → Loaded → Option (List ℕ) → Doorway → Outcome → Type 0
-CommandRun (Canon form) values loaded input door outcome = Translated (canonizing loaded form) input outcome
-CommandRun (Translate from to) values loaded input door outcome = Translated (translating loaded values from to) input outcome
-CommandRun Check values loaded input door outcome = outcome ≡ outcome_of (counts_line loaded) Done
-CommandRun Resolve values loaded input door outcome = LeavesOutput (Resolves (site_of loaded) input) outcome
-CommandRun Serve values loaded input door outcome = Serves (site_of loaded) values.count door outcome
-CommandRun (Gen lines) values loaded input door outcome = LeavesOutput (Generated loaded.tables lines) outcome
+CommandRun command values loaded input door outcome = DoingRun (doing_of command values loaded) (site_of loaded) input door outcome
 
 -- trusted, own: what a command has written after an error of the input, by what was taken of it
 abbrev pub CommandEnded : Command → Values → Loaded → Option (List ℕ) → Option (List ℕ) → List ℕ → Type 0
-CommandEnded (Canon form) values loaded before now output = TranslatedEnded (canonizing loaded form) before now output
-CommandEnded (Translate from to) values loaded before now output = TranslatedEnded (translating loaded values from to) before now output
-CommandEnded Check values loaded before now output = ⊥
-CommandEnded Resolve values loaded before now output = Resolved (site_of loaded) before output ReadFault
-CommandEnded Serve values loaded before now output = output ≡ []
-CommandEnded (Gen lines) values loaded before now output = ⊥
+CommandEnded command values loaded before now output = DoingEnded (doing_of command values loaded) (site_of loaded) before now output
 
 -- trusted, own: what a command has finished where less than what is defined may have been written, by its status
 abbrev pub CommandFinished : Command → Values → Loaded → Doorway → Status → List Finished → Type 0
-CommandFinished (Canon form) values loaded door status finished = finished ≡ []
-CommandFinished (Translate from to) values loaded door status finished = finished ≡ []
-CommandFinished Check values loaded door status finished = finished ≡ []
-CommandFinished Resolve values loaded door status finished = finished ≡ []
-CommandFinished Serve values loaded door status finished = ServesFirst (site_of loaded) values.count door status finished
-CommandFinished (Gen lines) values loaded door status finished = finished ≡ []
+CommandFinished command values loaded door status finished = DoingFinished (doing_of command values loaded) (site_of loaded) door status finished

@@ -5,11 +5,12 @@ ghost use Rattle.gs_tables.specs.Judgements.{IsLoaded};
 ghost use Rattle.gs_translate.specs.declared.form.Form.{Form};
 ghost use Rattle.gs_translate.specs.StepsSupport.{HasOne, HasSome};
 ghost use Rattle.gs_translate.specs.Translations.{NameOne};
-ghost use Rattle.tdl_arguments.specs.Requests.{WordsInOrder};
+ghost use Rattle.gs_translate.specs.declared.target.Target.{Target};
+ghost use Rattle.tdl_arguments.specs.Requests.{Values, WordsInOrder};
 ghost use Rattle.tdl_run.specs.declared.loads.Loaded.{Loaded};
-ghost use Rattle.tdl_run.specs.LineAnswers.{IsCanonLine, IsTranslatedLine};
+ghost use Rattle.tdl_answers.specs.TranslatedAnswers.{IsCanonLine, IsTranslatedLine};
 ghost use Rattle.tdl_run.specs.Runs.{DefinedRun, HasOneOutcome, InputFits, LoadsAll, World};
-ghost use Rattle.tdl_run.specs.Works.{Outcome, canonizing};
+ghost use Rattle.tdl_run.specs.Works.{KeepOne, Outcome, canonizing, translating};
 
 /// Arguments ask for one thing at most.
 pub fn words_ask_for_one_thing()
@@ -42,4 +43,14 @@ pub fn canon_answers_by_canonical_links()
         → IsTranslatedLine (canonizing loaded form) text (accepted link)
         → IsTranslatedLine (canonizing loaded other) given (accepted wanted)
         → (link ≡ wanted) ↔ NameOne loaded.tables form text other given }
+{}
+
+/// Two lines, of any forms, that `translate` answers by canonical links have equal answers exactly where the elements that it keeps
+/// of what they name are equal: with `--keys-only yes` the key, with its serial where that has an element of its own, and else all.
+pub fn canonical_answers_by_kept_elements()
+    ensures { (loaded : Loaded) (values : Values) (form other : Form) (text given link wanted : List ℕ)
+        → IsLoaded loaded.tables
+        → IsTranslatedLine (translating loaded values form Target.Canon) text (accepted link)
+        → IsTranslatedLine (translating loaded values other Target.Canon) given (accepted wanted)
+        → (link ≡ wanted) ↔ KeepOne loaded.tables values.keys_only form text other given }
 {}

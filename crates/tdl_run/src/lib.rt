@@ -20,8 +20,10 @@
 //!   project's own (docs/FORMATS.md, 'The command line' and 'Statuses').
 #![tactic(auto)]
 
+mod answered_input;
 mod check_command;
 mod commands;
+mod dump_command;
 mod laws;
 mod links;
 mod loads;
@@ -31,9 +33,12 @@ mod requests;
 mod runner;
 mod tables;
 mod translate_command;
-mod translated_lines;
 
+pub use laws::{
+    canon_answers_by_canonical_links, canonical_answers_by_kept_elements, words_ask_for_one_thing,
+    words_have_one_outcome, words_in_order_are_answered,
+};
 pub use runner::run;
+pub use tdl_answers::answer_lines;
 pub use tdl_arguments::without_program_name;
 pub use tdl_lines::Status;
-pub use translated_lines::answer_lines;

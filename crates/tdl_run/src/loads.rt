@@ -1,7 +1,7 @@
 ghost use Rattle.std.specs.Prelude.{◌≡◌, true};
 ghost use Rattle.tdl_arguments.specs.Ranges.{is_vocabulary};
-ghost use Rattle.tdl_arguments.specs.Requests.{all_named, known_request};
-ghost use Rattle.tdl_run.specs.Loads.{FilesGive};
+ghost use Rattle.tdl_arguments.specs.Requests.{all_named, description_named, known_files, known_request, tables_named};
+ghost use Rattle.tdl_run.specs.Loads.{FilesGive, SettingsGive, TabledGive};
 ghost use Rattle.tdl_run.specs.LoadsSupport.{Loads, files_known};
 
 use crate::links::load_links;
@@ -15,8 +15,17 @@ use gs_port::Files;
 use gs_prefix::PrefixList;
 use gs_tables::TableSet;
 use std::alloc::Global;
-use tdl_arguments::Request;
+use tdl_arguments::{NamedFiles, Request};
 use tdl_messages::{FileKind, Rejection};
+
+/// The tables and the company prefix lengths that a run has loaded.
+#[derive(Drop)]
+pub struct Tabled {
+    /// The tables.
+    pub tables: TableSet,
+    /// The company prefix lengths.
+    pub prefixes: PrefixList,
+}
 
 /// What a run has loaded.
 pub struct Loaded {
@@ -64,8 +73,42 @@ impl From<Memory> for Unloaded {
     }
 }
 
-/// Loads the files in their order, tables, company prefix lengths, links and then the description, up to the first that is not
-/// there, cannot be read or is rejected. What is not named is the built-in tables, and no prefix, no link and no description.
+/// Loads the tables and the company prefix lengths. What is not named is the built-in tables, and no prefix.
+fn load_tabled<F: Files>(
+    alloc: Global,
+    named: NamedFiles<'_>,
+    files: &mut F,
+) -> Result<Tabled, Unloaded>
+    ensures { Loads (λ known. TabledGive known (known_files named.entry)) (tables_named (known_files named.entry))
+        (files.new ≡ files.old)
+        (files_known (F.files files.old) (F.opened files.old) (F.errors files.old))
+        (files_known (F.files files.new) (F.opened files.new) (F.errors files.new)) result }
+{
+    let tables = load_tables(alloc, named.tables, files)?;
+    let prefixes = load_prefixes(alloc, named.prefixes, files)?;
+    Ok(Tabled { tables, prefixes })
+}
+
+/// Loads how requests are answered: the vocabulary, and the description, which is none where it is not named.
+fn load_settings<F: Files>(
+    alloc: Global,
+    voc: &str,
+    named: NamedFiles<'_>,
+    files: &mut F,
+) -> Result<Settings, Unloaded>
+    ensures { Loads (λ known. SettingsGive known (known_files named.entry) voc.now)
+        (description_named (known_files named.entry))
+        (files.new ≡ files.old)
+        (files_known (F.files files.old) (F.opened files.old) (F.errors files.old))
+        (files_known (F.files files.new) (F.opened files.new) (F.errors files.new)) result }
+{
+    let describe = read_if_named(alloc, FileKind::Describe, named.describe, files)?;
+    let voc = Text::from_bytes(alloc, voc.as_bytes())?;
+    Ok(Settings { voc, describe })
+}
+
+/// Loads the files in their order, tables and company prefix lengths, links, and then the description, up to the first that is
+/// not there, cannot be read or is rejected. What is not named is the built-in tables, and no prefix, no link and no description.
 pub fn load_files<F: Files>(
     alloc: Global,
     request: Request<'_>,
@@ -77,17 +120,15 @@ pub fn load_files<F: Files>(
         (files_known (F.files files.old) (F.opened files.old) (F.errors files.old))
         (files_known (F.files files.new) (F.opened files.new) (F.errors files.new)) result }
 {
-    let named = request.files;
     let voc = request.values.voc;
-    let tables = load_tables(alloc, named.tables, files)?;
-    let prefixes = load_prefixes(alloc, named.prefixes, files)?;
-    let links = load_links(alloc, tables.ais(), voc, named.links, files)?;
-    let describe = read_if_named(alloc, FileKind::Describe, named.describe, files)?;
-    let voc = Text::from_bytes(alloc, voc.as_bytes())?;
+    let tabled = load_tabled(alloc, request.files, files)?;
+    let links = load_links(alloc, tabled.tables.ais(), voc, request.files.links, files)?;
+    let settings = load_settings(alloc, voc, request.files, files)?;
+    let Tabled { tables, prefixes } = tabled;
     Ok(Loaded {
         tables,
         prefixes,
         links,
-        settings: Settings { voc, describe },
+        settings,
     })
 }

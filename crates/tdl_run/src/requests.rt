@@ -1,4 +1,4 @@
-ghost use Rattle.std.specs.Prelude.{◌≡◌, ◌≤◌, [], false, true};
+ghost use Rattle.std.specs.Prelude.{◌≡◌, ◌≤◌, ◌⊎◌, [], false, true};
 ghost use Rattle.tdl_lines.specs.Statuses.{OnReadFault, OnRefused, OnWriteFault};
 ghost use Rattle.gs_port.specs.Counts.{Rises};
 ghost use Rattle.gs_translate.specs.Translations.{AreInOrder};
@@ -8,8 +8,8 @@ ghost use Rattle.tdl_arguments.specs.Ranges.{is_vocabulary};
 ghost use Rattle.tdl_arguments.specs.Requests.{all_named, options_of, known_request};
 ghost use Rattle.tdl_run.specs.Requests.{AskedRan, PrintsRejection, Reports};
 ghost use Rattle.tdl_run.specs.Loads.{OpensFirst};
-ghost use Rattle.tdl_run.specs.Runs.{AskedEnded, AskedServes, OpensAsked, WritesAfterError, counts_of, world_of};
-ghost use Rattle.tdl_run.specs.Works.{Leaves};
+ghost use Rattle.tdl_run.specs.Runs.{AskedEnded, AskedListens, AskedLoads, AskedServes, OpensAsked, WritesAfterError, counts_of, world_of};
+ghost use Rattle.tdl_run.specs.Works.{FinishesFirst, Leaves};
 
 use crate::commands::run_command;
 use crate::loads::{Unloaded, load_files};
@@ -76,6 +76,12 @@ pub fn run_request<F: Files, S: Source, K: Sink, D: Door>(
     ensures unread_rejected { OnRefused result (input.new ≡ input.old) }
     ensures unserved { uses_door (known_request request.entry).command ≡ false → door.new ≡ door.old }
     ensures unserved_rejected { OnRefused result (door.new ≡ door.old) }
+    ensures untouched { ((input.new ≡ input.old) × (door.new ≡ door.old))
+        ⊎ AskedLoads (known_request request.entry) (F.files files.old) }
+    ensures closed { D.is_open door.new ≡ false }
+    ensures waiting { FinishesFirst (D.aside door.old) (D.aside door.new) }
+    ensures listens { uses_door (known_request request.entry).command ≡ true
+        → AskedListens (known_request request.entry) result (D.aside door.old).addresses (D.aside door.new).addresses }
     ensures door_counts { (D.aside door.old).errors ≤ (D.aside door.new).errors }
     ensures opened { OpensFirst (all_named request.entry) (F.opened files.old) (F.opened files.new) }
     ensures all_opened { OpensAsked result request.entry (F.opened files.old) (F.opened files.new) }

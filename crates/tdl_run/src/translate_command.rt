@@ -2,20 +2,19 @@ ghost use Rattle.std.specs.Prelude.{◌≡◌, IfOk};
 ghost use Rattle.gs_tables.specs.Judgements.{IsLoaded};
 ghost use Rattle.gs_translate.specs.Translations.{AreInOrder};
 ghost use Rattle.tdl_arguments.specs.Requests.{options_of, known_values};
-ghost use Rattle.tdl_run.specs.CommandRuns.{Translates, moment_of};
+ghost use Rattle.tdl_answers.specs.TranslatedAnswers.{IsTranslatedLine};
+ghost use Rattle.tdl_run.specs.CommandRuns.{AnswersLines, moment_of};
 ghost use Rattle.tdl_run.specs.Works.{canonizing, translating};
 
+use crate::answered_input::answer_input;
 use crate::loads::Loaded;
-use crate::translated_lines::answer_lines;
 use gs_chars::{Memory, Text};
 use gs_port::{Sink, Source};
-use gs_translate::{Form, Options, Target};
+use gs_translate::{Form, Options, Target, Translator};
 use std::alloc::Global;
+use tdl_answers::TranslatedLines;
 use tdl_arguments::NamedValues;
 use tdl_lines::Status;
-
-/// The most bytes of an input.
-const INPUT_LIMIT: u64 = 4_294_967_296;
 
 /// What the values say of translations.
 fn options_of(alloc: Global, values: NamedValues<'_>) -> Result<Options, Memory>
@@ -43,23 +42,22 @@ pub fn translate_loaded<S: Source, K: Sink>(
 ) -> Status
     requires loaded { IsLoaded loaded.now.tables }
     requires options { AreInOrder (options_of (known_values values)) }
-    ensures { Translates (translating loaded.now (known_values values.entry) from to) result
+    ensures { AnswersLines (IsTranslatedLine (translating loaded.now (known_values values.entry) from to)) result
         (K.held output.old) (K.held output.new)
         (moment_of (S.left input.old) (S.errors input.old) (K.errors output.old))
         (moment_of (S.left input.new) (S.errors input.new) (K.errors output.new)) }
 {
     match options_of(alloc, values) {
-        Ok(options) => answer_lines(
-            alloc,
-            &loaded.tables,
-            &loaded.prefixes,
-            &options,
-            from,
-            to,
-            input,
-            output,
-            INPUT_LIMIT,
-        ),
+        Ok(options) => {
+            let translator = Translator {
+                set: &loaded.tables,
+                prefixes: &loaded.prefixes,
+                options: &options,
+                from,
+                to,
+            };
+            answer_input(alloc, &TranslatedLines { translator }, input, output)
+        }
         Err(Memory) => Status::Memory,
     }
 }
@@ -76,7 +74,7 @@ pub fn canonize<S: Source, K: Sink>(
 ) -> Status
     requires loaded { IsLoaded loaded.now.tables }
     requires options { AreInOrder (options_of (known_values values)) }
-    ensures { Translates (canonizing loaded.now form) result
+    ensures { AnswersLines (IsTranslatedLine (canonizing loaded.now form)) result
         (K.held output.old) (K.held output.new)
         (moment_of (S.left input.old) (S.errors input.old) (K.errors output.old))
         (moment_of (S.left input.new) (S.errors input.new) (K.errors output.new)) }

@@ -5,6 +5,7 @@ use Rattle.tdl_lines.specs.declared.status.Status.TheVariants.{Done, ReadFault, 
 use Rattle.tdl_lines.specs.Printers.{IsInitialPart}
 use Rattle.tdl_lines.specs.Statuses.{is_read_error}
 use Rattle.gs_port.specs.Connections.{Aside}
+use Rattle.gs_port.specs.Files.{AddsNames}
 use Rattle.tdl_serve.specs.Resolutions.{count_if}
 use Rattle.gs_http.specs.Sites.{SiteData}
 use Rattle.tdl_serve.specs.Visits.{DoorState, Visit, Visited, errors_of, wants_memory}
@@ -42,6 +43,10 @@ ServePrints _ count now visits output = ⊥
 -- and none else
 abbrev pub CountsErrors : Status → Aside → Aside → Type 0
 CountsErrors status before now = now.errors ≡ count_if (is_read_error status) before.errors
+
+-- trusted, own: the door was to be opened once, at this address
+abbrev pub OpensAt : List ℕ → Aside → Aside → Type 0
+OpensAt address before now = AddsNames before.addresses (address ∷ []) now.addresses
 
 -- trusted, own: What a run at a door does between two moments: it serves at most so many of the waiting connections, stops
 -- at the first at which memory runs out, and prints their numbers.

@@ -2,7 +2,7 @@ ghost use Rattle.std.specs.Prelude.{◌≡◌, ◌+◌, ◌-◌, ◌<◌, ◌≤
 ghost use Rattle.tdl_lines.specs.Outputs.{Appends};
 ghost use Rattle.tdl_lines.specs.Statuses.{OnReadFault, OnWriteFault};
 ghost use Rattle.gs_port.specs.Counts.{Rises};
-ghost use Rattle.tdl_serve.specs.Doors.{CountsErrors, ServeRan};
+ghost use Rattle.tdl_serve.specs.Doors.{CountsErrors, OpensAt, ServeRan};
 ghost use Rattle.tdl_serve.specs.Resolutions.{count_if};
 ghost use Rattle.tdl_serve.specs.Turns.{SessionDid, error_number, is_failed};
 ghost use Rattle.tdl_serve.specs.Visits.{state_of};
@@ -51,6 +51,7 @@ fn serve_turns<D: Door>(
     ensures closed { D.is_open door.new ≡ false }
     ensures own_count { (D.aside door.new).errors ≡ count_if (is_failed result) (D.aside door.old).errors }
     ensures own_counts { (D.aside door.old).errors ≤ (D.aside door.new).errors }
+    ensures same_addresses { (D.aside door.new).addresses ≡ (D.aside door.old).addresses }
     ensures same_ends { D.ends door.new ≡ D.ends door.old }
 {
     let mut errors = 0;
@@ -78,6 +79,7 @@ fn serve_all<D: Door>(alloc: Global, site: &Site<'_>, count: u32, door: &mut D) 
     ensures closed { D.is_open door.new ≡ false }
     ensures own_count { (D.aside door.new).errors ≡ count_if (is_failed result) (D.aside door.old).errors }
     ensures own_counts { (D.aside door.old).errors ≤ (D.aside door.new).errors }
+    ensures same_addresses { (D.aside door.new).addresses ≡ (D.aside door.old).addresses }
     ensures same_ends { D.ends door.new ≡ D.ends door.old }
 {
     let Ok((resolver, mut room)) = Resolver::with_room(alloc, site) else {
@@ -86,7 +88,7 @@ fn serve_all<D: Door>(alloc: Global, site: &Site<'_>, count: u32, door: &mut D) 
     serve_turns(alloc, &resolver, room.as_mut_slice(), count, door)
 }
 
-/// Opens the door at the address, and serves the connections that come, one after the other, until `count` of them are
+/// Opens the door once, at the address, and serves the connections that come, one after the other, until `count` of them are
 /// finished or none comes any more. An error on a connection ends that connection alone. Then the line `served N faults M` is
 /// written, with the numbers of the finished connections and of those that ended by an error, and the status is `Done`.
 /// `ReadFault` comes only where the door could not be opened or a connection not be accepted, and the door's own count rose;
@@ -105,6 +107,7 @@ pub fn serve<D: Door, K: Sink>(
         (state_of (D.aside door.old) (D.reads door.old) (D.writes door.old))
         (state_of (D.aside door.new) (D.reads door.new) (D.writes door.new)) out result) }
     ensures closed { D.is_open door.new ≡ false }
+    ensures opens { OpensAt address.now (D.aside door.old) (D.aside door.new) }
     ensures read_error { OnReadFault result (Rises (D.aside door.old).errors (D.aside door.new).errors) }
     ensures write_error { OnWriteFault result (Rises (K.errors output.old) (K.errors output.new)) }
     ensures door_count { CountsErrors result (D.aside door.old) (D.aside door.new) }

@@ -69,6 +69,7 @@ pub fn visit<D: Door>(
     ensures listens { (D.aside door.new).opened ≡ true }
     ensures own_count { (D.aside door.new).errors ≡ count_if (is_failure result) (D.aside door.old).errors }
     ensures own_counts { (D.aside door.old).errors ≤ (D.aside door.new).errors }
+    ensures same_addresses { (D.aside door.new).addresses ≡ (D.aside door.old).addresses }
     ensures same_ends { D.ends door.new ≡ D.ends door.old }
 {
     match door.accept() {

@@ -125,6 +125,8 @@ fn field_name(field: Option<Field>) -> &'static str {
         Some(Field::Filter) => "filter=",
         Some(Field::Gcp) => "gcp=",
         Some(Field::Rest) => "rest=",
+        Some(Field::Piece) => "piece=",
+        Some(Field::Total) => "total=",
         Some(Field::Serial) => "serial=",
         None => "",
     }

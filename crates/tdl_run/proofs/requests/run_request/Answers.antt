@@ -1,10 +1,11 @@
-use Rattle.std.proofs.Common.{[], refl, arith}
+use Rattle.std.proofs.Common.{[], inl, inr, refl, arith}
 use Rattle.tdl_arguments.specs.Requests.{known_request}
-use Rattle.tdl_run.specs.Runs.{served, unserved}
+use Rattle.tdl_run.specs.Runs.{listens, not_opened, served, unserved}
 use Rattle.tdl_lines.specs.Statuses.{is_answered, is_rejection}
 use Rattle.tdl_lines.proofs.StatusLemmas.{when_always}
 use Rattle.tdl_run.proofs.AskedLemmas.{asked_of_command, asked_of_report, ended_of_command, never_rejected, reports_answered, reports_nothing, reports_unanswered}
 use Rattle.tdl_run.proofs.RanLemmas.{none_more}
+use Rattle.tdl_run.proofs.ServeLemmas.{none_finish}
 use Rattle.tdl_run.proofs.requests.run_request.Goals as goal
 
 pub returns-in-Ok-clause-ran : goal.returns-in-Ok-clause-ran
@@ -83,3 +84,27 @@ returns-in-Err-clause-unread_rejected g c = when_always (is_rejection c.report.r
 
 pub returns-in-Err-clause-unserved_rejected : goal.returns-in-Err-clause-unserved_rejected
 returns-in-Err-clause-unserved_rejected g c = when_always (is_rejection c.report.result) refl
+
+pub returns-in-Ok-clause-untouched : goal.returns-in-Ok-clause-untouched
+returns-in-Ok-clause-untouched g c = inr (c.in-Ok.loaded, c.in-Ok.ensures.loaded)
+
+pub returns-in-Ok-clause-closed : goal.returns-in-Ok-clause-closed
+returns-in-Ok-clause-closed g c = c.run_command.ensures.closed
+
+pub returns-in-Ok-clause-waiting : goal.returns-in-Ok-clause-waiting
+returns-in-Ok-clause-waiting g c = c.run_command.ensures.waiting
+
+pub returns-in-Ok-clause-listens : goal.returns-in-Ok-clause-listens
+returns-in-Ok-clause-listens g c = λ uses. listens (c.run_command.ensures.listens uses)
+
+pub returns-in-Err-clause-untouched : goal.returns-in-Err-clause-untouched
+returns-in-Err-clause-untouched g c = inl (refl, refl)
+
+pub returns-in-Err-clause-closed : goal.returns-in-Err-clause-closed
+returns-in-Err-clause-closed g c = c.requires.none_open
+
+pub returns-in-Err-clause-waiting : goal.returns-in-Err-clause-waiting
+returns-in-Err-clause-waiting g c = none_finish _
+
+pub returns-in-Err-clause-listens : goal.returns-in-Err-clause-listens
+returns-in-Err-clause-listens g c = λ uses. not_opened refl (reports_unanswered c.in-Err.unloaded c.report.result _ _ c.report.ensures.written)

@@ -1,4 +1,4 @@
-use Rattle.std.proofs.Common.{map, string_bytes, refl, arith}
+use Rattle.std.proofs.Common.{map, string_bytes, inl, refl, arith}
 use Rattle.tdl_lines.specs.Statuses.{is_answered, is_rejection, is_usage}
 use Rattle.tdl_lines.proofs.StatusLemmas.{when_always, when_map}
 use Rattle.tdl_arguments.specs.Commands.{reads_input, uses_door}
@@ -6,7 +6,8 @@ use Rattle.tdl_arguments.specs.Requests.{known_request}
 use Rattle.tdl_arguments.proofs.ValueLemmas.{options_fit, vocabulary_fits}
 use Rattle.tdl_run.specs.Runs.{named}
 use Rattle.tdl_run.proofs.CompleteLemmas.{complete_asked}
-use Rattle.tdl_run.proofs.RunLemmas.{asks_not, begun_of, defined_of, few_of, finished_of, read_error_of, rejected_of, served_of, unopened_of, usage_begun, usage_defined, usage_finished}
+use Rattle.tdl_run.proofs.RunLemmas.{asks_not, begun_of, cut_of, defined_of, few_of, finished_of, listens_of, loads_of, read_error_of, rejected_of, served_of, unopened_of, usage_begun, usage_cut, usage_defined, usage_finished}
+use Rattle.tdl_run.proofs.ServeLemmas.{none_finish}
 use Rattle.tdl_run.proofs.runner.run.Goals as goal
 
 pub run_request-requires-clause-vocabulary : goal.run_request-requires-clause-vocabulary
@@ -150,3 +151,36 @@ returns-in-None-clause-output_counts g c = c.print_line.ensures.counts
 
 pub returns-in-None-clause-write_error : goal.returns-in-None-clause-write_error
 returns-in-None-clause-write_error g c = c.print_line.ensures.error
+
+pub returns-in-Some-clause-untouched : goal.returns-in-Some-clause-untouched
+returns-in-Some-clause-untouched g c = loads_of _ (map string_bytes c.args.words.now) (known_request c.in-Some.request) _ c.in-Some.ensures.request c.run_request.ensures.untouched
+
+pub returns-in-Some-clause-closed : goal.returns-in-Some-clause-closed
+returns-in-Some-clause-closed g c = c.run_request.ensures.closed
+
+pub returns-in-Some-clause-waiting : goal.returns-in-Some-clause-waiting
+returns-in-Some-clause-waiting g c = c.run_request.ensures.waiting
+
+pub returns-in-Some-clause-listens : goal.returns-in-Some-clause-listens
+returns-in-Some-clause-listens g c =
+    λ door. listens_of (map string_bytes c.args.words.now) (known_request c.in-Some.request) c.run_request.result _ _ c.in-Some.ensures.request c.run_request.ensures.listens door
+
+pub returns-in-Some-clause-cut : goal.returns-in-Some-clause-cut
+returns-in-Some-clause-cut g c =
+    cut_of (map string_bytes c.args.words.now) (known_request c.in-Some.request) _ _ _ _ _ _ _ _ c.run_request.result c.in-Some.ensures.request c.run_request.ensures.ran
+
+pub returns-in-None-clause-untouched : goal.returns-in-None-clause-untouched
+returns-in-None-clause-untouched g c = inl (refl, refl)
+
+pub returns-in-None-clause-closed : goal.returns-in-None-clause-closed
+returns-in-None-clause-closed g c = c.requires.none_open
+
+pub returns-in-None-clause-waiting : goal.returns-in-None-clause-waiting
+returns-in-None-clause-waiting g c = none_finish _
+
+pub returns-in-None-clause-listens : goal.returns-in-None-clause-listens
+returns-in-None-clause-listens g c = λ door. absurd (c.in-None.ensures.none door.asked door.order)
+
+pub returns-in-None-clause-cut : goal.returns-in-None-clause-cut
+returns-in-None-clause-cut g c =
+    usage_cut (map string_bytes c.args.words.now) _ _ _ _ c.print_line.result c.in-None.ensures.none c.print_line.ensures.written

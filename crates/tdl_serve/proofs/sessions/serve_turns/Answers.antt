@@ -10,6 +10,7 @@ loop-finished-init g c = record {
   none_open = c.requires.none_open;
   listens = c.requires.listening;
   own_count = refl;
+  same_addresses = refl;
   same_ends = refl;
 }
 
@@ -32,6 +33,7 @@ loop-finished-preserved g c = record {
   none_open = c.in-Finished.ensures.closed;
   listens = c.in-Finished.ensures.listens;
   own_count = c.in-Finished.ensures.own_count ∙ c.loop-finished.invariant.own_count;
+  same_addresses = c.in-Finished.ensures.same_addresses ∙ c.loop-finished.invariant.same_addresses;
   same_ends = c.in-Finished.ensures.same_ends ∙ c.loop-finished.invariant.same_ends;
 }
 
@@ -82,3 +84,15 @@ returns-clause-own_counts g c = omega (arith, c.loop-finished.invariant.own_coun
 
 pub returns-clause-same_ends : goal.returns-clause-same_ends
 returns-clause-same_ends g c = c.loop-finished.invariant.same_ends
+
+pub returns-in-Closed-clause-same_addresses : goal.returns-in-Closed-clause-same_addresses
+returns-in-Closed-clause-same_addresses g c = c.in-Closed.ensures.same_addresses ∙ c.loop-finished.invariant.same_addresses
+
+pub returns-in-Failed-clause-same_addresses : goal.returns-in-Failed-clause-same_addresses
+returns-in-Failed-clause-same_addresses g c = c.in-Failed.ensures.same_addresses ∙ c.loop-finished.invariant.same_addresses
+
+pub returns-in-Memory-clause-same_addresses : goal.returns-in-Memory-clause-same_addresses
+returns-in-Memory-clause-same_addresses g c = c.in-Memory.ensures.same_addresses ∙ c.loop-finished.invariant.same_addresses
+
+pub returns-clause-same_addresses : goal.returns-clause-same_addresses
+returns-clause-same_addresses g c = c.loop-finished.invariant.same_addresses

@@ -11,5 +11,6 @@ invariant-loop-finished g l = record {
   none_open : g.D.Conn.is_open l.door ≡ false;
   listens : (g.D.Conn.aside l.door).opened ≡ true;
   own_count : (g.D.Conn.aside l.door).errors ≡ (g.D.Conn.aside l.fn.door).errors;
+  same_addresses : (g.D.Conn.aside l.door).addresses ≡ (g.D.Conn.aside l.fn.door).addresses;
   same_ends : g.D.Conn.ends l.door ≡ g.D.Conn.ends l.fn.door;
 }

@@ -1,4 +1,4 @@
-use Rattle.std.proofs.Common.{ap}
+use Rattle.std.proofs.Common.{◌∙◌, ap}
 use Rattle.gs_port.specs.Connections.{Aside}
 use Rattle.tdl_serve.proofs.TurnLemmas.{accepted}
 use Rattle.tdl_serve.proofs.VisitLemmas.{visited_none}
@@ -23,3 +23,12 @@ returns-in-Failed-clause-did g c =
 
 pub returns-in-Closed-clause-own_count : goal.returns-in-Closed-clause-own_count
 returns-in-Closed-clause-own_count g c = ap (λ (a : Aside). a.errors) c.in-Closed.ensures.aside
+
+pub returns-in-Accepted-clause-same_addresses : goal.returns-in-Accepted-clause-same_addresses
+returns-in-Accepted-clause-same_addresses g c = ap (λ (a : Aside). a.addresses) c.serve_open.ensures.served.aside ∙ ap (λ (a : Aside). a.addresses) c.in-Accepted.ensures.aside
+
+pub returns-in-Closed-clause-same_addresses : goal.returns-in-Closed-clause-same_addresses
+returns-in-Closed-clause-same_addresses g c = ap (λ (a : Aside). a.addresses) c.in-Closed.ensures.aside
+
+pub returns-in-Failed-clause-same_addresses : goal.returns-in-Failed-clause-same_addresses
+returns-in-Failed-clause-same_addresses g c = ap (λ (a : Aside). a.addresses) c.in-Failed.ensures.aside

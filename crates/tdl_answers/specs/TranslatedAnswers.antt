@@ -1,0 +1,17 @@
+-- The answer line of a text, by its translation.
+use Rattle.std.specs.Prelude.{ℕ, List}
+use Rattle.tdl_messages.specs.AnswerLines.{IsLineOf}
+use Rattle.tdl_lines.specs.Outputs.{LineAnswer}
+use Rattle.gs_tables.specs.Tables.{TableRows}
+use Rattle.gs_translate.specs.declared.form.Form.{Form}
+use Rattle.gs_translate.specs.Answers.{IsAnswer}
+use Rattle.gs_translate.specs.Reasons.{reason_text}
+use Rattle.gs_translate.specs.Translations.{IsTranslated, Translating}
+
+-- trusted, own: the answer to the text of a line, by its translation
+abbrev pub IsTranslatedLine : Translating → List ℕ → LineAnswer → Type 0
+IsTranslatedLine t text line = IsLineOf reason_text (IsTranslated t text) line
+
+-- trusted, own: the answer to the text of a line, by its canonical link
+abbrev pub IsCanonLine : TableRows → Form → List ℕ → LineAnswer → Type 0
+IsCanonLine set form text line = IsLineOf reason_text (IsAnswer set form text) line

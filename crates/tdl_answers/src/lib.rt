@@ -1,0 +1,26 @@
+//! What answers the lines of an input: the translations of their texts.
+//!
+//! - `TranslatedLines` answers each text by its translation, for the line loop of tdl_lines; `answer_lines` runs that loop.
+//!
+//! # Example
+//!
+//! Two lines of at most 38 bytes, of which the second is no pure identity. The gate runs this case, for which
+//! crates/vectors_runs/src/translated_lines.rt makes the call: the status, the output, and what is left of the input.
+//!
+//! ```text
+//! tdl_run::answer_lines Pure Canon - - \e no https://id.gs1.org \e 38 / 1 - urn:epc:id:sgtin:0614141.812345.6789\x0Ax / 1000 -
+//! SomeRefused ok\x20https://id.gs1.org/01/80614141123458/21/6789\x0Ano\x20reading\x0A \e
+//! ```
+//!
+//! # Where it differs from the standards
+//!
+//! - No standard has lines of texts and answers: their form is this project's own (docs/FORMATS.md, 'Lines').
+#![tactic(auto)]
+
+mod dump_lines;
+mod dump_reason;
+mod translated_lines;
+
+pub use dump_lines::{DumpReadLines, DumpWriteLines};
+pub use dump_reason::DumpReason;
+pub use translated_lines::{TranslatedLines, answer_lines};
