@@ -1,0 +1,4 @@
+pub mod SortedTrees
+pub mod WholeMembers
+pub mod WholeItems
+pub mod PutMembers

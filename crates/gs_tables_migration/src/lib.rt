@@ -1,0 +1,5 @@
+//! Migration.
+#![tactic(auto)]
+
+mod migrated;
+mod tree;
