@@ -8,13 +8,13 @@ use Rattle.serde_json.specs.Find.{as_number, as_str, as_u64, at, get_item}
 use Rattle.serde_json.specs.Written.{has_float, items_have_float}
 use Rattle.gs_chars.proofs.TruthsAndLists.{mapped_some}
 use Rattle.gs_grammar.specs.declared.item.Item.{Item}
-use Rattle.gs_grammar.specs.declared.item.Item.TheVariants.{Lit, Pad, Int, Esc, NumPad, Num, Ascii7, Fill}
+use Rattle.gs_grammar.specs.declared.item.Item.TheVariants.{Lit, Pad, Digits, Int, Esc, NumPad, Num, NumStr, Ascii7, Fill}
 use Rattle.gs_json.specs.Answers.{items_count}
 use Rattle.gs_tables_document.specs.Items.{FieldItem, ascii7, bit_item, bit_literal, both, bits_of, byte_arg, field_arg, field_of, fill, held, int, item_of, literal, no_field, num, number_arg, pad, short_arg, sized, text_arg, text_item, with_field}
 
 -- ---- answers that are there
 
-then_some : {X Y : Type 0} (f : X → Option Y) (o : Option X) (y : Y) → option_and_then f o ≡ Some y → (x : X) × (o ≡ Some x) × (f x ≡ Some y)
+pub then_some : {X Y : Type 0} (f : X → Option Y) (o : Option X) (y : Y) → option_and_then f o ≡ Some y → (x : X) × (o ≡ Some x) × (f x ≡ Some y)
 then_some f None y h = absurd (let g : None ≡ Some y = h in cc)
 then_some f (Some x) y h = (x, refl, h)
 
@@ -170,13 +170,13 @@ module _ (ds : Items) where
     text_whole : text_item name (array ds) ≡ Some x → items_have_float ds ≡ false
     text_whole h =
         by_name (bytes_eq name (codes "lit")) _ _ literal_whole
-        (by_name (bytes_eq name (codes "pad")) _ _ pad_whole (by_name (bytes_eq name (codes "int")) _ _ int_whole (by_name (bytes_eq name (codes "esc")) _ _ (bytes_parts Esc) none_whole))) h
+        (by_name (bytes_eq name (codes "pad")) _ _ pad_whole (by_name (bytes_eq name (codes "int")) _ _ int_whole (by_name (bytes_eq name (codes "esc")) _ _ (bytes_parts Esc) (by_name (bytes_eq name (codes "digits")) _ _ (bytes_parts Digits) none_whole)))) h
 
     bit_whole : bit_item name (array ds) ≡ Some x → items_have_float ds ≡ false
     bit_whole h =
         by_name (bytes_eq name (codes "lit")) _ _ bit_literal_whole
         (by_name (bytes_eq name (codes "numpad")) _ _ (bytes_parts NumPad)
-        (by_name (bytes_eq name (codes "num")) _ _ num_whole (by_name (bytes_eq name (codes "ascii7")) _ _ ascii7_whole (by_name (bytes_eq name (codes "fill")) _ _ fill_whole none_whole)))) h
+        (by_name (bytes_eq name (codes "num")) _ _ num_whole (by_name (bytes_eq name (codes "ascii7")) _ _ ascii7_whole (by_name (bytes_eq name (codes "fill")) _ _ fill_whole (by_name (bytes_eq name (codes "numstr")) _ _ (bytes_parts NumStr) none_whole))))) h
 
 -- an array that is an item
 array_whole : (bits : Bool) (ds : Items) (x : FieldItem) → item_of bits (array ds) ≡ Some x → items_have_float ds ≡ false

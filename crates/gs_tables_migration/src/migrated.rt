@@ -1,9 +1,12 @@
 ghost use Rattle.std.specs.Prelude.{IfOk};
 ghost use Rattle.serde_json.specs.Data.{Data};
 ghost use Rattle.serde_json.specs.View.{view};
-ghost use Rattle.gs_tables_document.specs.Readings.{IsJson};
+ghost use Rattle.gs_tables_document.specs.declared.document.Document.{Document};
+ghost use Rattle.gs_tables_document.specs.Readings.{Holds, IsJson};
+ghost use Rattle.gs_tables_migration.specs.Migrations.{IsKnown, IsMigrated, in_second};
 
-use gs_chars::Memory;
+use crate::tree::second_version;
+use gs_chars::{Memory, Text};
 use serde_json::Value;
 use std::alloc::Global;
 
@@ -17,4 +20,19 @@ fn tree_of(alloc: Global, bytes: &[u8]) -> Result<Value, Memory>
         Err(error) if error.is_memory() => Err(Memory),
         Err(_) => unreachable!(),
     }
+}
+
+/// The text of a table document as one of version 2: the JSON text of the same tree with the version 2 and, in each kind, no
+/// further fields, or of the tree itself where it is of version 2. It has no space, the members of each object in ascending
+/// order of name, and of members with one name the last. The text is a document of the same rows, of version 2. The bytes are a document
+/// of version 1 or 2 whose parts and items are all known. The one error is out of memory.
+pub fn migrated_text(alloc: Global, bytes: &[u8]) -> Result<Text, Memory>
+    requires known { (document : Document) × Holds bytes.now document × IsKnown document }
+    ensures text { IfOk result (IsMigrated bytes.now) }
+    ensures holds { IfOk result (λ text. (document : Document) → Holds bytes.now document
+        → Holds text (in_second document)) }
+{
+    let tree = tree_of(alloc, bytes)?;
+    let second = second_version(alloc, tree)?;
+    Ok(Text::from_vec(second.to_vec(alloc)?))
 }
