@@ -1,6 +1,6 @@
 -- The text of the second version of a document has no fraction, and is read as the rows of the document in version 2.
 use Rattle.std.proofs.Common.{◌≡◌, ℕ, ◌+◌, ◌≤◌, ◌==◌, true, false, Bool, List, [], ◌∷◌, map, Option, Some, None, option_and_then, unwrap_or, codes, Ordering, Less, Equal, Greater, refl, ap, subst, sym, ◌∙◌, arith, rules, tests}
-use Rattle.std.specs.Prelude.{IsUtf8}
+use Rattle.std.specs.Prelude.{Result, Ok, Err, IfOk, IsUtf8}
 use Rattle.std.specs.Cmp.Lexicographic.{slice_cmp}
 use Rattle.std.specs.List.{AllByRecursion}
 use Rattle.std.specs.Ordering.{match_ordering, nat_cmp}
@@ -178,7 +178,11 @@ module _ (bytes : List ℕ) (tree : Data) (json : IsJson bytes tree) (document :
   tree_second : (document_errors (second_version tree) ≡ []) × IsDocument (second_version tree) (in_second document)
   tree_second = second_of document known tree (rw same_tree at holds.2) (rw same_tree at holds.3)
 
-  pub tree_whole : has_float (second_version tree) ≡ false
+  text_migrated : (text : List ℕ) → text ≡ compact_text (second_version tree) → IsMigrated bytes text
+  unfolding document_of
+  text_migrated text is = rw (is_utf8-from_IsUtf8 bytes json.0, json.1) is
+
+  tree_whole : has_float (second_version tree) ≡ false
   tree_whole =
       document_whole (second_version tree) (in_second document) (sorted_by tree (is_second tree) refl (sorted_read bytes tree json.1)) tree_second.0 tree_second.1 (known_second document known)
 
@@ -188,13 +192,19 @@ module _ (bytes : List ℕ) (tree : Data) (json : IsJson bytes tree) (document :
       (second_version tree, (utf8, reads deep), tree_second.0, tree_second.1)
 
   -- so of the text that is written of the tree, and of the rows that the bytes have
-  pub written_holds : (second : Data) (items text : List ℕ) → second ≡ second_version tree → text ≡ items → IsUtf8 items → (depth second ≤ max_depth → read_text items ≡ Some second)
+  written_holds : (second : Data) (text : List ℕ) → second ≡ second_version tree → IsUtf8 text → (depth second ≤ max_depth → read_text text ≡ Some second)
       → (other : Document) → Holds bytes other → Holds text (in_second other)
-  written_holds second items text is same utf8 reads other holds' =
+  written_holds second text is utf8 reads other holds' =
       let one = one_of_bytes bytes document other holds holds' in
-      let back : depth (second_version tree) ≤ max_depth → read_text items ≡ Some (second_version tree) = rw is at reads in
-      subst (λ d. Holds text (in_second d)) one (subst (λ t. Holds t (in_second document)) (sym same) (text_holds items utf8 back))
+      let back : depth (second_version tree) ≤ max_depth → read_text text ≡ Some (second_version tree) = rw is at reads in
+      subst (λ d. Holds text (in_second d)) one (text_holds text utf8 back)
 
-pub text_migrated : (bytes text : List ℕ) (tree : Data) → IsJson bytes tree → text ≡ compact_text (second_version tree) → IsMigrated bytes text
-unfolding document_of
-text_migrated bytes text tree json is = rw (is_utf8-from_IsUtf8 bytes json.0, json.1) is
+  module _ {E : Type 0} (second : Data) (is : second ≡ second_version tree) where
+    pub answer_migrated : (answer : Result (List ℕ) E) → IfOk answer (λ text. has_float second ≡ false → text ≡ compact_text second) → IfOk answer (IsMigrated bytes)
+    answer_migrated (Ok text) written = text_migrated text (rw is at (written (rw is tree_whole)))
+    answer_migrated (Err e) written = tt
+
+    pub answer_holds : (answer : Result (List ℕ) E) → IfOk answer IsUtf8 → IfOk answer (λ text. depth second ≤ max_depth → read_text text ≡ Some second)
+        → IfOk answer (λ text. (other : Document) → Holds bytes other → Holds text (in_second other))
+    answer_holds (Ok text) utf8 reads = written_holds second text is utf8 reads
+    answer_holds (Err e) utf8 reads = tt

@@ -123,14 +123,25 @@ document_members ms document sorted none is known =
     let kinds = nil_parts (rows_errors (codes "kinds") (kind_plan (is_second d)) d) _ ais.1 in
     let binary = nil_parts (rows_errors (codes "binary") option_plan d) _ kinds.1 in
     let others = nil_parts (rows_errors (codes "tag") option_plan d) (rows_errors (codes "pure") option_plan d) binary.1 in
-    object_whole [] document_plan ms sorted own.0
-    ((λ e _ fits. number_sort _ e fits),
-    ((λ e found fits. rows_member (IsAiRow (is_second d)) (λ _. ⊤) ai_plan (ai_whole (is_second d)) (codes "ais") _ ms document.ais e sorted is.ais (all_true document.ais) ais.0 found fits),
-    ((λ e found fits. rows_member IsKindRow (λ _. ⊤) (kind_plan (is_second d)) (kind_whole (is_second d)) (codes "kinds") _ ms document.kinds e sorted is.kinds (all_true document.kinds) kinds.0 found fits),
-    ((λ e found fits. rows_member (IsOptionRow (of_bits d)) (λ row. has_items row ≡ true) option_plan (option_whole (of_bits d)) (codes "binary") _ ms document.binary e sorted is.binary (each_true has_items document.binary known.binary) binary.0 found fits),
-    ((λ e found fits. rows_member (IsOptionRow (of_texts d)) (λ row. has_items row ≡ true) option_plan (option_whole (of_texts d)) (codes "tag") _ ms document.tag e sorted is.tag (each_true has_items document.tag known.tag) others.0 found fits),
-    ((λ e found fits. rows_member (IsOptionRow (of_texts d)) (λ row. has_items row ≡ true) option_plan (option_whole (of_texts d)) (codes "pure") _ ms document.pure e sorted is.pure (each_true has_items document.pure known.pure) others.1 found fits),
-    tt))))))
+    object_whole [] document_plan ms sorted own.0 (
+      (λ e _ fits. number_sort _ e fits),
+      (
+        (λ e found fits. rows_member (IsAiRow (is_second d)) (λ _. ⊤) ai_plan (ai_whole (is_second d)) (codes "ais") _ ms document.ais e sorted is.ais (all_true document.ais) ais.0 found fits),
+        (
+          (λ e found fits. rows_member IsKindRow (λ _. ⊤) (kind_plan (is_second d)) (kind_whole (is_second d)) (codes "kinds") _ ms document.kinds e sorted is.kinds (all_true document.kinds) kinds.0 found fits),
+          (
+            (λ e found fits. rows_member (IsOptionRow (of_bits d)) (λ row. has_items row ≡ true) option_plan (option_whole (of_bits d)) (codes "binary") _ ms document.binary e sorted is.binary (each_true has_items document.binary known.binary) binary.0 found fits),
+            (
+              (λ e found fits. rows_member (IsOptionRow (of_texts d)) (λ row. has_items row ≡ true) option_plan (option_whole (of_texts d)) (codes "tag") _ ms document.tag e sorted is.tag (each_true has_items document.tag known.tag) others.0 found fits),
+              (
+                (λ e found fits. rows_member (IsOptionRow (of_texts d)) (λ row. has_items row ≡ true) option_plan (option_whole (of_texts d)) (codes "pure") _ ms document.pure e sorted is.pure (each_true has_items document.pure known.pure) others.1 found fits),
+                tt,
+              ),
+            ),
+          ),
+        ),
+      ),
+    )
 
 pub document_whole : (d : Data) (document : Document) → IsSorted d → document_errors d ≡ [] → IsDocument d document → IsKnown document → has_float d ≡ false
 unfolding document_errors
