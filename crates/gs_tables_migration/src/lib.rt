@@ -1,6 +1,6 @@
 //! Table documents of version 1 as documents of version 2.
 //!
-//! - `migrated_text` makes the text of a document's second version. It is for documents that a load has accepted: gs_tables has
+//! - `second_text` makes the text of a document's second version. It is for documents that a load has accepted: gs_tables has
 //!   the call for bytes of any kind, `migrate`.
 //!
 //! # Example
@@ -21,7 +21,7 @@
 //!   order of members, escapes that need not be, and members given twice are.
 #![tactic(auto)]
 
-mod migrated;
+mod texts;
 mod tree;
 
-pub use migrated::migrated_text;
+pub use texts::second_text;

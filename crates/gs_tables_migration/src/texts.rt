@@ -38,7 +38,7 @@ fn text_of(alloc: Global, tree: Value) -> Result<Text, Memory>
 /// further fields, or of the tree itself where it is of version 2. It has no space, the members of each object in ascending
 /// order of name, and of members with one name the last. It is a document of version 2 with the rows of the bytes, which are a
 /// document of version 1 or 2 whose parts and items are all known. The one error is out of memory.
-pub fn migrated_text(alloc: Global, bytes: &[u8]) -> Result<Text, Memory>
+pub fn second_text(alloc: Global, bytes: &[u8]) -> Result<Text, Memory>
     requires known { (document : Document) × Holds bytes.now document × IsKnown document }
     ensures text { IfOk result (IsMigrated bytes.now) }
     ensures holds { IfOk result (λ text. (document : Document) → Holds bytes.now document

@@ -1,6 +1,6 @@
 use Rattle.serde_json.specs.View.{view}
 use Rattle.gs_tables_migration.proofs.MigratedTexts.{answer_holds, answer_migrated}
-use Rattle.gs_tables_migration.proofs.migrated.migrated_text.Goals as goal
+use Rattle.gs_tables_migration.proofs.texts.second_text.Goals as goal
 
 pub returns-clause-text : goal.returns-clause-text
 returns-clause-text c =
