@@ -10,15 +10,18 @@ use Rattle.gs_grammar.specs.Derivations.{EachWord}
 use Rattle.gs_grammar.specs.Words.{decimal_value}
 use Rattle.gs_grammar.proofs.Numbers.{value_decimal}
 use Rattle.gs_tables_document.specs.declared.field.Field.{Field}
-use Rattle.gs_tables_document.specs.declared.field.Field.TheVariants.{Filter, Gcp, Rest, Serial}
+use Rattle.gs_tables_document.specs.declared.field.Field.TheVariants.{Filter, Gcp, Rest, Piece, Total, Serial}
 use Rattle.gs_tables_document.specs.declared.level_name.LevelName.TheVariants.{Binary}
 use Rattle.gs_tables_document.specs.declared.opt_info.OptInfo.{OptInfo}
 use Rattle.gs_tables_document.specs.Items.{FieldItem, alone, fields_of}
 use Rattle.gs_tables.specs.declared.form.KeyForm.{KeyForm}
 use Rattle.gs_tables.specs.declared.form.KeyForm.TheVariants.{Digits, Characters}
+use Rattle.gs_tables.specs.declared.form.Behind.TheVariants.{Nothing, Further, Tail}
+use Rattle.gs_tables.specs.declared.form.Room.{Room}
+use Rattle.gs_tables.specs.declared.form.Room.TheVariants as room
 use Rattle.gs_tables.specs.Forms.{serial_room}
 use Rattle.gs_tables.specs.KeptRules.{KeptOption}
-use Rattle.gs_tables.specs.Rules.{has_room, is_digits, is_field, is_filter, is_free, is_gcp, is_one, items_of_field, keeps_gcp, keeps_rest, keeps_serial}
+use Rattle.gs_tables.specs.Rules.{has_room, is_digits, is_field, is_filter, is_free, is_gcp, is_number, is_one, items_of_field, keeps_further, keeps_gcp, keeps_rest, keeps_serial}
 use Rattle.gs_tables.specs.Tables.{TableRows}
 use Rattle.gs_epc.specs.Candidates.{is_left_out, left_out, value_for, values_for}
 use Rattle.gs_epc.specs.Epcs.{epc_of, value_at, value_of}
@@ -51,10 +54,26 @@ one_rest (Digits digits tail) n items h = elim (true_or_false (digits - n == 0))
 ]
 one_rest (Characters most) n items h = one_at_most (is_free (most - n)) items h
 
-one_serial : (room : Option ℕ) (items : List Item) → keeps_serial room items ≡ true → length items ≤ 1
+one_serial : (room : Option Room) (items : List Item) → keeps_serial room items ≡ true → length items ≤ 1
 unfolding keeps_serial
 one_serial None items h = none_at_all items h
-one_serial (Some most) items h = one_at_most (has_room most) items h
+one_serial (Some (room.Characters most)) items h = one_at_most (has_room most) items h
+one_serial (Some (room.Digits most)) items h = one_at_most (is_number most) items h
+
+one_further : (form : KeyForm) (pieces totals : List Item) → keeps_further form pieces totals ≡ true → (length pieces ≤ 1) × (length totals ≤ 1)
+unfolding keeps_further
+one_further (Digits digits (Further a b)) pieces totals h =
+    let both = and_parts (is_one (is_digits a) pieces) (is_one (is_digits b) totals) h in
+    (one_at_most (is_digits a) pieces both.0, one_at_most (is_digits b) totals both.1)
+one_further (Digits digits Nothing) pieces totals h =
+    let both = and_parts (is_empty pieces) (is_empty totals) h in
+    (none_at_all pieces both.0, none_at_all totals both.1)
+one_further (Digits digits (Tail most)) pieces totals h =
+    let both = and_parts (is_empty pieces) (is_empty totals) h in
+    (none_at_all pieces both.0, none_at_all totals both.1)
+one_further (Characters most) pieces totals h =
+    let both = and_parts (is_empty pieces) (is_empty totals) h in
+    (none_at_all pieces both.0, none_at_all totals both.1)
 
 -- ---- the value of a field is that of its one item
 
@@ -62,6 +81,8 @@ own_field : (field : Field) → is_field field (Some field) ≡ true
 own_field Filter = refl
 own_field Gcp = refl
 own_field Rest = refl
+own_field Piece = refl
+own_field Total = refl
 own_field Serial = refl
 
 one_there : (field : Field) (parts : List FieldItem) (k : ℕ) (item : Item) → slice_get parts k ≡ Some (Some field, item) → 1 ≤ length (items_of_field field parts)
@@ -147,6 +168,12 @@ module _ (set : TableRows) (items : List Item) (info : OptInfo) (values words : 
   value_again k (Some Rest) value at read =
       let here = field_value Rest k value (one_rest kept.of_kind.form info.gcp (items_of_field Rest kept.parts) kept.rest) at read in
       rw here refl
+  value_again k (Some Piece) value at read =
+      let here = field_value Piece k value (one_further kept.of_kind.form (items_of_field Piece kept.parts) (items_of_field Total kept.parts) kept.further).0 at read in
+      rw here refl
+  value_again k (Some Total) value at read =
+      let here = field_value Total k value (one_further kept.of_kind.form (items_of_field Piece kept.parts) (items_of_field Total kept.parts) kept.further).1 at read in
+      rw here refl
   value_again k (Some Serial) value at read =
       let here = field_value Serial k value (one_serial (serial_room set.ais kept.of_kind.form kept.kind.serial) (items_of_field Serial kept.parts) kept.serial) at read in
       rw here refl
@@ -172,5 +199,7 @@ stays field fields values = elim (true_or_false (list_any (is_field field) field
 pub nothing_left_out : (info : OptInfo) (values : List (List ℕ)) → left_out info.fields (epc_of info values) ≡ None
 nothing_left_out info values =
     let rest = stays Rest info.fields values in
+    let piece = stays Piece info.fields values in
+    let total = stays Total info.fields values in
     let serial = stays Serial info.fields values in
-    rw (rest, serial) refl
+    rw (rest, piece, total, serial) refl

@@ -10,12 +10,12 @@
 //!
 //! ```text
 //! gs_tables_builtin::document
-//! 55 7 84 84 49
+//! 57 10 105 105 70
 //! ```
 //!
 //! # Where it differs from the standard
 //!
-//! - Of GS1 EPC Tag Data Standard 2.0 it has the encodings of seven kinds for company prefixes of 6 to 12 digits, and none of
+//! - Of GS1 EPC Tag Data Standard 2.0 it has the encodings of ten kinds for company prefixes of 6 to 12 digits, and none of
 //!   those that carry a whole element string.
 //! - Of the GS1 General Specifications it has the application identifiers that are met most; tables/gs1.json has more.
 #![tactic(auto)]

@@ -32,6 +32,7 @@ impl Calls for Libraries {
             "gs_merge" => vectors_merge::answer(alloc, self.set.ais(), call, args),
             "gs_port"
             | "gs_port_memory"
+            | "tdl_answers"
             | "tdl_arguments"
             | "tdl_gen"
             | "tdl_lines"

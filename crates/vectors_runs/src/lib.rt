@@ -31,9 +31,11 @@ enum Library {
     Program,
 }
 
-const LIBRARIES: [(&str, Library); 7] = [
+const LIBRARIES: [(&str, Library); 8] = [
     ("gs_port", Library::Port),
     ("gs_port_memory", Library::Memory),
+    // tdl_run passes its answer_lines on
+    ("tdl_answers", Library::Program),
     ("tdl_arguments", Library::Arguments),
     ("tdl_gen", Library::Generator),
     ("tdl_lines", Library::Lines),

@@ -4,6 +4,8 @@
 //!   input and an empty output, of which a read and a write move at most CUT bytes, and whose calls of the numbers FAILS fail:
 //!   the status, what the output holds, and what is left of the input. Behind `/ CUT FAILS INPUT..`, a door with the inputs of
 //!   the connections that wait at it, stand too the number of finished connections, and what each was written.
+//! - `opened WORD.. / ..`: of such a run the status, the names of the files that were opened, and the addresses at which the door
+//!   was to be opened.
 //! - `repeated WORD.. / FAILS NAME BYTES .. / CUT LINE COUNT / CUT FAILS`: the same over COUNT copies of a line, each with a
 //!   line feed: the status, how many bytes the output holds, how many of its lines are equal to the first, and that line.
 
@@ -25,13 +27,15 @@ use vectors_cases::{
 enum Call {
     AnswerCopies,
     AnswerLines,
+    Opened,
     Repeated,
     Run,
 }
 
-const CALLS: [(&str, Call); 4] = [
+const CALLS: [(&str, Call); 5] = [
     ("answer_copies", Call::AnswerCopies),
     ("answer_lines", Call::AnswerLines),
+    ("opened", Call::Opened),
     ("repeated", Call::Repeated),
     ("run", Call::Run),
 ];
@@ -41,6 +45,7 @@ pub fn answer(alloc: Global, line: &mut Line, set: &TableSet, call: &[u8], args:
     match named(&CALLS, call) {
         Some(Call::AnswerCopies) => answered_copies(alloc, line, set, args),
         Some(Call::AnswerLines) => answered(alloc, line, set, args),
+        Some(Call::Opened) => opened(alloc, line, args),
         Some(Call::Repeated) => repeated(alloc, line, args),
         Some(Call::Run) => ran(alloc, line, args),
         None => Err(Rejection::NoCase),
@@ -119,6 +124,23 @@ fn ran(alloc: Global, line: &mut Line, args: &[Text]) -> Done {
     let mut objects = objects_of(alloc, args)?;
     let status = objects.run(alloc, &words);
     add_known(alloc, line, args, status, &mut objects)
+}
+
+/// Writes names in brackets, where they are known.
+fn add_names(line: &mut Line, names: Option<&[Text]>) {
+    match names {
+        Some(names) => line.bracketed(names),
+        None => line.plain("unknown"),
+    }
+}
+
+fn opened(alloc: Global, line: &mut Line, args: &[Text]) -> Done {
+    let words = words_at(alloc, args)?;
+    let mut objects = objects_of(alloc, args)?;
+    line.debug(objects.run(alloc, &words));
+    add_names(line, objects.files.opened());
+    add_names(line, objects.door.addresses());
+    Ok(())
 }
 
 /// Appends a line and a line feed.
