@@ -1,6 +1,5 @@
 -- The attributes of parameters: there are some, one for each name that has one, in ascending order.
-use Rattle.std.proofs.Common.{◌≡◌, ◌||◌, ℕ, zero, suc, Bool, true, false, List, [], ◌∷◌, Option, Some, None, map, slice_get, bytes_eq, Ordering, Less, Equal, Greater, refl, sym, ap, ◌∙◌, inl, inr, subst}
-use Rattle.std.specs.Prelude.{fold}
+use Rattle.std.proofs.Common.{◌≡◌, ◌||◌, ℕ, suc, Bool, true, false, List, [], ◌∷◌, Some, map, slice_get, bytes_eq, Ordering, Less, Equal, Greater, refl, sym, ap, ◌∙◌, subst}
 use Rattle.std.specs.BTreeSet.{insert_key}
 use Rattle.std.specs.Cmp.Lexicographic.{nat_list_cmp_total, slice_cmp}
 use Rattle.std.specs.List.{AllByRecursion, filter_map, list_any}
@@ -8,9 +7,9 @@ use Rattle.std.specs.List.Sorted.{IsStrictlySortedBy}
 use Rattle.std.specs.Ordering.{match_ordering, nat_cmp, ordering_reverse}
 use Rattle.std.proofs.lemmas.Map.Lookups.{exact_bytes}
 use Rattle.gs_linkset.specs.declared.link_types.Attr.{Attr}
-use Rattle.gs_linktext.specs.Links.{attr_of, attr_with, values_of, IsAttributes}
+use Rattle.gs_linktext.specs.Links.{attr_of, values_of, IsAttributes}
 use Rattle.gs_linktext_grammar.specs.declared.written_link.Param.{Param}
-use Rattle.gs_chars.proofs.TruthsAndLists.{equal_bytes, or_true, same_bytes, true_or_false}
+use Rattle.gs_chars.proofs.TruthsAndLists.{equal_bytes, or_true, same_bytes}
 use Rattle.gs_linktext.proofs.AttrLemmas.{attr_name, given_ascends, given_at, given_from, no_values}
 
 -- ---- names in ascending order, each once
@@ -37,7 +36,7 @@ has_put_by Equal t n m names is more h = let e = exact_bytes n m is in by (bytes
   where
     by : (b : Bool) → bytes_eq t m ≡ b → has t (m ∷ m ∷ names) ≡ true → has t (m ∷ names) ≡ true
     by true is here = rw is refl
-    by false not here = rw not (rw (not, not) at here)
+    by false not here = rw not (rw not at here)
 has_put_by Greater t n m names is more h = by (bytes_eq t m) refl (bytes_eq t n) refl
   where
     by : (b : Bool) → bytes_eq t m ≡ b → (c : Bool) → bytes_eq t n ≡ c → has t (m ∷ insert_key (slice_cmp nat_cmp) names n) ≡ true
@@ -91,25 +90,25 @@ names_ascend (param ∷ params) = ascend_put param.name (names_of params) (names
 no_value : (params : List Param) (name : List ℕ) → has name (names_of params) ≡ false → values_of name params ≡ []
 unfolding names_of
 no_value [] name h = refl
-no_value (param ∷ params) name h = by (bytes_eq param.name name) refl (has name (names_of params)) refl
+no_value (param ∷ params) name h = by (no_value params name) (bytes_eq param.name name) refl (has name (names_of params)) refl
   where
     absurd_if : has name (param.name ∷ names_of params) ≡ true → ⊥
     absurd_if t = let e : true ≡ false = sym (has_put name param.name (names_of params) t) ∙ h in cc
 
-    by : (b : Bool) → bytes_eq param.name name ≡ b → (c : Bool) → has name (names_of params) ≡ c → values_of name (param ∷ params) ≡ []
-    by true is c e = let same = equal_bytes param.name name is in absurd (absurd_if (rw same (rw (same_bytes name) refl)))
-    by false not true e = absurd (absurd_if (or_true (bytes_eq name param.name) (has name (names_of params)) e))
-    by false not false e = rw not (no_value params name e)
+    by : (has name (names_of params) ≡ false → values_of name params ≡ []) → (b : Bool) → bytes_eq param.name name ≡ b → (c : Bool) → has name (names_of params) ≡ c → values_of name (param ∷ params) ≡ []
+    by more true is c e = let same = equal_bytes param.name name is in absurd (absurd_if (rw same (rw (same_bytes name) refl)))
+    by more false not true e = absurd (absurd_if (or_true (bytes_eq name param.name) (has name (names_of params)) e))
+    by more false not false e = rw not (more e)
 
 -- ---- the place of a name
 
 place_of : (name : List ℕ) (names : List (List ℕ)) → has name names ≡ true → (j : ℕ) × (slice_get names j ≡ Some name)
 place_of name [] h = absurd (let e : false ≡ true = h in cc)
-place_of name (n ∷ names) h = by (bytes_eq name n) refl
+place_of name (n ∷ names) h = by (place_of name names) (bytes_eq name n) refl
   where
-    by : (b : Bool) → bytes_eq name n ≡ b → (j : ℕ) × (slice_get (n ∷ names) j ≡ Some name)
-    by true is = (0, ap (λ (x : List ℕ). Some x) (sym (equal_bytes name n is)))
-    by false not = let found = place_of name names (rw not at h) in (suc found.0, found.1)
+    by : (has name names ≡ true → (j : ℕ) × (slice_get names j ≡ Some name)) → (b : Bool) → bytes_eq name n ≡ b → (j : ℕ) × (slice_get (n ∷ names) j ≡ Some name)
+    by more true is = (0, ap (λ (x : List ℕ). Some x) (sym (equal_bytes name n is)))
+    by more false not = let found = more (rw not at h) in (suc found.0, found.1)
 
 same_list : (names : List (List ℕ)) → map (λ (n : List ℕ). n) names ≡ names
 same_list [] = refl
@@ -118,15 +117,13 @@ same_list (n ∷ names) = ap (λ (ns : List (List ℕ)). n ∷ ns) (same_list na
 -- ---- the attributes
 
 pub some_attributes : (params : List Param) → (attrs : List Attr) × IsAttributes params attrs
-some_attributes params = (filter_map (attr_of params) (names_of params), record { ascending = ascending; each = each; every_name = every_name })
+some_attributes params = (filter_map (attr_of params) (names_of params), record { ascending = given_ascends (attr_of params) (λ (attr : Attr). attr.name) (λ (n : List ℕ). n) own (names_of params) (subst Ascend (sym (same_list (names_of params))) (names_ascend params)); each = each; every_name = every_name })
   where
     own : (n : List ℕ) (attr : Attr) → attr_of params n ≡ Some attr → attr.name ≡ n
     own n attr is = attr_name n (values_of n params) attr is
 
-    ascending = given_ascends (attr_of params) (λ (attr : Attr). attr.name) (λ (n : List ℕ). n) own (names_of params) (subst Ascend (sym (same_list (names_of params))) (names_ascend params))
-
     each : (i : ℕ) (attr : Attr) → slice_get (filter_map (attr_of params) (names_of params)) i ≡ Some attr → attr_of params attr.name ≡ Some attr
-    each i attr at = let found = given_from (attr_of params) (names_of params) i attr at in rw (own found.1 attr found.3) found.3
+    each i attr at = let found = given_from (attr_of params) (names_of params) i attr at in subst (λ (n : List ℕ). attr_of params n ≡ Some attr) (sym (own found.1 attr found.3)) found.3
 
     by_name : (name : List ℕ) (attr : Attr) → attr_of params name ≡ Some attr → (b : Bool) → has name (names_of params) ≡ b → (i : ℕ) × (slice_get (filter_map (attr_of params) (names_of params)) i ≡ Some attr)
     by_name name attr is true h = let at = place_of name (names_of params) h in given_at (attr_of params) (names_of params) at.0 name attr at.1 is

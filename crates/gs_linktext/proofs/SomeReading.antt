@@ -1,11 +1,11 @@
 -- A text has an answer of reading: the contexts of a linkset, or an error that is not out of memory.
-use Rattle.std.proofs.Common.{◌≡◌, ◌≢◌, ℕ, zero, suc, ◌+◌, ◌<◌, ◌≤◌, ◌&&◌, not, Bool, true, false, List, [], ◌∷◌, ◌++◌, Option, Some, None, codes, length, map, bytes_eq, refl, sym, ap, ◌∙◌, inl, inr, arith, append_assoc, append-nil, subst, unwrap_or}
+use Rattle.std.proofs.Common.{◌≡◌, ℕ, zero, suc, ◌+◌, ◌<◌, not, Bool, true, false, List, [], ◌∷◌, ◌++◌, Option, Some, None, codes, length, map, bytes_eq, refl, sym, ap, ◌∙◌, inl, inr, arith, append_assoc, append-nil, subst, unwrap_or}
 use Rattle.std.specs.Prelude.{◌⊎◌}
 use Rattle.gs_linkset.specs.LinkShapes.{is_below}
 use Rattle.gs_linkset.specs.declared.link_types.Context.{Context}
 use Rattle.gs_linkset.specs.declared.link_types.Relation.{Relation}
 use Rattle.gs_linkset.specs.declared.link_types.Target.{Target}
-use Rattle.gs_chars.proofs.TruthsAndLists.{and_first, and_second, true_or_false, equal_bytes}
+use Rattle.gs_chars.proofs.TruthsAndLists.{and_first, and_second, equal_bytes}
 use Rattle.gs_linktext_grammar.specs.Grammar.{is_some_part, written_links, IsDocument}
 use Rattle.gs_linktext_grammar.specs.Lexemes.{Lexed}
 use Rattle.gs_linktext_grammar.specs.Prefixes.{after_blanks, first_lexeme}
@@ -18,8 +18,8 @@ use Rattle.gs_linktext_grammar.proofs.ChainLemmas.{lexed_end, next_of_prefix, no
 use Rattle.gs_linktext_grammar.proofs.LexLemmas.{not_some, shorter_behind, shorter_prefix, some_is}
 use Rattle.gs_linktext.specs.Contexts.{last_name, IsCut}
 use Rattle.gs_linktext.specs.Cuts.{context_with, relation_with, takes, IsMore}
-use Rattle.gs_linktext.specs.Links.{first_error, first_value, is_rel_error, link_error, or_error, types_of, IsLinksOf, IsLinksOfLink}
-use Rattle.gs_linktext.specs.ReadAnswers.{HasReading, IsReadAs, IsReadError}
+use Rattle.gs_linktext.specs.Links.{first_error, first_value, is_rel_error, link_error, types_of, IsLinksOf, IsLinksOfLink}
+use Rattle.gs_linktext.specs.ReadAnswers.{HasReading}
 use Rattle.gs_linktext.proofs.CutLemmas.{cut_first, cut_more, cut_next, last_of, more_relation, more_target}
 use Rattle.gs_linktext.proofs.SomeNames.{some_attributes}
 use Rattle.gs_linktext.proofs.SpelledLexemes.{Link}
@@ -36,15 +36,15 @@ end_or_not text (c ∷ rest) is none = inr (λ xs lexed. not_lexed [] xs text te
 
 lexed_in : (n : ℕ) (text : List ℕ) → length text < n → IsLexedOrNot text
 lexed_in zero text small = absurd (omega arith)
-lexed_in (suc n) text small = by (first_lexeme (after_blanks text)) refl
+lexed_in (suc n) text small = by (lexed_in n) (first_lexeme (after_blanks text)) refl
   where
-    by : (o : Option (Lexeme × List ℕ)) → first_lexeme (after_blanks text) ≡ o → IsLexedOrNot text
-    by None e = end_or_not text (after_blanks text) refl e
-    by (Some (x, rest)) e =
+    by : ((rest : List ℕ) → length rest < n → IsLexedOrNot rest) → (o : Option (Lexeme × List ℕ)) → first_lexeme (after_blanks text) ≡ o → IsLexedOrNot text
+    by more None e = end_or_not text (after_blanks text) refl e
+    by more (Some (x, rest)) e =
         let less = shorter_prefix x (after_blanks text) rest e in
         let within = shorter_behind is_blank text in
         let next = next_of_prefix x text rest e in
-        elim (lexed_in n rest (omega arith)) [
+        elim (more rest (omega arith)) [
           | inl found ↦ let l = found.1 in inl (x ∷ found.0, (l.0, (rest, next, l.1), l.2))
           | inr none ↦ inr (λ xs lexed. let r = rest_lexed (x ∷ []) xs text rest (rest, next, refl) lexed in none r.0 r.2)
         ]
@@ -87,11 +87,11 @@ link_is i link error h = by (first_value (codes "anchor") link.params) refl (is_
 
 first_is : (i : ℕ) (links : List WrittenLink) (error : LinkTextFault) → first_error i links ≡ Some error → IsOfLink error
 first_is i [] error h = absurd (not_some error h)
-first_is i (link ∷ links) error h = by (link_error i link) refl
+first_is i (link ∷ links) error h = by (first_is (i + 1) links error) (link_error i link) refl
   where
-    by : (o : Option LinkTextFault) → link_error i link ≡ o → IsOfLink error
-    by (Some own) e = link_is i link error (e ∙ (rw e at h))
-    by None e = first_is (i + 1) links error (rw e at h)
+    by : (first_error (i + 1) links ≡ Some error → IsOfLink error) → (o : Option LinkTextFault) → link_error i link ≡ o → IsOfLink error
+    by more (Some own) e = link_is i link error (e ∙ (rw e at h))
+    by more None e = more (rw e at h)
 
 read_error : (bytes : List ℕ) (links : List WrittenLink) (error : LinkTextFault) → IsDocument bytes links → first_error 0 links ≡ Some error → IsOfLink error → HasReading bytes
 read_error bytes links Syntax document is h = absurd h
@@ -150,9 +150,11 @@ cut_by links old anchor name target cut = elim (at_last old) [
   where
     by : (cs : List Context) (c : Context) → old ≡ cs ++ c ∷ [] → (b : Bool) → takes c anchor name ≡ b → (new : List Context) × IsCut (links ++ (anchor, name, target) ∷ []) new
     by cs c is true t =
-        let d = some_more c name target in
-        (cs ++ d.0 ∷ [], cut_more links old (cs ++ d.0 ∷ []) cs c d.0 anchor name target is refl d.1 (and_first (bytes_eq c.anchor anchor) (not (is_below name (last_name c.relations))) t)
-        (and_second (bytes_eq c.anchor anchor) (not (is_below name (last_name c.relations))) t) cut)
+        let d = some_more c name target in (
+          cs ++ d.0 ∷ [],
+          cut_more links old (cs ++ d.0 ∷ []) cs c d.0 anchor name target is refl d.1 (and_first (bytes_eq c.anchor anchor) (not (is_below name (last_name c.relations))) t)
+              (and_second (bytes_eq c.anchor anchor) (not (is_below name (last_name c.relations))) t) cut,
+        )
     by cs c is false t = (old ++ context_with anchor name target ∷ [], cut_next links old (old ++ context_with anchor name target ∷ []) cs c anchor name target is refl t cut)
 
 cut_from : (done links : List Link) (old : List Context) → IsCut done old → (new : List Context) × IsCut (done ++ links) new
