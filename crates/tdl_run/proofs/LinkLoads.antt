@@ -1,6 +1,6 @@
 -- What is loaded of links, by how they were read and judged.
-use Rattle.std.proofs.Common.{◌≡◌, ◌⊎◌, ℕ, ◌+◌, ◌≤◌, Bool, true, false, List, [], ◌∷◌, ◌++◌, Option, Some, None, drop, length, map, slice_get, refl, sym, ap, subst, ◌∙◌, inl, inr, arith}
-use Rattle.std.specs.Prelude.{Result, Ok, Err, OnErr}
+use Rattle.std.proofs.Common.{◌≡◌, ℕ, ◌+◌, ◌≤◌, Bool, true, List, [], ◌∷◌, ◌++◌, Option, Some, None, drop, length, map, slice_get, refl, sym, ap, subst, ◌∙◌, inl, inr}
+use Rattle.std.specs.Prelude.{Result, Ok, Err}
 use Rattle.std.specs.List.{enumerate_from, flat_map}
 use Rattle.gs_ai.specs.declared.row.AiRow.{AiRow}
 use Rattle.gs_chars.specs.Answers.{OrError, first_or}
@@ -10,7 +10,10 @@ use Rattle.gs_links.specs.declared.link.Link.{Link}
 use Rattle.gs_links.specs.Loads.{links_of, load_answer, store_errors}
 use Rattle.gs_linkset.specs.declared.link_types.Context.{Context}
 use Rattle.gs_linktext.specs.ReadAnswers.{IsReadAs, IsReadError}
+use Rattle.gs_linktext_grammar.specs.declared.error.LinkTextFault.{LinkTextFault}
+use Rattle.gs_linktext_grammar.specs.declared.error.LinkTextFault.TheVariants as text
 use Rattle.gs_linktext_grammar.proofs.PartLemmas.{drop_all, drop_at}
+use Rattle.gs_merge.specs.MergedDocuments.{merge_answer}
 use Rattle.gs_template.specs.Errors.{first_error}
 use Rattle.gs_template.specs.declared.error.PlaceFault.{PlaceFault}
 use Rattle.gs_translate.specs.Steps.{Then, goes_on}
@@ -19,12 +22,11 @@ use Rattle.tdl_messages.specs.declared.file_kind.FileKind.TheVariants as kind
 use Rattle.tdl_messages.specs.declared.rejection.FileFault.{FileFault}
 use Rattle.tdl_messages.specs.declared.rejection.FileFault.TheVariants.{Place}
 use Rattle.tdl_messages.specs.declared.rejection.Rejection.{Rejection}
-use Rattle.tdl_run.specs.declared.loads.Linked.{Linked}
 use Rattle.tdl_run.specs.declared.loads.Unloaded.{Unloaded}
 use Rattle.tdl_run.specs.declared.loads.Unloaded.TheVariants as unloaded
-use Rattle.tdl_run.specs.Loads.{AreLinked, JudgesText, Stop, link_errors, linked_with, merge_verdict, merged_store, merged_with, merging, of_verdict, other_verdict, placed, places_errors, read_as, rejected, store_verdict}
+use Rattle.tdl_run.specs.Loads.{AreLinked, JudgesText, Stop, link_errors, linked_with, merge_verdict, merged_store, merged_with, merging, of_verdict, other_verdict, placed, places_errors, read_as, rejected, store_verdict, unread}
 use Rattle.tdl_run.specs.LoadsSupport.{LoadedBy}
-use Rattle.tdl_run.specs.Reads.{JudgedAs, JudgedBy}
+use Rattle.tdl_run.specs.Reads.{JudgedAs, JudgedBy, unread_text}
 
 -- ---- no link
 
@@ -35,31 +37,31 @@ no_link ais voc = refl
 
 -- ---- templates
 
-place_error : (i : ℕ) (errors : List PlaceFault) (error : PlaceFault) → Err error ≡ first_error errors → Err (Place i error) ≡ first_or (map (Place i) errors) tt
-place_error i [] error e = absurd (let made : Result (Unit {0}) PlaceFault = Err error in let f : made ≡ Ok tt = e in cc)
+place_error : (i : ℕ) (errors : List PlaceFault) (error : PlaceFault) → Err error ≡ first_error errors → Err (Place i error) ≡ first_or (map (Place i) errors) (tt {0})
+place_error i [] error e = absurd (let made : Result (Unit {0}) PlaceFault = Err error in let f : made ≡ Ok (tt {0}) = e in cc)
 place_error i (one ∷ errors) error e =
     let made : Result (Unit {0}) PlaceFault = Err error in
     let f : made ≡ Err one = e in
     let same : error ≡ one = cc in
     ap (λ x. Err (Place i x)) same
 
-no_place_error : (i : ℕ) (errors : List PlaceFault) → Ok tt ≡ first_error errors → Ok tt ≡ first_or (map (Place i) errors) tt
+no_place_error : (i : ℕ) (errors : List PlaceFault) → Ok (tt {0}) ≡ first_error errors → Ok (tt {0}) ≡ first_or (map (Place i) errors) (tt {0})
 no_place_error i [] e = refl
-no_place_error i (one ∷ errors) e = absurd (let made : Result (Unit {0}) PlaceFault = Ok tt in let f : made ≡ Err one = e in cc)
+no_place_error i (one ∷ errors) e = absurd (let made : Result (Unit {0}) PlaceFault = Ok (tt {0}) in let f : made ≡ Err one = e in cc)
 
 -- a link whose reference is in order, or has an error
-pub link_placed : (ais : List AiRow) (i : ℕ) (link : Link) (errors : List PlaceFault) → link_errors ais (i, link) ≡ map (Place i) errors → Ok tt ≡ first_error errors → Ok tt ≡ first_or (link_errors ais (i, link)) tt
+pub link_placed : (ais : List AiRow) (i : ℕ) (link : Link) (errors : List PlaceFault) → link_errors ais (i, link) ≡ map (Place i) errors → Ok (tt {0}) ≡ first_error errors → Ok (tt {0}) ≡ first_or (link_errors ais (i, link)) (tt {0})
 link_placed ais i link errors is e = rw is (no_place_error i errors e)
 
-pub link_misplaced : (ais : List AiRow) (i : ℕ) (link : Link) (errors : List PlaceFault) (error : PlaceFault) → link_errors ais (i, link) ≡ map (Place i) errors → Err error ≡ first_error errors → Err (Place i error) ≡ first_or (link_errors ais (i, link)) tt
+pub link_misplaced : (ais : List AiRow) (i : ℕ) (link : Link) (errors : List PlaceFault) (error : PlaceFault) → link_errors ais (i, link) ≡ map (Place i) errors → Err error ≡ first_error errors → Err (Place i error) ≡ first_or (link_errors ais (i, link)) (tt {0})
 link_misplaced ais i link errors error is e = rw is (place_error i errors error e)
 
-none_first : (errors : List FileFault) → Ok tt ≡ first_or errors tt → errors ≡ []
+none_first : (errors : List FileFault) → Ok (tt {0}) ≡ first_or errors (tt {0}) → errors ≡ []
 none_first [] e = refl
-none_first (one ∷ errors) e = absurd (let made : Result (Unit {0}) FileFault = Ok tt in let f : made ≡ Err one = e in cc)
+none_first (one ∷ errors) e = absurd (let made : Result (Unit {0}) FileFault = Ok (tt {0}) in let f : made ≡ Err one = e in cc)
 
-front_first : (errors more : List FileFault) (error : FileFault) → Err error ≡ first_or errors tt → Err error ≡ first_or (errors ++ more) tt
-front_first [] more error e = absurd (let made : Result (Unit {0}) FileFault = Err error in let f : made ≡ Ok tt = e in cc)
+front_first : (errors more : List FileFault) (error : FileFault) → Err error ≡ first_or errors (tt {0}) → Err error ≡ first_or (errors ++ more) (tt {0})
+front_first [] more error e = absurd (let made : Result (Unit {0}) FileFault = Err error in let f : made ≡ Ok (tt {0}) = e in cc)
 front_first (one ∷ errors) more error e = e
 
 -- the errors of the links from one on
@@ -73,24 +75,31 @@ places_begin ais links = refl
 pub places_end : (ais : List AiRow) (links : List Link) (i : ℕ) → length links ≤ i → errors_from ais links i ≡ []
 places_end ais links i high = rw (drop_all links i high) refl
 
-pub places_more : (ais : List AiRow) (links : List Link) (i : ℕ) (link : Link) → slice_get links i ≡ Some link → Ok tt ≡ first_or (link_errors ais (i, link)) tt → errors_from ais links i ≡ errors_from ais links (i + 1)
+pub places_more : (ais : List AiRow) (links : List Link) (i : ℕ) (link : Link) → slice_get links i ≡ Some link → Ok (tt {0}) ≡ first_or (link_errors ais (i, link)) (tt {0}) → errors_from ais links i ≡ errors_from ais links (i + 1)
 places_more ais links i link at none = rw (drop_at links i link at) (ap (λ (es : List FileFault). es ++ errors_from ais links (i + 1)) (none_first (link_errors ais (i, link)) none))
 
-pub places_found : (ais : List AiRow) (links : List Link) (i : ℕ) (link : Link) (error : FileFault) → slice_get links i ≡ Some link → Err error ≡ first_or (link_errors ais (i, link)) tt → Err error ≡ first_or (errors_from ais links i) tt
+pub places_found : (ais : List AiRow) (links : List Link) (i : ℕ) (link : Link) (error : FileFault) → slice_get links i ≡ Some link → Err error ≡ first_or (link_errors ais (i, link)) (tt {0}) → Err error ≡ first_or (errors_from ais links i) (tt {0})
 places_found ais links i link error at found = rw (drop_at links i link at) (front_first (link_errors ais (i, link)) (errors_from ais links (i + 1)) error found)
 
-pub placed_links : (templates : Bool) (ais : List AiRow) (links : List Link) → templates ≡ true → Ok tt ≡ first_or (places_errors ais links) tt → placed templates ais links ≡ Ok links
+-- all links are in order, or the first that is not gives the error of all
+pub places_clear : (ais : List AiRow) (links : List Link) (i : ℕ) → places_errors ais links ≡ errors_from ais links i → length links ≤ i → Ok (tt {0}) ≡ first_or (places_errors ais links) (tt {0})
+places_clear ais links i so_far high = rw (so_far ∙ places_end ais links i high) refl
+
+pub places_stop : (ais : List AiRow) (links : List Link) (i : ℕ) (link : Link) (error : FileFault) → places_errors ais links ≡ errors_from ais links i → slice_get links i ≡ Some link → Err error ≡ first_or (link_errors ais (i, link)) (tt {0}) → Err error ≡ first_or (places_errors ais links) (tt {0})
+places_stop ais links i link error so_far at found = rw so_far (places_found ais links i link error at found)
+
+pub placed_links : (templates : Bool) (ais : List AiRow) (links : List Link) → templates ≡ true → Ok (tt {0}) ≡ first_or (places_errors ais links) (tt {0}) → placed templates ais links ≡ Ok links
 placed_links templates ais links is none = rw (is, none_first (places_errors ais links) none) refl
 
-placed_by : (errors : List FileFault) (links : List Link) (error : FileFault) → Err error ≡ first_or errors tt → first_or errors links ≡ Err error
-placed_by [] links error e = absurd (let made : Result (Unit {0}) FileFault = Err error in let f : made ≡ Ok tt = e in cc)
+placed_by : (errors : List FileFault) (links : List Link) (error : FileFault) → Err error ≡ first_or errors (tt {0}) → first_or errors links ≡ Err error
+placed_by [] links error e = absurd (let made : Result (Unit {0}) FileFault = Err error in let f : made ≡ Ok (tt {0}) = e in cc)
 placed_by (one ∷ errors) links error e =
     let made : Result (Unit {0}) FileFault = Err error in
     let f : made ≡ Err one = e in
     let same : error ≡ one = cc in
     ap Err (sym same)
 
-pub misplaced_links : (kind : FileKind) (templates : Bool) (ais : List AiRow) (links : List Link) (error : FileFault) → templates ≡ true → Err error ≡ first_or (places_errors ais links) tt → of_verdict kind (placed templates ais links) ≡ Err (rejected (record { kind = kind; error = error }))
+pub misplaced_links : (kind : FileKind) (templates : Bool) (ais : List AiRow) (links : List Link) (error : FileFault) → templates ≡ true → Err error ≡ first_or (places_errors ais links) (tt {0}) → of_verdict kind (placed templates ais links) ≡ Err (rejected (record { kind = kind; error = error }))
 misplaced_links kind templates ais links error is found = rw (is, placed_by (places_errors ais links) links error found) refl
 
 -- ---- stores
@@ -123,6 +132,12 @@ pub text_judged : (kind : FileKind) (templates : Bool) (ais : List AiRow) (voc b
 text_judged kind templates ais voc bytes contexts result is j =
     judged_by kind (JudgesText templates ais voc bytes) (store_verdict templates ais (load_answer ais voc contexts)) result (read_as contexts is refl) j
 
+pub text_unjudged : (kind : FileKind) (templates : Bool) (ais : List AiRow) (voc bytes : List ℕ) (error : LinkTextFault) → IsReadError bytes error → JudgedBy kind (JudgesText templates ais voc bytes) (Err (unread_text kind error))
+text_unjudged kind templates ais voc bytes text.Memory is = tt
+text_unjudged kind templates ais voc bytes text.Syntax is = (refl, unread text.Syntax (λ e. let f : text.Syntax ≡ text.Memory = e in cc) is refl)
+text_unjudged kind templates ais voc bytes (text.Anchor i) is = (refl, unread (text.Anchor i) (λ e. let f : text.Anchor i ≡ text.Memory = e in cc) is refl)
+text_unjudged kind templates ais voc bytes (text.Rel i) is = (refl, unread (text.Rel i) (λ e. let f : text.Rel i ≡ text.Memory = e in cc) is refl)
+
 -- ---- links that are merged
 
 pub other_unjudged : (kind : FileKind) (verdict : Result (List Link) FileFault) (u : Unloaded) → JudgedAs kind verdict (Err u) → JudgedAs kind (other_verdict verdict) (Err u)
@@ -146,14 +161,21 @@ merged_error : (ais : List AiRow) (voc : List ℕ) (error : FileFault) (third : 
 merged_error ais voc error None = refl
 merged_error ais voc error (Some links) = refl
 
-pub with_unmerged : (ais : List AiRow) (voc : List ℕ) (verdict : Result (List Context) FileFault) (third : Option (List Link)) (u : Unloaded) → JudgedAs kind.Merge verdict (Err u) → JudgedAs kind.Merge (merged_with ais voc verdict third) (Err u)
+pub with_merged : (ais : List AiRow) (voc : List ℕ) (verdict : Result (List Context) FileFault) (merged : List Context) (third : Option (List Link)) (result : Result (List Context) Unloaded) → verdict ≡ Ok merged → JudgedAs kind.Merge (merged_with ais voc (Ok merged) third) result → JudgedAs kind.Merge (merged_with ais voc verdict third) result
+with_merged ais voc verdict merged third result e j = rw e j
+
+with_unmerged : (ais : List AiRow) (voc : List ℕ) (verdict : Result (List Context) FileFault) (third : Option (List Link)) (u : Unloaded) → JudgedAs kind.Merge verdict (Err u) → JudgedAs kind.Merge (merged_with ais voc verdict third) (Err u)
 with_unmerged ais voc verdict third unloaded.Memory j = tt
 with_unmerged ais voc verdict third unloaded.ReadFault j = absurd j
 with_unmerged ais voc verdict third (unloaded.Refused rejection) j =
     let told = judged_error kind.Merge verdict rejection j in
     rw (told.1, merged_error ais voc rejection.error third) (ap (λ (k : FileKind). Err (rejected (record { kind = k; error = rejection.error }))) (sym told.0))
 
--- links, with the document that they were merged to, or a merge that gives none
+-- a merge that gives none, and links with the document that they were merged to
+pub merging_not : (ais : List AiRow) (voc : List ℕ) (links : List Link) (second third : Option (List Link)) (some : List Link) (u : Unloaded) → second ≡ Some some → JudgedAs kind.Merge (merge_verdict (merge_answer links some)) (Err u) → JudgedAs kind.Merge (merging ais voc links second third) (Err u)
+merging_not ais voc links second third some u e j =
+    subst (λ (s : Option (List Link)). JudgedAs kind.Merge (merging ais voc links s third) (Err u)) (sym e) (with_unmerged ais voc (merge_verdict (merge_answer links some)) third u j)
+
 pub linked_is : (ais : List AiRow) (voc : List ℕ) (links : List Link) (second third : Option (List Link)) (contexts : List Context) → merging ais voc links second third ≡ Ok contexts → AreLinked ais voc links second third (Ok (record { links = links; merged = contexts }))
 linked_is ais voc links second third contexts e = rw e refl
 

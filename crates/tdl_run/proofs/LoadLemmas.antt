@@ -121,7 +121,7 @@ text_one templates ais voc bytes a b (unread error not x e) (read_as d y f) = ab
 text_one templates ais voc bytes a b (unread error not x e) (unread other not' y f) = by (same_errors bytes error other x y)
   where
     by : IsSameOrMemory error other → AlikeStops (of_verdict kind.Links a) (of_verdict kind.Links b)
-    by (inl same) = one_stop (ap (of_verdict kind.Links) (e ∙ ap (λ x. Err (LinkText x)) same ∙ sym f))
+    by (inl equal) = one_stop (ap (of_verdict kind.Links) (e ∙ ap (λ x. Err (LinkText x)) equal ∙ sym f))
     by (inr (inl none)) = absurd (not none)
     by (inr (inr none)) = absurd (not' none)
 

@@ -6,12 +6,14 @@ use Rattle.gs_port.specs.Files.{IsAbsent, IsFile}
 use Rattle.gs_prefix.specs.declared.entry.PrefixEntry.{PrefixEntry}
 use Rattle.gs_prefix.specs.declared.error.PrefixFault.{PrefixFault}
 use Rattle.gs_prefix.specs.declared.error.PrefixFault.TheVariants as prefix
+use Rattle.gs_linktext_grammar.specs.declared.error.LinkTextFault.{LinkTextFault}
+use Rattle.gs_linktext_grammar.specs.declared.error.LinkTextFault.TheVariants as text
 use Rattle.gs_tables.specs.Shapes.{HasMemory}
 use Rattle.gs_tables.specs.Tables.{TableRows}
 use Rattle.tdl_messages.specs.declared.file_kind.FileKind.{FileKind}
 use Rattle.tdl_messages.specs.declared.file_kind.FileKind.TheVariants as kind
 use Rattle.tdl_messages.specs.declared.rejection.FileFault.{FileFault}
-use Rattle.tdl_messages.specs.declared.rejection.FileFault.TheVariants.{Over}
+use Rattle.tdl_messages.specs.declared.rejection.FileFault.TheVariants.{LinkText, Over}
 use Rattle.tdl_messages.specs.Rejections.{file_limit}
 use Rattle.tdl_run.specs.declared.loads.Unloaded.{Unloaded}
 use Rattle.tdl_run.specs.declared.loads.Unloaded.TheVariants.{Refused, ReadFault, Memory}
@@ -44,6 +46,11 @@ JudgedBy kind Judges (Ok a) = Judges (Ok a)
 JudgedBy kind Judges (Err Memory) = Unit {0}
 JudgedBy kind Judges (Err ReadFault) = ⊥
 JudgedBy kind Judges (Err (Refused rejection)) = (rejection.kind ≡ kind) × Judges (Err rejection.error)
+
+-- why a file of a kind is not loaded that is no linkset as text
+abbrev pub unread_text : FileKind → LinkTextFault → Unloaded
+unread_text kind text.Memory = Memory
+unread_text kind error = Refused (record { kind = kind; error = LinkText error })
 
 -- the answer of a load of company prefix lengths, with out of memory as no rejection
 abbrev pub PrefixesUnloadedAs : Result (List PrefixEntry) PrefixFault → Result (List PrefixEntry) Unloaded → Type 0

@@ -1,4 +1,4 @@
-ghost use Rattle.std.specs.Prelude.{◌≡◌, [], Ok, false, option_map, option_to_list, true};
+ghost use Rattle.std.specs.Prelude.{◌≡◌, [], Ok, Some, false, option_map, option_to_list, true};
 ghost use Rattle.gs_links.specs.Loads.{load_answer};
 ghost use Rattle.gs_linkset.specs.Answers.{read_answer};
 ghost use Rattle.tdl_messages.specs.declared.file_kind.FileKind.TheVariants.{Links as OfLinks};
@@ -6,7 +6,7 @@ ghost use Rattle.tdl_arguments.specs.Ranges.{is_vocabulary};
 ghost use Rattle.tdl_arguments.specs.Requests.{known_links, known_name, name_of_links};
 ghost use Rattle.tdl_run.specs.Loads.{JudgesFile, JudgesText, LinksGive, OtherGives, links_verdict, other_verdict, placed, store_verdict};
 ghost use Rattle.tdl_run.specs.LoadsSupport.{Loads, files_known};
-ghost use Rattle.tdl_run.specs.Reads.{JudgedAs, JudgedBy};
+ghost use Rattle.tdl_run.specs.Reads.{JudgedAs, JudgedBy, unread_text};
 
 use crate::loads::Unloaded;
 use crate::named_files::read_if_named;
@@ -37,7 +37,7 @@ pub struct Judging<'a> {
 
 /// The links of a store, where none of their references is a template that is not in order.
 fn placed(judging: Judging<'_>, store: Store) -> Result<Store, Unloaded>
-    ensures { JudgedAs judging.kind (placed judging.templates judging.ais.now store) result }
+    ensures { JudgedAs judging.entry.kind (placed judging.entry.templates judging.entry.ais.now store) result }
 {
     if !judging.templates {
         return Ok(store);
@@ -54,8 +54,8 @@ fn placed(judging: Judging<'_>, store: Store) -> Result<Store, Unloaded>
 /// The store of a linkset.
 pub fn load_store(alloc: Global, judging: Judging<'_>, doc: LinkDoc) -> Result<Store, Unloaded>
     requires { is_vocabulary judging.voc.now ≡ true }
-    ensures { JudgedAs judging.kind (store_verdict judging.templates judging.ais.now
-        (load_answer judging.ais.now judging.voc.now doc)) result }
+    ensures { JudgedAs judging.entry.kind (store_verdict judging.entry.templates judging.entry.ais.now
+        (load_answer judging.entry.ais.now judging.entry.voc.now doc)) result }
 {
     match Store::load(alloc, judging.ais, judging.voc.as_bytes(), doc) {
         Ok(store) => placed(judging, store),
@@ -70,7 +70,7 @@ pub fn load_store(alloc: Global, judging: Judging<'_>, doc: LinkDoc) -> Result<S
 /// The links that bytes are in JSON.
 fn judge_json(alloc: Global, judging: Judging<'_>, bytes: &[u8]) -> Result<Store, Unloaded>
     requires { is_vocabulary judging.voc.now ≡ true }
-    ensures { JudgedAs judging.kind (links_verdict judging.templates judging.ais.now judging.voc.now
+    ensures { JudgedAs judging.entry.kind (links_verdict judging.entry.templates judging.entry.ais.now judging.entry.voc.now
         (read_answer bytes.now)) result }
 {
     match read(alloc, bytes) {
@@ -83,18 +83,29 @@ fn judge_json(alloc: Global, judging: Judging<'_>, bytes: &[u8]) -> Result<Store
     }
 }
 
+/// Why a run has not loaded a file of a kind that is no linkset as text.
+fn unread_text(kind: FileKind, error: LinkTextFault) -> Unloaded
+    ensures { result ≡ unread_text kind error }
+{
+    match error {
+        LinkTextFault::Memory => Unloaded::Memory,
+        LinkTextFault::Syntax | LinkTextFault::Anchor(_) | LinkTextFault::Rel(_) => {
+            Unloaded::Refused(Rejection {
+                kind,
+                error: FileFault::LinkText(error),
+            })
+        }
+    }
+}
+
 /// The links that bytes are as text.
 fn judge_text(alloc: Global, judging: Judging<'_>, bytes: &[u8]) -> Result<Store, Unloaded>
     requires { is_vocabulary judging.voc.now ≡ true }
-    ensures { JudgedBy judging.kind (JudgesText judging.templates judging.ais.now judging.voc.now bytes.now) result }
+    ensures { JudgedBy judging.entry.kind (JudgesText judging.entry.templates judging.entry.ais.now judging.entry.voc.now bytes.now) result }
 {
     match gs_linktext::read(alloc, bytes) {
         Ok(doc) => load_store(alloc, judging, doc),
-        Err(LinkTextFault::Memory) => Err(Unloaded::Memory),
-        Err(error) => Err(Unloaded::Refused(Rejection {
-            kind: judging.kind,
-            error: FileFault::LinkText(error),
-        })),
+        Err(error) => Err(unread_text(judging.kind, error)),
     }
 }
 
@@ -109,7 +120,24 @@ fn name_of(file: Option<LinksFile<'_>>) -> Option<&str>
     }
 }
 
-/// The links that the bytes of a file are.
+/// The links that the bytes of a named file are.
+fn judge_named(
+    alloc: Global,
+    judging: Judging<'_>,
+    file: LinksFile<'_>,
+    bytes: &[u8],
+) -> Result<Store, Unloaded>
+    requires { is_vocabulary judging.voc.now ≡ true }
+    ensures { JudgedBy judging.entry.kind (JudgesFile judging.entry.templates judging.entry.ais.now judging.entry.voc.now
+        (known_links (Some file.entry)) bytes.now) result }
+{
+    match file {
+        LinksFile::Text(_) => judge_text(alloc, judging, bytes),
+        LinksFile::Json(_) => judge_json(alloc, judging, bytes),
+    }
+}
+
+/// The links that the bytes of a file are, in JSON where none is named.
 fn judge_file(
     alloc: Global,
     judging: Judging<'_>,
@@ -117,12 +145,11 @@ fn judge_file(
     bytes: &[u8],
 ) -> Result<Store, Unloaded>
     requires { is_vocabulary judging.voc.now ≡ true }
-    ensures { JudgedBy judging.kind (JudgesFile judging.templates judging.ais.now judging.voc.now
+    ensures { JudgedBy judging.entry.kind (JudgesFile judging.entry.templates judging.entry.ais.now judging.entry.voc.now
         (known_links file.entry) bytes.now) result }
 {
     match file {
-        Some(LinksFile::Text(_)) => judge_text(alloc, judging, bytes),
-        Some(LinksFile::Json(_)) => judge_json(alloc, judging, bytes),
+        Some(file) => judge_named(alloc, judging, file, bytes),
         None => judge_json(alloc, judging, bytes),
     }
 }

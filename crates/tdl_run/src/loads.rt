@@ -139,7 +139,11 @@ pub fn load_files<F: Files>(
         (files_known (F.files files.old) (F.opened files.old) (F.errors files.old))
         (files_known (F.files files.new) (F.opened files.new) (F.errors files.new)) result }
 {
-    let Request { files: named, values, .. } = request;
+    let Request {
+        files: named,
+        values,
+        ..
+    } = request;
     let tabled = load_tabled(alloc, named, files)?;
     let linked = load_linked(alloc, tabled.tables.ais(), values, named, files)?;
     let settings = load_settings(alloc, values, named, files)?;

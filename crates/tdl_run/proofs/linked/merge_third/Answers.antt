@@ -1,8 +1,10 @@
-use Rattle.tdl_run.proofs.LinkLoads.{store_unmerged}
+use Rattle.gs_links.specs.Loads.{load_answer}
+use Rattle.std.proofs.Common.{false}
+use Rattle.tdl_run.specs.Loads.{store_verdict}
+use Rattle.tdl_run.proofs.LinkLoads.{store_merged}
 use Rattle.tdl_run.proofs.linked.merge_third.Goals as goal
 
 pub returns-in-Ok : goal.returns-in-Ok
-returns-in-Ok c = ?
-
-pub returns-in-Err : goal.returns-in-Err
-returns-in-Err c = ?
+returns-in-Ok c =
+    let verdict = store_verdict false c.args.ais.now (load_answer c.args.ais.now c.args.voc.now c.args.merged) in
+    rw c.in-Some.is (store_merged c.args.ais.now verdict c.in-Ok.store c.in-Some.third c.merge_two.result c.in-Ok.ensures c.merge_two.ensures)

@@ -1,12 +1,8 @@
-use Rattle.std.proofs.Common.{refl}
 use Rattle.tdl_run.proofs.LinkLoads.{misplaced_links, placed_links}
 use Rattle.tdl_run.proofs.links.placed.Goals as goal
 
-pub returns-then-not-templates : goal.returns-then-not-templates
-returns-then-not-templates c = ?
-
 pub returns-in-Ok : goal.returns-in-Ok
-returns-in-Ok c = ?
+returns-in-Ok c = placed_links c.args.judging.templates c.args.judging.ais.now c.args.store c.if-not-judging.false c.in-Ok.ensures
 
 pub returns-in-Err : goal.returns-in-Err
-returns-in-Err c = ?
+returns-in-Err c = misplaced_links c.args.judging.kind c.args.judging.templates c.args.judging.ais.now c.args.store c.in-Err.error c.if-not-judging.false c.in-Err.ensures

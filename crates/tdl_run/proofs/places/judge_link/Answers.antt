@@ -1,12 +1,16 @@
-use Rattle.std.proofs.Common.{refl, sym, ◌∙◌}
 use Rattle.gs_template.specs.Errors.{place_errors}
+use Rattle.std.proofs.Common.{refl}
 use Rattle.tdl_run.proofs.LinkLoads.{link_misplaced, link_placed}
 use Rattle.tdl_run.proofs.places.judge_link.Goals as goal
 
 pub returns-in-Ok : goal.returns-in-Ok
 returns-in-Ok c =
-    link_placed c.args.ais.now c.args.i c.args.link.now (place_errors c.args.ais.now c.args.link.now.anchor.key.code c.args.link.now.target.href) refl ?
+    let link = c.args.link.now in
+    link_placed c.args.ais.now c.args.i link (place_errors c.args.ais.now link.anchor.key.code link.target.href) refl
+    (rw (c.as_bytes-key.ensures, c.key.ensures, c.as_bytes.ensures) at c.in-Ok.ensures)
 
 pub returns-in-Err : goal.returns-in-Err
 returns-in-Err c =
-    link_misplaced c.args.ais.now c.args.i c.args.link.now (place_errors c.args.ais.now c.args.link.now.anchor.key.code c.args.link.now.target.href) c.in-Err.error refl ?
+    let link = c.args.link.now in
+    link_misplaced c.args.ais.now c.args.i link (place_errors c.args.ais.now link.anchor.key.code link.target.href) c.in-Err.error refl
+    (rw (c.as_bytes-key.ensures, c.key.ensures, c.as_bytes.ensures) at c.in-Err.ensures)
