@@ -7,3 +7,4 @@ pub mod HeadLemmas
 pub mod RoundTrips
 pub mod StartLemmas
 pub mod WriteLemmas
+pub mod OneDump

@@ -1,1 +1,5 @@
 pub mod LineLemmas
+pub mod LongTextLemmas
+pub mod DumpLemmas
+pub mod DumpAnswerLaws
+pub mod DumpLineLemmas

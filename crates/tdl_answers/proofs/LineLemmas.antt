@@ -28,6 +28,10 @@ module _ {R : Type 0} (show : R → List ℕ) (Answer : List ℕ → Result (Lis
     known = adds.known;
   }
 
+  pub adds_known : {E : Type 0} (IsMemory : R → Type 0) (text before now : List ℕ) (answer : Result (List ℕ) R) (result : Result Bool E) → (HasMemory IsMemory answer → Answer text answer) → IfOk result (λ _. HasMemory IsMemory answer) → IfOk result (λ any. AddsLine show answer before now any) → IfOk result (λ any. AddsAnswer (λ text line. IsLineOf show (Answer text) line) text before now any)
+  adds_known IsMemory text before now answer (Ok any) is enough adds = adds_line text before now answer any (is enough) adds
+  adds_known IsMemory text before now answer (Err e) is enough adds = tt
+
   pub one_line : ((text : List ℕ) → HasOne (Answer text)) → HasOneAnswer (λ text line. IsLineOf show (Answer text) line)
   one_line unique text one other a b = a.is ∙ ap (line_of show) (unique text a.answer b.answer a.is_answer b.is_answer) ∙ sym b.is
 

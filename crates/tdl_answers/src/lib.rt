@@ -17,6 +17,10 @@
 //! - No standard has lines of texts and answers: their form is this project's own (docs/FORMATS.md, 'Lines').
 #![tactic(auto)]
 
+mod dump_lines;
+mod dump_reason;
 mod translated_lines;
 
+pub use dump_lines::{DumpReadLines, DumpWriteLines};
+pub use dump_reason::DumpReason;
 pub use translated_lines::{TranslatedLines, answer_lines};

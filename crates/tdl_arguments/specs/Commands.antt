@@ -5,7 +5,7 @@ use Rattle.gs_translate.specs.declared.form.Form.TheVariants.{Hex, Tag, Pure, Ra
 use Rattle.tdl_arguments.specs.declared.command.Command.{Command}
 use Rattle.gs_translate.specs.declared.target.Target.{Target}
 use Rattle.gs_translate.specs.declared.target.Target.TheVariants as target
-use Rattle.tdl_arguments.specs.declared.command.Command.TheVariants.{Canon, Translate, Check, Resolve, Serve, Gen}
+use Rattle.tdl_arguments.specs.declared.command.Command.TheVariants.{Canon, Translate, Check, Resolve, Serve, Gen, DumpRead, DumpWrite}
 use Rattle.tdl_arguments.specs.declared.name.Name.{Name}
 use Rattle.tdl_arguments.specs.declared.name.Name.TheVariants.{Tables, Prefixes, Links, Describe, Voc, Listen, Count, Filter, Gcp, Encoding, KeysOnly, Stem}
 use Rattle.tdl_arguments.specs.declared.name.NameRow.{NameRow}
@@ -38,6 +38,8 @@ command_name Check = codes "check" ∷ []
 command_name Resolve = codes "resolve" ∷ []
 command_name Serve = codes "serve" ∷ []
 command_name (Gen lines) = codes "gen" ∷ []
+command_name DumpRead = codes "dump" ∷ codes "read" ∷ []
+command_name DumpWrite = codes "dump" ∷ codes "write" ∷ []
 
 -- trusted, own: the operands of a command
 abbrev pub operands_of : Command → List (List ℕ)
@@ -72,6 +74,8 @@ names_of Check = optional Tables ∷ optional Prefixes ∷ optional Links ∷ op
 names_of Resolve = needed Links ∷ optional Tables ∷ optional Voc ∷ optional Describe ∷ []
 names_of Serve = needed Links ∷ needed Count ∷ optional Tables ∷ optional Voc ∷ optional Describe ∷ optional Listen ∷ []
 names_of (Gen lines) = optional Tables ∷ []
+names_of DumpRead = optional Tables ∷ []
+names_of DumpWrite = optional Tables ∷ []
 
 -- trusted, own: what a command works on: the lines of the input, the heads of the input, as those of one connection, the
 -- door, or none of these
@@ -89,6 +93,8 @@ work_of Check = on_none
 work_of Resolve = on_heads
 work_of Serve = on_door
 work_of (Gen lines) = on_none
+work_of DumpRead = on_lines
+work_of DumpWrite = on_lines
 
 -- trusted, own: the work is on the lines of the input
 abbrev pub is_on_lines : Work → Bool

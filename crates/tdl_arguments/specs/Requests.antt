@@ -168,7 +168,8 @@ NamesNoFile words = (name : List ℕ) → NamesFile words name → ⊥
 
 -- trusted, own: what is printed where the arguments are not in order
 abbrev pub usage_line : List ℕ
-usage_line = codes "usage: tdl canon FORM | translate FROM TO | check | resolve | serve | gen N, then --name value pairs" ++ 10 ∷ []
+usage_line =
+    codes "usage: tdl canon FORM | translate FROM TO | check | resolve | serve | gen N | dump read | dump write, then --name value pairs" ++ 10 ∷ []
 
 -- trusted, own: the name of a file in a request
 abbrev pub known_name : Option (Bor (List ℕ)) → Option (List ℕ)

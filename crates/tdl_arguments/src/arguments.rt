@@ -165,10 +165,16 @@ fn stands_before(front: &[&str], words: &[String]) -> bool
 fn plain_command(words: &[String]) -> Option<Command>
     ensures { result ≡ plain_command (map string_bytes words.now) }
 {
-    [Command::Check, Command::Resolve, Command::Serve]
-        .iter()
-        .find(|command| stands_before(command.words(), words))
-        .copied()
+    [
+        Command::Check,
+        Command::Resolve,
+        Command::Serve,
+        Command::DumpRead,
+        Command::DumpWrite,
+    ]
+    .iter()
+    .find(|command| stands_before(command.words(), words))
+    .copied()
 }
 
 /// The command without operands that the arguments begin with, and the arguments behind it.

@@ -20,6 +20,10 @@ pub enum Command {
     Serve,
     /// Translates so many generated lines, and counts the answers.
     Gen(u32),
+    /// Answers each line of the input, a dump of the EPC memory bank, by the line that shows it.
+    DumpRead,
+    /// Answers each line of the input, which shows a dump of the EPC memory bank, by the dump.
+    DumpWrite,
 }
 
 /// The name of the file of tables, which may be absent.
@@ -125,6 +129,8 @@ impl Command {
             Command::Resolve => &["resolve"],
             Command::Serve => &["serve"],
             Command::Gen(_) => &["gen"],
+            Command::DumpRead => &["dump", "read"],
+            Command::DumpWrite => &["dump", "write"],
         }
     }
 
@@ -138,7 +144,7 @@ impl Command {
             Command::Check => &[TABLES, PREFIXES, LINKS, VOC],
             Command::Resolve => &[LINKS_NEEDED, TABLES, VOC, DESCRIBE],
             Command::Serve => &[LINKS_NEEDED, COUNT_NEEDED, TABLES, VOC, DESCRIBE, LISTEN],
-            Command::Gen(_) => &[TABLES],
+            Command::Gen(_) | Command::DumpRead | Command::DumpWrite => &[TABLES],
         }
     }
 }

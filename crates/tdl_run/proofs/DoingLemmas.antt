@@ -1,8 +1,9 @@
 -- What is done has an outcome, and no other but such as is alike.
 use Rattle.std.proofs.Common.{◌≡◌, ◌⊎◌, inl, inr, ℕ, ◌||◌, false, List, [], Option, Some, refl, sym, ◌∙◌, ap}
+use Rattle.tdl_answers.proofs.DumpLineLemmas.{one_dump_read, one_dump_written, some_dump_read, some_dump_written}
 use Rattle.tdl_answers.proofs.LineLemmas.{one_translated, some_translated}
 use Rattle.tdl_arguments.specs.declared.command.Command.{Command}
-use Rattle.tdl_arguments.specs.declared.command.Command.TheVariants.{Canon, Translate, Check, Resolve, Serve, Gen}
+use Rattle.tdl_arguments.specs.declared.command.Command.TheVariants.{Canon, Translate, Check, Resolve, Serve, Gen, DumpRead, DumpWrite}
 use Rattle.tdl_arguments.specs.Commands.{Work, is_on_heads, is_on_lines, on_door, on_heads, on_lines, on_none}
 use Rattle.tdl_arguments.specs.Requests.{Values}
 use Rattle.tdl_gen.proofs.OneCount.{one_generated, some_generated}
@@ -41,6 +42,8 @@ command_defined Check values loaded keeps = ((counts_line loaded, refl), (λ one
 command_defined Resolve values loaded keeps = tt
 command_defined Serve values loaded keeps = tt
 command_defined (Gen lines) values loaded keeps = (some_generated loaded.tables keeps lines, one_generated loaded.tables lines)
+command_defined DumpRead values loaded keeps = (some_dump_read loaded.tables keeps, one_dump_read loaded.tables)
+command_defined DumpWrite values loaded keeps = (some_dump_written loaded.tables keeps, one_dump_written loaded.tables)
 
 -- ---- there is an outcome
 

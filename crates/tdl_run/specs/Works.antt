@@ -20,7 +20,8 @@ use Rattle.gs_translate.specs.Meanings.{IsRead}
 use Rattle.gs_translate.specs.Targets.{kept}
 use Rattle.gs_translate.specs.Translations.{Translating, translating_by}
 use Rattle.tdl_arguments.specs.declared.command.Command.{Command}
-use Rattle.tdl_arguments.specs.declared.command.Command.TheVariants.{Canon, Translate, Check, Resolve, Serve, Gen}
+use Rattle.tdl_arguments.specs.declared.command.Command.TheVariants.{Canon, Translate, Check, Resolve, Serve, Gen, DumpRead, DumpWrite}
+use Rattle.tdl_answers.specs.DumpAnswers.{IsDumpReadLine, IsDumpWriteLine}
 use Rattle.tdl_answers.specs.TranslatedAnswers.{IsTranslatedLine}
 use Rattle.tdl_arguments.specs.Commands.{Work, on_door, on_heads, on_lines, on_none, work_of}
 use Rattle.tdl_arguments.specs.Requests.{Values, no_options, options_of}
@@ -156,6 +157,8 @@ doing_of Check values loaded = prints (λ output. output ≡ counts_line loaded)
 doing_of Resolve values loaded = resolves
 doing_of Serve values loaded = serves values.count
 doing_of (Gen lines) values loaded = prints (Generated loaded.tables lines)
+doing_of DumpRead values loaded = answers (IsDumpReadLine loaded.tables)
+doing_of DumpWrite values loaded = answers (IsDumpWriteLine loaded.tables)
 
 -- trusted, own: what is left by what is done, of what is answered from a site, an input, as far as it is known, and a door
 abbrev pub DoingRun : {work : Work} → Doing work → SiteData → Option (List ℕ) → Doorway → Outcome → Type 0

@@ -23,6 +23,7 @@
 mod answered_input;
 mod check_command;
 mod commands;
+mod dump_command;
 mod laws;
 mod links;
 mod loads;

@@ -3,7 +3,7 @@ use Rattle.std.proofs.lemmas.Bool.{false≢true}
 use Rattle.tdl_arguments.specs.Requests.{known_values}
 use Rattle.tdl_run.proofs.RanLemmas.{none_more, ran_of_line}
 use Rattle.tdl_run.proofs.GenLemmas.{gen_ran}
-use Rattle.tdl_run.proofs.ServeLemmas.{none_finish, serve_ran, visits_finish}
+use Rattle.tdl_run.proofs.ServeLemmas.{serve_ran, visits_finish}
 use Rattle.tdl_run.proofs.SiteLemmas.{resolve_ran}
 use Rattle.tdl_run.proofs.commands.run_command.Goals as goal
 
@@ -104,56 +104,57 @@ returns-in-Resolve-clause-unread g c = rw c.in-Resolve.is (λ none. absurd (fals
 pub returns-in-Serve-clause-unserved : goal.returns-in-Serve-clause-unserved
 returns-in-Serve-clause-unserved g c = rw c.in-Serve.is (λ none. absurd (false≢true (sym none)))
 
-pub returns-in-Canon-clause-closed : goal.returns-in-Canon-clause-closed
-returns-in-Canon-clause-closed g c = c.requires.none_open
+pub returns-in-DumpRead-clause-ran : goal.returns-in-DumpRead-clause-ran
+returns-in-DumpRead-clause-ran g c = rw c.in-DumpRead.is ([], none_more _, c.show_dumps.ensures)
 
-pub returns-in-Canon-clause-waiting : goal.returns-in-Canon-clause-waiting
-returns-in-Canon-clause-waiting g c = none_finish _
+pub returns-in-DumpRead-clause-served : goal.returns-in-DumpRead-clause-served
+returns-in-DumpRead-clause-served g c = rw c.in-DumpRead.is (λ heads. absurd (false≢true heads))
 
-pub returns-in-Canon-clause-listens : goal.returns-in-Canon-clause-listens
-returns-in-Canon-clause-listens g c = rw c.in-Canon.is (λ uses. absurd (false≢true uses))
+pub returns-in-DumpRead-clause-unread : goal.returns-in-DumpRead-clause-unread
+returns-in-DumpRead-clause-unread g c = rw c.in-DumpRead.is (λ none. absurd (false≢true (sym none)))
 
-pub returns-in-Translate-clause-closed : goal.returns-in-Translate-clause-closed
-returns-in-Translate-clause-closed g c = c.requires.none_open
+pub returns-in-DumpRead-clause-unserved : goal.returns-in-DumpRead-clause-unserved
+returns-in-DumpRead-clause-unserved g c = λ none. refl
 
-pub returns-in-Translate-clause-waiting : goal.returns-in-Translate-clause-waiting
-returns-in-Translate-clause-waiting g c = none_finish _
+pub returns-in-DumpRead-clause-door_counts : goal.returns-in-DumpRead-clause-door_counts
+returns-in-DumpRead-clause-door_counts g c = omega arith
 
-pub returns-in-Translate-clause-listens : goal.returns-in-Translate-clause-listens
-returns-in-Translate-clause-listens g c = rw c.in-Translate.is (λ uses. absurd (false≢true uses))
+pub returns-in-DumpWrite-clause-ran : goal.returns-in-DumpWrite-clause-ran
+returns-in-DumpWrite-clause-ran g c = rw c.in-DumpWrite.is ([], none_more _, c.write_dumps.ensures)
 
-pub returns-in-Check-clause-closed : goal.returns-in-Check-clause-closed
-returns-in-Check-clause-closed g c = c.requires.none_open
+pub returns-in-DumpWrite-clause-served : goal.returns-in-DumpWrite-clause-served
+returns-in-DumpWrite-clause-served g c = rw c.in-DumpWrite.is (λ heads. absurd (false≢true heads))
 
-pub returns-in-Check-clause-waiting : goal.returns-in-Check-clause-waiting
-returns-in-Check-clause-waiting g c = none_finish _
+pub returns-in-DumpWrite-clause-unread : goal.returns-in-DumpWrite-clause-unread
+returns-in-DumpWrite-clause-unread g c = rw c.in-DumpWrite.is (λ none. absurd (false≢true (sym none)))
 
-pub returns-in-Check-clause-listens : goal.returns-in-Check-clause-listens
-returns-in-Check-clause-listens g c = rw c.in-Check.is (λ uses. absurd (false≢true uses))
+pub returns-in-DumpWrite-clause-unserved : goal.returns-in-DumpWrite-clause-unserved
+returns-in-DumpWrite-clause-unserved g c = λ none. refl
 
-pub returns-in-Resolve-clause-closed : goal.returns-in-Resolve-clause-closed
-returns-in-Resolve-clause-closed g c = c.requires.none_open
+pub returns-in-DumpWrite-clause-door_counts : goal.returns-in-DumpWrite-clause-door_counts
+returns-in-DumpWrite-clause-door_counts g c = omega arith
 
-pub returns-in-Resolve-clause-waiting : goal.returns-in-Resolve-clause-waiting
-returns-in-Resolve-clause-waiting g c = none_finish _
+pub returns-in-Canon-clause-used : goal.returns-in-Canon-clause-used
+returns-in-Canon-clause-used g c = rw c.in-Canon.is (λ uses. absurd (false≢true uses))
 
-pub returns-in-Resolve-clause-listens : goal.returns-in-Resolve-clause-listens
-returns-in-Resolve-clause-listens g c = rw c.in-Resolve.is (λ uses. absurd (false≢true uses))
+pub returns-in-Translate-clause-used : goal.returns-in-Translate-clause-used
+returns-in-Translate-clause-used g c = rw c.in-Translate.is (λ uses. absurd (false≢true uses))
 
-pub returns-in-Gen-clause-closed : goal.returns-in-Gen-clause-closed
-returns-in-Gen-clause-closed g c = c.requires.none_open
+pub returns-in-Check-clause-used : goal.returns-in-Check-clause-used
+returns-in-Check-clause-used g c = rw c.in-Check.is (λ uses. absurd (false≢true uses))
 
-pub returns-in-Gen-clause-waiting : goal.returns-in-Gen-clause-waiting
-returns-in-Gen-clause-waiting g c = none_finish _
+pub returns-in-Resolve-clause-used : goal.returns-in-Resolve-clause-used
+returns-in-Resolve-clause-used g c = rw c.in-Resolve.is (λ uses. absurd (false≢true uses))
 
-pub returns-in-Gen-clause-listens : goal.returns-in-Gen-clause-listens
-returns-in-Gen-clause-listens g c = rw c.in-Gen.is (λ uses. absurd (false≢true uses))
+pub returns-in-Gen-clause-used : goal.returns-in-Gen-clause-used
+returns-in-Gen-clause-used g c = rw c.in-Gen.is (λ uses. absurd (false≢true uses))
 
-pub returns-in-Serve-clause-closed : goal.returns-in-Serve-clause-closed
-returns-in-Serve-clause-closed g c = c.serve.ensures.closed
+pub returns-in-DumpRead-clause-used : goal.returns-in-DumpRead-clause-used
+returns-in-DumpRead-clause-used g c = rw c.in-DumpRead.is (λ uses. absurd (false≢true uses))
 
-pub returns-in-Serve-clause-waiting : goal.returns-in-Serve-clause-waiting
-returns-in-Serve-clause-waiting g c = visits_finish _ _ _ _ _ _ c.serve.result c.serve.ensures.ran
+pub returns-in-DumpWrite-clause-used : goal.returns-in-DumpWrite-clause-used
+returns-in-DumpWrite-clause-used g c = rw c.in-DumpWrite.is (λ uses. absurd (false≢true uses))
 
-pub returns-in-Serve-clause-listens : goal.returns-in-Serve-clause-listens
-returns-in-Serve-clause-listens g c = λ uses. c.serve.ensures.opens
+pub returns-in-Serve-clause-used : goal.returns-in-Serve-clause-used
+returns-in-Serve-clause-used g c =
+    λ uses. record { closed = c.serve.ensures.closed; waiting = visits_finish _ _ _ _ _ _ c.serve.result c.serve.ensures.ran; listens = c.serve.ensures.opens }

@@ -1,0 +1,27 @@
+-- The answers to dumps and to the lines that show them, by what reading, showing and writing answered.
+use Rattle.std.proofs.Common.{◌≡◌, ◌≢◌, ◌≤◌, ℕ, Bool, List, length, refl, ap}
+use Rattle.std.specs.Prelude.{Result, Ok, Err, IfOk}
+use Rattle.gs_membank.specs.declared.dump.Dump.{Dump}
+use Rattle.gs_tables.specs.Tables.{TableRows}
+use Rattle.gs_translate.specs.declared.reason.Reason.TheVariants as reason
+use Rattle.gs_translate.specs.Steps.{Then, goes_on, rejects}
+use Rattle.tdl_answers.specs.declared.dump_reason.DumpReason.{DumpReason}
+use Rattle.tdl_answers.specs.declared.dump_reason.DumpReason.TheVariants.{Common}
+use Rattle.tdl_answers.specs.LongTexts.{AfterLong, Reworded, is_short, reworded}
+use Rattle.tdl_lines.specs.Lines.{longest_text}
+use Rattle.tdl_lines.specs.Outputs.{AddsAnswer}
+use Rattle.tdl_messages.specs.AnswerLines.{AddsLine, HasMemory, IsLineOf}
+use Rattle.tdl_answers.proofs.LineLemmas.{adds_line}
+
+-- two steps, whose errors are said in other words
+module _ {A E F : Type 0} (memory : E) (say : E → DumpReason) (memory' : F) (say' : F → DumpReason) (First : List ℕ → Result A E → Type 0) (Next : A → Result (List ℕ) F → Type 0) (text : List ℕ) where
+  abbrev pub TwoSteps : List ℕ → Result (List ℕ) DumpReason → Type 0
+  TwoSteps text answer = Then (Reworded memory say (First text)) (λ a. Reworded memory' say' (Next a)) answer
+
+  -- the first step rejects
+  pub first_rejects : (error : E) → length text ≤ longest_text → First text (Err error) → error ≢ memory → AfterLong (Common reason.Long) TwoSteps text (Err (say error))
+  first_rejects error few is enough = is_short few (rejects (say error) (record { given = Err error; enough = λ e. enough (let f : Err error ≡ Err memory = e in cc); is_given = is; is = refl }) refl)
+
+  -- the second answers
+  pub second_answers : (a : A) (answer : Result (List ℕ) F) → length text ≤ longest_text → First text (Ok a) → answer ≢ Err memory' → Next a answer → AfterLong (Common reason.Long) TwoSteps text (reworded say' answer)
+  second_answers a answer few is enough next = is_short few (goes_on a (record { given = Ok a; enough = λ e. (let f : Ok a ≡ Err memory = e in cc); is_given = is; is = refl }) (record { given = answer; enough = enough; is_given = next; is = refl }))
