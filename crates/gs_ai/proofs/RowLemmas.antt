@@ -8,7 +8,7 @@ use Rattle.std.proofs.lemmas.Bool.Decides.{nat_tests}
 use Rattle.gs_chars.specs.Characters.{are_digits}
 pub use Rattle.gs_chars.proofs.TruthsAndLists.{and_first as and_left, and_second as and_right, not_empty}
 use Rattle.gs_ai.specs.declared.part.Part.{Part}
-use Rattle.gs_ai.specs.declared.part.Part.TheVariants.{Zero, Num, NumCheck, NumUpTo, Set, SetOpt, Date, Other}
+use Rattle.gs_ai.specs.declared.part.Part.TheVariants.{Zero, Num, NumCheck, NumUpTo, NumOpt, Set, SetOpt, Date, Other}
 use Rattle.gs_ai.specs.declared.row.AiRow.{AiRow}
 use Rattle.gs_ai.specs.Parts.{is_part, is_open, greatest_length}
 use Rattle.gs_ai.specs.Values.{greatest_of}
@@ -42,6 +42,7 @@ small_part Zero h = omega arith
 small_part (Num k) h = grind (arith, nat_tests)
 small_part (NumCheck k) h = grind (arith, nat_tests)
 small_part (NumUpTo k) h = grind (arith, nat_tests)
+small_part (NumOpt k) h = grind (arith, nat_tests)
 small_part (Set k) h = grind (arith, nat_tests)
 small_part (SetOpt k) h = grind (arith, nat_tests)
 small_part Date h = omega arith

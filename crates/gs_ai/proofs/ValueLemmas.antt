@@ -78,6 +78,7 @@ of_part part.Zero c h = let e : c ≡ 48 = grind (arith, nat_tests) in ap is_in_
 of_part (part.Num _) c h = digit_in_set82 c h
 of_part (part.NumCheck _) c h = digit_in_set82 c h
 of_part (part.NumUpTo _) c h = digit_in_set82 c h
+of_part (part.NumOpt _) c h = digit_in_set82 c h
 of_part (part.Set _) c h = h
 of_part (part.SetOpt _) c h = h
 of_part part.Date c h = digit_in_set82 c h

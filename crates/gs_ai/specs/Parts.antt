@@ -3,7 +3,7 @@
 use Rattle.std.specs.Prelude.{◌≡◌, ◌≢◌, ℕ, ◌+◌, ◌/◌, ◌%◌, Bool, true, false, ◌==◌, ◌&&◌, nat_le, nat_lt, if◌then◌else◌, List, [], ◌∷◌, ◌++◌, codes}
 use Rattle.gs_chars.specs.Characters.{is_digit, is_in_set82}
 use Rattle.gs_ai.specs.declared.part.Part.{Part}
-use Rattle.gs_ai.specs.declared.part.Part.TheVariants.{Zero, Num, NumCheck, NumUpTo, Set, SetOpt, Date, Other}
+use Rattle.gs_ai.specs.declared.part.Part.TheVariants.{Zero, Num, NumCheck, NumUpTo, NumOpt, Set, SetOpt, Date, Other}
 use Rattle.gs_ai.specs.declared.part.Role.{Role}
 use Rattle.gs_ai.specs.declared.part.Role.TheVariants as role
 
@@ -17,6 +17,7 @@ is_part Zero = true
 is_part (Num k) = nat_le 1 k && nat_le k 18
 is_part (NumCheck k) = nat_le 2 k && nat_le k 18
 is_part (NumUpTo k) = nat_le 1 k && nat_le k 18
+is_part (NumOpt k) = nat_le 1 k && nat_le k 18
 is_part (Set k) = nat_le 1 k && nat_le k 90
 is_part (SetOpt k) = nat_le 1 k && nat_le k 90
 is_part Date = true
@@ -28,6 +29,7 @@ part_text Zero = codes "zero"
 part_text (Num k) = codes "n" ++ number_text k
 part_text (NumCheck k) = codes "n" ++ number_text k ++ codes "c"
 part_text (NumUpTo k) = codes "n.." ++ number_text k
+part_text (NumOpt k) = codes "n.." ++ number_text k ++ codes "?"
 part_text (Set k) = codes "x.." ++ number_text k
 part_text (SetOpt k) = codes "x.." ++ number_text k ++ codes "?"
 part_text Date = codes "date"
@@ -36,6 +38,7 @@ part_text Other = []
 -- trusted, own: the part is written with `..`
 abbrev pub is_open : Part → Bool
 is_open (NumUpTo _) = true
+is_open (NumOpt _) = true
 is_open (Set _) = true
 is_open (SetOpt _) = true
 is_open _ = false
@@ -46,6 +49,7 @@ least_length Zero = 1
 least_length (Num k) = k
 least_length (NumCheck k) = k
 least_length (NumUpTo _) = 1
+least_length (NumOpt _) = 0
 least_length (Set _) = 1
 least_length (SetOpt _) = 0
 least_length Date = 6
@@ -57,6 +61,7 @@ greatest_length Zero = 1
 greatest_length (Num k) = k
 greatest_length (NumCheck k) = k
 greatest_length (NumUpTo k) = k
+greatest_length (NumOpt k) = k
 greatest_length (Set k) = k
 greatest_length (SetOpt k) = k
 greatest_length Date = 6
@@ -68,6 +73,7 @@ is_of_part Zero c = c == 48
 is_of_part (Num _) c = is_digit c
 is_of_part (NumCheck _) c = is_digit c
 is_of_part (NumUpTo _) c = is_digit c
+is_of_part (NumOpt _) c = is_digit c
 is_of_part (Set _) c = is_in_set82 c
 is_of_part (SetOpt _) c = is_in_set82 c
 is_of_part Date c = is_digit c

@@ -7,7 +7,7 @@ use Rattle.gs_ai.specs.declared.part.Role.{Role}
 use Rattle.gs_ai.specs.declared.part.Role.TheVariants.{Key, Qualifier}
 use Rattle.gs_ai.specs.declared.errors.AiFault.{AiFault}
 use Rattle.gs_ai.specs.declared.row.AiRow.{AiRow}
-use Rattle.gs_ai.specs.Tables.{begins, is_key, is_qualifier}
+use Rattle.gs_ai.specs.Tables.{is_key, is_qualifier}
 
 -- the role is the one that is asked for, key or qualifier
 abbrev pub is_asked : Role → Role → Bool

@@ -16,6 +16,8 @@ pub enum Part {
     NumCheck(u8),
     /// 1 to so many digits, at most 18.
     NumUpTo(u8),
+    /// 0 to so many digits, at most 18.
+    NumOpt(u8),
     /// 1 to so many characters of the set of 82, at most 90.
     Set(u8),
     /// 0 to so many characters of the set of 82, at most 90.
@@ -92,6 +94,9 @@ impl Part {
         if let Some(k) = read_between(text, b"n..", b"", 1, 18) {
             return Part::NumUpTo(k);
         }
+        if let Some(k) = read_between(text, b"n..", b"?", 1, 18) {
+            return Part::NumOpt(k);
+        }
         if let Some(k) = read_between(text, b"x..", b"", 1, 90) {
             return Part::Set(k);
         }
@@ -107,7 +112,7 @@ impl Part {
     {
         match self {
             Part::Zero | Part::Date => true,
-            Part::Num(k) | Part::NumUpTo(k) => 1 <= k && k <= 18,
+            Part::Num(k) | Part::NumUpTo(k) | Part::NumOpt(k) => 1 <= k && k <= 18,
             Part::NumCheck(k) => 2 <= k && k <= 18,
             Part::Set(k) | Part::SetOpt(k) => 1 <= k && k <= 90,
             Part::Other => false,
@@ -118,7 +123,10 @@ impl Part {
     pub(crate) fn is_open(self) -> bool
         ensures { result ≡ is_open self }
     {
-        matches!(self, Part::NumUpTo(_) | Part::Set(_) | Part::SetOpt(_))
+        matches!(
+            self,
+            Part::NumUpTo(_) | Part::NumOpt(_) | Part::Set(_) | Part::SetOpt(_)
+        )
     }
 
     /// The fewest characters of the part.
@@ -130,7 +138,7 @@ impl Part {
             Part::Num(k) | Part::NumCheck(k) => usize::from(k),
             Part::Zero | Part::NumUpTo(_) | Part::Set(_) => 1,
             Part::Date => 6,
-            Part::SetOpt(_) | Part::Other => 0,
+            Part::NumOpt(_) | Part::SetOpt(_) | Part::Other => 0,
         }
     }
 
@@ -140,7 +148,7 @@ impl Part {
         ensures small { result < 256 }
     {
         match self {
-            Part::Num(k) | Part::NumCheck(k) | Part::NumUpTo(k) => usize::from(k),
+            Part::Num(k) | Part::NumCheck(k) | Part::NumUpTo(k) | Part::NumOpt(k) => usize::from(k),
             Part::Set(k) | Part::SetOpt(k) => usize::from(k),
             Part::Zero => 1,
             Part::Date => 6,
@@ -154,7 +162,7 @@ impl Part {
     {
         match self {
             Part::Zero => c == b'0',
-            Part::Num(_) | Part::NumCheck(_) | Part::NumUpTo(_) | Part::Date => {
+            Part::Num(_) | Part::NumCheck(_) | Part::NumUpTo(_) | Part::NumOpt(_) | Part::Date => {
                 CharSet::Digits.holds(c)
             }
             Part::Set(_) | Part::SetOpt(_) => CharSet::Set82.holds(c),

@@ -2,6 +2,7 @@
 //!
 //! - `check` answers `Clear` exactly where no list of symbols has two different accepting runs, and else the first pair of
 //!   machines with such a list, and the list.
+//! - `PairSearch` searches one machine or two, for a caller that goes through the pairs itself.
 //!
 //! # Example
 //!
@@ -22,8 +23,10 @@ mod bits;
 mod forks;
 mod marks;
 mod pair_check;
+mod pair_search;
 mod search;
 mod verdict;
 
 pub use pair_check::check;
+pub use pair_search::PairSearch;
 pub use verdict::Verdict;

@@ -6,7 +6,7 @@ use Rattle.std.specs.Option.{option_and_then, option_map_or}
 use Rattle.std.proofs.lemmas.Option.{slice_get_past}
 use Rattle.gs_grammar.specs.Words.{decimal_value}
 use Rattle.gs_tables_document.specs.declared.field.Field.{Field}
-use Rattle.gs_tables_document.specs.declared.field.Field.TheVariants.{Filter, Gcp, Rest, Serial}
+use Rattle.gs_tables_document.specs.declared.field.Field.TheVariants.{Filter, Gcp, Rest, Piece, Total, Serial}
 use Rattle.gs_tables.specs.Rules.{is_field}
 use Rattle.gs_tables_document.specs.declared.opt_info.OptInfo.{OptInfo}
 use Rattle.gs_epc.specs.Epcs.{epc_of, filter_of, value_at, value_of}
@@ -101,6 +101,8 @@ pub named : (field : Field) (name : Option Field) → is_field field name ≡ tr
 named Filter (Some Filter) h = refl
 named Gcp (Some Gcp) h = refl
 named Rest (Some Rest) h = refl
+named Piece (Some Piece) h = refl
+named Total (Some Total) h = refl
 named Serial (Some Serial) h = refl
 named field name h = absurd (let g : false ≡ true = h in cc)
 
@@ -113,18 +115,36 @@ others_kept field fields values k value place other fails =
 
 -- ---- what an option says, its values taken out one after the other
 
-pub epc_taken : (info : OptInfo) (fields : List (Option Field)) (given values a1 b1 a2 b2 a3 : List (List ℕ)) (encoding : List ℕ) (filter : Option ℕ) (prefix rest serial : List ℕ)
+-- the value of a field after others were taken out, one step further
+moved : (field : Field) (fields : List (Option Field)) (given before now next : List (List ℕ)) → next ≡ now → value_at field fields now ≡ value_at field fields before → value_at field fields before ≡ value_at field fields given → value_at field fields next ≡ value_at field fields given
+moved field fields given before now next same kept came = ap (value_at field fields) same ∙ kept ∙ came
+
+text_of : (field : Field) (fields : List (Option Field)) (given now : List (List ℕ)) (text : List ℕ) → text ≡ value_of field fields now → value_at field fields now ≡ value_at field fields given → text ≡ value_of field fields given
+text_of field fields given now text is same = is ∙ ap (λ (o : Option (List ℕ)). option_map_or (λ value. value) o []) same
+
+pub epc_taken : (info : OptInfo) (fields : List (Option Field)) (given values a1 b1 a2 b2 a3 b3 a4 b4 a5 : List (List ℕ)) (encoding : List ℕ) (filter : Option ℕ) (prefix rest piece total serial : List ℕ)
     → fields ≡ info.fields → encoding ≡ info.encoding → values ≡ given → filter ≡ filter_of fields values
     → a1 ≡ given → prefix ≡ value_of Gcp fields a1 → KeepsOthers Gcp fields a1 b1
     → a2 ≡ b1 → rest ≡ value_of Rest fields a2 → KeepsOthers Rest fields a2 b2
-    → a3 ≡ b2 → serial ≡ value_of Serial fields a3
-    → record { kind = info.kind; encoding = encoding; filter = filter; gcp = info.gcp; prefix = prefix; rest = rest; serial = serial } ≡ epc_of info given
-epc_taken info fields given values a1 b1 a2 b2 a3 encoding filter prefix rest serial of e at f first p kept second r kept' third s =
-    let rest_at : value_at Rest fields a2 ≡ value_at Rest fields given = ap (value_at Rest fields) second ∙ kept Rest refl ∙ ap (value_at Rest fields) first in
-    let serial_at : value_at Serial fields a3 ≡ value_at Serial fields given =
-    ap (value_at Serial fields) third ∙ kept' Serial refl ∙ ap (value_at Serial fields) second ∙ kept Serial refl ∙ ap (value_at Serial fields) first in
+    → a3 ≡ b2 → piece ≡ value_of Piece fields a3 → KeepsOthers Piece fields a3 b3
+    → a4 ≡ b3 → total ≡ value_of Total fields a4 → KeepsOthers Total fields a4 b4
+    → a5 ≡ b4 → serial ≡ value_of Serial fields a5
+    → record { kind = info.kind; encoding = encoding; filter = filter; gcp = info.gcp; prefix = prefix; rest = rest; piece = piece; total = total; serial = serial } ≡ epc_of info given
+epc_taken info fields given values a1 b1 a2 b2 a3 b3 a4 b4 a5 encoding filter prefix rest piece total serial of e at f first p kept1 second r kept2 third q kept3 fourth t kept4 fifth s =
+    let rest2 = moved Rest fields given a1 b1 a2 second (kept1 Rest refl) (ap (value_at Rest fields) first) in
+    let piece2 = moved Piece fields given a1 b1 a2 second (kept1 Piece refl) (ap (value_at Piece fields) first) in
+    let total2 = moved Total fields given a1 b1 a2 second (kept1 Total refl) (ap (value_at Total fields) first) in
+    let serial2 = moved Serial fields given a1 b1 a2 second (kept1 Serial refl) (ap (value_at Serial fields) first) in
+    let piece3 = moved Piece fields given a2 b2 a3 third (kept2 Piece refl) piece2 in
+    let total3 = moved Total fields given a2 b2 a3 third (kept2 Total refl) total2 in
+    let serial3 = moved Serial fields given a2 b2 a3 third (kept2 Serial refl) serial2 in
+    let total4 = moved Total fields given a3 b3 a4 fourth (kept3 Total refl) total3 in
+    let serial4 = moved Serial fields given a3 b3 a4 fourth (kept3 Serial refl) serial3 in
+    let serial5 = moved Serial fields given a4 b4 a5 fifth (kept4 Serial refl) serial4 in
     let f' : filter ≡ filter_of fields given = rw at at f in
     let p' : prefix ≡ value_of Gcp fields given = rw first at p in
-    let r' : rest ≡ value_of Rest fields given = r ∙ ap (λ (o : Option (List ℕ)). option_map_or (λ value. value) o []) rest_at in
-    let s' : serial ≡ value_of Serial fields given = s ∙ ap (λ (o : Option (List ℕ)). option_map_or (λ value. value) o []) serial_at in
-    rw (e, rw of at f', rw of at p', rw of at r', rw of at s') refl
+    let r' = text_of Rest fields given a2 rest r rest2 in
+    let q' = text_of Piece fields given a3 piece q piece3 in
+    let t' = text_of Total fields given a4 total t total4 in
+    let s' = text_of Serial fields given a5 serial s serial5 in
+    rw (e, rw of at f', rw of at p', rw of at r', rw of at q', rw of at t', rw of at s') refl

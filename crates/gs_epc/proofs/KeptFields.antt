@@ -11,10 +11,10 @@ use Rattle.gs_grammar.specs.Words.{Word}
 use Rattle.gs_grammar.proofs.WordLaws.{all_items}
 use Rattle.gs_tables_document.specs.declared.field.Field.{Field}
 use Rattle.gs_tables_document.specs.Items.{FieldItem, alone, fields_of}
-use Rattle.gs_tables.specs.Rules.{has_room, is_digits, is_field, is_one, items_of_field}
+use Rattle.gs_tables.specs.Rules.{has_room, is_digits, is_field, is_number, is_one, items_of_field}
 use Rattle.gs_epc.specs.Epcs.{value_at, value_of}
-use Rattle.gs_epc.specs.KeptFields.{AreCharacters}
-use Rattle.gs_epc.proofs.KeptItems.{characters_of_word, digits_of_word}
+use Rattle.gs_epc.specs.KeptFields.{AreCharacters, AreNumbers}
+use Rattle.gs_epc.proofs.KeptItems.{characters_of_word, digits_of_word, numbers_of_word}
 
 -- the values are held by items of which none is bad
 pub record AreHeld (bits : Bool) (items : List FieldItem) (values words : List (List ℕ)) : Type 0 where
@@ -77,3 +77,10 @@ characters_of bits field items values words most held h =
     let one = the_one (has_room most) (items_of_field field items) h in
     let r = one_value bits field items values words one.0 held.each held.good one.1 in
     rw r.at (characters_of_word most one.0 r.value r.w r.good one.2 r.word)
+
+-- the field has one item, a number with room
+pub numbers_of : (bits : Bool) (field : Field) (items : List FieldItem) (values words : List (List ℕ)) (most : ℕ) → AreHeld bits items values words → is_one (is_number most) (items_of_field field items) ≡ true → AreNumbers most (value_of field (fields_of items) values)
+numbers_of bits field items values words most held h =
+    let one = the_one (is_number most) (items_of_field field items) h in
+    let r = one_value bits field items values words one.0 held.each held.good one.1 in
+    rw r.at (numbers_of_word most one.0 r.value r.w r.good one.2 r.word)

@@ -8,12 +8,13 @@ use Rattle.gs_grammar.specs.declared.item.Item.{Item}
 use Rattle.gs_grammar.specs.declared.item.Item.TheVariants.{Lit, Pad, Digits, Int, Esc, NumPad, Num, NumStr, Ascii7, Fill}
 use Rattle.gs_grammar.specs.Items.{is_between, IsItem}
 use Rattle.gs_grammar.specs.Words.{IsNumeral, HasLength, Word}
+use Rattle.gs_chars.proofs.TruthsAndLists.{and_parts}
 use Rattle.gs_grammar.proofs.HoldLemmas.{spelled_set}
 use Rattle.gs_grammar.proofs.ItemTests.{between_is}
 use Rattle.gs_grammar.proofs.Numbers.{count_order, digits_of_decimal}
 use Rattle.gs_grammar.proofs.WordLaws.{digits_bounds, greatest_small}
-use Rattle.gs_tables.specs.Rules.{has_room, is_digits}
-use Rattle.gs_epc.specs.KeptFields.{AreCharacters}
+use Rattle.gs_tables.specs.Rules.{has_room, is_digits, is_number, is_numeral}
+use Rattle.gs_epc.specs.KeptFields.{AreCharacters, AreNumbers}
 
 -- ---- digits
 
@@ -98,3 +99,30 @@ characters_of_word most (NumStr bits hi) value w i room word = characters_betwee
 characters_of_word most (Ascii7 lo hi bits) value w i room word =
     characters_between lo hi most value (ascii7_least lo hi bits i) (between_is 1 most hi room).1 word.0 word.1.characters
 characters_of_word most (Fill _ _) value w i room word = absurd (no_room most room)
+
+-- ---- digits, fewer or more
+
+digits_of_numeral : (greatest number : ℕ) (value : List ℕ) → greatest < 2 ^ 64 → IsNumeral greatest number value → are_digits value ≡ true
+digits_of_numeral greatest number value small numeral =
+    let up = numeral.small in
+    let low : number < 2 ^ 64 = omega arith in
+    ap are_digits numeral.text ∙ digits_of_decimal number low
+
+digits_of_number : (most : ℕ) (item : Item) (value w : List ℕ) → IsItem item → is_numeral item ≡ true → has_room most item ≡ true → Word item value w → are_digits value ≡ true
+digits_of_number most (Lit _) value w i h room word = absurd (no_room most room)
+digits_of_number most (Pad n) value w i h room word = word.1
+digits_of_number most (Digits lo hi) value w i h room word = word.1
+digits_of_number most (Int greatest) value w i h room word = digits_of_numeral greatest word.0.0 value (greatest_small (Int greatest) i) word.0.1
+digits_of_number most (Esc lo hi) value w i h room word = absurd (let f : false ≡ true = h in cc)
+digits_of_number most (NumPad _ n) value w i h room word = word.1
+digits_of_number most (Num bits greatest) value w i h room word = digits_of_numeral greatest word.0 value (greatest_small (Num bits greatest) i) word.1.0
+digits_of_number most (NumStr bits hi) value w i h room word = word.1
+digits_of_number most (Ascii7 lo hi bits) value w i h room word = absurd (let f : false ≡ true = h in cc)
+digits_of_number most (Fill _ _) value w i h room word = absurd (no_room most room)
+
+-- an item that is a number with room has digits
+pub numbers_of_word : (most : ℕ) (item : Item) (value w : List ℕ) → IsItem item → is_number most item ≡ true → Word item value w → AreNumbers most value
+numbers_of_word most item value w i h word =
+    let parts = and_parts (is_numeral item) (has_room most item) h in
+    let are = characters_of_word most item value w i parts.1 word in
+    record { least = are.least; room = are.room; digits = digits_of_number most item value w i parts.0 parts.1 word }

@@ -1,12 +1,13 @@
 -- What the rules of tables keep of an EPC of the set fits its kind.
-use Rattle.std.proofs.Common.{◌≡◌, ℕ, List, length, Some, slice_get, get_or, ◌<◌, sym, ◌∙◌}
+use Rattle.std.proofs.Common.{◌≡◌, ℕ, List, length, Some, slice_get, get_or, ◌<◌, sym, subst, ◌∙◌}
 use Rattle.std.proofs.lemmas.Option.{slice_get_within}
 use Rattle.gs_chars.proofs.TruthsAndLists.{read_at}
-use Rattle.gs_tables_document.specs.declared.field.Field.TheVariants.{Gcp, Rest, Serial}
+use Rattle.gs_tables_document.specs.declared.field.Field.TheVariants.{Gcp, Rest, Piece, Total, Serial}
 use Rattle.gs_tables_document.specs.declared.kind.Kind.{Kind}
 use Rattle.gs_tables_document.specs.declared.level_name.LevelName.{LevelName}
 use Rattle.gs_tables_document.specs.declared.opt_info.OptInfo.{OptInfo}
 use Rattle.gs_tables_document.specs.Documents.{is_bits}
+use Rattle.gs_tables_document.specs.Items.{fields_of}
 use Rattle.gs_grammar.specs.declared.item.Item.{Item}
 use Rattle.gs_grammar.specs.Derivations.{EachWord}
 use Rattle.gs_tables.specs.Forms.{serial_room}
@@ -15,19 +16,21 @@ use Rattle.gs_tables.specs.Tables.{IsShaped, TableRows}
 use Rattle.gs_tables.proofs.KeptSets.{options_kept}
 use Rattle.gs_epc.specs.declared.epc.Epc.{Epc}
 use Rattle.gs_epc.specs.Epcs.{IsOfSet, value_of}
-use Rattle.gs_epc.specs.KeptFields.{FitKind}
+use Rattle.gs_epc.specs.KeptFields.{FitKind, FitsFurther}
 use Rattle.gs_epc.proofs.KeptFields.{AreHeld}
-use Rattle.gs_epc.proofs.KeptRules.{fits_prefix, fits_room}
+use Rattle.gs_epc.proofs.KeptRules.{fits_further, fits_prefix, fits_room}
 use Rattle.gs_epc.specs.Layout.{fields_in}
 
 -- what values of an option's items say fits the kind of the option
 fits_values : (set : TableRows) (level : LevelName) (items : List Item) (info : OptInfo) (values words : List (List ℕ)) (kept : KeptOption set level items info) → EachWord items values words
-    → FitKind set.ais kept.kind (record { prefix = value_of Gcp info.fields values; rest = value_of Rest info.fields values; serial = value_of Serial info.fields values })
+    → FitKind set.ais kept.kind (record { prefix = value_of Gcp info.fields values; rest = value_of Rest info.fields values; piece = value_of Piece info.fields values; total = value_of Total info.fields values; serial = value_of Serial info.fields values })
 fits_values set level items info values words kept held =
     let are_held : AreHeld (is_bits level) kept.parts values words = record { each = rw kept.items_are at held; good = rw kept.items_are at kept.bounds.none_bad } in
     let fit = fits_prefix kept.of_kind.form kept.kind.lead info.gcp (is_bits level) kept.parts values words are_held kept.gcp kept.rest in
     let room = fits_room (serial_room set.ais kept.of_kind.form kept.kind.serial) (is_bits level) kept.parts values words are_held kept.serial in
-    rw kept.fields_are (record { of_kind = kept.of_kind; prefix_least = fit.prefix_least; prefix_most = fit.prefix_most; fits = fit.fits; room = room })
+    let own = fits_further kept.of_kind.form (is_bits level) kept.parts values words are_held kept.further in
+    let further = subst (λ (lengths : List ℕ). FitsFurther lengths (value_of Piece (fields_of kept.parts) values) (value_of Total (fields_of kept.parts) values)) (sym kept.of_kind.further) own in
+    rw kept.fields_are (record { of_kind = kept.of_kind; prefix_least = fit.prefix_least; prefix_most = fit.prefix_most; fits = fit.fits; further = further; room = room })
 
 -- what the rules of tables keep of an EPC of the set fits its kind
 pub fit_kind : (set : TableRows) (epc : Epc) → IsShaped set → IsOfSet set epc → (kind : Kind) × (slice_get set.kinds epc.kind ≡ Some kind) × FitKind set.ais kind (fields_in epc)

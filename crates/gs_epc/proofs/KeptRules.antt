@@ -1,5 +1,5 @@
 -- What the rules of options ask of the values of the fields.
-use Rattle.std.proofs.Common.{◌≡◌, ℕ, ◌-◌, ◌≤◌, ◌==◌, nat_le, not, if◌then◌else◌, Bool, true, false, List, [], ◌∷◌, length, Option, Some, None, refl, sym, ap, ◌∙◌, arith}
+use Rattle.std.proofs.Common.{◌≡◌, ℕ, ◌-◌, ◌≤◌, ◌==◌, ◌&&◌, nat_le, not, if◌then◌else◌, Bool, true, false, List, [], ◌∷◌, length, Option, Some, None, refl, sym, ap, ◌∙◌, arith}
 use Rattle.std.proofs.lemmas.Bool.Decides.{nat_tests}
 use Rattle.gs_ai.specs.Tables.{is_empty}
 use Rattle.gs_chars.specs.Characters.{are_digits}
@@ -7,14 +7,18 @@ use Rattle.gs_grammar.specs.declared.item.Item.{Item}
 use Rattle.gs_grammar.specs.Items.{is_between}
 use Rattle.gs_chars.proofs.TruthsAndLists.{and_parts}
 use Rattle.gs_grammar.proofs.ItemTests.{between_is}
-use Rattle.gs_tables_document.specs.declared.field.Field.TheVariants.{Gcp, Rest, Serial}
+use Rattle.gs_tables_document.specs.declared.field.Field.TheVariants.{Gcp, Rest, Piece, Total, Serial}
+use Rattle.gs_tables.specs.declared.form.Behind.TheVariants.{Nothing, Further, Tail as BehindTail}
 use Rattle.gs_tables.specs.declared.form.KeyForm.{KeyForm}
 use Rattle.gs_tables.specs.declared.form.KeyForm.TheVariants.{Digits, Characters}
+use Rattle.gs_tables.specs.declared.form.Room.{Room}
+use Rattle.gs_tables.specs.declared.form.Room.TheVariants as room
+use Rattle.gs_tables.specs.Forms.{further_of}
 use Rattle.gs_tables_document.specs.Items.{FieldItem, fields_of}
-use Rattle.gs_tables.specs.Rules.{has_room, is_digits, is_free, is_gcp, is_one, is_padded, items_of_field, keeps_gcp, keeps_rest, keeps_serial}
+use Rattle.gs_tables.specs.Rules.{has_room, is_digits, is_free, is_gcp, is_one, is_padded, items_of_field, keeps_further, keeps_gcp, keeps_rest, keeps_serial}
 use Rattle.gs_epc.specs.Epcs.{value_of}
-use Rattle.gs_epc.specs.KeptFields.{FitForm, FitsRoom}
-use Rattle.gs_epc.proofs.KeptFields.{AreHeld, characters_of, digits_of, nothing_of}
+use Rattle.gs_epc.specs.KeptFields.{FitForm, FitsFurther, FitsRoom}
+use Rattle.gs_epc.proofs.KeptFields.{AreHeld, characters_of, digits_of, nothing_of, numbers_of}
 
 -- ---- the prefix
 
@@ -82,7 +86,24 @@ fits_prefix form lead n bits items values words held gcp rest =
 
 -- ---- the serial
 
-pub fits_room : (room : Option ℕ) (bits : Bool) (items : List FieldItem) (values words : List (List ℕ)) → AreHeld bits items values words → keeps_serial room (items_of_field Serial items) ≡ true → FitsRoom room (value_of Serial (fields_of items) values)
+pub fits_room : (room : Option Room) (bits : Bool) (items : List FieldItem) (values words : List (List ℕ)) → AreHeld bits items values words → keeps_serial room (items_of_field Serial items) ≡ true → FitsRoom room (value_of Serial (fields_of items) values)
 unfolding keeps_serial
 fits_room None bits items values words held h = nothing_of Serial items values h
-fits_room (Some most) bits items values words held h = characters_of bits Serial items values words most held h
+fits_room (Some (room.Characters most)) bits items values words held h = characters_of bits Serial items values words most held h
+fits_room (Some (room.Digits most)) bits items values words held h = numbers_of bits Serial items values words most held h
+
+-- ---- the piece and the total
+
+no_further : (items : List FieldItem) (values : List (List ℕ)) → (is_empty (items_of_field Piece items) && is_empty (items_of_field Total items)) ≡ true → FitsFurther [] (value_of Piece (fields_of items) values) (value_of Total (fields_of items) values)
+no_further items values h =
+    let parts = and_parts (is_empty (items_of_field Piece items)) (is_empty (items_of_field Total items)) h in
+    (nothing_of Piece items values parts.0, nothing_of Total items values parts.1)
+
+pub fits_further : (form : KeyForm) (bits : Bool) (items : List FieldItem) (values words : List (List ℕ)) → AreHeld bits items values words → keeps_further form (items_of_field Piece items) (items_of_field Total items) ≡ true → FitsFurther (further_of form) (value_of Piece (fields_of items) values) (value_of Total (fields_of items) values)
+unfolding keeps_further
+fits_further (Digits digits Nothing) bits items values words held h = no_further items values h
+fits_further (Digits digits (BehindTail room)) bits items values words held h = no_further items values h
+fits_further (Digits digits (Further a b)) bits items values words held h =
+    let parts = and_parts (is_one (is_digits a) (items_of_field Piece items)) (is_one (is_digits b) (items_of_field Total items)) h in
+    (digits_of bits Piece items values words a held parts.0, digits_of bits Total items values words b held parts.1)
+fits_further (Characters most) bits items values words held h = no_further items values h

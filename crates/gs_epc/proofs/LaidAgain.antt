@@ -4,25 +4,28 @@ use Rattle.std.specs.List.{list_all}
 use Rattle.std.specs.Option.{option_map, option_or}
 use Rattle.std.proofs.lemmas.Bool.{leb-true}
 use Rattle.std.proofs.lemmas.Bool.Decides.{nat_tests}
-use Rattle.std.proofs.lemmas.List.{drop_at, length-take, drop_all, take-append-drop, take_at}
+use Rattle.std.proofs.lemmas.List.{append-nil, drop_at, length-drop, length-take, drop_all, take-append-drop, take_all, take_at}
 use Rattle.std.proofs.lemmas.List.Sums.{sum_by-cons}
 use Rattle.gs_chars.specs.Characters.{are_digits}
 use Rattle.gs_chars.specs.CheckDigits.{check_digit_of}
 use Rattle.gs_chars.proofs.TruthsAndLists.{and_parts}
 use Rattle.gs_ai.specs.declared.part.Part.{Part}
-use Rattle.gs_ai.specs.declared.part.Part.TheVariants.{Zero, NumCheck, Set, SetOpt}
+use Rattle.gs_ai.specs.declared.part.Part.TheVariants.{Zero, Num, NumCheck, NumOpt, Set, SetOpt}
 use Rattle.gs_ai.specs.declared.errors.ValueFault.TheVariants.{Length, Char, Check, Date}
 use Rattle.gs_ai.specs.Parts.{greatest_length, is_of_part, is_part, least_length}
 use Rattle.gs_ai.specs.Values.{greatest_of, has_length_of, is_checked, keeps_check, keeps_date, least_of, parts_error, pieces, wrong_character}
 use Rattle.gs_ai.proofs.PartLemmas.{wrong-cons}
 use Rattle.gs_ai.proofs.Searches.{cons_none, equal_bytes}
 use Rattle.gs_tables_document.specs.declared.kind.Kind.{Kind}
+use Rattle.gs_tables.specs.declared.form.Behind.{Behind}
+use Rattle.gs_tables.specs.declared.form.Behind.TheVariants.{Nothing, Further, Tail as BehindTail}
 use Rattle.gs_tables.specs.declared.form.KeyForm.{KeyForm}
 use Rattle.gs_tables.specs.declared.form.KeyForm.TheVariants.{Digits}
-use Rattle.gs_tables.specs.Forms.{key_form, tail_of}
+use Rattle.gs_tables.specs.declared.form.Room.TheVariants as room
+use Rattle.gs_tables.specs.Forms.{further_of, key_form, tail_of}
 use Rattle.gs_tables.specs.Rules.{is_lead}
-use Rattle.gs_epc.specs.Layout.{key_digits, key_value, tail_of_key, with_check}
-use Rattle.gs_epc.specs.KeyParts.{prefix_in, rest_in, tail_in, fields_at}
+use Rattle.gs_epc.specs.Layout.{behind_check, key_digits, key_value, tail_of_key, with_check}
+use Rattle.gs_epc.specs.KeyParts.{fields_at, tail_in}
 
 -- ---- a value in order
 
@@ -121,7 +124,7 @@ pub record IsTail (form : KeyForm) (tail behind : List ℕ) : Type 0 where
   pub some : is_some (tail_of form) ≡ true → tail ≡ behind
   pub none : is_none (tail_of form) ≡ true → tail ≡ []
 
-lead_low : (k : ℕ) (tail : Option ℕ) (form : KeyForm) (lead : ℕ) → Digits (k - 1) tail ≡ form → is_lead form lead ≡ true → is_part (NumCheck k) ≡ true → lead ≤ k - 1
+lead_low : (k : ℕ) (tail : Behind) (form : KeyForm) (lead : ℕ) → Digits (k - 1) tail ≡ form → is_lead form lead ≡ true → is_part (NumCheck k) ≡ true → lead ≤ k - 1
 lead_low k tail form lead same h part =
     let low : lead ≤ 1 = leb-true lead 1 (rw (← same) at h) in
     let two : 2 ≤ k = leb-true 2 k (and_parts (nat_le 2 k) (nat_le k 18) part).0 in
@@ -137,32 +140,88 @@ none_behind_check k value short =
     let sum : greatest_of (NumCheck k ∷ []) ≡ greatest_length (NumCheck k) + greatest_of [] = sum_by-cons greatest_length (NumCheck k) [] in
     drop_all k value (omega arith)
 
-pub key_again : (parts : List Part) (form : KeyForm) (kind : Kind) (n : ℕ) (value serial : List ℕ) → key_form parts ≡ Some form → is_lead form kind.lead ≡ true → list_all is_part parts ≡ true → PartsKept parts value
-    → IsTail form (tail_of_key kind.serial serial) (tail_in parts value) → key_value parts kind (fields_at parts kind.lead n value serial) ≡ value
-key_again (Zero ∷ NumCheck k ∷ []) form kind n value serial formed lead are kept tail =
-    let same : Digits (k - 1) None ≡ form = cc in
+-- ---- what stands behind the check digit
+
+-- a kind without further fields has its tail there
+no_further : (parts : List Part) (kind : Kind) (n : ℕ) (value serial : List ℕ) → kind.further ≡ [] → behind_check kind (fields_at parts kind n value serial) ≡ tail_of_key kind.serial serial
+no_further parts kind n value serial none = rw none refl
+
+-- the piece and the total are all
+split_again : (a b : ℕ) (others tail : List ℕ) → length others ≤ a + b → tail ≡ [] → take a others ++ (take b (drop a others) ++ tail) ≡ others
+split_again a b others tail short none =
+    let left : length (drop a others) ≤ b = let l = length-drop a others in omega arith in
+    let whole : take b (drop a others) ≡ drop a others = take_all b (drop a others) left in
+    rw (none, append-nil, whole) (take-append-drop a others)
+
+both_further : (parts : List Part) (kind : Kind) (n a b : ℕ) (value serial : List ℕ) → kind.further ≡ a ∷ b ∷ [] → tail_of_key kind.serial serial ≡ [] → length (tail_in parts value) ≤ a + b
+    → behind_check kind (fields_at parts kind n value serial) ≡ tail_in parts value
+both_further parts kind n a b value serial are none short = rw are (split_again a b (tail_in parts value) (tail_of_key kind.serial serial) short none)
+
+two_behind_check : (k a b : ℕ) (value : List ℕ) → length value ≤ greatest_of (NumCheck k ∷ Num a ∷ Num b ∷ []) → length (drop k value) ≤ a + b
+two_behind_check k a b value short =
+    let one : greatest_of (NumCheck k ∷ Num a ∷ Num b ∷ []) ≡ greatest_length (NumCheck k) + greatest_of (Num a ∷ Num b ∷ []) = sum_by-cons greatest_length (NumCheck k) (Num a ∷ Num b ∷ []) in
+    let two : greatest_of (Num a ∷ Num b ∷ []) ≡ greatest_length (Num a) + greatest_of (Num b ∷ []) = sum_by-cons greatest_length (Num a) (Num b ∷ []) in
+    let three : greatest_of (Num b ∷ []) ≡ greatest_length (Num b) + greatest_of [] = sum_by-cons greatest_length (Num b) [] in
+    let left = length-drop k value in
+    omega arith
+
+pub key_again : (parts : List Part) (form : KeyForm) (kind : Kind) (n : ℕ) (value serial : List ℕ) → key_form parts ≡ Some form → is_lead form kind.lead ≡ true → kind.further ≡ further_of form → list_all is_part parts ≡ true → PartsKept parts value
+    → IsTail form (tail_of_key kind.serial serial) (tail_in parts value) → key_value parts kind (fields_at parts kind n value serial) ≡ value
+key_again (Zero ∷ NumCheck k ∷ []) form kind n value serial formed lead further are kept tail =
+    let same : Digits (k - 1) Nothing ≡ form = cc in
     let zero = zero_first (NumCheck k ∷ []) value kept in
-    let low = lead_low k None form kind.lead same lead (and_parts (is_part (NumCheck k)) true are).0 in
-    let none : tail_of_key kind.serial serial ≡ [] = tail.none (rw (← same) refl) in
-    let behind : tail_of_key kind.serial serial ≡ drop k zero.others = none ∙ sym (none_behind_check k zero.others zero.short) in
-    rw zero.front (ap (λ (t : List ℕ). 48 ∷ t) (checked_value k [] kind.lead n zero.others (tail_of_key kind.serial serial) zero.checks low (least_checked k [] zero.others zero.long) behind))
-key_again (Zero ∷ NumCheck k ∷ SetOpt most ∷ []) form kind n value serial formed lead are kept tail =
-    let same : Digits (k - 1) (Some most) ≡ form = cc in
+    let low = lead_low k Nothing form kind.lead same lead (and_parts (is_part (NumCheck k)) true are).0 in
+    let none : kind.further ≡ [] = rw (← same) at further in
+    let no_tail : tail_of_key kind.serial serial ≡ [] = tail.none (rw (← same) refl) in
+    let behind : tail_of_key kind.serial serial ≡ drop k zero.others = no_tail ∙ sym (none_behind_check k zero.others zero.short) in
+    let others = behind_check kind (fields_at (Zero ∷ NumCheck k ∷ []) kind n (48 ∷ zero.others) serial) in
+    let whole : others ≡ drop k zero.others = no_further (Zero ∷ NumCheck k ∷ []) kind n (48 ∷ zero.others) serial none ∙ behind in
+    rw zero.front (ap (λ (t : List ℕ). 48 ∷ t) (checked_value k [] kind.lead n zero.others others zero.checks low (least_checked k [] zero.others zero.long) whole))
+key_again (Zero ∷ NumCheck k ∷ SetOpt most ∷ []) form kind n value serial formed lead further are kept tail =
+    let same : Digits (k - 1) (BehindTail (room.Characters most)) ≡ form = cc in
     let zero = zero_first (NumCheck k ∷ SetOpt most ∷ []) value kept in
-    let low = lead_low k (Some most) form kind.lead same lead (and_parts (is_part (NumCheck k)) (list_all is_part (SetOpt most ∷ [])) are).0 in
+    let low = lead_low k (BehindTail (room.Characters most)) form kind.lead same lead (and_parts (is_part (NumCheck k)) (list_all is_part (SetOpt most ∷ [])) are).0 in
+    let none : kind.further ≡ [] = rw (← same) at further in
     let some = tail.some (rw (← same) refl) in
     let behind : tail_of_key kind.serial serial ≡ drop k zero.others = rw zero.front at some in
-    rw zero.front (ap (λ (t : List ℕ). 48 ∷ t) (checked_value k (SetOpt most ∷ []) kind.lead n zero.others (tail_of_key kind.serial serial) zero.checks low (least_checked k (SetOpt most ∷ []) zero.others zero.long) behind))
-key_again (NumCheck k ∷ []) form kind n value serial formed lead are kept tail =
-    let same : Digits (k - 1) None ≡ form = cc in
-    let low = lead_low k None form kind.lead same lead (and_parts (is_part (NumCheck k)) true are).0 in
-    let none : tail_of_key kind.serial serial ≡ [] = tail.none (rw (← same) refl) in
-    let behind : tail_of_key kind.serial serial ≡ drop k value = none ∙ sym (none_behind_check k value kept.short) in
-    checked_value k [] kind.lead n value (tail_of_key kind.serial serial) kept.checks low (least_checked k [] value kept.long) behind
-key_again (NumCheck k ∷ SetOpt most ∷ []) form kind n value serial formed lead are kept tail =
-    let same : Digits (k - 1) (Some most) ≡ form = cc in
-    let low = lead_low k (Some most) form kind.lead same lead (and_parts (is_part (NumCheck k)) (list_all is_part (SetOpt most ∷ [])) are).0 in
+    let others = behind_check kind (fields_at (Zero ∷ NumCheck k ∷ SetOpt most ∷ []) kind n (48 ∷ zero.others) serial) in
+    let whole : others ≡ drop k zero.others = no_further (Zero ∷ NumCheck k ∷ SetOpt most ∷ []) kind n (48 ∷ zero.others) serial none ∙ behind in
+    rw zero.front (ap (λ (t : List ℕ). 48 ∷ t) (checked_value k (SetOpt most ∷ []) kind.lead n zero.others others zero.checks low (least_checked k (SetOpt most ∷ []) zero.others zero.long) whole))
+key_again (Zero ∷ NumCheck k ∷ NumOpt most ∷ []) form kind n value serial formed lead further are kept tail =
+    let same : Digits (k - 1) (BehindTail (room.Digits most)) ≡ form = cc in
+    let zero = zero_first (NumCheck k ∷ NumOpt most ∷ []) value kept in
+    let low = lead_low k (BehindTail (room.Digits most)) form kind.lead same lead (and_parts (is_part (NumCheck k)) (list_all is_part (NumOpt most ∷ [])) are).0 in
+    let none : kind.further ≡ [] = rw (← same) at further in
     let some = tail.some (rw (← same) refl) in
-    checked_value k (SetOpt most ∷ []) kind.lead n value (tail_of_key kind.serial serial) kept.checks low (least_checked k (SetOpt most ∷ []) value kept.long) some
-key_again (Set most ∷ []) form kind n value serial formed lead are kept tail = take-append-drop n value
-key_again parts form kind n value serial formed lead are kept tail = absurd (let e : None ≡ Some form = formed in cc)
+    let behind : tail_of_key kind.serial serial ≡ drop k zero.others = rw zero.front at some in
+    let others = behind_check kind (fields_at (Zero ∷ NumCheck k ∷ NumOpt most ∷ []) kind n (48 ∷ zero.others) serial) in
+    let whole : others ≡ drop k zero.others = no_further (Zero ∷ NumCheck k ∷ NumOpt most ∷ []) kind n (48 ∷ zero.others) serial none ∙ behind in
+    rw zero.front (ap (λ (t : List ℕ). 48 ∷ t) (checked_value k (NumOpt most ∷ []) kind.lead n zero.others others zero.checks low (least_checked k (NumOpt most ∷ []) zero.others zero.long) whole))
+key_again (NumCheck k ∷ []) form kind n value serial formed lead further are kept tail =
+    let same : Digits (k - 1) Nothing ≡ form = cc in
+    let low = lead_low k Nothing form kind.lead same lead (and_parts (is_part (NumCheck k)) true are).0 in
+    let none : kind.further ≡ [] = rw (← same) at further in
+    let no_tail : tail_of_key kind.serial serial ≡ [] = tail.none (rw (← same) refl) in
+    let behind : tail_of_key kind.serial serial ≡ drop k value = no_tail ∙ sym (none_behind_check k value kept.short) in
+    checked_value k [] kind.lead n value (behind_check kind (fields_at (NumCheck k ∷ []) kind n value serial)) kept.checks low (least_checked k [] value kept.long) (no_further (NumCheck k ∷ []) kind n value serial none ∙ behind)
+key_again (NumCheck k ∷ SetOpt most ∷ []) form kind n value serial formed lead further are kept tail =
+    let same : Digits (k - 1) (BehindTail (room.Characters most)) ≡ form = cc in
+    let low = lead_low k (BehindTail (room.Characters most)) form kind.lead same lead (and_parts (is_part (NumCheck k)) (list_all is_part (SetOpt most ∷ [])) are).0 in
+    let none : kind.further ≡ [] = rw (← same) at further in
+    let behind = tail.some (rw (← same) refl) in
+    checked_value k (SetOpt most ∷ []) kind.lead n value (behind_check kind (fields_at (NumCheck k ∷ SetOpt most ∷ []) kind n value serial)) kept.checks low (least_checked k (SetOpt most ∷ []) value kept.long) (no_further (NumCheck k ∷ SetOpt most ∷ []) kind n value serial none ∙ behind)
+key_again (NumCheck k ∷ NumOpt most ∷ []) form kind n value serial formed lead further are kept tail =
+    let same : Digits (k - 1) (BehindTail (room.Digits most)) ≡ form = cc in
+    let low = lead_low k (BehindTail (room.Digits most)) form kind.lead same lead (and_parts (is_part (NumCheck k)) (list_all is_part (NumOpt most ∷ [])) are).0 in
+    let none : kind.further ≡ [] = rw (← same) at further in
+    let behind = tail.some (rw (← same) refl) in
+    checked_value k (NumOpt most ∷ []) kind.lead n value (behind_check kind (fields_at (NumCheck k ∷ NumOpt most ∷ []) kind n value serial)) kept.checks low (least_checked k (NumOpt most ∷ []) value kept.long) (no_further (NumCheck k ∷ NumOpt most ∷ []) kind n value serial none ∙ behind)
+key_again (NumCheck k ∷ Num a ∷ Num b ∷ []) form kind n value serial formed lead further are kept tail =
+    let same : Digits (k - 1) (Further a b) ≡ form = cc in
+    let low = lead_low k (Further a b) form kind.lead same lead (and_parts (is_part (NumCheck k)) (list_all is_part (Num a ∷ Num b ∷ [])) are).0 in
+    let both : kind.further ≡ a ∷ b ∷ [] = rw (← same) at further in
+    let none : tail_of_key kind.serial serial ≡ [] = tail.none (rw (← same) refl) in
+    let whole = both_further (NumCheck k ∷ Num a ∷ Num b ∷ []) kind n a b value serial both none (two_behind_check k a b value kept.short) in
+    checked_value k (Num a ∷ Num b ∷ []) kind.lead n value (behind_check kind (fields_at (NumCheck k ∷ Num a ∷ Num b ∷ []) kind n value serial)) kept.checks low (least_checked k (Num a ∷ Num b ∷ []) value kept.long) whole
+key_again (Set most ∷ []) form kind n value serial formed lead further are kept tail = take-append-drop n value
+key_again parts form kind n value serial formed lead further are kept tail = absurd (let e : None ≡ Some form = formed in cc)

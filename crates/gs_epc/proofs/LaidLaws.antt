@@ -24,7 +24,7 @@ use Rattle.gs_tables.specs.Tables.{IsShaped, TableRows, kind_of, kinds_rejection
 use Rattle.gs_tables.proofs.KeptRows.{kind_at}
 use Rattle.gs_epc.specs.declared.epc.Epc.{Epc}
 use Rattle.gs_epc.specs.Layout.{IsLaidOut, lay, parts_at, serial_elements}
-use Rattle.gs_epc.specs.KeyParts.{IsOfKind, epc_at, epc_of_key, prefix_in, rest_in, serial_in, take_apart, fields_at}
+use Rattle.gs_epc.specs.KeyParts.{IsOfKind, epc_at, epc_of_key, serial_in, take_apart, fields_at}
 use Rattle.gs_epc.proofs.LaidAgain.{key_again, parts_kept}
 use Rattle.gs_epc.proofs.LaidSets.{AllOf, are_one, is_tail, no_pairs, own_element}
 use Rattle.gs_ident.proofs.KeyPairs.{found_place}
@@ -45,8 +45,8 @@ mapped f (Some x) y e = (x, refl, cc)
 
 kept_kind : (set : TableRows) (i : ℕ) (row : Kind) → IsShaped set → slice_get set.kinds i ≡ Some row → KeptKind set.ais row
 kept_kind set i row shaped at =
-    let here : slice_get (map kind_of shaped.document.kinds) i ≡ Some row = rw shaped.made at at in
-    let kind = mapped kind_of (slice_get shaped.document.kinds i) row (sym (slice_get-map kind_of shaped.document.kinds i) ∙ here) in
+    let here : slice_get (map (kind_of shaped.document.ais) shaped.document.kinds) i ≡ Some row = rw shaped.made at at in
+    let kind = mapped (kind_of shaped.document.ais) (slice_get shaped.document.kinds i) row (sym (slice_get-map (kind_of shaped.document.ais) shaped.document.kinds i) ∙ here) in
     let kept = kind_at shaped.document.ais shaped.document.kinds i kind.0 (no_kinds shaped.document shaped.in_order) kind.1 in
     rw (shaped.made, ← kind.2) kept
 
@@ -80,7 +80,7 @@ equal_pair : (pair : Pair) (code value : List ℕ) → pair.code ≡ code → pa
 equal_pair pair code value a b = rw (← a, ← b) refl
 
 pub again : (ais : List AiRow) (kind : Kind) (n : ℕ) (serial : List ℕ) (identity : Elements) → KeepsRules ais → KeptKind ais kind → IsOfKind kind identity → IsMadeWith ais identity → serial_in ais (parts_at ais kind.key) kind.serial identity ≡ Some serial
-    → identity ≡ lay ais kind (fields_at (parts_at ais kind.key) kind.lead n identity.key.value serial)
+    → identity ≡ lay ais kind (fields_at (parts_at ais kind.key) kind n identity.key.value serial)
 again ais kind n serial identity rules kept of made e =
     let row = kept.row in
     let parts : parts_at ais kind.key ≡ row.parts = rw kept.found refl in
@@ -91,7 +91,7 @@ again ais kind n serial identity rules kept of made e =
     let key_fits : value_error ais kind.key identity.key.value ≡ None = rw of.key at fits in
     let no_error : parts_error row.parts identity.key.value ≡ None = rw kept.found at key_fits in
     let tail = is_tail ais row kept.form row.parts kind.serial serial identity kept.serial serial_is in
-    let value = key_again row.parts kept.form kind n identity.key.value serial kept.formed kept.lead (listed row.parts (row_parts row in_order)) (parts_kept row.parts identity.key.value no_error) tail in
+    let value = key_again row.parts kept.form kind n identity.key.value serial kept.formed kept.lead kept.further (listed row.parts (row_parts row in_order)) (parts_kept row.parts identity.key.value no_error) tail in
     let found : find (has_code identity.key.code) ais ≡ Some row = rw of.key kept.found in
     let qualifiers = qualifiers_are ais row kind.serial serial identity (found_by_codes ais identity row made found) (row_distinct row in_order) of.qualifiers serial_is in
     rw parts (equal_elements identity _ _ (equal_pair identity.key _ _ of.key (sym value)) qualifiers of.attributes)

@@ -16,6 +16,7 @@ use Rattle.gs_ident.proofs.PairLemmas.{find_by_cases, found_passes}
 use Rattle.gs_tables_document.specs.declared.kind.SerialAt.{SerialAt}
 use Rattle.gs_tables_document.specs.declared.kind.SerialAt.TheVariants.{Nowhere, Tail, Ai}
 use Rattle.gs_tables.specs.declared.form.KeyForm.{KeyForm}
+use Rattle.gs_tables.specs.declared.form.Room.{Room}
 use Rattle.gs_tables.specs.Forms.{tail_of}
 use Rattle.gs_tables.specs.Rules.{is_characters, is_serial_of}
 use Rattle.gs_epc.specs.Layout.{serial_elements, tail_of_key}
@@ -130,11 +131,11 @@ own_element ais parts code serial identity (one pair is own fails) e =
 open_tail : (form : KeyForm) (more others : Bool) → (is_none (tail_of form) && more && others) ≡ true → is_some (tail_of form) ≡ true → ⊥
 open_tail form more others h some = by (tail_of form) (and_left (is_none (tail_of form)) more (and_left (is_none (tail_of form) && more) others h)) some
   where
-    by : (tail : Option ℕ) → is_none tail ≡ true → is_some tail ≡ true → ⊥
+    by : (tail : Option Room) → is_none tail ≡ true → is_some tail ≡ true → ⊥
     by None a b = let e : false ≡ true = b in cc
     by (Some most) a b = let e : false ≡ true = a in cc
 
-not_both : (tail : Option ℕ) → is_none tail ≡ true → is_some tail ≡ true → ⊥
+not_both : (tail : Option Room) → is_none tail ≡ true → is_some tail ≡ true → ⊥
 not_both None a b = let e : false ≡ true = b in cc
 not_both (Some most) a b = let e : false ≡ true = a in cc
 

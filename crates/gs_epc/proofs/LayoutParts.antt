@@ -10,13 +10,13 @@ use Rattle.gs_chars.specs.Characters.{is_digit}
 use Rattle.gs_chars.proofs.TruthsAndLists.{and_true}
 use Rattle.gs_chars.specs.CheckDigits.{check_digit_of, weighted_sum}
 use Rattle.gs_ai.specs.declared.part.Part.{Part}
-use Rattle.gs_ai.specs.declared.part.Part.TheVariants.{Zero, NumCheck, Set, SetOpt}
+use Rattle.gs_ai.specs.declared.part.Part.TheVariants.{Zero, Num, NumCheck, NumOpt, Set, SetOpt}
 use Rattle.gs_ai.specs.Parts.{least_length, greatest_length, is_of_part}
 use Rattle.gs_ai.specs.Values.{greatest_of, keeps_check, keeps_date, least_of, parts_error, pieces, wrong_character}
 use Rattle.gs_ai.proofs.PartLemmas.{wrong_nowhere}
 use Rattle.gs_ai.proofs.RowLemmas.{and_left, and_right}
 use Rattle.gs_ai.proofs.Searches.{position-cons, same_bytes}
-use Rattle.gs_epc.specs.KeptFields.{AreCharacters}
+use Rattle.gs_epc.specs.KeptFields.{AreCharacters, AreNumbers, HasDigits}
 use Rattle.gs_epc.specs.Layout.{with_check}
 
 -- ---- tests of each element
@@ -112,3 +112,11 @@ set_piece most text are = record { least = are.least; greatest = are.room; chara
 
 pub optional_piece : (most : ℕ) (text : List ℕ) → AreCharacters most text → IsPiece (SetOpt most) text
 optional_piece most text are = record { least = omega arith; greatest = are.room; characters = are.characters; check = refl; date = refl }
+
+pub number_piece : (most : ℕ) (text : List ℕ) → AreNumbers most text → IsPiece (NumOpt most) text
+number_piece most text are = record { least = omega arith; greatest = are.room; characters = are.digits; check = refl; date = refl }
+
+pub digits_piece : (n : ℕ) (text : List ℕ) → HasDigits n text → IsPiece (Num n) text
+digits_piece n text has =
+    let count = has.0 in
+    record { least = omega arith; greatest = omega arith; characters = has.1; check = refl; date = refl }

@@ -6,7 +6,7 @@ use Rattle.std.proofs.lemmas.Bool.Decides.{nat_tests}
 use Rattle.gs_ai.specs.Tables.{is_empty}
 use Rattle.gs_chars.proofs.TruthsAndLists.{and_parts, true_or_false}
 use Rattle.gs_tables_document.specs.declared.field.Field.{Field}
-use Rattle.gs_tables_document.specs.declared.field.Field.TheVariants.{Filter, Gcp, Rest, Serial}
+use Rattle.gs_tables_document.specs.declared.field.Field.TheVariants.{Filter, Gcp, Rest, Piece, Total, Serial}
 use Rattle.gs_tables_document.specs.declared.level_name.LevelName.{LevelName}
 use Rattle.gs_tables_document.specs.declared.level_name.LevelName.TheVariants.{Binary, Tag, Pure}
 use Rattle.gs_tables_document.specs.declared.opt_info.OptInfo.{OptInfo}
@@ -65,14 +65,22 @@ kept_text field fields v whole = elim (true_or_false (list_any (is_field field) 
 
 pub record NoneLeft (fields : List (Option Field)) (epc : Epc) : Type 0 where
   pub rest : is_left_out Rest fields epc.rest ≡ false
+  pub piece : is_left_out Piece fields epc.piece ≡ false
+  pub total : is_left_out Total fields epc.total ≡ false
   pub serial : is_left_out Serial fields epc.serial ≡ false
 
 none_left : (fields : List (Option Field)) (epc : Epc) → left_out fields epc ≡ None → NoneLeft fields epc
 none_left fields epc h = elim (true_or_false (is_left_out Rest fields epc.rest)) [
   | inl e ↦ absurd (let f : Some Rest ≡ None = rw e at h in cc)
-  | inr e ↦ let g = rw e at h in elim (true_or_false (is_left_out Serial fields epc.serial)) [
-    | inl f ↦ absurd (let k : Some Serial ≡ None = rw f at g in cc)
-    | inr f ↦ record { rest = e; serial = f }
+  | inr e ↦ let g = rw e at h in elim (true_or_false (is_left_out Piece fields epc.piece)) [
+    | inl p ↦ absurd (let k : Some Piece ≡ None = rw p at g in cc)
+    | inr p ↦ let i = rw p at g in elim (true_or_false (is_left_out Total fields epc.total)) [
+      | inl t ↦ absurd (let k : Some Total ≡ None = rw t at i in cc)
+      | inr t ↦ let j = rw t at i in elim (true_or_false (is_left_out Serial fields epc.serial)) [
+        | inl f ↦ absurd (let k : Some Serial ≡ None = rw f at j in cc)
+        | inr f ↦ record { rest = e; piece = p; total = t; serial = f }
+      ]
+    ]
   ]
 ]
 
@@ -115,17 +123,18 @@ same_numbers a b c d asked h =
     let second = each.1 in
     (grind (arith, nat_tests), grind (arith, nat_tests))
 
-abbrev epc_with : ℕ → List ℕ → Option ℕ → ℕ → List ℕ → List ℕ → List ℕ → Epc
-epc_with kind encoding filter gcp prefix rest serial =
-    record { kind = kind; encoding = encoding; filter = filter; gcp = gcp; prefix = prefix; rest = rest; serial = serial }
+abbrev epc_with : ℕ → List ℕ → Option ℕ → ℕ → List ℕ → List ℕ → List ℕ → List ℕ → List ℕ → Epc
+epc_with kind encoding filter gcp prefix rest piece total serial =
+    record { kind = kind; encoding = encoding; filter = filter; gcp = gcp; prefix = prefix; rest = rest; piece = piece; total = total; serial = serial }
 
-equal_fields : (kind kind' : ℕ) (encoding : List ℕ) (filter filter' : Option ℕ) (gcp gcp' : ℕ) (prefix prefix' rest rest' serial serial' : List ℕ) → kind ≡ kind' → filter ≡ filter' → gcp ≡ gcp' → prefix ≡ prefix' → rest ≡ rest' → serial ≡ serial'
-    → epc_with kind encoding filter gcp prefix rest serial ≡ epc_with kind' encoding filter' gcp' prefix' rest' serial'
-equal_fields kind kind' encoding filter filter' gcp gcp' prefix prefix' rest rest' serial serial' a b c d e f = rw (a, b, c, d, e, f) refl
+equal_fields : (kind kind' : ℕ) (encoding : List ℕ) (filter filter' : Option ℕ) (gcp gcp' : ℕ) (prefix prefix' rest rest' piece piece' total total' serial serial' : List ℕ) → kind ≡ kind' → filter ≡ filter' → gcp ≡ gcp' → prefix ≡ prefix' → rest ≡ rest' → piece ≡ piece' → total ≡ total' → serial ≡ serial'
+    → epc_with kind encoding filter gcp prefix rest piece total serial ≡ epc_with kind' encoding filter' gcp' prefix' rest' piece' total' serial'
+equal_fields kind kind' encoding filter filter' gcp gcp' prefix prefix' rest rest' piece piece' total total' serial serial' a b c d e f g h = rw (a, b, c, d, e, f, g, h) refl
 
 pub said_back : (set : TableRows) (level : LevelName) (items : List Item) (info : OptInfo) (epc : Epc) → KeptOption set level items info → is_candidate level epc info ≡ true → HasFilterOn level epc.filter → left_out info.fields epc ≡ None → epc_of info (values_for level epc info) ≡ same_fields level info epc
 said_back set level items info epc kept passes has whole =
     let numbers = same_numbers info.kind epc.kind info.gcp epc.gcp (is_asked level epc.encoding info.encoding) passes in
     let none = none_left info.fields epc whole in
     let filter : filter_of info.fields (values_for level epc info) ≡ filter_on level epc.filter = rw kept.fields_are (filter_back level epc kept.parts info.encoding kept.of_level has) in
-    equal_fields _ _ _ _ _ _ _ _ _ _ _ _ _ numbers.0 filter numbers.1 (prefix_back set level items info (value_for level epc) kept) (kept_text Rest info.fields (value_for level epc) none.rest) (kept_text Serial info.fields (value_for level epc) none.serial)
+    equal_fields _ _ _ _ _ _ _ _ _ _ _ _ _ _ _ _ _ numbers.0 filter numbers.1 (prefix_back set level items info (value_for level epc) kept) (kept_text Rest info.fields (value_for level epc) none.rest)
+    (kept_text Piece info.fields (value_for level epc) none.piece) (kept_text Total info.fields (value_for level epc) none.total) (kept_text Serial info.fields (value_for level epc) none.serial)

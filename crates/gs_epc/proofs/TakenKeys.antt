@@ -4,7 +4,7 @@ use Rattle.std.specs.Option.{option_map_or}
 use Rattle.std.proofs.lemmas.List.{drop_at, length-take, take-append-drop, take_at}
 use Rattle.gs_ai.specs.declared.pair.Pair.{Pair}
 use Rattle.gs_ai.specs.declared.part.Part.{Part}
-use Rattle.gs_ai.specs.declared.part.Part.TheVariants.{Zero, NumCheck, Set, SetOpt}
+use Rattle.gs_ai.specs.declared.part.Part.TheVariants.{Zero, Num, NumCheck, NumOpt, Set, SetOpt}
 use Rattle.gs_ai.specs.declared.row.AiRow.{AiRow}
 use Rattle.gs_ai.specs.Tables.{is_empty}
 use Rattle.gs_ai.specs.Values.{has_code}
@@ -15,13 +15,17 @@ use Rattle.gs_tables_document.specs.declared.kind.Kind.{Kind}
 use Rattle.gs_tables_document.specs.declared.kind.SerialAt.{SerialAt}
 use Rattle.gs_tables_document.specs.declared.kind.SerialAt.TheVariants.{Nowhere, Tail, Ai}
 use Rattle.gs_ident.specs.Identities.{stands_for_none}
+use Rattle.gs_tables.specs.declared.form.Behind.{Behind}
+use Rattle.gs_tables.specs.declared.form.Behind.TheVariants.{Nothing, Further, Tail as BehindTail}
 use Rattle.gs_tables.specs.declared.form.KeyForm.{KeyForm}
 use Rattle.gs_tables.specs.declared.form.KeyForm.TheVariants.{Digits, Characters}
-use Rattle.gs_tables.specs.Forms.{key_form, serial_room, tail_of}
+use Rattle.gs_tables.specs.declared.form.Room.{Room}
+use Rattle.gs_tables.specs.declared.form.Room.TheVariants as room
+use Rattle.gs_tables.specs.Forms.{further_of, key_form, serial_room, tail_of}
 use Rattle.gs_tables.specs.Rules.{is_serial_of}
-use Rattle.gs_epc.specs.KeptFields.{FitForm, FitKind, FitsRoom}
-use Rattle.gs_epc.specs.Layout.{key_digits, key_value, lay, parts_at, serial_elements, tail_of_key, with_check, KeyFields}
-use Rattle.gs_epc.specs.KeyParts.{prefix_in, rest_in, serial_in, tail_in, take_apart, unless_empty}
+use Rattle.gs_epc.specs.KeptFields.{FitForm, FitKind, FitsFurther, FitsRoom}
+use Rattle.gs_epc.specs.Layout.{behind_check, key_digits, key_value, lay, parts_at, serial_elements, tail_of_key, with_check, KeyFields}
+use Rattle.gs_epc.specs.KeyParts.{piece_in, piece_length, prefix_in, rest_in, serial_in, tail_in, take_apart, total_in, total_length, unless_empty}
 use Rattle.gs_epc.proofs.LayoutValues.{have_digits}
 
 -- ---- prefix and rest from the digits of a key
@@ -59,9 +63,11 @@ checked_behind k digits tail one long =
 
 -- ---- the value of a key
 
--- prefix and rest are back, and so is the tail where the key has one
+-- prefix, rest, piece and total are back, and so is the tail where the key has one
 pub record IsTakenBack (parts : List Part) (form : KeyForm) (kind : Kind) (n : ℕ) (fields : KeyFields) : Type 0 where
   pub back : AreBack fields.prefix fields.rest (prefix_in parts kind.lead n (key_value parts kind fields)) (rest_in parts kind.lead n (key_value parts kind fields))
+  pub piece_back : piece_in parts kind.further (key_value parts kind fields) ≡ fields.piece
+  pub total_back : total_in parts kind.further (key_value parts kind fields) ≡ fields.total
   pub tail : is_some (tail_of form) ≡ true → tail_in parts (key_value parts kind fields) ≡ tail_of_key kind.serial fields.serial
 
 -- the digits of a key with k of them, its check digit among them
@@ -70,7 +76,7 @@ record FitDigits (k lead : ℕ) (prefix rest : List ℕ) : Type 0 where
   some : 1 ≤ k
   within : lead ≤ length rest
 
-fit_digits : (k : ℕ) (tail : Option ℕ) (form : KeyForm) (lead : ℕ) (prefix rest : List ℕ) → Digits (k - 1) tail ≡ form → 1 ≤ length prefix → FitForm form lead prefix rest → FitDigits k lead prefix rest
+fit_digits : (k : ℕ) (tail : Behind) (form : KeyForm) (lead : ℕ) (prefix rest : List ℕ) → Digits (k - 1) tail ≡ form → 1 ≤ length prefix → FitForm form lead prefix rest → FitDigits k lead prefix rest
 fit_digits k tail form lead prefix rest same some fits =
     let are = have_digits (k - 1) tail lead prefix rest some (subst (λ f. FitForm f lead prefix rest) (sym same) fits) in
     let one = are.some_digit in
@@ -87,26 +93,77 @@ module _ (k : ℕ) (lead n : ℕ) (prefix rest tail : List ℕ) (fit : FitDigits
   tail_back : drop k (with_check (key_digits lead prefix rest) ++ tail) ≡ tail
   tail_back = checked_behind k (key_digits lead prefix rest) tail fit.some fit.count
 
-key_back : (parts : List Part) (form : KeyForm) (kind : Kind) (n : ℕ) (fields : KeyFields) → key_form parts ≡ Some form → 1 ≤ length fields.prefix → length fields.prefix ≡ n → FitForm form kind.lead fields.prefix fields.rest → IsTakenBack parts form kind n fields
-key_back (Zero ∷ NumCheck k ∷ []) form kind n fields formed some count fits =
-    let fit = fit_digits k None form kind.lead fields.prefix fields.rest (let same : Digits (k - 1) None ≡ form = cc in same) some fits in
-    record { back = digits_back k kind.lead n fields.prefix fields.rest (tail_of_key kind.serial fields.serial) fit count; tail = λ _. tail_back k kind.lead n fields.prefix fields.rest (tail_of_key kind.serial fields.serial) fit count }
-key_back (Zero ∷ NumCheck k ∷ SetOpt most ∷ []) form kind n fields formed some count fits =
-    let fit = fit_digits k (Some most) form kind.lead fields.prefix fields.rest (let same : Digits (k - 1) (Some most) ≡ form = cc in same) some fits in
-    record { back = digits_back k kind.lead n fields.prefix fields.rest (tail_of_key kind.serial fields.serial) fit count; tail = λ _. tail_back k kind.lead n fields.prefix fields.rest (tail_of_key kind.serial fields.serial) fit count }
-key_back (NumCheck k ∷ []) form kind n fields formed some count fits =
-    let fit = fit_digits k None form kind.lead fields.prefix fields.rest (let same : Digits (k - 1) None ≡ form = cc in same) some fits in
-    record { back = digits_back k kind.lead n fields.prefix fields.rest (tail_of_key kind.serial fields.serial) fit count; tail = λ _. tail_back k kind.lead n fields.prefix fields.rest (tail_of_key kind.serial fields.serial) fit count }
-key_back (NumCheck k ∷ SetOpt most ∷ []) form kind n fields formed some count fits =
-    let fit = fit_digits k (Some most) form kind.lead fields.prefix fields.rest (let same : Digits (k - 1) (Some most) ≡ form = cc in same) some fits in
-    record { back = digits_back k kind.lead n fields.prefix fields.rest (tail_of_key kind.serial fields.serial) fit count; tail = λ _. tail_back k kind.lead n fields.prefix fields.rest (tail_of_key kind.serial fields.serial) fit count }
-key_back (Set most ∷ []) form kind n fields formed some count fits =
+-- ---- the piece and the total
+
+-- a key with a tail has no further fields
+alone : (form : KeyForm) → is_some (tail_of form) ≡ true → further_of form ≡ []
+alone (Digits digits Nothing) some = refl
+alone (Digits digits (BehindTail room)) some = refl
+alone (Digits digits (Further a b)) some = absurd (let e : false ≡ true = some in cc)
+alone (Characters most) some = refl
+
+-- piece and total are those that were laid out
+record ArePiecesBack (further piece total others : List ℕ) : Type 0 where
+  piece_back : take (piece_length further) others ≡ piece
+  total_back : take (total_length further) (drop (piece_length further) others) ≡ total
+
+pieces_back : (further piece total tail others : List ℕ) → FitsFurther further piece total → others ≡ piece ++ (total ++ tail) → ArePiecesBack further piece total others
+pieces_back [] piece total tail others fits is = record { piece_back = sym fits.0; total_back = sym fits.1 }
+pieces_back (a ∷ []) piece total tail others fits is = absurd fits
+pieces_back (a ∷ b ∷ []) piece total tail others fits is =
+    let behind : drop a others ≡ total ++ tail = ap (drop a) is ∙ drop_at piece (total ++ tail) a fits.0.0 in
+    record {
+      piece_back = ap (take a) is ∙ take_at piece (total ++ tail) a fits.0.0;
+      total_back = ap (take b) behind ∙ take_at total tail b fits.1.0;
+    }
+pieces_back (a ∷ b ∷ c ∷ further) piece total tail others fits is = absurd fits
+
+-- what stands behind the check digit is the tail, where there is one
+only_tail : (form : KeyForm) (kind : Kind) (fields : KeyFields) → kind.further ≡ further_of form → FitsFurther kind.further fields.piece fields.total → is_some (tail_of form) ≡ true → behind_check kind fields ≡ tail_of_key kind.serial fields.serial
+only_tail form kind fields of fits some =
+    let none = subst (λ (lengths : List ℕ). FitsFurther lengths fields.piece fields.total) (of ∙ alone form some) fits in
+    rw (none.0, none.1) refl
+
+taken_of : (parts : List Part) (form : KeyForm) (kind : Kind) (n : ℕ) (fields : KeyFields) → AreBack fields.prefix fields.rest (prefix_in parts kind.lead n (key_value parts kind fields)) (rest_in parts kind.lead n (key_value parts kind fields))
+    → tail_in parts (key_value parts kind fields) ≡ behind_check kind fields → kind.further ≡ further_of form → FitsFurther kind.further fields.piece fields.total → IsTakenBack parts form kind n fields
+taken_of parts form kind n fields back behind of further =
+    let pieces = pieces_back kind.further fields.piece fields.total (tail_of_key kind.serial fields.serial) (tail_in parts (key_value parts kind fields)) further behind in
+    record { back = back; piece_back = pieces.piece_back; total_back = pieces.total_back; tail = λ some. behind ∙ only_tail form kind fields of further some }
+
+key_back : (parts : List Part) (form : KeyForm) (kind : Kind) (n : ℕ) (fields : KeyFields) → key_form parts ≡ Some form → 1 ≤ length fields.prefix → length fields.prefix ≡ n → FitForm form kind.lead fields.prefix fields.rest
+    → kind.further ≡ further_of form → FitsFurther kind.further fields.piece fields.total → IsTakenBack parts form kind n fields
+key_back (Zero ∷ NumCheck k ∷ []) form kind n fields formed some count fits of further =
+    let fit = fit_digits k Nothing form kind.lead fields.prefix fields.rest (let same : Digits (k - 1) Nothing ≡ form = cc in same) some fits in
+    taken_of (Zero ∷ NumCheck k ∷ []) form kind n fields (digits_back k kind.lead n fields.prefix fields.rest (behind_check kind fields) fit count) (tail_back k kind.lead n fields.prefix fields.rest (behind_check kind fields) fit count) of further
+key_back (Zero ∷ NumCheck k ∷ SetOpt most ∷ []) form kind n fields formed some count fits of further =
+    let fit = fit_digits k (BehindTail (room.Characters most)) form kind.lead fields.prefix fields.rest (let same : Digits (k - 1) (BehindTail (room.Characters most)) ≡ form = cc in same) some fits in
+    taken_of (Zero ∷ NumCheck k ∷ SetOpt most ∷ []) form kind n fields (digits_back k kind.lead n fields.prefix fields.rest (behind_check kind fields) fit count) (tail_back k kind.lead n fields.prefix fields.rest (behind_check kind fields) fit count) of further
+key_back (Zero ∷ NumCheck k ∷ NumOpt most ∷ []) form kind n fields formed some count fits of further =
+    let fit = fit_digits k (BehindTail (room.Digits most)) form kind.lead fields.prefix fields.rest (let same : Digits (k - 1) (BehindTail (room.Digits most)) ≡ form = cc in same) some fits in
+    taken_of (Zero ∷ NumCheck k ∷ NumOpt most ∷ []) form kind n fields (digits_back k kind.lead n fields.prefix fields.rest (behind_check kind fields) fit count) (tail_back k kind.lead n fields.prefix fields.rest (behind_check kind fields) fit count) of further
+key_back (NumCheck k ∷ []) form kind n fields formed some count fits of further =
+    let fit = fit_digits k Nothing form kind.lead fields.prefix fields.rest (let same : Digits (k - 1) Nothing ≡ form = cc in same) some fits in
+    taken_of (NumCheck k ∷ []) form kind n fields (digits_back k kind.lead n fields.prefix fields.rest (behind_check kind fields) fit count) (tail_back k kind.lead n fields.prefix fields.rest (behind_check kind fields) fit count) of further
+key_back (NumCheck k ∷ SetOpt most ∷ []) form kind n fields formed some count fits of further =
+    let fit = fit_digits k (BehindTail (room.Characters most)) form kind.lead fields.prefix fields.rest (let same : Digits (k - 1) (BehindTail (room.Characters most)) ≡ form = cc in same) some fits in
+    taken_of (NumCheck k ∷ SetOpt most ∷ []) form kind n fields (digits_back k kind.lead n fields.prefix fields.rest (behind_check kind fields) fit count) (tail_back k kind.lead n fields.prefix fields.rest (behind_check kind fields) fit count) of further
+key_back (NumCheck k ∷ NumOpt most ∷ []) form kind n fields formed some count fits of further =
+    let fit = fit_digits k (BehindTail (room.Digits most)) form kind.lead fields.prefix fields.rest (let same : Digits (k - 1) (BehindTail (room.Digits most)) ≡ form = cc in same) some fits in
+    taken_of (NumCheck k ∷ NumOpt most ∷ []) form kind n fields (digits_back k kind.lead n fields.prefix fields.rest (behind_check kind fields) fit count) (tail_back k kind.lead n fields.prefix fields.rest (behind_check kind fields) fit count) of further
+key_back (NumCheck k ∷ Num a ∷ Num b ∷ []) form kind n fields formed some count fits of further =
+    let fit = fit_digits k (Further a b) form kind.lead fields.prefix fields.rest (let same : Digits (k - 1) (Further a b) ≡ form = cc in same) some fits in
+    taken_of (NumCheck k ∷ Num a ∷ Num b ∷ []) form kind n fields (digits_back k kind.lead n fields.prefix fields.rest (behind_check kind fields) fit count) (tail_back k kind.lead n fields.prefix fields.rest (behind_check kind fields) fit count) of further
+key_back (Set most ∷ []) form kind n fields formed some count fits of further =
     let same : form ≡ Characters most = cc in
+    let none = subst (λ (lengths : List ℕ). FitsFurther lengths fields.piece fields.total) (of ∙ ap further_of same) further in
+    let lengths : kind.further ≡ [] = of ∙ ap further_of same in
     record {
       back = record { prefix_back = take_at fields.prefix fields.rest n count; rest_back = drop_at fields.prefix fields.rest n count };
+      piece_back = rw lengths (sym none.0);
+      total_back = rw lengths (sym none.1);
       tail = λ h. absurd (let e : false ≡ true = rw same at h in cc);
     }
-key_back parts form kind n fields formed some count fits = absurd (let e : None ≡ Some form = formed in cc)
+key_back parts form kind n fields formed some count fits of further = absurd (let e : None ≡ Some form = formed in cc)
 
 -- ---- the serial
 
@@ -114,9 +171,10 @@ some_text : (text : List ℕ) → 1 ≤ length text → unless_empty text ≡ So
 some_text [] one = absurd (omega arith)
 some_text (c ∷ text) one = refl
 
-some_room : (room : Option ℕ) (serial : List ℕ) → is_some room ≡ true → FitsRoom room serial → unless_empty serial ≡ Some serial
+some_room : (room : Option Room) (serial : List ℕ) → is_some room ≡ true → FitsRoom room serial → unless_empty serial ≡ Some serial
 some_room None serial some fits = absurd (let e : false ≡ true = some in cc)
-some_room (Some most) serial some fits = some_text serial fits.least
+some_room (Some (room.Characters most)) serial some fits = some_text serial fits.least
+some_room (Some (room.Digits most)) serial some fits = some_text serial fits.least
 
 -- the text for none is the serial, where the serial stands for none
 none_is : (row : Option AiRow) (serial : List ℕ) → option_map_or (λ (r : AiRow). not (is_empty r.none) && bytes_eq r.none serial) row false ≡ true → unless_empty (option_map_or (λ (r : AiRow). r.none) row []) ≡ Some serial
@@ -145,6 +203,6 @@ taken_back ais kind n fields fit count =
     let of_kind = fit.of_kind in
     let row = of_kind.row in
     let parts : parts_at ais kind.key ≡ row.parts = rw of_kind.found refl in
-    let back = key_back row.parts of_kind.form kind n fields of_kind.formed fit.prefix_least count fit.fits in
+    let back = key_back row.parts of_kind.form kind n fields of_kind.formed fit.prefix_least count fit.fits of_kind.further fit.further in
     let its = serial_back ais row row.parts of_kind.form kind.serial (record { code = kind.key; value = key_value row.parts kind fields }) fields.serial of_kind.serial fit.room back.tail in
-    rw (parts, its, back.back.prefix_back, back.back.rest_back) refl
+    rw (parts, its, back.back.prefix_back, back.back.rest_back, back.piece_back, back.total_back) refl

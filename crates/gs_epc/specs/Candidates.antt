@@ -6,7 +6,7 @@ use Rattle.std.specs.Str.{bytes_eq}
 use Rattle.gs_ai.specs.Tables.{is_empty}
 use Rattle.gs_grammar.specs.declared.item.Item.{Item}
 use Rattle.gs_tables_document.specs.declared.field.Field.{Field}
-use Rattle.gs_tables_document.specs.declared.field.Field.TheVariants.{Filter, Gcp, Rest, Serial}
+use Rattle.gs_tables_document.specs.declared.field.Field.TheVariants.{Filter, Gcp, Rest, Piece, Total, Serial}
 use Rattle.gs_tables_document.specs.declared.level_name.LevelName.{LevelName}
 use Rattle.gs_tables_document.specs.declared.level_name.LevelName.TheVariants.{Binary, Tag, Pure}
 use Rattle.gs_tables_document.specs.declared.opt_info.OptInfo.{OptInfo}
@@ -65,6 +65,8 @@ value_for level epc None = []
 value_for level epc (Some Filter) = filter_text level epc.filter
 value_for level epc (Some Gcp) = epc.prefix
 value_for level epc (Some Rest) = epc.rest
+value_for level epc (Some Piece) = epc.piece
+value_for level epc (Some Total) = epc.total
 value_for level epc (Some Serial) = epc.serial
 
 -- trusted, TDT 2.0, section 3: the values of the items of an option
@@ -75,9 +77,11 @@ values_for level epc info = map (value_for level epc) info.fields
 abbrev pub is_left_out : Field → List (Option Field) → List ℕ → Bool
 is_left_out field fields text = not (list_any (is_field field) fields) && not (is_empty text)
 
--- trusted, own: the first of the rest and the serial that an option leaves out
+-- trusted, own: the first of the rest, the piece, the total and the serial that an option leaves out
 abbrev pub left_out : List (Option Field) → Epc → Option Field
 left_out fields epc =
     if is_left_out Rest fields epc.rest then Some Rest
+    else if is_left_out Piece fields epc.piece then Some Piece
+    else if is_left_out Total fields epc.total then Some Total
     else if is_left_out Serial fields epc.serial then Some Serial
     else None

@@ -8,7 +8,7 @@ use Rattle.gs_grammar.specs.Derivations.{EachWord}
 use Rattle.gs_grammar.specs.Levels.{item_lists}
 use Rattle.gs_grammar.specs.Words.{decimal_value}
 use Rattle.gs_tables_document.specs.declared.field.Field.{Field}
-use Rattle.gs_tables_document.specs.declared.field.Field.TheVariants.{Filter, Gcp, Rest, Serial}
+use Rattle.gs_tables_document.specs.declared.field.Field.TheVariants.{Filter, Gcp, Rest, Piece, Total, Serial}
 use Rattle.gs_tables_document.specs.declared.level_name.LevelName.{LevelName}
 use Rattle.gs_tables_document.specs.declared.opt_info.OptInfo.{OptInfo}
 use Rattle.gs_tables.specs.Rules.{is_field}
@@ -37,6 +37,8 @@ epc_of info values = record {
   gcp = info.gcp;
   prefix = value_of Gcp info.fields values;
   rest = value_of Rest info.fields values;
+  piece = value_of Piece info.fields values;
+  total = value_of Total info.fields values;
   serial = value_of Serial info.fields values;
 }
 

@@ -1,10 +1,12 @@
 -- What the rules of tables keep of an EPC of the set: its fields have the lengths and characters of the key of its kind.
-use Rattle.std.specs.Prelude.{◌≡◌, ◌≤◌, ◌-◌, ℕ, List, [], length, Option, Some, None, IsTrue}
+use Rattle.std.specs.Prelude.{◌≡◌, ◌≤◌, ◌-◌, ℕ, List, [], ◌∷◌, length, Option, Some, None, IsTrue}
 use Rattle.gs_chars.specs.Characters.{are_digits, are_in_set82}
 use Rattle.gs_ai.specs.declared.row.AiRow.{AiRow}
 use Rattle.gs_tables_document.specs.declared.kind.Kind.{Kind}
 use Rattle.gs_tables.specs.declared.form.KeyForm.{KeyForm}
 use Rattle.gs_tables.specs.declared.form.KeyForm.TheVariants.{Digits, Characters}
+use Rattle.gs_tables.specs.declared.form.Room.{Room}
+use Rattle.gs_tables.specs.declared.form.Room.TheVariants as room
 use Rattle.gs_epc.specs.Layout.{KeyFields}
 use Rattle.gs_tables.specs.Forms.{serial_room}
 use Rattle.gs_tables.specs.KeptRules.{KeptKind}
@@ -15,6 +17,16 @@ pub record AreCharacters (most : ℕ) (text : List ℕ) : Type 0 where
   pub room : length text ≤ most
   pub characters : IsTrue (are_in_set82 text)
 
+-- trusted, own: at least one and at most so many digits
+pub record AreNumbers (most : ℕ) (text : List ℕ) : Type 0 where
+  pub least : 1 ≤ length text
+  pub room : length text ≤ most
+  pub digits : IsTrue (are_digits text)
+
+-- trusted, own: exactly so many digits
+abbrev pub HasDigits : ℕ → List ℕ → Type 0
+HasDigits n text = (length text ≡ n) × IsTrue (are_digits text)
+
 -- trusted, own: prefix and rest fit the key: digits, with the lead digits that belong to the rest; or characters
 abbrev pub FitForm : KeyForm → ℕ → List ℕ → List ℕ → Type 0
 FitForm (Digits digits _) lead prefix rest =
@@ -22,14 +34,22 @@ FitForm (Digits digits _) lead prefix rest =
 FitForm (Characters most) lead prefix rest = IsTrue (are_digits prefix) × AreCharacters (most - length prefix) rest
 
 -- trusted, own: the serial has room, and is empty where the kind has none
-abbrev pub FitsRoom : Option ℕ → List ℕ → Type 0
+abbrev pub FitsRoom : Option Room → List ℕ → Type 0
 FitsRoom None serial = serial ≡ []
-FitsRoom (Some most) serial = AreCharacters most serial
+FitsRoom (Some (room.Characters most)) serial = AreCharacters most serial
+FitsRoom (Some (room.Digits most)) serial = AreNumbers most serial
 
--- trusted, TDS 2.0, section 7: Prefix, rest and serial fit the kind, which keeps the rules.
+-- trusted, own: the piece and the total have so many digits, and are empty where the kind has none
+abbrev pub FitsFurther : List ℕ → List ℕ → List ℕ → Type 0
+FitsFurther [] piece total = (piece ≡ []) × (total ≡ [])
+FitsFurther (a ∷ b ∷ []) piece total = HasDigits a piece × HasDigits b total
+FitsFurther _ piece total = ⊥
+
+-- trusted, TDS 2.0, section 7: What an EPC says of its key fits the kind, which keeps the rules.
 pub record FitKind (ais : List AiRow) (kind : Kind) (fields : KeyFields) : Type 0 where
   pub of_kind : KeptKind ais kind
   pub prefix_least : 1 ≤ length fields.prefix
   pub prefix_most : length fields.prefix ≤ 12
   pub fits : FitForm of_kind.form kind.lead fields.prefix fields.rest
+  pub further : FitsFurther kind.further fields.piece fields.total
   pub room : FitsRoom (serial_room ais of_kind.form kind.serial) fields.serial

@@ -55,6 +55,24 @@ abbrev pub value_from_prefix : TableRows → ℕ → List ℕ → List ℕ
 value_from_prefix set kind value =
     option_map_or (λ (row : Kind). drop row.lead (behind_zero (parts_at set.ais row.key) value)) (slice_get set.kinds kind) []
 
+-- trusted, own: how many digits the piece has, by the two lengths of a kind, and 0 where it has none
+abbrev pub piece_length : List ℕ → ℕ
+piece_length (a ∷ _) = a
+piece_length [] = 0
+
+-- trusted, own: how many digits the total has, by the two lengths of a kind, and 0 where it has none
+abbrev pub total_length : List ℕ → ℕ
+total_length (_ ∷ b ∷ _) = b
+total_length _ = 0
+
+-- trusted, own: the piece: the first of the digits behind the check digit
+abbrev pub piece_in : List Part → List ℕ → List ℕ → List ℕ
+piece_in parts further value = take (piece_length further) (tail_in parts value)
+
+-- trusted, own: the total: the digits behind the piece
+abbrev pub total_in : List Part → List ℕ → List ℕ → List ℕ
+total_in parts further value = take (total_length further) (drop (piece_length further) (tail_in parts value))
+
 -- ---- the serial
 
 -- trusted, own: the text, where it is not empty
@@ -77,15 +95,20 @@ serial_in ais parts (Ai code) identity =
 
 -- ---- the fields
 
--- trusted, own: the fields of the value of a key by its parts, its lead digits and a prefix of n, with this serial
-abbrev pub fields_at : List Part → ℕ → ℕ → List ℕ → List ℕ → KeyFields
-fields_at parts lead n value serial =
-    record { prefix = prefix_in parts lead n value; rest = rest_in parts lead n value; serial = serial }
+-- trusted, own: the fields of the value of a key by its parts, its kind and a prefix of n, with this serial
+abbrev pub fields_at : List Part → Kind → ℕ → List ℕ → List ℕ → KeyFields
+fields_at parts kind n value serial = record {
+  prefix = prefix_in parts kind.lead n value;
+  rest = rest_in parts kind.lead n value;
+  piece = piece_in parts kind.further value;
+  total = total_in parts kind.further value;
+  serial = serial;
+}
 
 -- trusted, TDS 2.0, section 7: the fields of an identity by its kind and a prefix of n, unless its serial is lacking
 abbrev pub take_apart : List AiRow → Kind → Elements → ℕ → Option KeyFields
 take_apart ais kind identity n =
-    option_map (fields_at (parts_at ais kind.key) kind.lead n identity.key.value)
+    option_map (fields_at (parts_at ais kind.key) kind n identity.key.value)
     (serial_in ais (parts_at ais kind.key) kind.serial identity)
 
 -- trusted, own: an EPC of these fields, without the encoding and the filter of a tag
@@ -98,6 +121,8 @@ epc_of_key kind n fields =
       gcp = n;
       prefix = fields.prefix;
       rest = fields.rest;
+      piece = fields.piece;
+      total = fields.total;
       serial = fields.serial;
     }
 

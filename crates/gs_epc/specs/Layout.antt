@@ -17,15 +17,24 @@ use Rattle.gs_tables_document.specs.declared.kind.SerialAt.TheVariants.{Nowhere,
 use Rattle.gs_tables.specs.Tables.{TableRows}
 use Rattle.gs_epc.specs.declared.epc.Epc.{Epc}
 
--- trusted, own: what a key says by its kind: the company prefix, the rest and the serial
+-- trusted, own: what a key says by its kind: the company prefix, the rest, the piece and the total, which are empty where
+-- the kind has none, and the serial
 pub record KeyFields : Type 0 where
   pub prefix : List ℕ
   pub rest : List ℕ
+  pub piece : List ℕ
+  pub total : List ℕ
   pub serial : List ℕ
 
 -- trusted, own: what an EPC says of its key
 abbrev pub fields_in : Epc → KeyFields
-fields_in epc = record { prefix = epc.prefix; rest = epc.rest; serial = epc.serial }
+fields_in epc = record {
+  prefix = epc.prefix;
+  rest = epc.rest;
+  piece = epc.piece;
+  total = epc.total;
+  serial = epc.serial;
+}
 
 -- trusted, own: the parts of the key of a code
 abbrev pub parts_at : List AiRow → List ℕ → List Part
@@ -58,12 +67,16 @@ tail_of_key Tail serial = serial
 tail_of_key Nowhere serial = []
 tail_of_key (Ai code) serial = []
 
+-- trusted, own: what stands behind the check digit: the piece and the total, and the serial where it is the tail
+abbrev pub behind_check : Kind → KeyFields → List ℕ
+behind_check kind fields = fields.piece ++ (fields.total ++ tail_of_key kind.serial fields.serial)
+
 -- trusted, TDS 2.0, section 7; GS1 General Specifications, section 3: the value of the key: characters as they are, digits
--- with a leading zero, the check digit and the tail
+-- with a leading zero, the check digit and what stands behind it
 abbrev pub key_value : List Part → Kind → KeyFields → List ℕ
 key_value (Set _ ∷ []) kind fields = fields.prefix ++ fields.rest
 key_value parts kind fields =
-    zero_in_front parts ++ with_check (key_digits kind.lead fields.prefix fields.rest) ++ tail_of_key kind.serial fields.serial
+    zero_in_front parts ++ with_check (key_digits kind.lead fields.prefix fields.rest) ++ behind_check kind fields
 
 -- trusted, own: the pair of the key
 abbrev pub key_pair : List AiRow → Kind → KeyFields → Pair

@@ -109,5 +109,7 @@ same_fields level info epc = record {
   gcp = epc.gcp;
   prefix = epc.prefix;
   rest = epc.rest;
+  piece = epc.piece;
+  total = epc.total;
   serial = epc.serial;
 }

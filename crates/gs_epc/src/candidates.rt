@@ -55,6 +55,8 @@ fn value_for<'a>(epc: &'a Epc, filter: &'a [u8], field: Option<Field>) -> &'a [u
         Some(Field::Filter) => filter,
         Some(Field::Gcp) => epc.prefix.as_bytes(),
         Some(Field::Rest) => epc.rest.as_bytes(),
+        Some(Field::Piece) => epc.piece.as_bytes(),
+        Some(Field::Total) => epc.total.as_bytes(),
         Some(Field::Serial) => epc.serial.as_bytes(),
     }
 }
@@ -96,12 +98,18 @@ fn is_left_out(field: Field, fields: &[Option<Field>], text: &Text) -> bool
     !has_item(field, fields) && !text.as_bytes().is_empty()
 }
 
-/// The first of the rest and the serial that an option leaves out.
+/// The first of the rest, the piece, the total and the serial that an option leaves out.
 pub(crate) fn left_out(fields: &[Option<Field>], epc: &Epc) -> Option<Field>
     ensures { result ≡ left_out fields.now epc.now }
 {
     if is_left_out(Field::Rest, fields, &epc.rest) {
         return Some(Field::Rest);
+    }
+    if is_left_out(Field::Piece, fields, &epc.piece) {
+        return Some(Field::Piece);
+    }
+    if is_left_out(Field::Total, fields, &epc.total) {
+        return Some(Field::Total);
     }
     if is_left_out(Field::Serial, fields, &epc.serial) {
         Some(Field::Serial)

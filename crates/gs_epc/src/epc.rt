@@ -15,6 +15,10 @@ pub struct Epc {
     pub prefix: Text,
     /// What follows the prefix in the key, with the lead digit at the start, empty where the prefix leaves nothing.
     pub rest: Text,
+    /// The number of the piece, empty for a kind without pieces.
+    pub piece: Text,
+    /// How many pieces there are, empty for a kind without pieces.
+    pub total: Text,
     /// The serial, empty for a kind without one.
     pub serial: Text,
 }

@@ -62,6 +62,8 @@ fn taken(alloc: Global, info: &OptInfo, encoding: Text, values: &mut [Text]) -> 
         gcp: info.gcp,
         prefix: take_value(alloc, Field::Gcp, fields, values),
         rest: take_value(alloc, Field::Rest, fields, values),
+        piece: take_value(alloc, Field::Piece, fields, values),
+        total: take_value(alloc, Field::Total, fields, values),
         serial: take_value(alloc, Field::Serial, fields, values),
     }
 }

@@ -2,7 +2,7 @@ ghost use Rattle.std.specs.Prelude.{◌≡◌, ◌-◌, ◌++◌, ◌<◌, IfOk,
 ghost use Rattle.std.specs.Option.{option_copied};
 ghost use Rattle.gs_ident.specs.Identities.{pair_with};
 ghost use Rattle.gs_epc.specs.Layout.{parts_at};
-ghost use Rattle.gs_epc.specs.KeyParts.{IsTakenApart, behind_zero, checked_count, digits_in, none_text, prefix_in, rest_in, serial_in, tail_in, unless_empty, value_from_prefix};
+ghost use Rattle.gs_epc.specs.KeyParts.{IsTakenApart, behind_zero, checked_count, digits_in, none_text, piece_in, piece_length, prefix_in, rest_in, serial_in, tail_in, total_in, total_length, unless_empty, value_from_prefix};
 
 use crate::epc::Epc;
 use crate::write_error::FieldsFault;
@@ -62,6 +62,43 @@ fn tail_in<'a>(parts: &[Part], value: &'a [u8]) -> &'a [u8]
     ensures { result.now ≡ tail_in parts.now value.now }
 {
     behind(behind_zero(parts, value), checked_count(parts))
+}
+
+/// The number of digits of the piece, by the two lengths of a kind.
+fn piece_length(further: &[u8]) -> usize
+    ensures { result ≡ piece_length further.now }
+{
+    match further {
+        [piece, ..] => usize::from(*piece),
+        [] => 0,
+    }
+}
+
+/// The number of digits of the total, by the two lengths of a kind.
+fn total_length(further: &[u8]) -> usize
+    ensures { result ≡ total_length further.now }
+{
+    match further {
+        [_, total, ..] => usize::from(*total),
+        _ => 0,
+    }
+}
+
+/// The piece: the first of the digits behind the check digit.
+fn piece_in<'a>(parts: &[Part], further: &[u8], value: &'a [u8]) -> &'a [u8]
+    ensures { result.now ≡ piece_in parts.now further.now value.now }
+{
+    front(tail_in(parts, value), piece_length(further))
+}
+
+/// The total: the digits behind the piece.
+fn total_in<'a>(parts: &[Part], further: &[u8], value: &'a [u8]) -> &'a [u8]
+    ensures { result.now ≡ total_in parts.now further.now value.now }
+{
+    front(
+        behind(tail_in(parts, value), piece_length(further)),
+        total_length(further),
+    )
 }
 
 /// The company prefix.
@@ -168,7 +205,7 @@ pub fn value_from_prefix<'a>(set: &TableSet, kind: usize, value: &'a [u8]) -> &'
 }
 
 /// What an identity says by a kind of the set, named by its index, and the length of the company prefix (TDS 2.0, section
-/// 7): prefix, rest and serial, with an empty encoding and no filter. Where the value of the key is too short, so are
+/// 7): prefix, rest, piece, total and serial, with an empty encoding and no filter. Where the value of the key is too short, so are
 /// they. `MissingSerial` comes exactly where the kind has a serial, the identity lacks it, and no text stands for its
 /// absence.
 pub fn fields_of(
@@ -187,12 +224,15 @@ pub fn fields_of(
         return Err(FieldsFault::MissingSerial);
     };
     let value = identity.key().value.as_bytes();
+    let further = row.further.items();
     Ok(Epc {
         kind,
         filter: None,
         gcp,
         prefix: Text::from_bytes(alloc, prefix_in(parts, row.lead, gcp, value))?,
         rest: rest_in(alloc, parts, row.lead, gcp, value)?,
+        piece: Text::from_bytes(alloc, piece_in(parts, further, value))?,
+        total: Text::from_bytes(alloc, total_in(parts, further, value))?,
         serial: Text::from_bytes(alloc, serial)?,
         encoding: Text::new(alloc),
     })

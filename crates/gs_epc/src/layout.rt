@@ -3,7 +3,7 @@ ghost use Rattle.gs_ident.specs.Identities.{IsMadeWith};
 ghost use Rattle.gs_ident.specs.QualifiedKeys.{pairs_in};
 ghost use Rattle.gs_epc.specs.Epcs.{IsOfSet};
 ghost use Rattle.gs_epc.specs.KeptFields.{FitKind};
-ghost use Rattle.gs_epc.specs.Layout.{AreKeyDigits, IsLaidOut, fields_in, key_digits, key_value, lay, parts_at, tail_of_key, with_check, zero_in_front};
+ghost use Rattle.gs_epc.specs.Layout.{AreKeyDigits, IsLaidOut, behind_check, fields_in, key_digits, key_value, lay, parts_at, tail_of_key, with_check, zero_in_front};
 ghost use Rattle.gs_epc.specs.LayoutSupport.{serial_pairs};
 
 use crate::epc::Epc;
@@ -60,14 +60,23 @@ pub fn push_checked(value: &mut Text, lead: u8, prefix: &[u8], rest: &[u8]) -> R
     Ok(())
 }
 
-/// The value of a key of digits: a leading zero, the digits with their check digit, and the tail.
+/// Appends what stands behind the check digit: the piece and the total, and the serial where it is the tail.
+fn push_behind(value: &mut Text, kind: &Kind, epc: &Epc) -> Result<(), Memory>
+    ensures { IfOk result (λ _. value.new ≡ value.old ++ behind_check kind.now (fields_in epc.now)) }
+{
+    value.extend_from_slice(epc.piece.as_bytes())?;
+    value.extend_from_slice(epc.total.as_bytes())?;
+    value.extend_from_slice(tail_of_key(&kind.serial, &epc.serial))?;
+    Ok(())
+}
+
+/// The value of a key of digits: a leading zero, the digits with their check digit, and what stands behind it.
 fn digits_value(alloc: Global, parts: &[Part], kind: &Kind, epc: &Epc) -> Result<Text, Memory>
     requires { AreKeyDigits kind.now.lead epc.now.prefix epc.now.rest }
     ensures { IfOk result (λ value. value ≡ zero_in_front parts.now
         ++ with_check (key_digits kind.now.lead epc.now.prefix epc.now.rest)
-        ++ tail_of_key kind.now.serial epc.now.serial) }
+        ++ behind_check kind.now (fields_in epc.now)) }
 {
-    let tail = tail_of_key(&kind.serial, &epc.serial);
     let mut value = Text::from_bytes(alloc, zero_in_front(parts))?;
     push_checked(
         &mut value,
@@ -75,7 +84,7 @@ fn digits_value(alloc: Global, parts: &[Part], kind: &Kind, epc: &Epc) -> Result
         epc.prefix.as_bytes(),
         epc.rest.as_bytes(),
     )?;
-    value.extend_from_slice(tail)?;
+    push_behind(&mut value, kind, epc)?;
     Ok(value)
 }
 

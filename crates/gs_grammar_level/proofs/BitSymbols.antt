@@ -10,7 +10,7 @@ use Rattle.gs_bits.specs.BitLaws.{AreBits-bits_of}
 use Rattle.gs_grammar.specs.declared.item.Item.{Item}
 use Rattle.gs_grammar.specs.declared.item.Item.TheVariants.{Lit, Pad, Digits, Int, Esc, NumPad, Num, NumStr, Ascii7, Fill}
 use Rattle.gs_grammar.specs.Items.{is_symbol, is_in_bounds}
-use Rattle.gs_grammar.specs.Words.{Word}
+use Rattle.gs_grammar.specs.Words.{Word, IsPacked}
 use Rattle.gs_grammar.specs.Derivations.{Derives}
 use Rattle.gs_grammar.specs.Levels.{KeepBounds}
 use Rattle.gs_grammar.proofs.Cuts.{derives_uncons, derives_nil}
@@ -30,6 +30,9 @@ code_bits : (value : List ℕ) → AreBits (flat_map (bits_of 7) value)
 code_bits [] = All-nil (λ b. b < 2)
 code_bits (c ∷ value) = All-append (λ b. b < 2) (bits_of 7 c) (flat_map (bits_of 7) value) (AreBits-bits_of 7 c) (code_bits value)
 
+pub packed_bits : (value w : List ℕ) → IsPacked value w → AreBits w
+packed_bits value w h = rw h.packed (All-append (λ b. b < 2) (flat_map (bits_of 7) value) (replicate h.padding 0) (code_bits value) (zero_bits h.padding))
+
 not_here : false ≡ true → ⊥
 not_here e = cc
 
@@ -42,8 +45,7 @@ word_bits (Esc lo hi) value w i h = absurd (not_here i)
 word_bits (NumPad bits n) value w i h = writes_bits bits _ w h.2
 word_bits (Num bits greatest) value w i h = writes_bits bits _ w h.1.1
 word_bits (NumStr bits hi) value w i h = writes_bits bits _ w h.2
-word_bits (Ascii7 lo hi bits) value w i h =
-    rw h.1.packed (All-append (λ b. b < 2) (flat_map (bits_of 7) value) (replicate h.1.padding 0) (code_bits value) (zero_bits h.1.padding))
+word_bits (Ascii7 lo hi bits) value w i h = packed_bits value w h.1
 word_bits (Fill a b) value w i h = elim h.1 as (λ _. AreBits w) [
   | inl e ↦ rw e (zero_bits a)
   | inr e ↦ rw e (zero_bits b)

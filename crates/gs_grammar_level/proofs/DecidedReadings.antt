@@ -41,7 +41,7 @@ only_derivation level w derivation none = record {
 
 -- options that share a list
 
-swapped : (level : List (List Item)) (i j : ℕ) (w : List ℕ) → ShareList level i j w → ShareList level j i w
+pub swapped : (level : List (List Item)) (i j : ℕ) (w : List ℕ) → ShareList level i j w → ShareList level j i w
 swapped level i j w s = record {
   one = s.other;
   other = s.one;

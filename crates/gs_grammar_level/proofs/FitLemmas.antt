@@ -14,13 +14,13 @@ pub record FitFirst {X : Type 0} (Fitting : X → OptionForm → Type 0) (xs : L
 pub none_yet : {X : Type 0} (Fitting : X → OptionForm → Type 0) (xs : List X) (options : List OptionForm) → xs ≡ [] → FitFirst Fitting xs options 0
 none_yet Fitting xs options e = rw e (record { count = refl; each = λ k x option f g. absurd (let h : None ≡ Some x = f in cc) })
 
-front_at : {X : Type 0} (xs : List X) (y x : X) (k : ℕ) → slice_get (xs ++ y ∷ []) k ≡ Some x → (k ≡ length xs → ⊥) → slice_get xs k ≡ Some x
+pub front_at : {X : Type 0} (xs : List X) (y x : X) (k : ℕ) → slice_get (xs ++ y ∷ []) k ≡ Some x → (k ≡ length xs → ⊥) → slice_get xs k ≡ Some x
 front_at [] y x zero e n = absurd (n refl)
 front_at [] y x (suc k) e n = e
 front_at (z ∷ xs) y x zero e n = e
 front_at (z ∷ xs) y x (suc k) e n = front_at xs y x k e (λ f. n (ap suc f))
 
-last_at : {X : Type 0} (xs : List X) (y x : X) → slice_get (xs ++ y ∷ []) (length xs) ≡ Some x → y ≡ x
+pub last_at : {X : Type 0} (xs : List X) (y x : X) → slice_get (xs ++ y ∷ []) (length xs) ≡ Some x → y ≡ x
 last_at [] y x e = cc
 last_at (z ∷ xs) y x e = last_at xs y x e
 

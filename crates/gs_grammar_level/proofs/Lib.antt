@@ -12,6 +12,7 @@ mod OneNext
 mod RunsAlone
 mod StartLemmas
 mod Measures
+mod FrontLemmas
 pub mod DecidedReadings
 pub mod BitSymbols
 pub mod SharedLists

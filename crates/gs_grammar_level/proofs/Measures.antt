@@ -8,7 +8,8 @@ use Rattle.gs_grammar.specs.Derivations.{Derives, IsDerived, no_item}
 use Rattle.gs_grammar.specs.DerivationsSupport.{HasValues}
 use Rattle.gs_grammar.proofs.Cuts.{derives_uncons, derives_cons}
 use Rattle.gs_grammar.proofs.WordLaws.{word_length}
-use Rattle.gs_grammar_level.specs.Widths.{HasWidth}
+use Rattle.gs_grammar_level.specs.Fronts.{CutsAreFixed}
+use Rattle.gs_grammar_level.specs.Widths.{HasWidth, HasSeveralWidths}
 
 -- the width of one item
 
@@ -25,6 +26,9 @@ one_width item others w size i s b = record {
 pub record Measures (items left : List Item) (w rest : List ℕ) (values : List (List ℕ)) : Type 0 where
   pub back : (vs : List (List ℕ)) → HasValues left rest vs → HasValues items w (values ++ vs)
   pub on : IsDerived items w → IsDerived left rest
+
+pub measures_start : (items : List Item) (w : List ℕ) (values : List (List ℕ)) → values ≡ [] → Measures items items w w values
+measures_start items w values e = rw e (record { back = λ vs h. h; on = λ d. d })
 
 -- the word that begins what is left, where the items derive the symbols
 record Front (item : Item) (others : List Item) (rest : List ℕ) (width : ℕ) : Type 0 where
@@ -78,3 +82,13 @@ measured items left w rest values list m l r e =
     let empty : HasValues [] [] [] = record { words = []; derives = record { each = no_item; joined = refl } } in
     let all = m.back [] (rw (nil, none) empty) in
     rw e (rw append-nil at all)
+
+-- items before the last of one length
+
+pub fixed_others : (left : List Item) (item : Item) (others : List Item) → left ≡ item ∷ others → CutsAreFixed left → CutsAreFixed others
+fixed_others left item [] e h = tt
+fixed_others left item (next ∷ others) e h = let here : CutsAreFixed (item ∷ next ∷ others) = rw e at h in here.1
+
+pub several_widths : (left : List Item) (item : Item) (others : List Item) → left ≡ item ∷ others → HasSeveralWidths item others → CutsAreFixed left → ⊥
+several_widths left item [] e s h = s.0 refl
+several_widths left item (next ∷ others) e s h = let here : CutsAreFixed (item ∷ next ∷ others) = rw e at h in s.1 here.0

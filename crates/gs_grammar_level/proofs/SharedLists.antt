@@ -2,17 +2,18 @@
 use Rattle.std.proofs.Common.{◌≡◌, ℕ, ◌<◌, ◌+◌, ◌++◌, zero, suc, List, [], ◌∷◌, length, take, drop, Some, refl, sym, ◌∙◌, ap, arith}
 use Rattle.std.specs.List.{concat, slice_get}
 use Rattle.std.proofs.lemmas.List.{take_at, drop_at}
-use Rattle.gs_chars.proofs.TruthsAndLists.{same_at, within}
 use Rattle.gs_grammar.specs.declared.item.Item.{Item}
-use Rattle.gs_grammar.specs.Ambiguity.{IsAmbiguous, ShareList, IsFirstShare}
+use Rattle.gs_grammar.specs.Ambiguity.{ShareList}
 use Rattle.gs_grammar_machine.specs.Machines.{AutoForm}
-use Rattle.gs_grammar_machine.specs.MachinesSupport.{Accepts}
-use Rattle.gs_ambig.specs.Shares.{Share, IsFirstDouble}
+use Rattle.gs_grammar_machine.specs.MachinesSupport.{Accepts, start_of}
+use Rattle.gs_ambig.specs.Searches.{BothAccept, NoneInCommon, Parts, IsSingle}
+use Rattle.gs_grammar_level.specs.ShareSearches.{ShareNoList}
+use Rattle.gs_grammar_level.proofs.DecidedShares.{derives_at}
 use Rattle.gs_grammar_compile.specs.Places.{cuts_from, word_cuts, run_cuts, CutsAreThoseOfDerivations}
 
 -- words with the same cuts, joined to the same list, are the same
 
-same_front : (v w x y : List ℕ) → v ++ x ≡ w ++ y → length v ≡ length w → (v ≡ w) × (x ≡ y)
+pub same_front : (v w x y : List ℕ) → v ++ x ≡ w ++ y → length v ≡ length w → (v ≡ w) × (x ≡ y)
 same_front v w x y e l =
     let front : v ≡ w = sym (take_at v x (length v) refl) ∙ ap (λ (z : List ℕ). take (length v) z) e ∙ take_at w y (length v) (sym l) in
     let back : x ≡ y = sym (drop_at v x (length v) refl) ∙ ap (λ (z : List ℕ). drop (length v) z) e ∙ drop_at w y (length v) (sym l) in
@@ -44,39 +45,10 @@ words_of_cuts place (v ∷ words) (w ∷ others) e j =
     let first = parts.0 in
     cc
 
--- each machine has the cuts of the derivations by the items at its place, and there are as many machines as lists of items
-pub record HaveCuts (machines : List AutoForm) (level : List (List Item)) : Type 0 where
-  pub count : length machines ≡ length level
-  pub each : (k : ℕ) (form : AutoForm) (items : List Item) → slice_get machines k ≡ Some form → slice_get level k ≡ Some items → CutsAreThoseOfDerivations form items
-
 pub there : {X : Type 0} (xs : List X) (k : ℕ) → k < length xs → (x : X) × (slice_get xs k ≡ Some x)
 there [] k l = absurd (omega arith)
 there (x ∷ xs) zero l = (x, refl)
 there (x ∷ xs) (suc k) l = there xs k (omega arith)
-
-record MachineAt (machines : List AutoForm) (k : ℕ) (items : List Item) : Type 0 where
-  form : AutoForm
-  at : slice_get machines k ≡ Some form
-  law : CutsAreThoseOfDerivations form items
-
-machine_at : (machines : List AutoForm) (level : List (List Item)) (k : ℕ) (items : List Item) → HaveCuts machines level → slice_get level k ≡ Some items → MachineAt machines k items
-machine_at machines level k items h e =
-    let l = within level k items e in
-    let count = h.count in
-    let m = there machines k (omega arith) in
-    record { form = m.0; at = m.1; law = h.each k m.0 items m.1 e }
-
-record ItemsAt (level : List (List Item)) (k : ℕ) (form : AutoForm) : Type 0 where
-  items : List Item
-  at : slice_get level k ≡ Some items
-  law : CutsAreThoseOfDerivations form items
-
-items_at : (machines : List AutoForm) (level : List (List Item)) (k : ℕ) (form : AutoForm) → HaveCuts machines level → slice_get machines k ≡ Some form → ItemsAt level k form
-items_at machines level k form h e =
-    let l = within machines k form e in
-    let count = h.count in
-    let m = there level k (omega arith) in
-    record { items = m.0; at = m.1; law = h.each k form m.0 e m.1 }
 
 -- equal words, equal runs, and the other way round
 
@@ -91,52 +63,46 @@ same_words form other w run other_run words others e c d j k f =
     let cuts : word_cuts words ≡ word_cuts others = sym c ∙ ap (λ (m : AutoForm). run_cuts m run) e ∙ ap (run_cuts other) f ∙ d in
     words_of_cuts 0 words others cuts (j ∙ sym k)
 
-pub share_of_runs : (machines : List AutoForm) (level : List (List Item)) (i j : ℕ) (w : List ℕ) → HaveCuts machines level → Share machines i j w → ShareList level i j w
-share_of_runs machines level i j w h s =
-    let a = items_at machines level i s.one h s.one_at in
-    let b = items_at machines level j s.other h s.other_at in
-    let d = a.law.derivation w s.run s.accepts in
-    let e = b.law.derivation w s.other_run s.other_accepts in
+-- what two machines, or one, accept is a list that their options share
+
+pub share_of_two : (level : List (List Item)) (i j : ℕ) (items others : List Item) (m n : AutoForm) (w : List ℕ) → slice_get level i ≡ Some items → slice_get level j ≡ Some others → CutsAreThoseOfDerivations m items → CutsAreThoseOfDerivations n others → (i ≡ j → ⊥) → BothAccept m n w → ShareList level i j w
+share_of_two level i j items others m n w at at' law law' apart b =
+    let d = law.derivation w b.run b.walk in
+    let e = law'.derivation w b.other_run b.other_walk in
     record {
-      one = record { option = i; items = a.items; values = d.values; words = d.words; of_level = a.at; derives = d.derives };
-      other = record { option = j; items = b.items; values = e.values; words = e.words; of_level = b.at; derives = e.derives };
+      one = record { option = i; items = items; values = d.values; words = d.words; of_level = at; derives = d.derives };
+      other = record { option = j; items = others; values = e.values; words = e.words; of_level = at'; derives = e.derives };
       by_one = refl;
       by_other = refl;
-      differ = λ same. s.differ same.option (same_runs s.one s.other a.items w s.run s.other_run d.words e.words a.law (same_at machines i j s.one s.other s.one_at s.other_at same.option) s.accepts s.other_accepts d.cuts e.cuts same.words);
+      differ = λ same. apart same.option;
     }
 
-pub runs_of_share : (machines : List AutoForm) (level : List (List Item)) (i j : ℕ) (w : List ℕ) → HaveCuts machines level → ShareList level i j w → Share machines i j w
-runs_of_share machines level i j w h s =
-    let a = machine_at machines level s.one.option s.one.items h s.one.of_level in
-    let b = machine_at machines level s.other.option s.other.items h s.other.of_level in
-    let r = a.law.run w s.one.values s.one.words s.one.derives in
-    let q = b.law.run w s.other.values s.other.words s.other.derives in
+pub none_of_two : (level : List (List Item)) (i j : ℕ) (items others : List Item) (m n : AutoForm) → slice_get level i ≡ Some items → slice_get level j ≡ Some others → CutsAreThoseOfDerivations m items → CutsAreThoseOfDerivations n others → NoneInCommon m n → ShareNoList level i j
+none_of_two level i j items others m n at at' law law' none w s =
+    let r = law.run w s.one.values s.one.words (derives_at level w i items s.one at s.by_one) in
+    let q = law'.run w s.other.values s.other.words (derives_at level w j others s.other at' s.by_other) in
+    none w (record { run = r.run; other_run = q.run; walk = r.accepts; other_walk = q.accepts })
+
+pub share_of_one : (level : List (List Item)) (i j : ℕ) (items : List Item) (m : AutoForm) (w : List ℕ) → slice_get level i ≡ Some items → CutsAreThoseOfDerivations m items → i ≡ j → Parts m (start_of m) w → ShareList level i j w
+share_of_one level i j items m w at law e p =
+    let d = law.derivation w p.run p.walk in
+    let f = law.derivation w p.other_run p.other_walk in
     record {
-      one = a.form;
-      other = b.form;
-      one_at = ap (slice_get machines) (sym s.by_one) ∙ a.at;
-      other_at = ap (slice_get machines) (sym s.by_other) ∙ b.at;
+      one = record { option = i; items = items; values = d.values; words = d.words; of_level = at; derives = d.derives };
+      other = record { option = i; items = items; values = f.values; words = f.words; of_level = at; derives = f.derives };
+      by_one = refl;
+      by_other = e;
+      differ = λ same. p.differ (same_runs m m items w p.run p.other_run d.words f.words law refl p.walk p.other_walk d.cuts f.cuts same.words);
+    }
+
+pub none_of_one : (level : List (List Item)) (i j : ℕ) (items : List Item) (m : AutoForm) → slice_get level i ≡ Some items → CutsAreThoseOfDerivations m items → i ≡ j → IsSingle m (start_of m) → ShareNoList level i j
+none_of_one level i j items m at law e none w s =
+    let r = law.run w s.one.values s.one.words (derives_at level w i items s.one at s.by_one) in
+    let q = law.run w s.other.values s.other.words (derives_at level w i items s.other at (s.by_other ∙ sym e)) in
+    none w (record {
       run = r.run;
       other_run = q.run;
-      accepts = r.accepts;
-      other_accepts = q.accepts;
-      differ = λ same runs.
-          let option : s.one.option ≡ s.other.option = s.by_one ∙ same ∙ sym s.by_other in
-          let forms = same_at machines s.one.option s.other.option a.form b.form a.at b.at option in
-          s.differ (record { option = option; words = same_words a.form b.form w r.run q.run s.one.words s.other.words forms r.cuts q.cuts s.one.derives.joined s.other.derives.joined runs });
-    }
-
--- the verdict on the machines, and the answer for the options
-
-pub not_ambiguous : (machines : List AutoForm) (level : List (List Item)) → HaveCuts machines level → ((i j : ℕ) (symbols : List ℕ) → Share machines i j symbols → ⊥) → IsAmbiguous level → ⊥
-not_ambiguous machines level h none a =
-    let i = a.two.one.option in
-    let j = a.two.other.option in
-    none i j a.w (runs_of_share machines level i j a.w h (record { one = a.two.one; other = a.two.other; by_one = refl; by_other = refl; differ = a.two.differ }))
-
-pub first_of_double : (machines : List AutoForm) (level : List (List Item)) (i j : ℕ) (w : List ℕ) → HaveCuts machines level → IsFirstDouble machines i j w → IsFirstShare level i j w
-first_of_double machines level i j w h d = record {
-  order = d.order;
-  share = share_of_runs machines level i j w h d.share;
-  first = λ k l v order before s. d.first k l v order before (runs_of_share machines level k l v h s);
-}
+      walk = r.accepts;
+      other_walk = q.accepts;
+      differ = λ runs. s.differ (record { option = s.by_one ∙ e ∙ sym s.by_other; words = same_words m m w r.run q.run s.one.words s.other.words refl r.cuts q.cuts s.one.derives.joined s.other.derives.joined runs });
+    })

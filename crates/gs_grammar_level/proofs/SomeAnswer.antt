@@ -1,14 +1,15 @@
 -- Each level has an answer: it is not ambiguous, or it has a first pair of options that shares a list.
-use Rattle.std.proofs.Common.{◌≡◌, ℕ, ◌<◌, ◌≤◌, ◌+◌, ◌-◌, ◌⊎◌, zero, suc, All, List, [], ◌∷◌, length, get_or, Option, Some, None, refl, sym, subst, inl, inr, arith}
+use Rattle.std.proofs.Common.{◌≡◌, ℕ, ◌<◌, ◌≤◌, ◌+◌, ◌-◌, ◌⊎◌, zero, suc, All, List, [], ◌∷◌, length, get_or, Option, Some, None, refl, sym, ap, subst, inl, inr, arith}
 use Rattle.std.specs.List.{slice_get}
 use Rattle.std.proofs.lemmas.Bool.{cases_eq, cases_lt}
 use Rattle.std.proofs.lemmas.Option.{get_or_from_slice_get}
 use Rattle.gs_chars.proofs.TruthsAndLists.{within}
 use Rattle.gs_grammar.specs.declared.item.Item.{Item}
 use Rattle.gs_grammar.specs.Items.{IsItem}
-use Rattle.gs_grammar.specs.Levels.{LevelForm, item_lists}
+use Rattle.gs_grammar.specs.Levels.{LevelForm, OptionForm, item_lists}
 use Rattle.gs_grammar.specs.Ambiguity.{IsAmbiguous, ShareList, IsFirstShare, StandsBefore, shown_symbols}
 use Rattle.gs_grammar_level.specs.FirstShares.{IsFirstShared}
+use Rattle.gs_grammar_level.specs.ShareSearches.{IsFirstWith, ShareNoList, SharesNoneBefore}
 use Rattle.gs_grammar_level.specs.declared.share.Shared.{Shared}
 use Rattle.gs_grammar_level.proofs.SharedLists.{there}
 use Rattle.gs_grammar_level.proofs.DecidedReadings.{share_of}
@@ -83,22 +84,17 @@ known_pair level i j each l m =
 
 -- the first option, from i on, that shares a list with option i
 
-abbrev NoneUpto : List (List Item) → ℕ → ℕ → Type 0
-NoneUpto level i before = (j : ℕ) (w : List ℕ) → i ≤ j → j < before → ShareList level i j w → ⊥
-
 record FirstInRow (level : List (List Item)) (i : ℕ) : Type 0 where
   j : ℕ
   w : List ℕ
-  order : i ≤ j
-  share : ShareList level i j w
-  none : NoneUpto level i j
+  first : IsFirstWith level i j w
 
-row_searched : (level : List (List Item)) (i more : ℕ) → All (All IsItem) level → i + more ≤ length level → FirstInRow level i ⊎ NoneUpto level i (i + more)
+row_searched : (level : List (List Item)) (i more : ℕ) → All (All IsItem) level → i + more ≤ length level → FirstInRow level i ⊎ SharesNoneBefore level i (i + more)
 row_searched level i zero each l = inr (λ j w a b. absurd (omega arith))
-row_searched level i (suc more) each l = elim (row_searched level i more each (omega arith)) as (λ _. FirstInRow level i ⊎ NoneUpto level i (i + suc more)) [
+row_searched level i (suc more) each l = elim (row_searched level i more each (omega arith)) as (λ _. FirstInRow level i ⊎ SharesNoneBefore level i (i + suc more)) [
   | inl found ↦ inl found
-  | inr none ↦ elim (known_pair level i (i + more) each (omega arith) (omega arith)) as (λ _. FirstInRow level i ⊎ NoneUpto level i (i + suc more)) [
-    | inl s ↦ inl (record { j = i + more; w = s.0; order = omega arith; share = s.1; none = none })
+  | inr none ↦ elim (known_pair level i (i + more) each (omega arith) (omega arith)) as (λ _. FirstInRow level i ⊎ SharesNoneBefore level i (i + suc more)) [
+    | inl s ↦ inl (record { j = i + more; w = s.0; first = record { order = omega arith; share = s.1; none = none } })
     | inr never ↦ inr (λ j w a b. elim (cases_eq j (i + more)) as (λ _. ShareList level i j w → ⊥) [
       | inl e ↦ λ s. never w (subst (λ (x : ℕ). ShareList level i x w) e s)
       | inr n ↦ none j w a (omega arith)
@@ -108,7 +104,7 @@ row_searched level i (suc more) each l = elim (row_searched level i more each (o
 
 -- the first pair
 
-abbrev NoneAbove : List (List Item) → ℕ → Type 0
+abbrev pub NoneAbove : List (List Item) → ℕ → Type 0
 NoneAbove level i = (k l : ℕ) (w : List ℕ) → k < i → k ≤ l → ShareList level k l w → ⊥
 
 record FirstPair (level : List (List Item)) : Type 0 where
@@ -117,20 +113,18 @@ record FirstPair (level : List (List Item)) : Type 0 where
   w : List ℕ
   first : IsFirstShare level i j w
 
-first_pair : (level : List (List Item)) (i : ℕ) → NoneAbove level i → FirstInRow level i → FirstPair level
-first_pair level i above row = record {
-  i = i;
-  j = row.j;
-  w = row.w;
-  first = record {
-    order = row.order;
-    share = row.share;
-    first = λ k l v order before. elim before as (λ _. ShareList level k l v → ⊥) [
-      | inl b ↦ above k l v b order
-      | inr b ↦ λ s. row.none l v (let e = b.0 in omega arith) b.1 (subst (λ (x : ℕ). ShareList level x l v) b.0 s)
-    ];
-  };
+pub first_in_row : (level : List (List Item)) (i j : ℕ) (w : List ℕ) → NoneAbove level i → IsFirstWith level i j w → IsFirstShare level i j w
+first_in_row level i j w above row = record {
+  order = row.order;
+  share = row.share;
+  first = λ k l v order before. elim before as (λ _. ShareList level k l v → ⊥) [
+    | inl b ↦ above k l v b order
+    | inr b ↦ λ s. row.none l v (let e = b.0 in omega arith) b.1 (subst (λ (x : ℕ). ShareList level x l v) b.0 s)
+  ];
 }
+
+first_pair : (level : List (List Item)) (i : ℕ) → NoneAbove level i → FirstInRow level i → FirstPair level
+first_pair level i above row = record { i = i; j = row.j; w = row.w; first = first_in_row level i row.j row.w above row.first }
 
 inside : (level : List (List Item)) (i j : ℕ) (w : List ℕ) → ShareList level i j w → (i < length level) × (j < length level)
 inside level i j w s =
@@ -140,7 +134,7 @@ inside level i j w s =
     let f = s.by_other in
     (omega arith, omega arith)
 
-above_more : (level : List (List Item)) (i : ℕ) → NoneAbove level i → NoneUpto level i (length level) → NoneAbove level (suc i)
+above_more : (level : List (List Item)) (i : ℕ) → NoneAbove level i → SharesNoneBefore level i (length level) → NoneAbove level (suc i)
 above_more level i above none k l w a b = elim (cases_eq k i) as (λ _. ShareList level k l w → ⊥) [
   | inl e ↦ λ s. none l w (omega arith) (inside level k l w s).1 (subst (λ (x : ℕ). ShareList level x l w) e s)
   | inr n ↦ above k l w (omega arith) b
@@ -165,6 +159,31 @@ not_ambiguous : (level : List (List Item)) → NoneAbove level (length level) �
 not_ambiguous level above a =
     let h = share_of level a in
     above h.first h.second h.symbols (inside level h.first h.second h.symbols h.share).0 h.order h.share
+
+-- by the options of a level
+
+pub length_lists : (options : List OptionForm) → length (item_lists options) ≡ length options
+length_lists [] = refl
+length_lists (option ∷ options) = ap suc (length_lists options)
+
+pub above_next : (options : List OptionForm) (i : ℕ) → NoneAbove (item_lists options) i → SharesNoneBefore (item_lists options) i (length options) → NoneAbove (item_lists options) (i + 1)
+above_next options i above none k l w a b =
+    let row : SharesNoneBefore (item_lists options) i (length (item_lists options)) = rw (length_lists options) none in
+    above_more (item_lists options) i above row k l w (omega arith) b
+
+pub none_next : (options : List OptionForm) (i j : ℕ) → SharesNoneBefore (item_lists options) i j → ShareNoList (item_lists options) i j → SharesNoneBefore (item_lists options) i (j + 1)
+none_next options i j before none k w a b = elim (cases_eq k j) as (λ _. ShareList (item_lists options) i k w → ⊥) [
+  | inl e ↦ λ s. none w (subst (λ (x : ℕ). ShareList (item_lists options) i x w) e s)
+  | inr n ↦ before k w a (omega arith)
+]
+
+pub none_upto : (options : List OptionForm) (i j : ℕ) → SharesNoneBefore (item_lists options) i j → length options ≤ j → SharesNoneBefore (item_lists options) i (length options)
+none_upto options i j before l k w a b = before k w a (omega arith)
+
+pub none_above : (options : List OptionForm) (i : ℕ) → NoneAbove (item_lists options) i → length options ≤ i → IsAmbiguous (item_lists options) → ⊥
+none_above options i above l =
+    let c = length_lists options in
+    not_ambiguous (item_lists options) (λ k m w a b. above k m w (omega arith) b)
 
 pub some_answer : (level : LevelForm) → All (All IsItem) (item_lists level.options) → (answer : Option Shared) × IsFirstShared level answer
 some_answer level each = elim (rows_searched (item_lists level.options) (length (item_lists level.options)) each (omega arith)) as (λ _. (answer : Option Shared) × IsFirstShared level answer) [

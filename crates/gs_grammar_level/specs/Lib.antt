@@ -6,4 +6,7 @@ pub mod Guides
 pub mod Whole
 pub mod Finders
 pub mod Widths
+pub mod Fronts
+pub mod ShareSearches
+pub mod NeededMachines
 pub mod FirstShares

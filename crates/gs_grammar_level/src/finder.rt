@@ -57,7 +57,7 @@ fn read_option(
     ensures found { IfOk result (λ found. IsFound level.now.options symbols.now found) }
     ensures none { IfOk result (λ found. NoneFound level.now.options option (option + 1) symbols.now found) }
 {
-    let machine = &level.machines()[option];
+    let machine = level.machines()[option].as_ref();
     let items = level.options()[option].items();
     match read_items(alloc, machine, items, symbols, scratch)? {
         Some(values) => Ok(Some(Found { option, values })),

@@ -1,8 +1,11 @@
 ghost use Rattle.std.specs.Prelude.{◌≡◌, IfOk};
 ghost use Rattle.gs_grammar.specs.Levels.{AreOfKind};
+ghost use Rattle.gs_grammar_level.specs.Fronts.{AreFrontsOf};
 ghost use Rattle.gs_grammar_level.specs.Guides.{AreProbesOf, AreGroupsFrom};
-ghost use Rattle.gs_grammar_level.specs.OptionMachines.{AreMachinesOf};
+ghost use Rattle.gs_grammar_level.specs.NeededMachines.{AreMachinesOf};
 
+use crate::front_places::Front;
+use crate::fronts::fronts_of;
 use crate::guides::{Group, Probe};
 use crate::machines::machines_of;
 use crate::probe_groups::{groups_of, probes_of};
@@ -12,11 +15,13 @@ use gs_grammar_machine::Auto;
 use std::alloc::Global;
 use std::marker::Model;
 
-/// The options of one level, in the order of the table, and the machine of each.
+/// The options of one level, in the order of the table, with what is known of the texts of each, and a machine of each that may
+/// need it.
 pub struct Level {
     bit_level: bool,
     options: List<Opt>,
-    machines: List<Auto>,
+    fronts: List<Front>,
+    machines: List<Option<Auto>>,
     probes: List<Probe>,
     groups: List<Group>,
 }
@@ -27,6 +32,7 @@ impl Drop for Level {
         let Level {
             bit_level: _,
             options: _,
+            fronts: _,
             machines: _,
             probes: _,
             groups: _,
@@ -43,22 +49,25 @@ impl Model for Level {
 
     ghost use Rattle.gs_grammar_level.specs.Whole.{IsLevel};
 
-    ghost invariant = { λ a. IsLevel a.bit_level a.options a.machines a.probes a.groups };
+    ghost invariant = { λ a. IsLevel a.bit_level a.options a.fronts a.machines a.probes a.groups };
 }
 
 impl Level {
-    /// The level of these options. It compiles the machine of each. The one error is out of memory.
+    /// The level of these options. It compiles the machines of those that are not read by the widths of their items, or that may
+    /// share a list of symbols. The one error is out of memory.
     pub fn new(alloc: Global, bit_level: bool, options: Vec<Opt>) -> Result<Level, Memory>
         requires { AreOfKind bit_level options.items }
         ensures bit_level { IfOk result (λ level. level.bit_level ≡ bit_level) }
         ensures options { IfOk result (λ level. level.options ≡ options.items) }
     {
-        let machines = machines_of(alloc, options.as_slice())?;
+        let fronts = fronts_of(alloc, options.as_slice())?;
+        let machines = machines_of(alloc, options.as_slice(), fronts.items())?;
         let probes = probes_of(alloc, options.as_slice())?;
         let groups = groups_of(alloc, options.as_slice())?;
         Ok(Level {
             bit_level,
             options: List::from_vec(options),
+            fronts,
             machines,
             probes,
             groups,
@@ -81,8 +90,15 @@ impl Level {
         self.bit_level
     }
 
-    /// The machines of the options, one for each, in their order.
-    pub fn machines(&self) -> &[Auto]
+    /// The fronts of the options, one for each, in their order.
+    pub(crate) fn fronts(&self) -> &[Front]
+        ensures { AreFrontsOf result.now self.now.options }
+    {
+        self.fronts.items()
+    }
+
+    /// The machines of the options, in their order. An option without one is read by the widths of its items, and shares no list.
+    pub(crate) fn machines(&self) -> &[Option<Auto>]
         ensures { AreMachinesOf result.now self.now.options }
     {
         self.machines.items()

@@ -2,7 +2,7 @@
 //!
 //! A level is what Tag Data Translation calls one: the options in which one form of an EPC, as its tag bits, may be written.
 //!
-//! - `Level::new` compiles the machine of each option, once; `Level::machines` lends them.
+//! - `Level::new` compiles the machines of the options that may need one, once.
 //! - `read_text` and `read_bits` find the option that reads a text or bits, and the value of each of its items. Where each item before
 //!   the last has words of one length, these lie where the widths say; else the option's machine is followed.
 //! - `Level::first_share` gives the first two options of the level that share a list of symbols, and a text that shows it; `None` exactly
@@ -27,6 +27,8 @@
 
 mod cuts;
 mod finder;
+mod front_places;
+mod fronts;
 mod guides;
 mod laws;
 mod level;

@@ -4,6 +4,7 @@ ghost use Rattle.gs_grammar.specs.Derivations.{IsDerived};
 ghost use Rattle.gs_grammar.specs.DerivationsSupport.{HasValues};
 ghost use Rattle.gs_grammar_machine.specs.Machines.{IsMachine};
 ghost use Rattle.gs_grammar_compile.specs.Readers.{ReadsItems};
+ghost use Rattle.gs_grammar_level.specs.Fronts.{CutsAreFixed};
 
 use crate::cuts::cut_back;
 use crate::single_run::{SingleRun, follow_single_run};
@@ -80,16 +81,18 @@ fn read_by_machine(
     }
 }
 
-/// The values of a derivation of the symbols by the items, whose machine this is. `None` comes exactly where there is none.
+/// The values of a derivation of the symbols by the items, whose machine this is. `None` comes exactly where there is none. Items
+/// of which the words of each before the last have one length need no machine.
 pub fn read_items(
     alloc: Global,
-    machine: &Auto,
+    machine: Option<&Auto>,
     items: &[Item],
     symbols: &[u8],
     scratch: &mut Scratch,
 ) -> Result<Option<List<Text>>, Memory>
-    requires rules { IsMachine machine.now }
-    requires reads { ReadsItems machine.now items.now }
+    requires rules { IfSome machine (λ machine. IsMachine machine.now) }
+    requires reads { IfSome machine (λ machine. ReadsItems machine.now items.now) }
+    requires fixed { IfNone machine (CutsAreFixed items.now) }
     requires each { All IsItem items.now }
     ensures found { IfOk result (λ found. IfSome found (λ values. HasValues items.now symbols.now values)) }
     ensures none { IfOk result (λ found. IfNone found (IsDerived items.now symbols.now → ⊥)) }
@@ -97,6 +100,9 @@ pub fn read_items(
     match measure(alloc, items, symbols)? {
         Measured::Values(values) => Ok(Some(values)),
         Measured::Rejected => Ok(None),
-        Measured::SeveralWidths => read_by_machine(alloc, machine, items, symbols, scratch),
+        Measured::SeveralWidths => match machine {
+            Some(machine) => read_by_machine(alloc, machine, items, symbols, scratch),
+            None => unreachable!(),
+        },
     }
 }

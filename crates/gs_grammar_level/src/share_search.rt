@@ -1,11 +1,15 @@
-ghost use Rattle.std.specs.Prelude.{◌≡◌, ◌+◌, true, IfOk, map};
+ghost use Rattle.std.specs.Prelude.{◌≡◌, ◌+◌, ◌<◌, true, Some, IfOk, IsTrue, length, map};
 ghost use Rattle.gs_bits.specs.Bits.{AreBits};
-ghost use Rattle.gs_grammar.specs.Ambiguity.{shown_symbols};
+ghost use Rattle.gs_grammar.specs.Ambiguity.{IsFirstShare, ShareList, shown_symbols};
+ghost use Rattle.gs_grammar.specs.Levels.{item_lists};
+ghost use Rattle.gs_ambig.specs.Searches.{IfFound, IfNotFound};
 ghost use Rattle.gs_grammar_level.specs.FirstShares.{IsFirstShared};
+ghost use Rattle.gs_grammar_level.specs.ShareSearches.{IsFirstWith, ShareNoList, SharesNoneBefore};
 
+use crate::fronts::are_apart;
 use crate::level::Level;
 use crate::share::Shared;
-use gs_ambig::{Verdict, check};
+use gs_ambig::PairSearch;
 use gs_chars::{Memory, Text};
 use std::alloc::Global;
 
@@ -32,6 +36,91 @@ fn shown(alloc: Global, bit_level: bool, symbols: Text) -> Result<Text, Memory>
     Ok(symbols)
 }
 
+/// Whether the fronts of the options of these numbers tell that they share no list of symbols.
+fn are_told_apart(level: &Level, i: usize, j: usize) -> bool
+    requires first { i < length level.now.options }
+    requires second { j < length level.now.options }
+    ensures { IsTrue result → ShareNoList (item_lists level.now.options) i j }
+{
+    let fronts = level.fronts();
+    if i == j {
+        return fronts[i].cuts_are_fixed;
+    }
+    are_apart(fronts[i].places.items(), fronts[j].places.items())
+}
+
+/// A list of symbols that the options of these numbers share. Their machines are searched where their fronts do not tell.
+fn shared_list(
+    alloc: Global,
+    level: &Level,
+    i: usize,
+    j: usize,
+    search: &mut PairSearch,
+) -> Result<Option<Vec<u8>>, Memory>
+    requires first { i < length level.now.options }
+    requires second { j < length level.now.options }
+    ensures found { IfFound result (λ w. ShareList (item_lists level.now.options) i j w.items) }
+    ensures none { IfNotFound result (ShareNoList (item_lists level.now.options) i j) }
+{
+    if are_told_apart(level, i, j) {
+        return Ok(None);
+    }
+    let machines = level.machines();
+    let Some(machine) = &machines[i] else {
+        return Ok(None);
+    };
+    if i == j {
+        return search.word_of_one(alloc, machine);
+    }
+    let Some(other) = &machines[j] else {
+        return Ok(None);
+    };
+    search.word_of_two(alloc, machine, other)
+}
+
+/// The first option, from this number on, that shares a list with the option of this number, and such a list.
+fn first_with(
+    alloc: Global,
+    level: &Level,
+    i: usize,
+    search: &mut PairSearch,
+) -> Result<Option<(usize, Vec<u8>)>, Memory>
+    requires { i < length level.now.options }
+    ensures found { IfFound result (λ first. IsFirstWith (item_lists level.now.options) i first.0 first.1.items) }
+    ensures none { IfNotFound result (SharesNoneBefore (item_lists level.now.options) i (length level.now.options)) }
+{
+    if level.machines()[i].is_none() {
+        return Ok(None);
+    }
+    for j in i..level.options().len() {
+        if let Some(list) = shared_list(alloc, level, i, j, search)? {
+            return Ok(Some((j, list)));
+        }
+    }
+    Ok(None)
+}
+
+/// The two options of a first share, and the list.
+fn shared_text(
+    alloc: Global,
+    level: &Level,
+    first: usize,
+    second: usize,
+    list: Vec<u8>,
+) -> Result<Shared, Memory>
+    requires { IsFirstShare (item_lists level.now.options) first second list.items }
+    ensures { IfOk result (λ shared. IsFirstShared level.now (Some shared)) }
+{
+    // The contract of `items` tells that they keep their bounds.
+    let _items = level.options()[first].items();
+    let text = shown(alloc, level.bit_level(), Text::from_vec(list))?;
+    Ok(Shared {
+        first,
+        second,
+        text,
+    })
+}
+
 impl Level {
     /// The first two options of the level, or one with itself, that share a list of symbols, in the order of the first option and
     /// then of the second, and a text that shows such a list. `None` comes exactly where the level is not ambiguous. The one
@@ -39,16 +128,12 @@ impl Level {
     pub fn first_share(&self, alloc: Global) -> Result<Option<Shared>, Memory>
         ensures { IfOk result (IsFirstShared self.now) }
     {
-        match check(alloc, self.machines())? {
-            Verdict::Clear => Ok(None),
-            Verdict::Double { i, j, word } => {
-                let text = shown(alloc, self.bit_level(), word)?;
-                Ok(Some(Shared {
-                    first: i,
-                    second: j,
-                    text,
-                }))
+        let mut search = PairSearch::new(alloc);
+        for i in 0..self.options().len() {
+            if let Some((j, list)) = first_with(alloc, self, i, &mut search)? {
+                return Ok(Some(shared_text(alloc, self, i, j, list)?));
             }
         }
+        Ok(None)
     }
 }

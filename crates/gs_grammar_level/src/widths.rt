@@ -1,6 +1,6 @@
-ghost use Rattle.std.specs.Prelude.{◌≡◌, All, IfOk, IfSome, IsTrue};
+ghost use Rattle.std.specs.Prelude.{◌≡◌, ◌↔◌, All, IfOk, IfNone, IfSome, IsTrue};
 ghost use Rattle.gs_grammar.specs.Items.{IsItem, shortest_of, size_of};
-ghost use Rattle.gs_grammar_level.specs.Widths.{HasWidth, IsMeasured};
+ghost use Rattle.gs_grammar_level.specs.Widths.{HasSeveralWidths, HasWidth, IsMeasured};
 
 use crate::word_measures::Measured;
 use gs_chars::{List, Memory};
@@ -8,9 +8,9 @@ use gs_grammar::{Item, read_word};
 use std::alloc::Global;
 
 /// Whether each word of the item is as long as the longest.
-fn has_one_length(item: &Item, size: usize) -> bool
+pub fn has_one_length(item: &Item, size: usize) -> bool
     requires { size ≡ size_of item.now }
-    ensures { IsTrue result → shortest_of item.now ≡ size }
+    ensures { IsTrue result ↔ shortest_of item.now ≡ size }
 {
     match item {
         Item::Digits { .. } | Item::Int { .. } | Item::Esc { .. } | Item::Fill { .. } => {
@@ -29,7 +29,8 @@ fn has_one_length(item: &Item, size: usize) -> bool
 /// have one length.
 fn width_of(item: &Item, others: &[Item], rest: &[u8]) -> Option<usize>
     requires { IsItem item.now }
-    ensures { IfSome result (λ width. HasWidth item.now others.now rest.now width) }
+    ensures some { IfSome result (λ width. HasWidth item.now others.now rest.now width) }
+    ensures none { IfNone result (HasSeveralWidths item.now others.now) }
 {
     if others.is_empty() {
         return Some(rest.len());

@@ -6,11 +6,12 @@
 //!
 //! # Example
 //!
-//! A comma in a quoted string divides no links. The gate runs this case through gs_linktext.
+//! A comma in a quoted string divides no links: one link with three parameters. The gate runs this case, for which
+//! crates/vectors_web/src/written_links.rt makes the call.
 //!
 //! ```text
-//! gs_linktext::read <https://a.example/1>;rel=item;anchor="/414/0614141000012";title="a,b"
-//! {"linkset":[{"anchor":"/414/0614141000012","item":[{"href":"https://a.example/1","title":"a,b"}]}]}
+//! gs_linktext_grammar::read_links <https://a.example/1>;rel=item;anchor="/414/0614141000012";title="a,b"
+//! https://a.example/1 [ rel item anchor /414/0614141000012 title a,b ]
 //! ```
 //!
 //! # Where it differs from the standards

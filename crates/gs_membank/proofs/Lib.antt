@@ -2,8 +2,12 @@ pub mod ControlLemmas
 pub mod DumpLaws
 pub mod DumpTexts
 pub mod EncodingSizes
+pub mod FieldsAgain
 pub mod FilterLemmas
+pub mod FullWords
 pub mod HeadLemmas
+pub mod OneOption
+pub mod ReadAgain
 pub mod RoundTrips
 pub mod StartLemmas
 pub mod WriteLemmas

@@ -2,3 +2,4 @@ pub mod Answers
 pub mod AnswersSupport
 pub mod Banks
 pub mod ShownLines
+pub mod WrittenAgain

@@ -1,4 +1,5 @@
-ghost use Rattle.std.specs.Prelude.{◌≡◌, ◌<◌, ℕ, Bool, List, Err, Ok};
+ghost use Rattle.std.specs.Prelude.{◌≡◌, ◌<◌, ℕ, Bool, List, map, Err, Ok};
+ghost use Rattle.std.specs.Char.{to_ascii_uppercase};
 ghost use Rattle.gs_bits.specs.HexText.{bits_of_hex};
 ghost use Rattle.gs_tables.specs.Judgements.{IsLoaded};
 ghost use Rattle.gs_tables.specs.Tables.{TableRows};
@@ -10,6 +11,7 @@ ghost use Rattle.gs_membank.specs.declared.error.DumpFault.{DumpFault};
 ghost use Rattle.gs_membank.specs.declared.error.DumpFault.TheVariants.{Memory};
 ghost use Rattle.gs_membank.specs.Answers.{IsBank, ReadsDump, ReadsShown, ShowsDump, WritesDump};
 ghost use Rattle.gs_membank.specs.ShownLines.{IsShownStart};
+ghost use Rattle.gs_membank.specs.WrittenAgain.{FillsWords};
 
 /// Bits are one dump at most, whatever the tables.
 pub fn bits_are_one_dump()
@@ -30,6 +32,15 @@ pub fn dump_written_is_read()
     ensures { (set : TableRows) (dump : Dump) (text : List ℕ) → IsLoaded set → IsOfSet set dump.epc
         → HasFilter dump.epc.filter → dump.attributes < 256 → WritesDump set dump (Ok text)
         → ReadsDump set text (Ok dump) }
+{}
+
+/// A dump that is read is written as its text in upper case, by tables that are loaded, where the items of its option have as many
+/// bits as its control word says, and those that stand for no field are literals and fills. A table document writes no other items
+/// without a field.
+pub fn dump_read_is_written()
+    ensures { (set : TableRows) (text : List ℕ) (dump : Dump) → IsLoaded set → IsHex text
+        → (bank : IsBank set (bits_of_hex text) dump) → FillsWords set (bits_of_hex text) dump bank
+        → WritesDump set dump (Ok (map to_ascii_uppercase text)) }
 {}
 
 /// The line that shows a dump is read as that dump.

@@ -6,10 +6,10 @@
 //! # Example
 //!
 //! A file is opened and read, and that twice; the call with the number 1, from 0, fails, which is the first read. The gate runs
-//! this case, for which crates/vectors_runs/src/outside.rt makes the calls.
+//! this case, for which crates/vectors_runs/src/files.rt makes the calls.
 //!
 //! ```text
-//! gs_port::open 1 long abc / long long
+//! gs_port_memory::open 1 long abc / long long
 //! Opened Failed Opened abc
 //! ```
 //!

@@ -8,7 +8,7 @@ use Rattle.gs_chars.proofs.TruthsAndLists.{read_at}
 use Rattle.gs_grammar.specs.declared.item.Item.{Item}
 use Rattle.gs_grammar.specs.Items.{size_of, size_of_all}
 use Rattle.gs_tables_document.specs.declared.field.Field.{Field}
-use Rattle.gs_tables_document.specs.declared.field.Field.TheVariants.{Filter, Gcp, Rest, Serial}
+use Rattle.gs_tables_document.specs.declared.field.Field.TheVariants.{Filter, Gcp, Rest, Piece, Total, Serial}
 use Rattle.gs_tables.specs.declared.field_items.Found.{Found}
 use Rattle.gs_tables.specs.declared.field_items.Found.TheVariants.{One, More}
 use Rattle.gs_tables.specs.Founds.{IsFound, IsMany}
@@ -51,6 +51,8 @@ field_itself : (field : Field) → is_field field (Some field) ≡ true
 field_itself Filter = refl
 field_itself Gcp = refl
 field_itself Rest = refl
+field_itself Piece = refl
+field_itself Total = refl
 field_itself Serial = refl
 
 of_field_append : (field : Field) (xs ys : List FieldItem) → items_of_field field (xs ++ ys) ≡ items_of_field field xs ++ items_of_field field ys

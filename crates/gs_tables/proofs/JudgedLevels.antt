@@ -134,7 +134,7 @@ levels_rejected document ais e limits table (inr h) =
 -- the set of what is made of the rows of a document
 pub set_judged : (document : Document) (ais : List AiRow) (kinds : List Kind) (made : LevelTables) → limit_rejections document ≡ [] → (map Ai (table_errors document.ais) ≡ []) × (ais ≡ document.ais)
     → rule_rejections ais document.kinds document.binary document.tag document.pure ≡ [] → AreClear (levels_of_rows document.kinds document.binary document.tag document.pure)
-    → kinds ≡ map kind_of document.kinds → AreOfRows document.kinds document.binary document.tag document.pure made
+    → kinds ≡ map (kind_of ais) document.kinds → AreOfRows document.kinds document.binary document.tag document.pure made
     → Judged (IsAnswer (row_rejections document) (set_of document)) (Ok (record { ais = ais; kinds = kinds; binary = made.binary; tag = made.tag; pure = made.pure }))
 set_judged document ais kinds made limits table none clear k of_rows =
     let set : TableRows = record { ais = ais; kinds = kinds; binary = made.binary; tag = made.tag; pure = made.pure } in

@@ -19,22 +19,22 @@ use Rattle.gs_tables_document.specs.declared.document.OptionRow.{OptionRow}
 use Rattle.gs_tables_document.specs.declared.error.LimitName.TheVariants.{Size}
 use Rattle.gs_tables_document.specs.declared.error.LoadFault.{LoadFault}
 use Rattle.gs_tables_document.specs.declared.error.LoadFault.TheVariants.{BadItem, BadKind, Duplicate, Limit, Mismatch}
-use Rattle.gs_tables_document.specs.declared.field.Field.TheVariants.{Gcp, Rest, Serial}
+use Rattle.gs_tables_document.specs.declared.field.Field.TheVariants.{Gcp, Rest, Piece, Total, Serial}
 use Rattle.gs_tables_document.specs.declared.level_name.LevelName.{LevelName}
 use Rattle.gs_tables_document.specs.Documents.{is_bits}
 use Rattle.gs_tables_document.specs.Items.{FieldItem}
 use Rattle.gs_tables.specs.declared.form.KeyForm.{KeyForm}
 use Rattle.gs_tables.specs.declared.form.KeyForm.TheVariants.{Digits, Characters}
-use Rattle.gs_tables.specs.Forms.{form_at, key_form, serial_at, serial_room}
+use Rattle.gs_tables.specs.Forms.{form_at, further_at, further_of, key_form, serial_at, serial_room}
 use Rattle.gs_tables.specs.KeptRules.{KeptKind}
 use Rattle.gs_chars.specs.Characters.{are_visible}
 use Rattle.gs_chars.specs.Answers.{error_if}
-use Rattle.gs_tables.specs.Rules.{fits_key, fits_kind, has_key, has_name, is_digits, is_gcp, is_kind, is_lead, is_new_name, is_one, is_serial_of, items_of_field, keeps_form, keeps_gcp, keeps_level, keeps_rest, keeps_serial}
+use Rattle.gs_tables.specs.Rules.{are_fields_of, fits_form, fits_key, fits_kind, has_key, has_name, is_digits, is_gcp, is_kind, is_lead, is_new_name, is_one, is_serial_of, items_of_field, keeps_form, keeps_further, keeps_gcp, keeps_level, keeps_rest, keeps_serial}
 use Rattle.gs_tables.specs.Tables.{fits, is_bad_item, is_same, items_alone, items_there, kind_of, kind_rejections, kinds_rejections, level_rejections, option_form, option_rejections}
 
 -- ---- parts of rejections
 
-not_rejected : (test : Bool) (error : LoadFault) → error_if (not test) error ≡ [] → test ≡ true
+pub not_rejected : (test : Bool) (error : LoadFault) → error_if (not test) error ≡ [] → test ≡ true
 not_rejected true error h = refl
 not_rejected false error h = absurd (let g : error ∷ [] ≡ [] = h in cc)
 
@@ -45,24 +45,28 @@ within_limit size most error h = by (nat_lt most size) refl h
     by true e h = absurd (let g : error ∷ [] ≡ [] = h in cc)
     by false e h = grind (arith, nat_tests)
 
-none_listed : {X Y : Type 0} (f : X → Y) (o : Option X) → option_to_list (option_map f o) ≡ [] → o ≡ None
+pub none_listed : {X Y : Type 0} (f : X → Y) (o : Option X) → option_to_list (option_map f o) ≡ [] → o ≡ None
 none_listed f None h = refl
 none_listed f (Some x) h = absurd (let g : f x ∷ [] ≡ [] = h in cc)
 
 -- ---- kinds
 
-kind_kept : (ais : List AiRow) (earlier : List KindRow) (kind : KindRow) → is_kind ais earlier kind ≡ true → KeptKind ais (kind_of kind)
+further_is : (ais : List AiRow) (key : List ℕ) (row : AiRow) (form : KeyForm) → find (has_code key) ais ≡ Some row → key_form row.parts ≡ Some form → further_at ais key ≡ further_of form
+further_is ais key row form found formed = rw (found, formed) refl
+
+kind_kept : (ais : List AiRow) (earlier : List KindRow) (kind : KindRow) → is_kind ais earlier kind ≡ true → KeptKind ais (kind_of ais kind)
 unfolding is_kind
 kind_kept ais earlier kind h =
     let parts = and_parts (is_new_name earlier kind.name && not (list_any (has_key kind.key) earlier)) (option_map_or (λ row. fits_key ais row kind) (find (has_code kind.key) ais) false) h in
     let row = some_passes (λ row. fits_key ais row kind) (find (has_code kind.key) ais) parts.1 in
-    let key = and_parts (is_key row.0.role) (option_map_or (λ form. is_lead form kind.lead && is_serial_of ais row.0 form (serial_at kind.serial)) (key_form row.0.parts) false) row.2 in
-    let form = some_passes (λ form. is_lead form kind.lead && is_serial_of ais row.0 form (serial_at kind.serial)) (key_form row.0.parts) key.1 in
-    let fit = and_parts (is_lead form.0 kind.lead) (is_serial_of ais row.0 form.0 (serial_at kind.serial)) form.2 in
-    record { row = row.0; form = form.0; found = row.1; key = key.0; formed = form.1; lead = fit.0; serial = fit.1 }
+    let key = and_parts (is_key row.0.role) (option_map_or (fits_form ais row.0 kind) (key_form row.0.parts) false) row.2 in
+    let form = some_passes (fits_form ais row.0 kind) (key_form row.0.parts) key.1 in
+    let whole = and_parts (is_lead form.0 kind.lead && is_serial_of ais row.0 form.0 (serial_at kind.serial)) (are_fields_of form.0 kind.fields) form.2 in
+    let fit = and_parts (is_lead form.0 kind.lead) (is_serial_of ais row.0 form.0 (serial_at kind.serial)) whole.0 in
+    record { row = row.0; form = form.0; found = row.1; key = key.0; formed = form.1; lead = fit.0; serial = fit.1; further = further_is ais kind.key row.0 form.0 row.1 form.1 }
 
 -- a row of kinds that no rule rejects
-pub kind_at : (ais : List AiRow) (kinds : List KindRow) (i : ℕ) (kind : KindRow) → kinds_rejections ais kinds ≡ [] → slice_get kinds i ≡ Some kind → KeptKind ais (kind_of kind)
+pub kind_at : (ais : List AiRow) (kinds : List KindRow) (i : ℕ) (kind : KindRow) → kinds_rejections ais kinds ≡ [] → slice_get kinds i ≡ Some kind → KeptKind ais (kind_of ais kind)
 unfolding kinds_rejections
 kind_at ais kinds i kind none at =
     let zero_plus : 0 + i ≡ i = omega arith in
@@ -99,13 +103,17 @@ pub record KeptFields (ais : List AiRow) (kind : KindRow) (n : ℕ) (items : Lis
   pub gcp : keeps_gcp form kind.lead n (items_of_field Gcp items) ≡ true
   pub rest : keeps_rest form n (items_of_field Rest items) ≡ true
   pub serial : keeps_serial (serial_room ais form (serial_at kind.serial)) (items_of_field Serial items) ≡ true
+  pub further : keeps_further form (items_of_field Piece items) (items_of_field Total items) ≡ true
 
 fields_kept : (ais : List AiRow) (kind : KindRow) (n : ℕ) (items : List FieldItem) (form : KeyForm) → keeps_form ais kind n items form ≡ true → KeptFields ais kind n items form
 unfolding keeps_form
 fields_kept ais kind n items form h =
-    let whole = and_parts (keeps_gcp form kind.lead n (items_of_field Gcp items) && keeps_rest form n (items_of_field Rest items)) (keeps_serial (serial_room ais form (serial_at kind.serial)) (items_of_field Serial items)) h in
+    let serial = keeps_serial (serial_room ais form (serial_at kind.serial)) (items_of_field Serial items) in
+    let further = keeps_further form (items_of_field Piece items) (items_of_field Total items) in
+    let whole = and_parts (keeps_gcp form kind.lead n (items_of_field Gcp items) && keeps_rest form n (items_of_field Rest items)) (serial && further) h in
+    let behind = and_parts serial further whole.1 in
     let parts = and_parts (keeps_gcp form kind.lead n (items_of_field Gcp items)) (keeps_rest form n (items_of_field Rest items)) whole.0 in
-    record { gcp = parts.0; rest = parts.1; serial = whole.1 }
+    record { gcp = parts.0; rest = parts.1; serial = behind.0; further = behind.1 }
 
 -- the option of a row
 pub record KeptRow (ais : List AiRow) (kinds : List KindRow) (level : LevelName) (row : OptionRow) : Type 0 where

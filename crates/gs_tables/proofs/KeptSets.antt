@@ -77,12 +77,12 @@ of_row document level i items info row none at items_are info_is =
     let kept = row_at document.ais document.kinds level (options_of level document) i row none'.1 at in
     let place = placed (has_name row.kind) document.kinds kept.kind kept.named in
     let rules = kind_at document.ais document.kinds place.0 kept.kind none'.0 place.2 in
-    let named : slice_get (map kind_of document.kinds) place.0 ≡ Some (kind_of kept.kind) = slice_get-map kind_of document.kinds place.0 ∙ ap (option_map kind_of) place.2 in
+    let named : slice_get (map (kind_of document.ais) document.kinds) place.0 ≡ Some (kind_of document.ais kept.kind) = slice_get-map (kind_of document.ais) document.kinds place.0 ∙ ap (option_map (kind_of document.ais)) place.2 in
     let same = same_form document.ais kept.kind.key rules.row rules.form kept.form rules.found rules.formed kept.formed in
     rw (items_are, info_is, place.1) (record {
-      kind = kind_of kept.kind;
+      kind = kind_of document.ais kept.kind;
       named = named;
-      of_kind = record { row = rules.row; form = kept.form; found = rules.found; key = rules.key; formed = rw same rules.formed; lead = rw same rules.lead; serial = rw same rules.serial };
+      of_kind = record { row = rules.row; form = kept.form; found = rules.found; key = rules.key; formed = rw same rules.formed; lead = rw same rules.lead; serial = rw same rules.serial; further = rw same rules.further };
       bounds = kept.bounds;
       parts = items_there row;
       items_are = refl;
@@ -92,6 +92,7 @@ of_row document level i items info row none at items_are info_is =
       gcp = kept.fields.gcp;
       rest = kept.fields.rest;
       serial = kept.fields.serial;
+      further = kept.fields.further;
     })
 
 kept_in : (document : Document) (level : LevelName) (i : ℕ) (items : List Item) (info : OptInfo) → row_rejections document ≡ []

@@ -1,5 +1,5 @@
 -- What the rules answer to bytes and to the built-in rows: one answer beside out of memory, and no other.
-use Rattle.std.proofs.Common.{◌≡◌, ℕ, ◌==◌, not, true, false, List, [], ◌∷◌, Some, None, slice_get, refl, sym, ap, ◌∙◌, ◌⊎◌, inl, inr}
+use Rattle.std.proofs.Common.{◌≡◌, ℕ, not, true, false, List, [], ◌∷◌, Some, None, slice_get, refl, sym, ap, ◌∙◌, ◌⊎◌, inl, inr}
 use Rattle.std.specs.Prelude.{Result, Ok, Err}
 use Rattle.gs_chars.proofs.TruthsAndLists.{none_behind}
 use Rattle.gs_tables_builtin.specs.BuiltIn.{builtin_document}
@@ -11,7 +11,7 @@ use Rattle.gs_tables_document.specs.Readings.{IsFormError}
 use Rattle.gs_tables_document.proofs.OneReading.{HasReading, not_both, one_error, one_of_bytes, some_reading}
 use Rattle.gs_tables.specs.Shapes.{ByForm, ByRows, HasMemory, Shape}
 use Rattle.gs_chars.specs.Answers.{error_if}
-use Rattle.gs_tables.specs.Tables.{IsAnswer, IsShaped, TableRows, rejections, row_rejections, set_of}
+use Rattle.gs_tables.specs.Tables.{IsAnswer, IsShaped, TableRows, is_version, rejections, row_rejections, set_of}
 use Rattle.gs_tables.proofs.JudgedAnswers.{IsRuling}
 use Rattle.gs_tables.proofs.RejectionLists.{rejected}
 use Rattle.gs_tables.proofs.RuledRejections.{AreRuled, ruled_first, ruled_of_document, ruled_of_all}
@@ -132,7 +132,7 @@ unfolding rejections
 shaped_load bytes set (inl form) = absurd form
 shaped_load bytes set (inr rows) = record {
   document = rows.0;
-  in_order = none_behind (error_if (not (rows.0.version == 1)) Version) (row_rejections rows.0) rows.2.0;
+  in_order = none_behind (error_if (not (is_version rows.0.version)) Version) (row_rejections rows.0) rows.2.0;
   made = rows.2.1;
 }
 

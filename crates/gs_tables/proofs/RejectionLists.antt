@@ -1,6 +1,5 @@
 -- The first rejection of rows as an answer.
-use Rattle.std.proofs.Common.{◌≡◌, ◌≢◌, ◌==◌, ℕ, not, true, false, List, [], ◌∷◌, ◌++◌, map, take, Some, slice_get, refl, ap, arith}
-use Rattle.std.proofs.lemmas.Bool.Decides.{nat_tests}
+use Rattle.std.proofs.Common.{◌≡◌, ℕ, Bool, not, true, false, List, [], ◌∷◌, ◌++◌, map, take, Some, slice_get, refl, ap}
 use Rattle.std.specs.Prelude.{Result, Ok, Err}
 use Rattle.gs_chars.proofs.TruthsAndLists.{first_of_front}
 use Rattle.gs_ai.specs.declared.row.AiRow.{AiRow}
@@ -9,7 +8,7 @@ use Rattle.gs_tables_document.specs.declared.error.LoadFault.{LoadFault}
 use Rattle.gs_tables_document.specs.declared.error.LoadFault.TheVariants.{Json, Version, Limit, Ai, BadKind, BadItem, Mismatch, Duplicate, Ambiguous, Memory}
 use Rattle.gs_tables.specs.Rules.{is_kind}
 use Rattle.gs_chars.specs.Answers.{error_if}
-use Rattle.gs_tables.specs.Tables.{IsAnswer, kind_rejections}
+use Rattle.gs_tables.specs.Tables.{IsAnswer, is_version, kind_rejections}
 use Rattle.gs_tables.specs.TablesSupport.{IsFirst}
 
 -- ---- answers by rejections
@@ -20,8 +19,8 @@ first_mapped f [] x h = cc
 first_mapped f (y ∷ ys) x h = let e : y ≡ x = cc in ap (λ z. Some (f z)) e
 
 -- another version is rejected
-pub version_first : (version : ℕ) → version ≢ 1 → slice_get (error_if (not (version == 1)) Version) 0 ≡ Some Version
-version_first version other = grind (arith, nat_tests)
+pub version_first : (version : ℕ) (test : Bool) → test ≡ is_version version → test ≡ false → slice_get (error_if (not (is_version version)) Version) 0 ≡ Some Version
+version_first version test is other = rw (← is, other) refl
 
 -- the first of two lists of rejections, one after the other
 pub first_in_front : (a b : List LoadFault) (e : LoadFault) → IsFirst a (Err e) → IsFirst (a ++ b) (Err e)

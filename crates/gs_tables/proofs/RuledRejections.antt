@@ -1,5 +1,5 @@
 -- Every rejection of rows is one by a rule: none is out of memory, and none names an ambiguous level.
-use Rattle.std.proofs.Common.{◌≡◌, ℕ, ◌==◌, ◌||◌, nat_lt, not, Bool, true, false, List, [], ◌∷◌, ◌++◌, take, map, position, Option, Some, None, slice_get, refl, option_map}
+use Rattle.std.proofs.Common.{◌≡◌, ℕ, ◌||◌, nat_lt, not, Bool, true, false, List, [], ◌∷◌, ◌++◌, take, map, position, Option, Some, None, slice_get, refl, option_map}
 use Rattle.std.specs.Prelude.{option_to_list}
 use Rattle.std.specs.List.{flat_map, list_any, enumerate_from}
 use Rattle.gs_chars.proofs.TruthsAndLists.{or_parts}
@@ -17,7 +17,7 @@ use Rattle.gs_tables_document.specs.Documents.{is_bits}
 use Rattle.gs_grammar.specs.Items.{size_of_all}
 use Rattle.gs_grammar.specs.Limits.{most_symbols}
 use Rattle.gs_chars.specs.Answers.{error_if}
-use Rattle.gs_tables.specs.Tables.{fits, has_long, is_bad_item, is_same, items_alone, kind_rejections, kinds_rejections, level_rejections, limit_rejections, more_than, option_rejections, rejections, row_rejections}
+use Rattle.gs_tables.specs.Tables.{fits, has_long, is_bad_item, is_same, is_version, items_alone, kind_rejections, kinds_rejections, level_rejections, limit_rejections, more_than, option_rejections, rejections, row_rejections}
 
 -- out of memory, or an ambiguous level
 abbrev pub is_unruled : LoadFault → Bool
@@ -101,7 +101,7 @@ ruled_of_document document =
 pub ruled_of_all : (document : Document) → AreRuled (rejections document)
 unfolding rejections
 ruled_of_all document =
-    ruled_of_both (error_if (not (document.version == 1)) Version) (row_rejections document) (ruled_if (not (document.version == 1)) Version refl) (ruled_of_document document)
+    ruled_of_both (error_if (not (is_version document.version)) Version) (row_rejections document) (ruled_if (not (is_version document.version)) Version refl) (ruled_of_document document)
 
 -- the first of them is one by a rule
 pub ruled_first : (errors : List LoadFault) (error : LoadFault) → AreRuled errors → slice_get errors 0 ≡ Some error → is_unruled error ≡ false

@@ -1,5 +1,5 @@
 -- The set of rows, and the first of their rejections.
-use Rattle.std.proofs.Common.{◌≡◌, ℕ, List, [], ◌++◌, map, Some, None, slice_get, Bool, true, false, not, ◌==◌, refl, sym, ◌∙◌, inl, inr}
+use Rattle.std.proofs.Common.{◌≡◌, ℕ, List, [], ◌++◌, map, Some, None, slice_get, Bool, true, false, not, refl, sym, ◌∙◌, inl, inr}
 use Rattle.std.specs.Prelude.{Result, Ok, Err}
 use Rattle.gs_chars.proofs.TruthsAndLists.{first_of_back, first_of_front, none_behind, none_in_front, none_of_both}
 use Rattle.gs_ai.specs.declared.row.AiRow.{AiRow}
@@ -11,7 +11,7 @@ use Rattle.gs_tables_document.specs.declared.error.LoadFault.{LoadFault}
 use Rattle.gs_tables_document.specs.declared.error.LoadFault.TheVariants.{Json, Version, Limit, Ai, BadKind, BadItem, Mismatch, Duplicate, Ambiguous, Memory}
 use Rattle.gs_tables_document.specs.declared.level_name.LevelName.TheVariants.{Binary, Tag, Pure}
 use Rattle.gs_chars.specs.Answers.{error_if}
-use Rattle.gs_tables.specs.Tables.{IsAnswer, TableRows, rejections, kind_of, kinds_rejections, level_of, level_rejections, limit_rejections, row_rejections, set_of}
+use Rattle.gs_tables.specs.Tables.{IsAnswer, TableRows, is_version, rejections, kind_of, kinds_rejections, level_of, level_rejections, limit_rejections, row_rejections, set_of}
 use Rattle.gs_tables.specs.TablesSupport.{IsFirst, rule_rejections}
 use Rattle.gs_tables_document.specs.Readings.{Holds, IsFormRejection}
 use Rattle.gs_tables.specs.Shapes.{LoadAnswer, Shape}
@@ -68,10 +68,10 @@ rules_kept document ais limits table rest =
 
 pub set_made : (document : Document) (ais : List AiRow) (set : TableRows) → limit_rejections document ≡ [] → (map Ai (table_errors document.ais) ≡ []) × (ais ≡ document.ais)
     → rule_rejections ais document.kinds document.binary document.tag document.pure ≡ []
-    → set.ais ≡ ais → set.kinds ≡ map kind_of document.kinds → set.binary ≡ level_of document.kinds Binary document.binary
+    → set.ais ≡ ais → set.kinds ≡ map (kind_of ais) document.kinds → set.binary ≡ level_of document.kinds Binary document.binary
     → set.tag ≡ level_of document.kinds Tag document.tag → set.pure ≡ level_of document.kinds Pure document.pure
     → (row_rejections document ≡ []) × (set ≡ set_of document)
-set_made document ais set limits table rest a k b t p = (rules_kept document ais limits table rest, same_sets set (set_of document) (a ∙ table.1) k b t p)
+set_made document ais set limits table rest a k b t p = (rules_kept document ais limits table rest, same_sets set (set_of document) (a ∙ table.1) (rw table.1 at k) b t p)
   where
     same_sets : (a b : TableRows) → a.ais ≡ b.ais → a.kinds ≡ b.kinds → a.binary ≡ b.binary → a.tag ≡ b.tag → a.pure ≡ b.pure → a ≡ b
     same_sets a b e f g h i = rw (e, f, g, h, i) refl
@@ -82,11 +82,11 @@ rejected_version : (test : Bool) (e : LoadFault) → slice_get (error_if test Ve
 rejected_version true e h = let same : Version ≡ e = cc in sym same
 rejected_version false e h = absurd (let g : None ≡ Some e = h in cc)
 
-pub version_rejected : (bytes : List ℕ) (document : Document) (e : LoadFault) → Holds bytes document → IsFirst (error_if (not (document.version == 1)) Version) (Err e) → LoadAnswer bytes (Err e)
+pub version_rejected : (bytes : List ℕ) (document : Document) (e : LoadFault) → Holds bytes document → IsFirst (error_if (not (is_version document.version)) Version) (Err e) → LoadAnswer bytes (Err e)
 unfolding rejections
 version_rejected bytes document e holds h =
-    let same = rejected_version (not (document.version == 1)) e h in
-    rw same (inr (document, holds, first_of_front (error_if (not (document.version == 1)) Version) (row_rejections document) Version (rw same at h)))
+    let same = rejected_version (not (is_version document.version)) e h in
+    rw same (inr (document, holds, first_of_front (error_if (not (is_version document.version)) Version) (row_rejections document) Version (rw same at h)))
 
 -- the answer by the rows of a document
 pub by_rows : (bytes : List ℕ) (document : Document) (answer : Result TableRows LoadFault) → Holds bytes document → IsAnswer (rejections document) (set_of document) answer → Shape bytes answer
@@ -102,12 +102,12 @@ by_rows bytes document (Err (Mismatch level i)) holds h = inr (document, holds, 
 by_rows bytes document (Err (Duplicate level j i)) holds h = inr (document, holds, h)
 by_rows bytes document (Err (Ambiguous level i j text)) holds h = inr (document, holds, h)
 
--- the version is 1, so that the rejections are those of the rows
-behind_version : (document : Document) → error_if (not (document.version == 1)) Version ≡ [] → row_rejections document ≡ rejections document
+-- the version is one of the profile, so that the rejections are those of the rows
+behind_version : (document : Document) → error_if (not (is_version document.version)) Version ≡ [] → row_rejections document ≡ rejections document
 unfolding rejections
 behind_version document none = rw none refl
 
-pub rows_answer : (bytes : List ℕ) (document : Document) → Holds bytes document → IsFirst (error_if (not (document.version == 1)) Version) (Ok tt) → (answer : Result TableRows LoadFault) → IsAnswer (row_rejections document) (set_of document) answer → Shape bytes answer
+pub rows_answer : (bytes : List ℕ) (document : Document) → Holds bytes document → IsFirst (error_if (not (is_version document.version)) Version) (Ok tt) → (answer : Result TableRows LoadFault) → IsAnswer (row_rejections document) (set_of document) answer → Shape bytes answer
 rows_answer bytes document holds none answer h = by_rows bytes document answer holds (rw (behind_version document none) at h)
 
 -- an answer by the form

@@ -4,7 +4,7 @@ use Rattle.std.specs.List.{find}
 use Rattle.gs_ai.specs.declared.row.AiRow.{AiRow}
 use Rattle.gs_ai.specs.Tables.{is_key}
 use Rattle.gs_ai.specs.Values.{has_code}
-use Rattle.gs_tables_document.specs.declared.field.Field.TheVariants.{Gcp, Rest, Serial}
+use Rattle.gs_tables_document.specs.declared.field.Field.TheVariants.{Gcp, Rest, Piece, Total, Serial}
 use Rattle.gs_tables_document.specs.declared.kind.Kind.{Kind}
 use Rattle.gs_tables_document.specs.declared.level_name.LevelName.{LevelName}
 use Rattle.gs_tables_document.specs.declared.opt_info.OptInfo.{OptInfo}
@@ -13,13 +13,13 @@ use Rattle.gs_tables_document.specs.Items.{FieldItem, alone, fields_of}
 use Rattle.gs_grammar.specs.declared.item.Item.{Item}
 use Rattle.gs_grammar.specs.Levels.{KeepBounds, item_lists}
 use Rattle.gs_tables.specs.declared.form.KeyForm.{KeyForm}
-use Rattle.gs_tables.specs.Forms.{key_form, serial_room}
+use Rattle.gs_tables.specs.Forms.{further_of, key_form, serial_room}
 use Rattle.gs_chars.specs.Characters.{are_visible}
-use Rattle.gs_tables.specs.Rules.{is_lead, is_serial_of, items_of_field, keeps_gcp, keeps_level, keeps_rest, keeps_serial}
+use Rattle.gs_tables.specs.Rules.{is_lead, is_serial_of, items_of_field, keeps_further, keeps_gcp, keeps_level, keeps_rest, keeps_serial}
 use Rattle.gs_tables.specs.Tables.{TableRows, level_rows}
 
 -- trusted, TDS 2.0, section 6.3; own rules: the key of a kind is a key row of the table, of a form that the kind's lead
--- digits and its serial fit
+-- digits and its serial fit, and whose further fields it has
 pub record KeptKind (ais : List AiRow) (kind : Kind) : Type 0 where
   pub row : AiRow
   pub form : KeyForm
@@ -28,6 +28,7 @@ pub record KeptKind (ais : List AiRow) (kind : Kind) : Type 0 where
   pub formed : key_form row.parts ≡ Some form
   pub lead : is_lead form kind.lead ≡ true
   pub serial : is_serial_of ais row form kind.serial ≡ true
+  pub further : kind.further ≡ further_of form
 
 -- trusted, TDT 2.0, sections 3 and 4; own rules: An option of these items, of which this is said, keeps the rules: its kind
 -- is one of the set, its items keep their bounds, and with the fields that they stand for they fit the level and the key of
@@ -45,6 +46,7 @@ pub record KeptOption (set : TableRows) (level : LevelName) (items : List Item) 
   pub gcp : keeps_gcp of_kind.form kind.lead info.gcp (items_of_field Gcp parts) ≡ true
   pub rest : keeps_rest of_kind.form info.gcp (items_of_field Rest parts) ≡ true
   pub serial : keeps_serial (serial_room set.ais of_kind.form kind.serial) (items_of_field Serial parts) ≡ true
+  pub further : keeps_further of_kind.form (items_of_field Piece parts) (items_of_field Total parts) ≡ true
 
 -- trusted, own: each option of a level keeps the rules
 abbrev pub AreKept : TableRows → LevelName → Type 0

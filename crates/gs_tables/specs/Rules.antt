@@ -1,6 +1,6 @@
 -- The rules of kinds and of options. Each is a test of one row, of the rows before it, and of the application identifiers
 -- that the row names. After TDT 2.0, sections 3 and 4; the rules and their order are this project's own.
-use Rattle.std.specs.Prelude.{ℕ, ◌-◌, ◌%◌, Bool, true, false, not, ◌==◌, ◌&&◌, nat_le, if◌then◌else◌, List, [], ◌∷◌, length, map, filter, Option, Some, None, is_none, is_some, decimal}
+use Rattle.std.specs.Prelude.{ℕ, ◌-◌, ◌%◌, Bool, true, false, not, ◌==◌, ◌&&◌, nat_le, if◌then◌else◌, List, [], ◌∷◌, length, map, filter, Option, Some, None, is_none, is_some, decimal, codes}
 use Rattle.std.specs.List.{find, list_any}
 use Rattle.std.specs.Option.{option_map_or}
 use Rattle.std.specs.Str.{bytes_eq}
@@ -12,9 +12,12 @@ use Rattle.gs_grammar.specs.declared.item.Item.{Item}
 use Rattle.gs_grammar.specs.declared.item.Item.TheVariants.{Lit, Pad, Digits as DigitsItem, Int, Esc, NumPad, Num, NumStr, Ascii7, Fill}
 use Rattle.gs_grammar.specs.Items.{is_between, size_of_all}
 use Rattle.gs_tables_document.specs.declared.field.Field.{Field}
-use Rattle.gs_tables_document.specs.declared.field.Field.TheVariants.{Filter, Gcp, Rest, Serial}
+use Rattle.gs_tables_document.specs.declared.field.Field.TheVariants.{Filter, Gcp, Rest, Piece, Total, Serial}
+use Rattle.gs_tables.specs.declared.form.Behind.TheVariants.{Nothing, Further, Tail as BehindTail}
 use Rattle.gs_tables.specs.declared.form.KeyForm.{KeyForm}
 use Rattle.gs_tables.specs.declared.form.KeyForm.TheVariants.{Digits, Characters}
+use Rattle.gs_tables.specs.declared.form.Room.{Room}
+use Rattle.gs_tables.specs.declared.form.Room.TheVariants as room
 use Rattle.gs_tables_document.specs.declared.document.KindRow.{KindRow}
 use Rattle.gs_tables_document.specs.declared.kind.SerialAt.{SerialAt}
 use Rattle.gs_tables_document.specs.declared.kind.SerialAt.TheVariants.{Nowhere, Tail, Ai}
@@ -52,10 +55,26 @@ is_serial_of ais row form Nowhere = is_none (tail_of form)
 is_serial_of ais row form Tail = is_some (tail_of form)
 is_serial_of ais row form (Ai code) = is_none (tail_of form) && list_any (bytes_eq code) row.qualifiers && is_characters ais code
 
--- trusted, own: the key row has a form that a kind can have, which the lead digits and the serial fit
+-- trusted, own: the names of the two further fields
+abbrev pub are_piece_and_total : List (List ℕ) → Bool
+are_piece_and_total (piece ∷ total ∷ []) = bytes_eq piece (codes "piece") && bytes_eq total (codes "total")
+are_piece_and_total _ = false
+
+-- trusted, own: the further fields are the piece and the total where the key has them, and else none
+abbrev pub are_fields_of : KeyForm → List (List ℕ) → Bool
+are_fields_of (Digits _ (Further _ _)) fields = are_piece_and_total fields
+are_fields_of (Digits _ Nothing) fields = is_empty fields
+are_fields_of (Digits _ (BehindTail _)) fields = is_empty fields
+are_fields_of (Characters _) fields = is_empty fields
+
+-- trusted, own: the lead digits, the serial and the further fields of a kind fit a key of this form
+abbrev pub fits_form : List AiRow → AiRow → KindRow → KeyForm → Bool
+fits_form ais row kind form =
+    is_lead form kind.lead && is_serial_of ais row form (serial_at kind.serial) && are_fields_of form kind.fields
+
+-- trusted, own: the key row has a form that a kind can have, which the kind fits
 abbrev pub fits_key : List AiRow → AiRow → KindRow → Bool
-fits_key ais row kind =
-    is_key row.role && option_map_or (λ form. is_lead form kind.lead && is_serial_of ais row form (serial_at kind.serial)) (key_form row.parts) false
+fits_key ais row kind = is_key row.role && option_map_or (fits_form ais row kind) (key_form row.parts) false
 
 -- trusted, own, after TDS 2.0 section 6.3: the kind keeps the rules of kinds, beside the earlier ones
 unfoldable pub is_kind : List AiRow → List KindRow → KindRow → Bool
@@ -70,6 +89,8 @@ abbrev pub is_field : Field → Option Field → Bool
 is_field Filter (Some Filter) = true
 is_field Gcp (Some Gcp) = true
 is_field Rest (Some Rest) = true
+is_field Piece (Some Piece) = true
+is_field Total (Some Total) = true
 is_field Serial (Some Serial) = true
 is_field _ _ = false
 
@@ -119,6 +140,16 @@ longest_of (Fill _ _) = 0
 abbrev pub has_room : ℕ → Item → Bool
 has_room most item = is_between 1 most (longest_of item)
 
+-- trusted, own: the values are digits
+abbrev pub is_numeral : Item → Bool
+is_numeral (Esc _ _) = false
+is_numeral (Ascii7 _ _ _) = false
+is_numeral _ = true
+
+-- trusted, own: digits, whose longest value has at most so many
+abbrev pub is_number : ℕ → Item → Bool
+is_number most item = is_numeral item && has_room most item
+
 -- trusted, own: characters, whose longest value has at most so many
 abbrev pub is_free : ℕ → Item → Bool
 is_free most item = not (is_padded item) && has_room most item
@@ -139,9 +170,17 @@ keeps_rest (Digits digits _) n items = if digits - n == 0 then is_empty items el
 keeps_rest (Characters most) n items = is_one (is_free (most - n)) items
 
 -- trusted, own: one serial item where there is a serial, with a longest value that it has room for, and else none
-unfoldable pub keeps_serial : Option ℕ → List Item → Bool
+unfoldable pub keeps_serial : Option Room → List Item → Bool
 keeps_serial None items = is_empty items
-keeps_serial (Some most) items = is_one (has_room most) items
+keeps_serial (Some (room.Characters most)) items = is_one (has_room most) items
+keeps_serial (Some (room.Digits most)) items = is_one (is_number most) items
+
+-- trusted, own: one item of the piece and one of the total, of so many digits each, where the key has them, and else none
+unfoldable pub keeps_further : KeyForm → List Item → List Item → Bool
+keeps_further (Digits _ (Further a b)) pieces totals = is_one (is_digits a) pieces && is_one (is_digits b) totals
+keeps_further (Digits _ Nothing) pieces totals = is_empty pieces && is_empty totals
+keeps_further (Digits _ (BehindTail _)) pieces totals = is_empty pieces && is_empty totals
+keeps_further (Characters _) pieces totals = is_empty pieces && is_empty totals
 
 -- trusted, own: what an option of a level must keep beside its kind: the name of an encoding, a filter value and whole
 -- words of 16 bits
@@ -150,12 +189,13 @@ keeps_level Binary encoding items = not (is_empty encoding) && is_one is_filter 
 keeps_level Tag encoding items = not (is_empty encoding) && is_one is_filter (items_of_field Filter items)
 keeps_level Pure encoding items = is_empty encoding && is_empty (items_of_field Filter items)
 
--- trusted, own: the prefix, the rest and the serial fit a kind whose key is of this form
+-- trusted, own: the prefix, the rest, the serial and the further fields fit a kind whose key is of this form
 unfoldable pub keeps_form : List AiRow → KindRow → ℕ → List FieldItem → KeyForm → Bool
 keeps_form ais kind n items form =
     keeps_gcp form kind.lead n (items_of_field Gcp items)
     && keeps_rest form n (items_of_field Rest items)
-    && keeps_serial (serial_room ais form (serial_at kind.serial)) (items_of_field Serial items)
+    && (keeps_serial (serial_room ais form (serial_at kind.serial)) (items_of_field Serial items)
+    && keeps_further form (items_of_field Piece items) (items_of_field Total items))
 
 -- trusted, own, after TDT 2.0 sections 3 and 4: the option, of an encoding and a length n of the prefix, fits its kind
 unfoldable pub fits_kind : List AiRow → KindRow → LevelName → List ℕ → ℕ → List FieldItem → Bool

@@ -22,7 +22,7 @@ use Rattle.gs_tables_document.specs.declared.level_name.LevelName.{LevelName}
 use Rattle.gs_tables_document.specs.declared.level_name.LevelName.TheVariants.{Binary, Tag, Pure}
 use Rattle.gs_tables.specs.declared.level_table.LevelTable.{LevelTable}
 use Rattle.gs_tables_document.specs.declared.opt_info.OptInfo.{OptInfo}
-use Rattle.gs_tables.specs.Forms.{serial_at}
+use Rattle.gs_tables.specs.Forms.{further_at, serial_at}
 use Rattle.gs_tables_document.specs.Documents.{is_bits}
 use Rattle.gs_tables_document.specs.Limits.{most_items, most_kinds, most_rows}
 use Rattle.gs_tables_document.specs.Items.{FieldItem, alone, fields_of, present}
@@ -46,9 +46,15 @@ level_rows Pure set = set.pure
 
 -- ---- the rows of a document
 
--- trusted, own: the kind of a row
-abbrev pub kind_of : KindRow → Kind
-kind_of row = record { name = row.name; key = row.key; lead = row.lead; serial = serial_at row.serial }
+-- trusted, own: the kind of a row, beside the application identifiers
+abbrev pub kind_of : List AiRow → KindRow → Kind
+kind_of ais row = record {
+  name = row.name;
+  key = row.key;
+  lead = row.lead;
+  serial = serial_at row.serial;
+  further = further_at ais row.key;
+}
 
 -- trusted, own: the items that are there, with their fields
 abbrev pub items_there : OptionRow → List FieldItem
@@ -121,9 +127,13 @@ row_rejections document =
     ++ (level_rejections document.ais document.kinds Tag document.tag
     ++ level_rejections document.ais document.kinds Pure document.pure))))
 
+-- trusted, own: the versions of the profile
+abbrev pub is_version : ℕ → Bool
+is_version version = (version == 1) || (version == 2)
+
 -- trusted, own: the rejections of a document: the version stands before the rows
 unfoldable pub rejections : Document → List LoadFault
-rejections document = error_if (not (document.version == 1)) Version ++ row_rejections document
+rejections document = error_if (not (is_version document.version)) Version ++ row_rejections document
 
 -- ---- the set of a document
 
@@ -151,7 +161,7 @@ level_of kinds level rows = record {
 abbrev pub set_of : Document → TableRows
 set_of document = record {
   ais = document.ais;
-  kinds = map kind_of document.kinds;
+  kinds = map (kind_of document.ais) document.kinds;
   binary = level_of document.kinds Binary document.binary;
   tag = level_of document.kinds Tag document.tag;
   pure = level_of document.kinds Pure document.pure;

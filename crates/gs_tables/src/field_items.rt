@@ -1,12 +1,13 @@
 ghost use Rattle.std.specs.Prelude.{◌≡◌, ◌≤◌, SomeIff};
+ghost use Rattle.gs_ai.specs.Tables.{is_empty};
 ghost use Rattle.gs_grammar.specs.Items.{size_of_all};
 ghost use Rattle.gs_grammar.specs.Limits.{most_symbols};
 ghost use Rattle.gs_tables.specs.Founds.{IsFound};
 ghost use Rattle.gs_tables_document.specs.Items.{alone, present};
-ghost use Rattle.gs_tables.specs.Rules.{has_room, is_digits, is_filter, is_free, items_of_field, keeps_gcp, keeps_level, keeps_rest, keeps_serial, longest_of};
+ghost use Rattle.gs_tables.specs.Rules.{has_room, is_digits, is_filter, is_free, is_number, is_one, items_of_field, keeps_further, keeps_gcp, keeps_level, keeps_rest, keeps_serial, longest_of};
 ghost use Rattle.gs_tables.specs.RulesSupport.{size_there};
 
-use crate::form::KeyForm;
+use crate::form::{Behind, KeyForm, Room};
 use gs_grammar::{Item, MOST_SYMBOLS};
 use gs_tables_document::{Field, FieldItem, LevelName};
 
@@ -98,6 +99,21 @@ fn is_free(most: usize, item: &Item) -> bool
     }
 }
 
+/// Whether the item is digits, of which the longest value has at most so many.
+fn is_number(most: usize, item: &Item) -> bool
+    ensures { result ≡ is_number most item.now }
+{
+    match item {
+        Item::Esc { lo: _, hi: _ }
+        | Item::Ascii7 {
+            lo: _,
+            hi: _,
+            bits: _,
+        } => false,
+        _ => has_room(most, item),
+    }
+}
+
 /// Whether the prefix has a length that the key leaves room for, in the one item of it.
 #[tactic(auto, unfolding(crate::specs::Rules::keeps_gcp))]
 pub fn keeps_gcp(form: KeyForm, lead: u64, n: u64, items: &[Option<FieldItem>]) -> bool
@@ -137,13 +153,50 @@ pub fn keeps_rest(form: KeyForm, n: u64, items: &[Option<FieldItem>]) -> bool
 
 /// Whether there is one serial item where there is a serial, with a longest value that it has room for, and else none.
 #[tactic(auto, unfolding(crate::specs::Rules::keeps_serial))]
-pub fn keeps_serial(room: Option<u8>, items: &[Option<FieldItem>]) -> bool
+pub fn keeps_serial(room: Option<Room>, items: &[Option<FieldItem>]) -> bool
     ensures { result ≡ keeps_serial room (items_of_field Field.Serial (present items.now)) }
 {
     match (room, items_of(Field::Serial, items)) {
         (None, Found::None) => true,
-        (Some(most), Found::One(item)) => has_room(usize::from(most), item),
+        (Some(Room::Characters(most)), Found::One(item)) => has_room(usize::from(most), item),
+        (Some(Room::Digits(most)), Found::One(item)) => is_number(usize::from(most), item),
         _ => false,
+    }
+}
+
+/// Whether the field has one item, of exactly so many digits.
+fn has_digits(field: Field, n: u8, items: &[Option<FieldItem>]) -> bool
+    ensures { result ≡ is_one (is_digits n) (items_of_field field (present items.now)) }
+{
+    match items_of(field, items) {
+        Found::One(item) => is_digits(u64::from(n), item),
+        Found::None | Found::More => false,
+    }
+}
+
+/// Whether the field has no item.
+fn has_none(field: Field, items: &[Option<FieldItem>]) -> bool
+    ensures { result ≡ is_empty (items_of_field field (present items.now)) }
+{
+    match items_of(field, items) {
+        Found::None => true,
+        Found::One(_) | Found::More => false,
+    }
+}
+
+/// Whether there is one item of the piece and one of the total, of so many digits each, where the key has them, and else none.
+#[tactic(auto, unfolding(crate::specs::Rules::keeps_further))]
+pub(crate) fn keeps_further(form: KeyForm, items: &[Option<FieldItem>]) -> bool
+    ensures { result ≡ keeps_further form (items_of_field Field.Piece (present items.now))
+        (items_of_field Field.Total (present items.now)) }
+{
+    match form {
+        KeyForm::Digits(_, Behind::Further(a, b)) => {
+            has_digits(Field::Piece, a, items) && has_digits(Field::Total, b, items)
+        }
+        KeyForm::Digits(_, Behind::Nothing | Behind::Tail(_)) | KeyForm::Characters(_) => {
+            has_none(Field::Piece, items) && has_none(Field::Total, items)
+        }
     }
 }
 

@@ -1,17 +1,24 @@
-ghost use Rattle.std.specs.Prelude.{◌≡◌, is_some};
-ghost use Rattle.gs_tables.specs.Forms.{characters_of, digits_form, form_at, key_form, serial_at, serial_room, tail_of};
+ghost use Rattle.std.specs.Prelude.{◌≡◌, IfOk, is_some};
+ghost use Rattle.gs_tables.specs.Forms.{characters_of, digits_form, form_at, further_at, key_form, serial_at, serial_room, tail_of};
 
-use crate::form::KeyForm;
+use crate::form::{Behind, KeyForm, Room};
 use gs_ai::{AiTable, Part};
+use gs_chars::{List, Memory};
+use std::alloc::Global;
 
-/// Digits with a check digit, and an optional tail.
+/// Digits with a check digit, and an optional tail, of characters or of digits.
 fn digits_form(parts: &[Part]) -> Option<KeyForm>
     ensures { result ≡ digits_form parts.now }
 {
     match parts {
-        [Part::NumCheck(k)] => Some(KeyForm::Digits(k.saturating_sub(1), None)),
+        [Part::NumCheck(k)] => Some(KeyForm::Digits(k.saturating_sub(1), Behind::Nothing)),
         [Part::NumCheck(k), Part::SetOpt(most)] => {
-            Some(KeyForm::Digits(k.saturating_sub(1), Some(*most)))
+            let tail = Behind::Tail(Room::Characters(*most));
+            Some(KeyForm::Digits(k.saturating_sub(1), tail))
+        }
+        [Part::NumCheck(k), Part::NumOpt(most)] => {
+            let tail = Behind::Tail(Room::Digits(*most));
+            Some(KeyForm::Digits(k.saturating_sub(1), tail))
         }
         _ => None,
     }
@@ -24,6 +31,9 @@ pub fn key_form(parts: &[Part]) -> Option<KeyForm>
     match parts {
         [Part::Zero, others @ ..] => digits_form(others),
         [Part::Set(most)] => Some(KeyForm::Characters(*most)),
+        [Part::NumCheck(k), Part::Num(a), Part::Num(b)] => {
+            Some(KeyForm::Digits(k.saturating_sub(1), Behind::Further(*a, *b)))
+        }
         _ => digits_form(parts),
     }
 }
@@ -35,14 +45,29 @@ pub fn form_at(ais: &AiTable, code: &[u8]) -> Option<KeyForm>
     key_form(ais.row_with(code)?.parts.items())
 }
 
-/// The most characters of a tail.
-pub fn tail_of(form: KeyForm) -> Option<u8>
+/// The room of a tail, where the key has one.
+pub fn tail_of(form: KeyForm) -> Option<Room>
     ensures { result ≡ tail_of form }
 {
     match form {
-        KeyForm::Digits(_, tail) => tail,
-        KeyForm::Characters(_) => None,
+        KeyForm::Digits(_, Behind::Tail(room)) => Some(room),
+        KeyForm::Digits(_, Behind::Nothing | Behind::Further(_, _)) | KeyForm::Characters(_) => {
+            None
+        }
     }
+}
+
+/// How many digits the piece and the total of the key of a code have, and nothing of a key without them.
+pub fn further_at(alloc: Global, ais: &AiTable, code: &[u8]) -> Result<List<u8>, Memory>
+    ensures { IfOk result (λ lengths. lengths ≡ further_at ais.now code.now) }
+{
+    let mut lengths = Vec::new(alloc);
+    if let Some(KeyForm::Digits(_, Behind::Further(a, b))) = form_at(ais, code) {
+        lengths.push(a)?;
+        lengths.push(b)?;
+        return Ok(List::from_vec(lengths));
+    }
+    Ok(List::from_vec(lengths))
 }
 
 /// The most characters of parts that are characters alone.
@@ -62,8 +87,8 @@ pub fn are_characters(parts: &[Part]) -> bool
     characters_of(parts).is_some()
 }
 
-/// The most characters of the serial, where there is one.
-pub fn serial_room(ais: &AiTable, form: KeyForm, serial: &[u8]) -> Option<u8>
+/// The room of the serial, where there is one.
+pub fn serial_room(ais: &AiTable, form: KeyForm, serial: &[u8]) -> Option<Room>
     ensures { result ≡ serial_room ais.now form (serial_at serial.now) }
 {
     if serial.is_empty() {
@@ -72,5 +97,6 @@ pub fn serial_room(ais: &AiTable, form: KeyForm, serial: &[u8]) -> Option<u8>
     if serial == b"tail".as_slice() {
         return tail_of(form);
     }
-    characters_of(ais.row_with(serial)?.parts.items())
+    let most = characters_of(ais.row_with(serial)?.parts.items())?;
+    Some(Room::Characters(most))
 }

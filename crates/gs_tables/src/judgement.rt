@@ -51,7 +51,7 @@ pub(crate) fn judged_parts(
     ensures { RuledAnswer
         (rule_rejections ais.now kinds options.binary options.tag options.pure)
         (levels_of_rows kinds options.binary options.tag options.pure)
-        (λ made. (made.0 ≡ map kind_of kinds)
+        (λ made. (made.0 ≡ map (kind_of ais.now) kinds)
         × AreOfRows kinds options.binary options.tag options.pure made.1) result }
 {
     let levels = judged_levels(alloc, ais, kinds.items(), options)?;

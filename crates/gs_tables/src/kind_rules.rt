@@ -2,12 +2,12 @@ ghost use Rattle.std.specs.Prelude.{◌≡◌, bytes_eq};
 ghost use Rattle.std.specs.List.{list_any};
 ghost use Rattle.gs_ai.specs.Tables.{is_key};
 ghost use Rattle.gs_tables.specs.Forms.{serial_at};
-ghost use Rattle.gs_tables.specs.Rules.{fits_key, has_key, has_name, is_characters, is_kind, is_lead, is_new_name, is_serial_of};
+ghost use Rattle.gs_tables.specs.Rules.{are_fields_of, are_piece_and_total, fits_form, fits_key, has_key, has_name, is_characters, is_kind, is_lead, is_new_name, is_serial_of};
 
-use crate::form::KeyForm;
+use crate::form::{Behind, KeyForm};
 use crate::forms::{are_characters, key_form, tail_of};
 use gs_ai::{AiRow, AiTable, Role};
-use gs_chars::are_visible;
+use gs_chars::{Text, are_visible};
 use gs_tables_document::KindRow;
 
 /// Whether a kind has the name.
@@ -75,6 +75,39 @@ fn is_serial_of(ais: &AiTable, row: &AiRow, form: KeyForm, serial: &[u8]) -> boo
     !has_tail && lists(row, serial) && is_characters(ais, serial)
 }
 
+/// Whether these are the names of the two further fields, in their order.
+fn are_piece_and_total(fields: &[Text]) -> bool
+    ensures { result ≡ are_piece_and_total fields.now }
+{
+    match fields {
+        [piece, total] => {
+            piece.as_bytes() == b"piece".as_slice() && total.as_bytes() == b"total".as_slice()
+        }
+        _ => false,
+    }
+}
+
+/// Whether the further fields are the piece and the total where the key has them, and else none.
+fn are_fields_of(form: KeyForm, fields: &[Text]) -> bool
+    ensures { result ≡ are_fields_of form fields.now }
+{
+    match form {
+        KeyForm::Digits(_, Behind::Further(_, _)) => are_piece_and_total(fields),
+        KeyForm::Digits(_, Behind::Nothing | Behind::Tail(_)) | KeyForm::Characters(_) => {
+            fields.is_empty()
+        }
+    }
+}
+
+/// Whether the lead digits, the serial and the further fields of the kind fit a key of this form.
+fn fits_form(ais: &AiTable, row: &AiRow, kind: &KindRow, form: KeyForm) -> bool
+    ensures { result ≡ fits_form ais.now row.now kind.now form }
+{
+    is_lead(form, kind.lead)
+        && is_serial_of(ais, row, form, kind.serial.as_bytes())
+        && are_fields_of(form, kind.fields.items())
+}
+
 /// Whether the row is that of a key.
 pub fn is_of_key(row: &AiRow) -> bool
     ensures { result ≡ is_key row.now.role }
@@ -82,7 +115,7 @@ pub fn is_of_key(row: &AiRow) -> bool
     matches!(row.role, Role::Key)
 }
 
-/// Whether the row of the key has a form that a kind can have, which the lead digits and the serial fit.
+/// Whether the row of the key has a form that a kind can have, which the kind fits.
 fn fits_key(ais: &AiTable, row: &AiRow, kind: &KindRow) -> bool
     ensures { result ≡ fits_key ais.now row.now kind.now }
 {
@@ -90,9 +123,7 @@ fn fits_key(ais: &AiTable, row: &AiRow, kind: &KindRow) -> bool
         return false;
     }
     match key_form(row.parts.items()) {
-        Some(form) => {
-            is_lead(form, kind.lead) && is_serial_of(ais, row, form, kind.serial.as_bytes())
-        }
+        Some(form) => fits_form(ais, row, kind, form),
         None => false,
     }
 }

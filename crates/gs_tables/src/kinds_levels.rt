@@ -6,6 +6,7 @@ ghost use Rattle.gs_tables.specs.Rules.{has_name};
 ghost use Rattle.gs_tables_document.specs.Documents.{is_bits};
 ghost use Rattle.gs_tables.specs.Tables.{info_of, items_alone, kind_of, kinds_rejections, level_of, level_rejections, option_form};
 
+use crate::forms::further_at;
 use crate::indexed_info::IndexedInfo;
 use crate::level_table::LevelTable;
 use crate::level_tables::{LevelTables, OptionRows};
@@ -32,20 +33,20 @@ fn serial_at(serial: Text) -> SerialAt
     }
 }
 
-/// The kinds of rows that no rule rejects.
+/// The kinds of rows that no rule rejects, beside these application identifiers.
 pub fn make_kinds(alloc: Global, ais: &AiTable, rows: List<KindRow>) -> Result<List<Kind>, Memory>
     requires { kinds_rejections ais.now rows ≡ [] }
-    ensures { IfOk result (λ kinds. kinds ≡ map kind_of rows) }
+    ensures { IfOk result (λ kinds. kinds ≡ map (kind_of ais.now) rows) }
 {
-    // the proof alone reads it: the rows keep the rules beside these application identifiers
-    let _ = ais;
     let mut kinds = Vec::new(alloc);
     for row in rows.into_vec() {
+        let further = further_at(alloc, ais, row.key.as_bytes())?;
         kinds.push(Kind {
             name: row.name,
             key: row.key,
             lead: row.lead as u8,
             serial: serial_at(row.serial),
+            further,
         })?;
     }
     Ok(List::from_vec(kinds))

@@ -2,18 +2,18 @@
 //!
 //! - `TableSet::load` reads a table document (JSON), or gives its first rejection; `builtin` makes the set of the built-in rows.
 //! - `TableSet::ais`, `kinds`, `level`, `info` and `candidates` lend the parts of a set.
-//! - `KeyForm`, `are_characters` and `characters_of` tell the form of the values of a key and of its serial; `keeps_gcp`, `keeps_rest`,
+//! - `KeyForm`, `Room`, `are_characters` and `characters_of` tell the form of the values of a key and of its serial; `keeps_gcp`, `keeps_rest`,
 //!   `keeps_serial` and `size_within_limit` are the tests of an option's items, `is_of_key` and `lists` those of a key's row; for them
 //!   and `split_items`, which parts items from their fields, gs_class has use too.
 //!
 //! # Example
 //!
-//! The built-in set has 55 application identifiers, 7 kinds, and 84, 84 and 49 options of tag bits, tag URIs and pure identity
+//! The built-in set has 57 application identifiers, 10 kinds, and 105, 105 and 70 options of tag bits, tag URIs and pure identity
 //! URIs. The gate runs this case, for which crates/vectors_texts/src/tables.rt makes the call.
 //!
 //! ```text
 //! gs_tables::builtin
-//! 55 7 84 84 49
+//! 57 10 105 105 70
 //! ```
 //!
 //! # Where it differs from the standards
@@ -21,7 +21,7 @@
 //! - The form of the document and its rules are this project's own (docs/FORMATS.md, 'The table document'); GS1 EPC Tag Data
 //!   Translation has its own files, which are not read.
 //! - Tables by which a text or bits have two readings are rejected, with such a text.
-//! - The built-in rows are the binary encodings of seven kinds that GS1 EPC Tag Data Standard 2.0 kept from versions 1.x;
+//! - The built-in rows are the binary encodings of ten kinds that GS1 EPC Tag Data Standard 2.0 kept from versions 1.x;
 //!   the header, widths and padding of gdti-174 are this project's own.
 //! - Limits: 256 application identifiers, 64 kinds, 256 options of a level, 24 items and 512 symbols of an option.
 #![tactic(auto)]
@@ -39,13 +39,14 @@ mod laws;
 mod level_table;
 mod level_tables;
 mod make;
+mod migration;
 mod option_rules;
 mod rules;
 mod table_set;
 
 pub use builtin_set::builtin;
 pub use field_items::{keeps_gcp, keeps_rest, keeps_serial, size_within_limit};
-pub use form::KeyForm;
+pub use form::{Behind, KeyForm, Room};
 pub use forms::{are_characters, characters_of};
 pub use gs_tables_document::{
     Field, ItemFault, Kind, LevelName, LimitName, LoadFault, OptInfo, SerialAt, read_item,
@@ -53,4 +54,5 @@ pub use gs_tables_document::{
 pub use kind_rules::{is_of_key, lists};
 pub use kinds_levels::split_items;
 pub use laws::{built_in_rows_have_one_answer, bytes_have_one_answer, options_keep_the_rules};
+pub use migration::{migrate, migrated_text};
 pub use table_set::TableSet;

@@ -1,18 +1,21 @@
-ghost use Rattle.std.specs.Prelude.{◌≡◌, ◌≤◌, length, position};
+ghost use Rattle.std.specs.Prelude.{◌≡◌, ◌≤◌, ◌&&◌, length, position};
 ghost use Rattle.gs_grammar.specs.Items.{size_of_all};
 ghost use Rattle.std.specs.List.{find};
 ghost use Rattle.std.specs.Option.{option_copied};
-ghost use Rattle.gs_tables.specs.Rules.{fits_kind, has_name, keeps_form};
+ghost use Rattle.gs_tables.specs.Forms.{serial_at, serial_room};
+ghost use Rattle.gs_tables.specs.Rules.{fits_kind, has_name, items_of_field, keeps_form, keeps_further, keeps_serial};
 ghost use Rattle.gs_tables.specs.Tables.{fits, is_bad_item, is_same, items_alone, items_there, option_rejections};
 ghost use Rattle.gs_tables.specs.TablesSupport.{IsFirst};
 ghost use Rattle.gs_tables.specs.Founds.{same_rejections};
 
-use crate::field_items::{keeps_gcp, keeps_level, keeps_rest, keeps_serial, size_within_limit};
+use crate::field_items::{
+    keeps_further, keeps_gcp, keeps_level, keeps_rest, keeps_serial, size_within_limit,
+};
 use crate::form::KeyForm;
 use crate::forms::{form_at, serial_room};
 use gs_ai::AiTable;
 use gs_chars::are_visible;
-use gs_tables_document::{FieldItem, KindRow, LevelName, LimitName, LoadFault, OptionRow};
+use gs_tables_document::{Field, FieldItem, KindRow, LevelName, LimitName, LoadFault, OptionRow};
 
 /// The index of the first item that is not there or breaks a bound of the level.
 fn first_bad(bits: bool, items: &[Option<FieldItem>]) -> Option<usize>
@@ -32,7 +35,19 @@ fn is_same(a: &OptionRow, b: &OptionRow) -> bool
     a.kind == b.kind && a.encoding == b.encoding && a.gcp == b.gcp
 }
 
-/// Whether the prefix, the rest and the serial fit a kind whose key is of this form.
+/// Whether what stands behind the rest, the serial and the further fields, fits a kind whose key is of this form.
+fn keeps_behind(ais: &AiTable, kind: &KindRow, row: &OptionRow, form: KeyForm) -> bool
+    ensures { result ≡ (keeps_serial (serial_room ais.now form (serial_at kind.now.serial))
+        (items_of_field Field.Serial (items_there row.now))
+        && keeps_further form (items_of_field Field.Piece (items_there row.now))
+        (items_of_field Field.Total (items_there row.now))) }
+{
+    let items = row.items.items();
+    let room = serial_room(ais, form, kind.serial.as_bytes());
+    keeps_serial(room, items) && keeps_further(form, items)
+}
+
+/// Whether the prefix, the rest, the serial and the further fields fit a kind whose key is of this form.
 fn keeps_form(ais: &AiTable, kind: &KindRow, row: &OptionRow, form: KeyForm) -> bool
     ensures { result ≡ keeps_form ais.now kind.now row.now.gcp (items_there row.now) form }
 {
@@ -43,7 +58,7 @@ fn keeps_form(ais: &AiTable, kind: &KindRow, row: &OptionRow, form: KeyForm) -> 
     if !keeps_rest(form, row.gcp, items) {
         return false;
     }
-    keeps_serial(serial_room(ais, form, kind.serial.as_bytes()), items)
+    keeps_behind(ais, kind, row, form)
 }
 
 /// Whether the option fits a kind.

@@ -1,10 +1,10 @@
-ghost use Rattle.std.specs.Prelude.{◌≡◌, ◌==◌, ◌||◌, ◌++◌, not, length, take};
+ghost use Rattle.std.specs.Prelude.{◌≡◌, ◌||◌, ◌++◌, not, length, take};
 ghost use Rattle.std.specs.List.{flat_map, enumerate_from};
 ghost use Rattle.gs_tables.specs.Rules.{is_kind};
 ghost use Rattle.gs_tables_document.specs.Documents.{is_bits};
 ghost use Rattle.gs_tables_document.specs.Limits.{most_rows};
 ghost use Rattle.gs_chars.specs.Answers.{error_if};
-ghost use Rattle.gs_tables.specs.Tables.{has_long, kind_rejections, kinds_rejections, level_rejections, limit_rejections, more_than, option_rejections};
+ghost use Rattle.gs_tables.specs.Tables.{has_long, is_version, kind_rejections, kinds_rejections, level_rejections, limit_rejections, more_than, option_rejections};
 ghost use Rattle.gs_tables.specs.TablesSupport.{IsFirst, rule_rejections};
 
 use crate::kind_rules::is_kind;
@@ -15,11 +15,18 @@ use gs_tables_document::{
     OptionRow,
 };
 
+/// Whether this is a version of the profile.
+fn is_version(version: u64) -> bool
+    ensures { result ≡ is_version version }
+{
+    version == 1 || version == 2
+}
+
 /// Rejects a document of another version.
 pub(crate) fn check_version(document: &Document) -> Result<(), LoadFault>
-    ensures { IsFirst (error_if (not (document.now.version == 1)) LoadFault.Version) result }
+    ensures { IsFirst (error_if (not (is_version document.now.version)) LoadFault.Version) result }
 {
-    if document.version == 1 {
+    if is_version(document.version) {
         Ok(())
     } else {
         Err(LoadFault::Version)

@@ -49,7 +49,7 @@ impl Model for TableSet {
 
 impl TableSet {
     /// The set that a table document gives, or its first rejection. These are tried in this order. `Json`: the bytes are no
-    /// JSON text, or the document or a row has not the form of its kind. `Version`: the version is not 1. `Limit` of the
+    /// JSON text, or the document or a row has not the form of its kind. `Version`: the version is neither 1 nor 2. `Limit` of the
     /// numbers of rows: application identifiers, kinds, options, items. `Ai`: the first error of the application
     /// identifiers. `BadKind`: the first kind that breaks a rule. Then option by option of the levels binary, tag, pure:
     /// `BadItem` for its first bad item, `Limit(Size)`, `Mismatch` where it does not fit its kind, `Duplicate` for the first

@@ -5,7 +5,7 @@ use Rattle.std.specs.List.{flat_map}
 use Rattle.gs_tables_builtin.specs.BuiltInAis.{builtin_ais}
 use Rattle.gs_bits.specs.Bits.{bits_of}
 use Rattle.gs_grammar.specs.declared.item.Item.{Item}
-use Rattle.gs_grammar.specs.declared.item.Item.TheVariants.{Lit, Pad, Int, Esc, NumPad, Num, Ascii7, Fill}
+use Rattle.gs_grammar.specs.declared.item.Item.TheVariants.{Lit, Pad, Digits as DigitsItem, Int, Esc, NumPad, Num, NumStr, Ascii7, Fill}
 use Rattle.gs_tables_document.specs.declared.document.Document.{Document}
 use Rattle.gs_tables_document.specs.declared.document.KindRow.{KindRow}
 use Rattle.gs_tables_document.specs.declared.document.OptionRow.{OptionRow}
@@ -13,27 +13,30 @@ use Rattle.gs_tables_builtin.specs.declared.encoding.Encoding.{Encoding}
 use Rattle.gs_tables_builtin.specs.declared.encoding.Identity.{Identity}
 use Rattle.gs_tables_builtin.specs.declared.encoding.Partition.{Partition}
 use Rattle.gs_tables_builtin.specs.declared.encoding.RestForm.{RestForm}
-use Rattle.gs_tables_builtin.specs.declared.encoding.RestForm.TheVariants.{Digits, Number, Characters}
+use Rattle.gs_tables_builtin.specs.declared.encoding.RestForm.TheVariants.{Digits, InPieces, Number, Characters}
 use Rattle.gs_tables_document.specs.declared.field.Field.{Field}
-use Rattle.gs_tables_document.specs.declared.field.Field.TheVariants.{Filter, Gcp, Rest, Serial}
+use Rattle.gs_tables_document.specs.declared.field.Field.TheVariants.{Filter, Gcp, Rest, Piece, Total, Serial}
 use Rattle.gs_tables_document.specs.Items.{FieldItem}
 
 -- ---- kinds
 
--- trusted, own: a kind with its key, its lead digits and its serial
-abbrev pub kind : List ℕ → List ℕ → ℕ → List ℕ → KindRow
-kind name key lead serial = record { name = name; key = key; lead = lead; serial = serial }
+-- trusted, own: a kind with its key, its lead digits, its serial and its further fields
+abbrev pub kind : List ℕ → List ℕ → ℕ → List ℕ → List (List ℕ) → KindRow
+kind name key lead serial fields = record { name = name; key = key; lead = lead; serial = serial; fields = fields }
 
 -- trusted, TDS 2.0, section 6.3: the kinds (TDS 2.0, section 6.3)
 unfoldable pub builtin_kinds : List KindRow
 builtin_kinds =
-    kind (codes "sgtin") (codes "01") 1 (codes "21")
-    ∷ kind (codes "sscc") (codes "00") 1 []
-    ∷ kind (codes "sgln") (codes "414") 0 (codes "254")
-    ∷ kind (codes "grai") (codes "8003") 0 (codes "tail")
-    ∷ kind (codes "giai") (codes "8004") 0 []
-    ∷ kind (codes "gdti") (codes "253") 0 (codes "tail")
-    ∷ kind (codes "gsrn") (codes "8018") 0 [] ∷ []
+    kind (codes "sgtin") (codes "01") 1 (codes "21") []
+    ∷ kind (codes "sscc") (codes "00") 1 [] []
+    ∷ kind (codes "sgln") (codes "414") 0 (codes "254") []
+    ∷ kind (codes "grai") (codes "8003") 0 (codes "tail") []
+    ∷ kind (codes "giai") (codes "8004") 0 [] []
+    ∷ kind (codes "gdti") (codes "253") 0 (codes "tail") []
+    ∷ kind (codes "gsrn") (codes "8018") 0 [] []
+    ∷ kind (codes "sgcn") (codes "255") 0 (codes "tail") []
+    ∷ kind (codes "itip") (codes "8006") 1 (codes "21") (codes "piece" ∷ codes "total" ∷ [])
+    ∷ kind (codes "gsrnp") (codes "8017") 0 [] [] ∷ []
 
 -- ---- the partition table: the digits of the prefix, the partition, and the bits of the prefix (TDS 2.0, section 14.2)
 
@@ -80,9 +83,16 @@ document_encodings =
     ∷ encoding (codes "gdti-174") (codes "gdti") 62 41 (Digits 12) (Some (Ascii7 1 17 119)) (Some (Fill 2 2))
     ∷ encoding (codes "gsrn-96") (codes "gsrn") 45 58 (Digits 17) None (Some (zeros 24)) ∷ []
 
+-- trusted, own: the encodings of coupons, pieces of trade items and service providers
+unfoldable pub further_encodings : List Encoding
+further_encodings =
+    encoding (codes "sgcn-96") (codes "sgcn") 63 41 (Digits 12) (Some (NumStr 41 12)) None
+    ∷ encoding (codes "itip-110") (codes "itip") 64 44 (InPieces 13) (Some (Num 38 274877906943)) (Some (Fill 2 2))
+    ∷ encoding (codes "gsrnp-96") (codes "gsrnp") 46 58 (Digits 17) None (Some (zeros 24)) ∷ []
+
 -- trusted, TDS 2.0, section 14.6: all encodings, in the order of the options
 unfoldable pub encodings : List Encoding
-encodings = item_encodings ++ asset_encodings ++ document_encodings
+encodings = item_encodings ++ asset_encodings ++ document_encodings ++ further_encodings
 
 -- ---- options
 
@@ -97,20 +107,30 @@ of_field field item = map (λ (i : Item). (field, i)) (option_to_list item)
 -- trusted, own: the rest beside a prefix of n digits, in so many bits
 abbrev pub rest_in_bits : RestForm → ℕ → ℕ → FieldItem
 rest_in_bits (Digits d) n bits = if d - n == 0 then (None, zeros bits) else (Some Rest, NumPad bits (d - n))
+rest_in_bits (InPieces d) n bits = if d - n == 0 then (None, zeros bits) else (Some Rest, NumPad bits (d - n))
 rest_in_bits Number n bits = (Some Rest, Num bits (2 ^ bits - 1))
 rest_in_bits Characters n bits = (Some Rest, Ascii7 1 (30 - n) bits)
 
--- trusted, TDS 2.0, sections 14.2 and 14.6: header, filter, partition, prefix, rest, serial, and the zeros at the end
+-- trusted, TDS 2.0, section 14.6: the piece and the total behind the rest, where there are, in 7 bits each
+abbrev pub pieces_in_bits : RestForm → List FieldItem
+pieces_in_bits (Digits _) = []
+pieces_in_bits (InPieces _) = (Some Piece, NumPad 7 2) ∷ (Some Total, NumPad 7 2) ∷ []
+pieces_in_bits Number = []
+pieces_in_bits Characters = []
+
+-- trusted, TDS 2.0, sections 14.2 and 14.6: header, filter, partition, prefix, rest, piece and total, serial, and the zeros
+-- at the end
 abbrev pub binary_items : Encoding → Partition → List FieldItem
 binary_items e p =
     (None, Lit (bits_of 8 e.header)) ∷ (Some Filter, Num 3 7) ∷ (None, Lit (bits_of 3 p.number)) ∷ (Some Gcp, NumPad p.bits p.digits)
     ∷ rest_in_bits e.rest p.digits (e.width - p.bits)
-    ∷ of_field (Some Serial) e.serial ++ of_field None e.after
+    ∷ pieces_in_bits e.rest ++ of_field (Some Serial) e.serial ++ of_field None e.after
 
 -- trusted, own: the item of a text level for one of a bit level
 abbrev pub in_text : Item → Item
 in_text (NumPad bits n) = Pad n
 in_text (Num bits most) = Int most
+in_text (NumStr bits hi) = DigitsItem 1 hi
 in_text (Ascii7 lo hi bits) = Esc lo hi
 in_text other = other
 
@@ -118,21 +138,28 @@ in_text other = other
 abbrev pub dotted : Field → Item → List FieldItem
 dotted field i = (None, Lit (codes ".")) ∷ (Some field, i) ∷ []
 
--- trusted, own: what follows the prefix: the rest and the serial, each behind a dot, where a rest of no digits leaves two
--- dots
-abbrev pub behind_prefix : FieldItem → Option Item → List FieldItem
-behind_prefix (None, _) serial = (None, Lit (codes "..")) ∷ of_field (Some Serial) serial
-behind_prefix (Some field, rest) serial = dotted Rest rest ++ flat_map (dotted Serial) (option_to_list serial)
+-- trusted, own: the piece and the total behind the rest of a text, where there are, of two digits each
+abbrev pub pieces_in_text : RestForm → List FieldItem
+pieces_in_text (Digits _) = []
+pieces_in_text (InPieces _) = dotted Piece (Pad 2) ++ dotted Total (Pad 2)
+pieces_in_text Number = []
+pieces_in_text Characters = []
+
+-- trusted, own: what follows the prefix: the rest, the piece and the total, and the serial, each behind a dot, where a rest
+-- of no digits, which no key in pieces has, leaves two dots
+abbrev pub behind_prefix : FieldItem → List FieldItem → Option Item → List FieldItem
+behind_prefix (None, _) pieces serial = (None, Lit (codes "..")) ∷ of_field (Some Serial) serial
+behind_prefix (Some field, rest) pieces serial = dotted Rest rest ++ pieces ++ flat_map (dotted Serial) (option_to_list serial)
 
 -- trusted, own: the item of a text level for an item of bits, for the same field
 abbrev pub in_text_too : FieldItem → FieldItem
 in_text_too i = (i.0, in_text i.1)
 
--- trusted, TDS 2.0, sections 12 and 6.3: `urn:epc:tag:ENCODING:`, filter, prefix, rest and serial
+-- trusted, TDS 2.0, sections 12 and 6.3: `urn:epc:tag:ENCODING:`, filter, prefix, and what follows it
 abbrev pub tag_items : Encoding → Partition → List FieldItem
 tag_items e p =
     (None, Lit (codes "urn:epc:tag:" ++ e.name ++ codes ":")) ∷ (Some Filter, Int 7) ∷ (None, Lit (codes ".")) ∷ (Some Gcp, Pad p.digits)
-    ∷ behind_prefix (in_text_too (rest_in_bits e.rest p.digits (e.width - p.bits))) (option_map in_text e.serial)
+    ∷ behind_prefix (in_text_too (rest_in_bits e.rest p.digits (e.width - p.bits))) (pieces_in_text e.rest) (option_map in_text e.serial)
 
 -- trusted, own: the pure identity of a kind: its name, what the rest is, and the serial
 abbrev pub identity : List ℕ → RestForm → Option Item → Identity
@@ -147,13 +174,16 @@ identities =
     ∷ identity (codes "grai") (Digits 12) (Some (Esc 1 16))
     ∷ identity (codes "giai") Characters None
     ∷ identity (codes "gdti") (Digits 12) (Some (Esc 1 17))
-    ∷ identity (codes "gsrn") (Digits 17) None ∷ []
+    ∷ identity (codes "gsrn") (Digits 17) None
+    ∷ identity (codes "sgcn") (Digits 12) (Some (DigitsItem 1 12))
+    ∷ identity (codes "itip") (InPieces 13) (Some (Esc 1 20))
+    ∷ identity (codes "gsrnp") (Digits 17) None ∷ []
 
--- trusted, TDS 2.0, sections 12 and 6.3: `urn:epc:id:KIND:`, prefix, rest and serial
+-- trusted, TDS 2.0, sections 12 and 6.3: `urn:epc:id:KIND:`, prefix, and what follows it
 abbrev pub pure_items : Identity → Partition → List FieldItem
 pure_items k p =
     (None, Lit (codes "urn:epc:id:" ++ k.name ++ codes ":")) ∷ (Some Gcp, Pad p.digits)
-    ∷ behind_prefix (in_text_too (rest_in_bits k.rest p.digits 0)) k.serial
+    ∷ behind_prefix (in_text_too (rest_in_bits k.rest p.digits 0)) (pieces_in_text k.rest) k.serial
 
 -- trusted, own: the row of an option of a partition, with its kind, its encoding, and its items as a document has them
 abbrev pub row_with : List ℕ → List ℕ → Partition → List (Option FieldItem) → OptionRow
@@ -203,4 +233,4 @@ builtin_pure = flat_map pure_rows identities
 
 -- trusted, own choice: the rows of the built-in tables
 abbrev pub builtin_document : Document
-builtin_document = record { version = 1; ais = builtin_ais; kinds = builtin_kinds; binary = builtin_binary; tag = builtin_tag; pure = builtin_pure }
+builtin_document = record { version = 2; ais = builtin_ais; kinds = builtin_kinds; binary = builtin_binary; tag = builtin_tag; pure = builtin_pure }

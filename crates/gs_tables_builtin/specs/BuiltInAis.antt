@@ -39,13 +39,14 @@ variant_ais =
     ∷ qualifier (codes "21") (part.Set 20) [] ∷ qualifier (codes "22") (part.Set 20) []
     ∷ attribute (codes "30") (part.NumUpTo 8) ∷ attribute (codes "37") (part.NumUpTo 8) ∷ []
 
--- trusted, own: additional identifications, documents and extensions of locations
+-- trusted, own: additional identifications, documents, extensions of locations and coupons
 unfoldable pub additional_ais : List AiRow
 additional_ais =
     attribute (codes "240") (part.Set 30) ∷ attribute (codes "241") (part.Set 30)
     ∷ attribute (codes "250") (part.Set 30) ∷ attribute (codes "251") (part.Set 30)
     ∷ key (codes "253") (part.NumCheck 13 ∷ part.SetOpt 17 ∷ []) [] false
-    ∷ qualifier (codes "254") (part.Set 20) (codes "0") ∷ []
+    ∷ qualifier (codes "254") (part.Set 20) (codes "0")
+    ∷ key (codes "255") (part.NumCheck 13 ∷ part.NumOpt 12 ∷ []) [] false ∷ []
 
 -- trusted, own: net weights
 unfoldable pub weight_ais : List AiRow
@@ -74,11 +75,12 @@ location_ais =
     ∷ attribute (codes "415") (part.NumCheck 13) ∷ attribute (codes "416") (part.NumCheck 13)
     ∷ key (codes "417") (part.NumCheck 13 ∷ []) [] false ∷ []
 
--- trusted, own: assets and services
+-- trusted, own: assets, pieces of trade items and services
 unfoldable pub asset_ais : List AiRow
 asset_ais =
     key (codes "8003") (part.Zero ∷ part.NumCheck 13 ∷ part.SetOpt 16 ∷ []) [] false
     ∷ key (codes "8004") (part.Set 30 ∷ []) [] false
+    ∷ key (codes "8006") (part.NumCheck 14 ∷ part.Num 2 ∷ part.Num 2 ∷ []) (codes "22" ∷ codes "10" ∷ codes "21" ∷ []) false
     ∷ key (codes "8017") (part.NumCheck 18 ∷ []) (codes "8019" ∷ []) false
     ∷ key (codes "8018") (part.NumCheck 18 ∷ []) (codes "8019" ∷ []) false
     ∷ qualifier (codes "8019") (part.NumUpTo 10) []

@@ -1,11 +1,11 @@
 -- What proofs and private functions say beside the definitions of BuiltIn.antt.
-use Rattle.std.specs.Prelude.{◌≡◌, ℕ, ◌-◌, nat_le, Bool, true, List, [], ◌∷◌, ◌++◌, codes, Option, Some, None, option_map}
+use Rattle.std.specs.Prelude.{◌≡◌, ℕ, ◌-◌, nat_le, Bool, true, false, List, [], ◌∷◌, ◌++◌, codes, Option, Some, None, option_map}
 use Rattle.std.specs.Borrow.{Bor}
 use Rattle.std.specs.List.{flat_map, list_all}
 use Rattle.gs_tables_builtin.specs.BuiltInAis.{builtin_ais}
 use Rattle.gs_bits.specs.Bits.{bits_of}
 use Rattle.gs_grammar.specs.declared.item.Item.{Item}
-use Rattle.gs_grammar.specs.declared.item.Item.TheVariants.{Lit, Pad, Int, Esc, NumPad, Num, Ascii7, Fill}
+use Rattle.gs_grammar.specs.declared.item.Item.TheVariants.{Lit, Pad, Digits as DigitsItem, Int, Esc, NumPad, Num, NumStr, Ascii7, Fill}
 use Rattle.gs_tables_document.specs.declared.document.Document.{Document}
 use Rattle.gs_tables_document.specs.declared.document.KindRow.{KindRow}
 use Rattle.gs_tables_document.specs.declared.document.OptionRow.{OptionRow}
@@ -13,26 +13,34 @@ use Rattle.gs_tables_builtin.specs.declared.encoding.Encoding.{Encoding}
 use Rattle.gs_tables_builtin.specs.declared.encoding.Identity.{Identity}
 use Rattle.gs_tables_builtin.specs.declared.encoding.Partition.{Partition}
 use Rattle.gs_tables_builtin.specs.declared.encoding.RestForm.{RestForm}
-use Rattle.gs_tables_builtin.specs.declared.encoding.RestForm.TheVariants.{Digits, Number, Characters}
+use Rattle.gs_tables_builtin.specs.declared.encoding.RestForm.TheVariants.{Digits, InPieces, Number, Characters}
 use Rattle.gs_tables_builtin.specs.declared.encoding_line.EncodingLine.{EncodingLine}
 use Rattle.gs_tables_builtin.specs.declared.encoding_line.ItemLine.{ItemLine}
 use Rattle.gs_tables_builtin.specs.declared.encoding_line.ItemLine.TheVariants as item_line
+use Rattle.gs_tables_builtin.specs.declared.encoding_line.SerialLine.{SerialLine}
+use Rattle.gs_tables_builtin.specs.declared.encoding_line.SerialLine.TheVariants as serial_line
 use Rattle.gs_tables_document.specs.declared.field.Field.TheVariants.{Filter, Gcp, Serial}
 use Rattle.gs_tables_document.specs.Items.{FieldItem}
-use Rattle.gs_tables_builtin.specs.BuiltIn.{kind, builtin_kinds, partition, partitions, encoding, zeros, encodings, there, of_field, rest_in_bits, in_text, behind_prefix, in_text_too, identity, identities, binary_rows, tag_rows, pure_rows}
+use Rattle.gs_tables_builtin.specs.BuiltIn.{kind, builtin_kinds, partition, partitions, encoding, zeros, encodings, there, of_field, rest_in_bits, pieces_in_bits, pieces_in_text, in_text, behind_prefix, in_text_too, identity, identities, binary_rows, tag_rows, pure_rows}
 
 -- the list, given by the old and the new one, has gained this row at its end
 abbrev pub Gains : {X : Type 0} → List X → List X → X → Type 0
 Gains old new row = new ≡ old ++ row ∷ []
 
+-- the further fields of a kind, where it is in pieces
+abbrev pub fields_known : Bool → List (List ℕ)
+fields_known false = []
+fields_known true = codes "piece" ∷ codes "total" ∷ []
+
 -- the kind that a line of the code describes
-abbrev pub kind_known : Bor (List ℕ) × Bor (List ℕ) × ℕ × Bor (List ℕ) → KindRow
-kind_known line = kind line.0.now line.1.now line.2 line.3.now
+abbrev pub kind_known : Bor (List ℕ) × Bor (List ℕ) × ℕ × Bor (List ℕ) × Bool → KindRow
+kind_known line = kind line.0.now line.1.now line.2 line.3.now (fields_known line.4)
 
 -- the item that a line of the code describes, where there is one
 abbrev pub item_known : ItemLine → Option Item
 item_known item_line.Nothing = None
 item_known (item_line.Number bits most) = Some (Num bits most)
+item_known (item_line.Count bits hi) = Some (NumStr bits hi)
 item_known (item_line.Characters hi bits) = Some (Ascii7 1 hi bits)
 item_known (item_line.Fill a b) = Some (Fill a b)
 item_known (item_line.Zeros n) = Some (zeros n)
@@ -46,30 +54,37 @@ abbrev pub binary_head : ℕ → Partition → List FieldItem
 binary_head header p =
     (None, Lit (bits_of 8 header)) ∷ (Some Filter, Num 3 7) ∷ (None, Lit (bits_of 3 p.number)) ∷ (Some Gcp, NumPad p.bits p.digits) ∷ []
 
--- rest, serial, and the zeros at the end
+-- rest, piece and total, serial, and the zeros at the end
 abbrev pub binary_tail : Encoding → Partition → List FieldItem
-binary_tail e p = rest_in_bits e.rest p.digits (e.width - p.bits) ∷ of_field (Some Serial) e.serial ++ of_field None e.after
+binary_tail e p = rest_in_bits e.rest p.digits (e.width - p.bits) ∷ pieces_in_bits e.rest ++ of_field (Some Serial) e.serial ++ of_field None e.after
 
 -- `urn:epc:tag:ENCODING:`, filter and prefix
 abbrev pub tag_head : List ℕ → ℕ → List FieldItem
 tag_head name digits =
     (None, Lit (codes "urn:epc:tag:" ++ name ++ codes ":")) ∷ (Some Filter, Int 7) ∷ (None, Lit (codes ".")) ∷ (Some Gcp, Pad digits) ∷ []
 
--- rest and serial of a tag URI
+-- what follows the prefix of a tag URI
 abbrev pub tag_tail : Encoding → Partition → List FieldItem
-tag_tail e p = behind_prefix (in_text_too (rest_in_bits e.rest p.digits (e.width - p.bits))) (option_map in_text e.serial)
+tag_tail e p = behind_prefix (in_text_too (rest_in_bits e.rest p.digits (e.width - p.bits))) (pieces_in_text e.rest) (option_map in_text e.serial)
 
--- the pure identity with a serial of at most so many characters, where it has one
-abbrev pub identity_with : List ℕ → RestForm → Option ℕ → Identity
-identity_with name rest longest = identity name rest (option_map (Esc 1) longest)
+-- the serial that a line of the code describes, where there is one
+abbrev pub serial_known : SerialLine → Option Item
+serial_known serial_line.Nothing = None
+serial_known (serial_line.Characters hi) = Some (Esc 1 hi)
+serial_known (serial_line.Digits hi) = Some (DigitsItem 1 hi)
+
+-- the pure identity with this serial, where it has one
+abbrev pub identity_with : List ℕ → RestForm → SerialLine → Identity
+identity_with name rest serial = identity name rest (serial_known serial)
 
 -- the pure identity that a line of the code describes
-abbrev pub identity_known : Bor (List ℕ) × RestForm × Option ℕ → Identity
+abbrev pub identity_known : Bor (List ℕ) × RestForm × SerialLine → Identity
 identity_known l = identity_with l.0.now l.1 l.2
 
 -- a rest that is a number has at most 64 bits
 abbrev pub rest_fits : RestForm → ℕ → Bool
 rest_fits (Digits d) bits = true
+rest_fits (InPieces d) bits = true
 rest_fits Number bits = nat_le bits 64
 rest_fits Characters bits = true
 
@@ -83,4 +98,4 @@ options_of these those = (flat_map binary_rows these, flat_map tag_rows these, f
 
 -- the document of the application identifiers, the kinds, and the options of these encodings and identities
 abbrev pub document_of : List Encoding → List Identity → Document
-document_of these those = record { version = 1; ais = builtin_ais; kinds = builtin_kinds; binary = flat_map binary_rows these; tag = flat_map tag_rows these; pure = flat_map pure_rows those }
+document_of these those = record { version = 2; ais = builtin_ais; kinds = builtin_kinds; binary = flat_map binary_rows these; tag = flat_map tag_rows these; pure = flat_map pure_rows those }

@@ -4,7 +4,7 @@ ghost use Rattle.gs_tables_builtin.specs.BuiltInAisSupport.{ai_row, goods_ais, o
 
 use crate::ai_line::AiLine;
 use crate::ai_line::AiLine::{Attribute, Key, Qualifier};
-use gs_ai::Part::{Date, Num, NumCheck, NumUpTo, Set, SetOpt, Zero};
+use gs_ai::Part::{Date, Num, NumCheck, NumOpt, NumUpTo, Set, SetOpt, Zero};
 use gs_ai::{AiRow, Part, Role};
 use gs_chars::{List, Memory, Text};
 use std::alloc::Global;
@@ -124,7 +124,7 @@ fn add_variants(alloc: Global, rows: &mut Vec<AiRow>) -> Result<(), Memory>
     )
 }
 
-/// Additional identifications, documents and extensions of locations.
+/// Additional identifications, documents, extensions of locations and coupons.
 #[tactic(auto, unfolding(crate::specs::BuiltInAis::additional_ais))]
 fn add_additional(alloc: Global, rows: &mut Vec<AiRow>) -> Result<(), Memory>
     ensures { OnOk result (rows.new.items ≡ rows.old.items ++ additional_ais) }
@@ -139,6 +139,7 @@ fn add_additional(alloc: Global, rows: &mut Vec<AiRow>) -> Result<(), Memory>
             Attribute(b"251", Set(30)),
             Key(b"253", &[NumCheck(13), SetOpt(17)], &[], false),
             Qualifier(b"254", Set(20), b"0"),
+            Key(b"255", &[NumCheck(13), NumOpt(12)], &[], false),
         ],
     )
 }
@@ -213,7 +214,7 @@ fn add_locations(alloc: Global, rows: &mut Vec<AiRow>) -> Result<(), Memory>
     )
 }
 
-/// Assets and services.
+/// Assets, pieces of trade items and services.
 #[tactic(auto, unfolding(crate::specs::BuiltInAis::asset_ais))]
 fn add_assets(alloc: Global, rows: &mut Vec<AiRow>) -> Result<(), Memory>
     ensures { OnOk result (rows.new.items ≡ rows.old.items ++ asset_ais) }
@@ -224,6 +225,12 @@ fn add_assets(alloc: Global, rows: &mut Vec<AiRow>) -> Result<(), Memory>
         &[
             Key(b"8003", &[Zero, NumCheck(13), SetOpt(16)], &[], false),
             Key(b"8004", &[Set(30)], &[], false),
+            Key(
+                b"8006",
+                &[NumCheck(14), Num(2), Num(2)],
+                &[b"22", b"10", b"21"],
+                false,
+            ),
             Key(b"8017", &[NumCheck(18)], &[b"8019"], false),
             Key(b"8018", &[NumCheck(18)], &[b"8019"], false),
             Qualifier(b"8019", NumUpTo(10), b""),

@@ -1,10 +1,10 @@
 ghost use Rattle.std.specs.Prelude.{◌≡◌, ◌++◌, IfOk, OnOk, map, replicate};
-ghost use Rattle.gs_tables_builtin.specs.BuiltIn.{asset_encodings, document_encodings, encodings, identities, item_encodings, zeros};
-ghost use Rattle.gs_tables_builtin.specs.BuiltInSupport.{encoding_known, identity_known, identity_with, item_known};
+ghost use Rattle.gs_tables_builtin.specs.BuiltIn.{asset_encodings, document_encodings, encodings, further_encodings, identities, item_encodings, zeros};
+ghost use Rattle.gs_tables_builtin.specs.BuiltInSupport.{encoding_known, identity_known, identity_with, item_known, serial_known};
 
-use crate::encoding::RestForm::{Characters, Digits, Number};
+use crate::encoding::RestForm::{Characters, Digits, InPieces, Number};
 use crate::encoding::{Encoding, Identity, Partition, RestForm};
-use crate::encoding_line::{EncodingLine, ItemLine};
+use crate::encoding_line::{EncodingLine, ItemLine, SerialLine};
 use gs_chars::{List, Memory, Text};
 use gs_grammar::Item;
 use std::alloc::Global;
@@ -42,6 +42,7 @@ fn item_of(alloc: Global, line: ItemLine) -> Result<Option<Item>, Memory>
     match line {
         ItemLine::Nothing => Ok(None),
         ItemLine::Number(bits, max) => Ok(Some(Item::Num { bits, max })),
+        ItemLine::Count(bits, hi) => Ok(Some(Item::NumStr { bits, hi })),
         ItemLine::Characters(hi, bits) => Ok(Some(Item::Ascii7 { lo: 1, hi, bits })),
         ItemLine::Fill(a, b) => Ok(Some(Item::Fill { a, b })),
         ItemLine::Zeros(n) => Ok(Some(zeros(alloc, n)?)),
@@ -143,6 +144,22 @@ fn add_document_encodings(alloc: Global, rows: &mut Vec<Encoding>) -> Result<(),
     )
 }
 
+/// The encodings of coupons, pieces of trade items and service providers.
+#[tactic(auto, unfolding(crate::specs::BuiltIn::further_encodings))]
+fn add_further_encodings(alloc: Global, rows: &mut Vec<Encoding>) -> Result<(), Memory>
+    ensures { OnOk result (rows.new.items ≡ rows.old.items ++ further_encodings) }
+{
+    push_encodings(
+        alloc,
+        rows,
+        &lines! {
+            b"sgcn-96" b"sgcn" 0x3F, 41 Digits(12), ItemLine::Count(41, 12), ItemLine::Nothing;
+            b"itip-110" b"itip" 0x40, 44 InPieces(13), ItemLine::Number(38, 274_877_906_943), ItemLine::Fill(2, 2);
+            b"gsrnp-96" b"gsrnp" 0x2E, 58 Digits(17), ItemLine::Nothing, ItemLine::Zeros(24);
+        },
+    )
+}
+
 /// Appends the encodings, in their order.
 #[tactic(auto, unfolding(crate::specs::BuiltIn::encodings))]
 fn add_encodings(alloc: Global, rows: &mut Vec<Encoding>) -> Result<(), Memory>
@@ -150,7 +167,8 @@ fn add_encodings(alloc: Global, rows: &mut Vec<Encoding>) -> Result<(), Memory>
 {
     add_item_encodings(alloc, rows)?;
     add_asset_encodings(alloc, rows)?;
-    add_document_encodings(alloc, rows)
+    add_document_encodings(alloc, rows)?;
+    add_further_encodings(alloc, rows)
 }
 
 /// The encodings, in their order.
@@ -162,33 +180,41 @@ pub(crate) fn encodings(alloc: Global) -> Result<List<Encoding>, Memory>
     Ok(List::from_vec(rows))
 }
 
-/// The pure identity of a kind, the most characters of its serial given, where it has one.
+/// The serial that a line describes, where there is one.
+fn serial_of(line: SerialLine) -> Option<Item>
+    ensures { result ≡ serial_known line }
+{
+    match line {
+        SerialLine::Nothing => None,
+        SerialLine::Characters(hi) => Some(Item::Esc { lo: 1, hi }),
+        SerialLine::Digits(hi) => Some(Item::Digits { lo: 1, hi }),
+    }
+}
+
+/// The pure identity of a kind, with the serial that a line describes.
 fn identity_of(
     alloc: Global,
     name: &[u8],
     rest: RestForm,
-    longest: Option<u8>,
+    serial: SerialLine,
 ) -> Result<Identity, Memory>
-    ensures { IfOk result (λ row. row ≡ identity_with name.now rest longest) }
+    ensures { IfOk result (λ row. row ≡ identity_with name.now rest serial) }
 {
     let name = Text::from_bytes(alloc, name)?;
-    let serial = match longest {
-        Some(hi) => Some(Item::Esc { lo: 1, hi }),
-        None => None,
-    };
+    let serial = serial_of(serial);
     Ok(Identity { name, rest, serial })
 }
 
-/// The pure identities of these lines: the name of each, the rest, and the most characters of the serial, where there is one.
+/// The pure identities of these lines: the name of each, the rest, and the serial, where there is one.
 fn identities_of(
     alloc: Global,
-    lines: &[(&[u8], RestForm, Option<u8>)],
+    lines: &[(&[u8], RestForm, SerialLine)],
 ) -> Result<List<Identity>, Memory>
     ensures { IfOk result (λ rows. rows ≡ map identity_known lines.now) }
 {
     let mut rows = Vec::new(alloc);
-    for (name, rest, longest) in lines {
-        rows.push(identity_of(alloc, name, *rest, *longest)?)?;
+    for (name, rest, serial) in lines {
+        rows.push(identity_of(alloc, name, *rest, *serial)?)?;
     }
     Ok(List::from_vec(rows))
 }
@@ -201,13 +227,16 @@ pub(crate) fn identities(alloc: Global) -> Result<List<Identity>, Memory>
     identities_of(
         alloc,
         &[
-            (b"sgtin", Digits(13), Some(20)),
-            (b"sscc", Digits(17), None),
-            (b"sgln", Digits(12), Some(20)),
-            (b"grai", Digits(12), Some(16)),
-            (b"giai", Characters, None),
-            (b"gdti", Digits(12), Some(17)),
-            (b"gsrn", Digits(17), None),
+            (b"sgtin", Digits(13), SerialLine::Characters(20)),
+            (b"sscc", Digits(17), SerialLine::Nothing),
+            (b"sgln", Digits(12), SerialLine::Characters(20)),
+            (b"grai", Digits(12), SerialLine::Characters(16)),
+            (b"giai", Characters, SerialLine::Nothing),
+            (b"gdti", Digits(12), SerialLine::Characters(17)),
+            (b"gsrn", Digits(17), SerialLine::Nothing),
+            (b"sgcn", Digits(12), SerialLine::Digits(12)),
+            (b"itip", InPieces(13), SerialLine::Characters(20)),
+            (b"gsrnp", Digits(17), SerialLine::Nothing),
         ],
     )
 }

@@ -2,7 +2,7 @@ ghost use Rattle.std.specs.Prelude.{◌≡◌, ◌≤◌, ◌-◌, ◌^◌, ◌�
 ghost use Rattle.std.specs.List.{flat_map};
 ghost use Rattle.gs_bits.specs.Bits.{bits_of};
 ghost use Rattle.gs_grammar.specs.declared.item.Item.TheVariants.{Lit};
-ghost use Rattle.gs_tables_builtin.specs.BuiltIn.{behind_prefix, binary_items, dotted, in_text, in_text_too, of_field, pure_items, rest_in_bits, tag_items, there};
+ghost use Rattle.gs_tables_builtin.specs.BuiltIn.{behind_prefix, binary_items, dotted, in_text, in_text_too, of_field, pieces_in_bits, pieces_in_text, pure_items, rest_in_bits, tag_items, there};
 ghost use Rattle.gs_tables_builtin.specs.BuiltInSupport.{Gains, binary_head, binary_tail, rest_fits, tag_head, tag_tail};
 
 use crate::builtin_encodings::zeros;
@@ -95,7 +95,7 @@ fn rest_in_bits(alloc: Global, rest: RestForm, digits: u8, bits: u8) -> Result<F
     ensures { IfOk result (λ item. item ≡ rest_in_bits rest digits bits) }
 {
     match rest {
-        RestForm::Digits(all) => {
+        RestForm::Digits(all) | RestForm::InPieces(all) => {
             let n = all.saturating_sub(digits);
             if n == 0 {
                 Ok((None, zeros(alloc, bits)?))
@@ -122,6 +122,7 @@ fn in_text(item: Item) -> Item
     match item {
         Item::NumPad { bits: _, n } => Item::Pad { n },
         Item::Num { bits: _, max } => Item::Int { max },
+        Item::NumStr { bits: _, hi } => Item::Digits { lo: 1, hi },
         Item::Ascii7 { lo, hi, bits: _ } => Item::Esc { lo, hi },
         other => other,
     }
@@ -207,6 +208,36 @@ fn add_serial(
     }
 }
 
+/// Appends the piece and the total behind the rest, where there are, on the bit level.
+fn add_pieces_in_bits(items: &mut Vec<Option<FieldItem>>, rest: RestForm) -> Result<(), Memory>
+    ensures { OnOk result (items.new.items ≡ items.old.items ++ map there (pieces_in_bits rest)) }
+{
+    match rest {
+        RestForm::InPieces(_) => {
+            push_item(items, Some(Field::Piece), Item::NumPad { bits: 7, n: 2 })?;
+            push_item(items, Some(Field::Total), Item::NumPad { bits: 7, n: 2 })
+        }
+        RestForm::Digits(_) | RestForm::Number | RestForm::Characters => Ok(()),
+    }
+}
+
+/// Appends the piece and the total behind the rest of a text, where there are.
+fn add_pieces_in_text(
+    alloc: Global,
+    items: &mut Vec<Option<FieldItem>>,
+    rest: RestForm,
+) -> Result<(), Memory>
+    ensures { OnOk result (items.new.items ≡ items.old.items ++ map there (pieces_in_text rest)) }
+{
+    match rest {
+        RestForm::InPieces(_) => {
+            add_dotted(alloc, items, Field::Piece, Item::Pad { n: 2 })?;
+            add_dotted(alloc, items, Field::Total, Item::Pad { n: 2 })
+        }
+        RestForm::Digits(_) | RestForm::Number | RestForm::Characters => Ok(()),
+    }
+}
+
 /// Appends what follows the prefix in a text, where the rest has no digits.
 fn add_behind_dots(
     alloc: Global,
@@ -225,14 +256,16 @@ fn add_behind_prefix(
     alloc: Global,
     items: &mut Vec<Option<FieldItem>>,
     rest: FieldItem,
+    form: RestForm,
     serial: Option<Item>,
 ) -> Result<(), Memory>
-    ensures { OnOk result (items.new.items ≡ items.old.items ++ map there (behind_prefix rest serial)) }
+    ensures { OnOk result (items.new.items ≡ items.old.items ++ map there (behind_prefix rest (pieces_in_text form) serial)) }
 {
     match rest {
         (None, _) => add_behind_dots(alloc, items, serial),
         (Some(_), rest) => {
             add_dotted(alloc, items, Field::Rest, rest)?;
+            add_pieces_in_text(alloc, items, form)?;
             add_serial(alloc, items, serial)
         }
     }
@@ -280,6 +313,7 @@ fn add_binary_tail(
     let bits = encoding.width.saturating_sub(partition.bits);
     let (field, rest) = rest_in_bits(alloc, encoding.rest, partition.digits, bits)?;
     push_item(items, field, rest)?;
+    add_pieces_in_bits(items, encoding.rest)?;
     let serial = copy_of_some(alloc, &encoding.serial)?;
     add(items, Some(Field::Serial), serial)?;
     let after = copy_of_some(alloc, &encoding.after)?;
@@ -329,7 +363,7 @@ fn add_tag_tail(
     let bits = encoding.width.saturating_sub(partition.bits);
     let rest = rest_in_text(alloc, encoding.rest, partition.digits, bits)?;
     let serial = copy_of_some(alloc, &encoding.serial)?.map(in_text);
-    add_behind_prefix(alloc, items, rest, serial)
+    add_behind_prefix(alloc, items, rest, encoding.rest, serial)
 }
 
 /// The items of an encoding as a tag URI.
@@ -362,7 +396,7 @@ fn add_pure(
     push_item(items, Some(Field::Gcp), Item::Pad { n })?;
     let rest = rest_in_text(alloc, identity.rest, n, 0)?;
     let serial = copy_of_some(alloc, &identity.serial)?;
-    add_behind_prefix(alloc, items, rest, serial)
+    add_behind_prefix(alloc, items, rest, identity.rest, serial)
 }
 
 /// The items of a kind as a pure identity URI.

@@ -40,7 +40,7 @@ fn document_of(
     let kinds = builtin_kinds(alloc)?;
     let (binary, tag, pure) = options_of(alloc, encodings, identities)?;
     Ok(Document {
-        version: 1,
+        version: 2,
         ais,
         kinds,
         binary,
@@ -49,7 +49,7 @@ fn document_of(
     })
 }
 
-/// The built-in rows: the application identifiers, seven kinds of key, and for each encoding and each length of the company
+/// The built-in rows: the application identifiers, ten kinds of key, and for each encoding and each length of the company
 /// prefix from 12 to 6 its binary and its tag option, and for each kind its pure option.
 #[tactic(auto, using(crate::proofs::BuiltInLemmas::rests_of_encodings_fit), unfolding(crate::specs::BuiltIn::builtin_binary, crate::specs::BuiltIn::builtin_tag, crate::specs::BuiltIn::builtin_pure))]
 pub fn builtin_document(alloc: Global) -> Result<Document, Memory>

@@ -9,11 +9,12 @@ pub struct Partition {
     pub bits: u8,
 }
 
-/// What stands behind the prefix: the digits that the key has beside its check digit, less those of the prefix, a number,
-/// or characters.
+/// What stands behind the prefix: the digits that the key has beside its check digit, less those of the prefix, alone or with a
+/// piece and a total of two digits each behind them; a number; or characters.
 #[derive(Clone, Copy)]
 pub enum RestForm {
     Digits(u8),
+    InPieces(u8),
     Number,
     Characters,
 }

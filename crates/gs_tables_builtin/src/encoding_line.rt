@@ -7,12 +7,25 @@ pub(crate) enum ItemLine {
     Nothing,
     /// A number in so many bits, and the greatest.
     Number(u8, u64),
+    /// Digits in so many bits, at least one and at most so many.
+    Count(u8, u8),
     /// At least one character, at most so many, in so many bits.
     Characters(u8, u16),
     /// So many zeros, or so many.
     Fill(u8, u8),
     /// So many zeros.
     Zeros(u8),
+}
+
+/// The serial of a pure identity, or none, written in a line.
+#[derive(Clone, Copy)]
+pub(crate) enum SerialLine {
+    /// No serial.
+    Nothing,
+    /// At least one character, at most so many.
+    Characters(u8),
+    /// At least one digit, at most so many.
+    Digits(u8),
 }
 
 /// An encoding, written in a line.

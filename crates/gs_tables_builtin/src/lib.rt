@@ -5,17 +5,17 @@
 //!
 //! # Example
 //!
-//! The numbers of the application identifiers, kinds, and options of tag bits, of tag URIs and of pure identity URIs, when
-//! gs_tables has judged them. The gate runs this case, for which crates/vectors_texts/src/tables.rt makes the call.
+//! The numbers of the rows of application identifiers, of kinds, and of options of tag bits, of tag URIs and of pure identity
+//! URIs. The gate runs this case, for which crates/vectors_texts/src/rows.rt makes the call.
 //!
 //! ```text
-//! gs_tables::builtin
-//! 55 7 84 84 49
+//! gs_tables_builtin::document
+//! 57 10 105 105 70
 //! ```
 //!
 //! # Where it differs from the standard
 //!
-//! - Of GS1 EPC Tag Data Standard 2.0 it has the encodings of seven kinds for company prefixes of 6 to 12 digits, and none of
+//! - Of GS1 EPC Tag Data Standard 2.0 it has the encodings of ten kinds for company prefixes of 6 to 12 digits, and none of
 //!   those that carry a whole element string.
 //! - Of the GS1 General Specifications it has the application identifiers that are met most; tables/gs1.json has more.
 #![tactic(auto)]

@@ -5,7 +5,7 @@ use Rattle.std.specs.Str.{bytes_eq}
 use Rattle.serde_json.specs.Data.{Data}
 use Rattle.gs_tables_document.specs.declared.error.ItemFault.{ItemFault}
 use Rattle.gs_tables_document.specs.declared.error.ItemFault.TheVariants.{Bad}
-use Rattle.gs_tables_document.specs.Items.{FieldItem, Reads, ascii7, bit_item, bit_literal, esc, fill, int, literal, num, numpad, pad, text_item}
+use Rattle.gs_tables_document.specs.Items.{FieldItem, Reads, ascii7, bit_item, bit_literal, digits, esc, fill, int, literal, num, numpad, numstr, pad, text_item}
 
 module _ (name : List ℕ) (d : Data) (result : Result FieldItem ItemFault) where
   pub text_by_lit : true ≡ bytes_eq name (codes "lit") → Reads result (literal d) → Reads result (text_item name d)
@@ -20,8 +20,11 @@ module _ (name : List ℕ) (d : Data) (result : Result FieldItem ItemFault) wher
   pub text_by_esc : false ≡ bytes_eq name (codes "lit") → false ≡ bytes_eq name (codes "pad") → false ≡ bytes_eq name (codes "int") → true ≡ bytes_eq name (codes "esc") → Reads result (esc d) → Reads result (text_item name d)
   text_by_esc h0 h1 h2 h3 own = rw (← h0, ← h1, ← h2, ← h3) own
 
-pub text_by_none : (name : List ℕ) (d : Data) → false ≡ bytes_eq name (codes "lit") → false ≡ bytes_eq name (codes "pad") → false ≡ bytes_eq name (codes "int") → false ≡ bytes_eq name (codes "esc") → Reads {X = FieldItem} (Err Bad) (text_item name d)
-text_by_none name d h0 h1 h2 h3 = rw (← h0, ← h1, ← h2, ← h3) refl
+  pub text_by_digits : false ≡ bytes_eq name (codes "lit") → false ≡ bytes_eq name (codes "pad") → false ≡ bytes_eq name (codes "int") → false ≡ bytes_eq name (codes "esc") → true ≡ bytes_eq name (codes "digits") → Reads result (digits d) → Reads result (text_item name d)
+  text_by_digits h0 h1 h2 h3 h4 own = rw (← h0, ← h1, ← h2, ← h3, ← h4) own
+
+pub text_by_none : (name : List ℕ) (d : Data) → false ≡ bytes_eq name (codes "lit") → false ≡ bytes_eq name (codes "pad") → false ≡ bytes_eq name (codes "int") → false ≡ bytes_eq name (codes "esc") → false ≡ bytes_eq name (codes "digits") → Reads {X = FieldItem} (Err Bad) (text_item name d)
+text_by_none name d h0 h1 h2 h3 h4 = rw (← h0, ← h1, ← h2, ← h3, ← h4) refl
 
 module _ (name : List ℕ) (d : Data) (result : Result FieldItem ItemFault) where
   pub bit_by_lit : true ≡ bytes_eq name (codes "lit") → Reads result (bit_literal d) → Reads result (bit_item name d)
@@ -39,5 +42,8 @@ module _ (name : List ℕ) (d : Data) (result : Result FieldItem ItemFault) wher
   pub bit_by_fill : false ≡ bytes_eq name (codes "lit") → false ≡ bytes_eq name (codes "numpad") → false ≡ bytes_eq name (codes "num") → false ≡ bytes_eq name (codes "ascii7") → true ≡ bytes_eq name (codes "fill") → Reads result (fill d) → Reads result (bit_item name d)
   bit_by_fill h0 h1 h2 h3 h4 own = rw (← h0, ← h1, ← h2, ← h3, ← h4) own
 
-pub bit_by_none : (name : List ℕ) (d : Data) → false ≡ bytes_eq name (codes "lit") → false ≡ bytes_eq name (codes "numpad") → false ≡ bytes_eq name (codes "num") → false ≡ bytes_eq name (codes "ascii7") → false ≡ bytes_eq name (codes "fill") → Reads {X = FieldItem} (Err Bad) (bit_item name d)
-bit_by_none name d h0 h1 h2 h3 h4 = rw (← h0, ← h1, ← h2, ← h3, ← h4) refl
+  pub bit_by_numstr : false ≡ bytes_eq name (codes "lit") → false ≡ bytes_eq name (codes "numpad") → false ≡ bytes_eq name (codes "num") → false ≡ bytes_eq name (codes "ascii7") → false ≡ bytes_eq name (codes "fill") → true ≡ bytes_eq name (codes "numstr") → Reads result (numstr d) → Reads result (bit_item name d)
+  bit_by_numstr h0 h1 h2 h3 h4 h5 own = rw (← h0, ← h1, ← h2, ← h3, ← h4, ← h5) own
+
+pub bit_by_none : (name : List ℕ) (d : Data) → false ≡ bytes_eq name (codes "lit") → false ≡ bytes_eq name (codes "numpad") → false ≡ bytes_eq name (codes "num") → false ≡ bytes_eq name (codes "ascii7") → false ≡ bytes_eq name (codes "fill") → false ≡ bytes_eq name (codes "numstr") → Reads {X = FieldItem} (Err Bad) (bit_item name d)
+bit_by_none name d h0 h1 h2 h3 h4 h5 = rw (← h0, ← h1, ← h2, ← h3, ← h4, ← h5) refl

@@ -1,5 +1,5 @@
 -- All bytes are the document of some rows, or have a first error of their form: one, and no other.
-use Rattle.std.proofs.Common.{◌≡◌, ℕ, true, false, List, [], ◌∷◌, Option, Some, None, slice_get, codes, refl, sym, ◌∙◌, ◌⊎◌, inl, inr}
+use Rattle.std.proofs.Common.{◌≡◌, ℕ, Bool, true, false, List, [], ◌∷◌, Option, Some, None, slice_get, codes, refl, sym, ap, ◌∙◌, ◌⊎◌, inl, inr}
 use Rattle.std.specs.Prelude.{IsUtf8}
 use Rattle.std.specs.Str.{is_utf8}
 use Rattle.std.proofs.lemmas.Str.{IsUtf8-from_is_utf8, is_utf8-from_IsUtf8}
@@ -14,9 +14,9 @@ use Rattle.gs_tables_document.specs.declared.document.Document.{Document}
 use Rattle.gs_tables_document.specs.declared.document.KindRow.{KindRow}
 use Rattle.gs_tables_document.specs.declared.document.OptionRow.{OptionRow}
 use Rattle.gs_json.specs.Members.{number_in, items_in, text_in, truth_in}
-use Rattle.gs_tables_document.specs.Documents.{Each, IsAiRow, IsDocument, IsItemAt, IsKindRow, IsOptionRow, IsPartOf, IsText, document_errors, of_bits, of_texts, text_of}
+use Rattle.gs_tables_document.specs.Documents.{Each, IsAiRow, IsDocument, IsItemAt, IsKindRow, IsOptionRow, IsPartOf, IsText, document_errors, is_second, of_bits, of_texts, part_in, text_of}
 use Rattle.gs_tables_document.specs.declared.read_mode.Reading.{Reading}
-use Rattle.gs_tables_document.specs.Items.{FieldItem, item_of}
+use Rattle.gs_tables_document.specs.Items.{FieldItem, item_in, item_of}
 use Rattle.gs_tables_document.specs.Readings.{Holds, IsFormError, IsJson}
 use Rattle.gs_tables_document.proofs.PartWords.{one_part, one_role, some_part, some_role}
 
@@ -47,45 +47,47 @@ one_item : (reading : Reading) (d : Data) (a b : Option FieldItem) → IsItemAt 
 one_item reading d a b e f = e ∙ sym f
 
 some_item : (reading : Reading) (d : Data) → (entry : Option FieldItem) × IsItemAt reading d entry
-some_item reading d = (item_of reading.bits d, refl)
+some_item reading d = (item_in reading.second (item_of reading.bits d), refl)
 
-one_part_of : (d : Data) (a b : Part) → IsPartOf d a → IsPartOf d b → a ≡ b
-one_part_of d a b e f = one_part (text_of d) a b e f
+one_part_of : (second : Bool) (d : Data) (a b : Part) → IsPartOf second d a → IsPartOf second d b → a ≡ b
+one_part_of second d a b e f = e.2 ∙ ap (part_in second) (one_part (text_of d) e.0 f.0 e.1 f.1) ∙ sym f.2
 
-some_part_of : (d : Data) → (p : Part) × IsPartOf d p
-some_part_of d = some_part (text_of d)
+some_part_of : (second : Bool) (d : Data) → (p : Part) × IsPartOf second d p
+some_part_of second d = let some = some_part (text_of d) in (part_in second some.0, (some.0, some.1, refl))
 
 -- ---- the rows of application identifiers, kinds and options
 
 same_ai_rows : (a b : AiRow) → a.code ≡ b.code → a.parts ≡ b.parts → a.role ≡ b.role → a.qualifiers ≡ b.qualifiers → a.short ≡ b.short → a.none ≡ b.none → a ≡ b
 same_ai_rows a b e f g h i j = rw (e, f, g, h, i, j) refl
 
-one_ai_row : (d : Data) (a b : AiRow) → IsAiRow d a → IsAiRow d b → a ≡ b
-one_ai_row d a b e f =
-    same_ai_rows a b (e.code ∙ sym f.code) (each_one IsPartOf one_part_of (items_in (codes "parts") d) a.parts b.parts e.parts f.parts)
+one_ai_row : (second : Bool) (d : Data) (a b : AiRow) → IsAiRow second d a → IsAiRow second d b → a ≡ b
+one_ai_row second d a b e f =
+    same_ai_rows a b (e.code ∙ sym f.code) (each_one (IsPartOf second) (one_part_of second) (items_in (codes "parts") d) a.parts b.parts e.parts f.parts)
     (one_role (text_in (codes "role") d) a.role b.role e.role f.role) (each_one IsText one_text (items_in (codes "qualifiers") d) a.qualifiers b.qualifiers e.qualifiers f.qualifiers)
     (e.short ∙ sym f.short) (e.none ∙ sym f.none)
 
-some_ai_row : (d : Data) → (row : AiRow) × IsAiRow d row
-some_ai_row d =
-    let parts = each_some IsPartOf some_part_of (items_in (codes "parts") d) in
+some_ai_row : (second : Bool) (d : Data) → (row : AiRow) × IsAiRow second d row
+some_ai_row second d =
+    let parts = each_some (IsPartOf second) (some_part_of second) (items_in (codes "parts") d) in
     let role = some_role (text_in (codes "role") d) in
     let qualifiers = each_some IsText some_text (items_in (codes "qualifiers") d) in (
       record { code = text_in (codes "code") d; parts = parts.0; role = role.0; qualifiers = qualifiers.0; short = truth_in (codes "short") d; none = text_in (codes "none") d },
       record { code = refl; parts = parts.1; role = role.1; qualifiers = qualifiers.1; short = refl; none = refl },
     )
 
-same_kind_rows : (a b : KindRow) → a.name ≡ b.name → a.key ≡ b.key → a.lead ≡ b.lead → a.serial ≡ b.serial → a ≡ b
-same_kind_rows a b e f g h = rw (e, f, g, h) refl
+same_kind_rows : (a b : KindRow) → a.name ≡ b.name → a.key ≡ b.key → a.lead ≡ b.lead → a.serial ≡ b.serial → a.fields ≡ b.fields → a ≡ b
+same_kind_rows a b e f g h i = rw (e, f, g, h, i) refl
 
 one_kind_row : (d : Data) (a b : KindRow) → IsKindRow d a → IsKindRow d b → a ≡ b
 one_kind_row d a b e f = same_kind_rows a b (e.name ∙ sym f.name) (e.key ∙ sym f.key) (e.lead ∙ sym f.lead) (e.serial ∙ sym f.serial)
+    (each_one IsText one_text (items_in (codes "fields") d) a.fields b.fields e.fields f.fields)
 
 some_kind_row : (d : Data) → (row : KindRow) × IsKindRow d row
-some_kind_row d = (
-  record { name = text_in (codes "name") d; key = text_in (codes "key") d; lead = number_in (codes "lead") d; serial = text_in (codes "serial") d },
-  record { name = refl; key = refl; lead = refl; serial = refl },
-)
+some_kind_row d =
+    let fields = each_some IsText some_text (items_in (codes "fields") d) in (
+      record { name = text_in (codes "name") d; key = text_in (codes "key") d; lead = number_in (codes "lead") d; serial = text_in (codes "serial") d; fields = fields.0 },
+      record { name = refl; key = refl; lead = refl; serial = refl; fields = fields.1 },
+    )
 
 same_option_rows : (a b : OptionRow) → a.kind ≡ b.kind → a.encoding ≡ b.encoding → a.gcp ≡ b.gcp → a.items ≡ b.items → a ≡ b
 same_option_rows a b e f g h = rw (e, f, g, h) refl
@@ -109,19 +111,19 @@ same_documents a b e f g h i j = rw (e, f, g, h, i, j) refl
 
 one_document : (d : Data) (a b : Document) → IsDocument d a → IsDocument d b → a ≡ b
 one_document d a b e f =
-    same_documents a b (e.version ∙ sym f.version) (each_one IsAiRow one_ai_row (items_in (codes "ais") d) a.ais b.ais e.ais f.ais)
+    same_documents a b (e.version ∙ sym f.version) (each_one (IsAiRow (is_second d)) (one_ai_row (is_second d)) (items_in (codes "ais") d) a.ais b.ais e.ais f.ais)
     (each_one IsKindRow one_kind_row (items_in (codes "kinds") d) a.kinds b.kinds e.kinds f.kinds)
-    (each_one (IsOptionRow of_bits) (one_option_row of_bits) (items_in (codes "binary") d) a.binary b.binary e.binary f.binary)
-    (each_one (IsOptionRow of_texts) (one_option_row of_texts) (items_in (codes "tag") d) a.tag b.tag e.tag f.tag)
-    (each_one (IsOptionRow of_texts) (one_option_row of_texts) (items_in (codes "pure") d) a.pure b.pure e.pure f.pure)
+    (each_one (IsOptionRow (of_bits d)) (one_option_row (of_bits d)) (items_in (codes "binary") d) a.binary b.binary e.binary f.binary)
+    (each_one (IsOptionRow (of_texts d)) (one_option_row (of_texts d)) (items_in (codes "tag") d) a.tag b.tag e.tag f.tag)
+    (each_one (IsOptionRow (of_texts d)) (one_option_row (of_texts d)) (items_in (codes "pure") d) a.pure b.pure e.pure f.pure)
 
 some_document : (d : Data) → (document : Document) × IsDocument d document
 some_document d =
-    let ais = each_some IsAiRow some_ai_row (items_in (codes "ais") d) in
+    let ais = each_some (IsAiRow (is_second d)) (some_ai_row (is_second d)) (items_in (codes "ais") d) in
     let kinds = each_some IsKindRow some_kind_row (items_in (codes "kinds") d) in
-    let binary = each_some (IsOptionRow of_bits) (some_option_row of_bits) (items_in (codes "binary") d) in
-    let tag = each_some (IsOptionRow of_texts) (some_option_row of_texts) (items_in (codes "tag") d) in
-    let pure = each_some (IsOptionRow of_texts) (some_option_row of_texts) (items_in (codes "pure") d) in (
+    let binary = each_some (IsOptionRow (of_bits d)) (some_option_row (of_bits d)) (items_in (codes "binary") d) in
+    let tag = each_some (IsOptionRow (of_texts d)) (some_option_row (of_texts d)) (items_in (codes "tag") d) in
+    let pure = each_some (IsOptionRow (of_texts d)) (some_option_row (of_texts d)) (items_in (codes "pure") d) in (
       record { version = number_in (codes "version") d; ais = ais.0; kinds = kinds.0; binary = binary.0; tag = tag.0; pure = pure.0 },
       record { version = refl; ais = ais.1; kinds = kinds.1; binary = binary.1; tag = tag.1; pure = pure.1 },
     )

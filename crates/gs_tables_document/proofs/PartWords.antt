@@ -5,7 +5,7 @@ use Rattle.std.proofs.lemmas.Bool.Decides.{nat_tests}
 use Rattle.gs_chars.specs.Characters.{is_digit}
 use Rattle.gs_chars.proofs.TruthsAndLists.{and_first, and_second, and_true, equal_bytes, same_bytes, true_or_false}
 use Rattle.gs_ai.specs.declared.part.Part.{Part}
-use Rattle.gs_ai.specs.declared.part.Part.TheVariants.{Zero, Num, NumCheck, NumUpTo, Set, SetOpt, Date, Other}
+use Rattle.gs_ai.specs.declared.part.Part.TheVariants.{Zero, Num, NumCheck, NumUpTo, NumOpt, Set, SetOpt, Date, Other}
 use Rattle.gs_ai.specs.declared.part.Role.{Role}
 use Rattle.gs_ai.specs.declared.part.Role.TheVariants as role
 use Rattle.gs_ai.specs.Parts.{is_part, part_text, role_text}
@@ -28,7 +28,8 @@ first_of (c ∷ cs) = c
 
 -- by `..`, a question mark and a `c` at the end, and an `x` at the beginning
 abbrev by_marks : Bool → Bool → Bool → Bool → ℕ → Part
-by_marks true true end start n = SetOpt n
+by_marks true true end true n = SetOpt n
+by_marks true true end false n = NumOpt n
 by_marks true false end true n = Set n
 by_marks true false end false n = NumUpTo n
 by_marks false mark true start n = NumCheck n
@@ -46,6 +47,7 @@ is_same Date Date = true
 is_same (Num a) (Num b) = a == b
 is_same (NumCheck a) (NumCheck b) = a == b
 is_same (NumUpTo a) (NumUpTo b) = a == b
+is_same (NumOpt a) (NumOpt b) = a == b
 is_same (Set a) (Set b) = a == b
 is_same (SetOpt a) (SetOpt b) = a == b
 is_same _ _ = false
@@ -59,6 +61,7 @@ same_part Date Date h = refl
 same_part (Num a) (Num b) h = ap Num (equal_numbers a b h)
 same_part (NumCheck a) (NumCheck b) h = ap NumCheck (equal_numbers a b h)
 same_part (NumUpTo a) (NumUpTo b) h = ap NumUpTo (equal_numbers a b h)
+same_part (NumOpt a) (NumOpt b) h = ap NumOpt (equal_numbers a b h)
 same_part (Set a) (Set b) h = ap Set (equal_numbers a b h)
 same_part (SetOpt a) (SetOpt b) h = ap SetOpt (equal_numbers a b h)
 same_part p q h = absurd (let e : false ≡ true = h in cc)
@@ -90,6 +93,7 @@ read_back Date h = refl
 read_back (Num k) h = kept Num k refl (small 1 18 k h (omega arith))
 read_back (NumCheck k) h = kept NumCheck k refl (small 2 18 k h (omega arith))
 read_back (NumUpTo k) h = kept NumUpTo k refl (small 1 18 k h (omega arith))
+read_back (NumOpt k) h = kept NumOpt k refl (small 1 18 k h (omega arith))
 read_back (Set k) h = kept Set k refl (small 1 90 k h (omega arith))
 read_back (SetOpt k) h = kept SetOpt k refl (small 1 90 k h (omega arith))
 read_back Other h = absurd (let e : false ≡ true = h in cc)
@@ -105,6 +109,7 @@ other_or_not Date = inr (λ e. cc)
 other_or_not (Num k) = inr (λ e. cc)
 other_or_not (NumCheck k) = inr (λ e. cc)
 other_or_not (NumUpTo k) = inr (λ e. cc)
+other_or_not (NumOpt k) = inr (λ e. cc)
 other_or_not (Set k) = inr (λ e. cc)
 other_or_not (SetOpt k) = inr (λ e. cc)
 other_or_not Other = inl refl

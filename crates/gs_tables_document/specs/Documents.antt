@@ -1,5 +1,5 @@
 -- Table documents in JSON, this project's own profile: the form of a document, and its rows.
-use Rattle.std.specs.Prelude.{◌≡◌, ◌≢◌, ℕ, Bool, true, false, List, [], ◌∷◌, ◌++◌, codes, Option, unwrap_or}
+use Rattle.std.specs.Prelude.{◌≡◌, ◌≢◌, ◌==◌, ℕ, Bool, true, false, List, [], ◌∷◌, ◌++◌, codes, Option, unwrap_or}
 use Rattle.std.specs.List.{flat_map, enumerate_from}
 use Rattle.serde_json.specs.Data.{Data}
 use Rattle.serde_json.specs.Find.{as_object, as_str}
@@ -21,7 +21,7 @@ use Rattle.gs_tables_document.specs.declared.document.OptionRow.{OptionRow}
 use Rattle.gs_tables_document.specs.declared.level_name.LevelName.{LevelName}
 use Rattle.gs_tables_document.specs.declared.level_name.LevelName.TheVariants.{Binary, Tag, Pure}
 use Rattle.gs_tables_document.specs.declared.read_mode.Reading.{Reading}
-use Rattle.gs_tables_document.specs.Items.{FieldItem, item_of}
+use Rattle.gs_tables_document.specs.Items.{FieldItem, item_in, item_of}
 
 -- ---- the form of a document
 
@@ -33,13 +33,18 @@ document_plan = must (codes "version") Number ∷ must (codes "ais") Array ∷ m
 abbrev pub ai_plan : List Entry
 ai_plan = must (codes "code") Text ∷ must (codes "parts") Texts ∷ must (codes "role") Text ∷ may (codes "qualifiers") Texts ∷ may (codes "short") Truth ∷ may (codes "none") Text ∷ []
 
--- trusted, own: the members of a kind
-abbrev pub kind_plan : List Entry
-kind_plan = must (codes "name") Text ∷ must (codes "key") Text ∷ must (codes "lead") Number ∷ must (codes "serial") Text ∷ []
+-- trusted, own: the members of a kind, of a document of version 2 and of one of another version
+abbrev pub kind_plan : Bool → List Entry
+kind_plan false = must (codes "name") Text ∷ must (codes "key") Text ∷ must (codes "lead") Number ∷ must (codes "serial") Text ∷ []
+kind_plan true = must (codes "name") Text ∷ must (codes "key") Text ∷ must (codes "lead") Number ∷ must (codes "serial") Text ∷ must (codes "fields") Texts ∷ []
 
 -- trusted, own: the members of an option
 abbrev pub option_plan : List Entry
 option_plan = must (codes "kind") Text ∷ must (codes "encoding") Text ∷ must (codes "gcp") Number ∷ must (codes "items") Arrays ∷ []
+
+-- trusted, own: the document is of version 2
+abbrev pub is_second : Data → Bool
+is_second d = number_in (codes "version") d == 2
 
 -- trusted, own: the errors of an object by its plan
 abbrev pub object_errors : List ℕ → List Entry → Data → List JsonFault
@@ -58,7 +63,7 @@ unfoldable pub document_errors : Data → List JsonFault
 document_errors d =
     object_errors [] document_plan d
     ++ (rows_errors (codes "ais") ai_plan d
-    ++ (rows_errors (codes "kinds") kind_plan d
+    ++ (rows_errors (codes "kinds") (kind_plan (is_second d)) d
     ++ (rows_errors (codes "binary") option_plan d
     ++ (rows_errors (codes "tag") option_plan d
     ++ rows_errors (codes "pure") option_plan d))))
@@ -95,14 +100,19 @@ pub record IsRole (text : List ℕ) (r : Role) : Type 0 where
   pub written : r ≢ role.Other → role_text r ≡ text
   pub other : r ≡ role.Other → WritesNoRole text
 
--- trusted, own: the part is the one that the text here writes
-abbrev pub IsPartOf : Data → Part → Type 0
-IsPartOf d p = IsPart (text_of d) p
+-- trusted, own: what a document of version 2 reads a part as, and one of another version, which has no part `n..K?`
+abbrev pub part_in : Bool → Part → Part
+part_in false (part.NumOpt _) = part.Other
+part_in _ p = p
 
--- trusted, own: a row of application identifiers
-pub record IsAiRow (d : Data) (row : AiRow) : Type 0 where
+-- trusted, own: the part is the one that the text here writes, in a document of version 2 or of another
+abbrev pub IsPartOf : Bool → Data → Part → Type 0
+IsPartOf second d p = (q : Part) × IsPart (text_of d) q × (p ≡ part_in second q)
+
+-- trusted, own: a row of application identifiers, in a document of version 2 or of another
+pub record IsAiRow (second : Bool) (d : Data) (row : AiRow) : Type 0 where
   pub code : row.code ≡ text_in (codes "code") d
-  pub parts : Each IsPartOf (items_in (codes "parts") d) row.parts
+  pub parts : Each (IsPartOf second) (items_in (codes "parts") d) row.parts
   pub role : IsRole (text_in (codes "role") d) row.role
   pub qualifiers : Each IsText (items_in (codes "qualifiers") d) row.qualifiers
   pub short : row.short ≡ truth_in (codes "short") d
@@ -114,18 +124,19 @@ pub record IsKindRow (d : Data) (row : KindRow) : Type 0 where
   pub key : row.key ≡ text_in (codes "key") d
   pub lead : row.lead ≡ number_in (codes "lead") d
   pub serial : row.serial ≡ text_in (codes "serial") d
+  pub fields : Each IsText (items_in (codes "fields") d) row.fields
 
--- trusted, own: how the options of a bit level are read
-abbrev pub of_bits : Reading
-of_bits = record { bits = true }
+-- trusted, own: how the options of a bit level of the document are read
+abbrev pub of_bits : Data → Reading
+of_bits document = record { bits = true; second = is_second document }
 
--- trusted, own: how the options of a text level are read
-abbrev pub of_texts : Reading
-of_texts = record { bits = false }
+-- trusted, own: how the options of a text level of the document are read
+abbrev pub of_texts : Data → Reading
+of_texts document = record { bits = false; second = is_second document }
 
 -- trusted, own: the item that an array is, or none
 abbrev pub IsItemAt : Reading → Data → Option FieldItem → Type 0
-IsItemAt reading d entry = entry ≡ item_of reading.bits d
+IsItemAt reading d entry = entry ≡ item_in reading.second (item_of reading.bits d)
 
 -- trusted, own: an option of a bit level or of a text level
 pub record IsOptionRow (reading : Reading) (d : Data) (row : OptionRow) : Type 0 where
@@ -137,8 +148,8 @@ pub record IsOptionRow (reading : Reading) (d : Data) (row : OptionRow) : Type 0
 -- trusted, own: the rows of a document
 pub record IsDocument (d : Data) (document : Document) : Type 0 where
   pub version : document.version ≡ number_in (codes "version") d
-  pub ais : Each IsAiRow (items_in (codes "ais") d) document.ais
+  pub ais : Each (IsAiRow (is_second d)) (items_in (codes "ais") d) document.ais
   pub kinds : Each IsKindRow (items_in (codes "kinds") d) document.kinds
-  pub binary : Each (IsOptionRow of_bits) (items_in (codes "binary") d) document.binary
-  pub tag : Each (IsOptionRow of_texts) (items_in (codes "tag") d) document.tag
-  pub pure : Each (IsOptionRow of_texts) (items_in (codes "pure") d) document.pure
+  pub binary : Each (IsOptionRow (of_bits d)) (items_in (codes "binary") d) document.binary
+  pub tag : Each (IsOptionRow (of_texts d)) (items_in (codes "tag") d) document.tag
+  pub pure : Each (IsOptionRow (of_texts d)) (items_in (codes "pure") d) document.pure

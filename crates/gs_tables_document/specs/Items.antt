@@ -1,5 +1,5 @@
 -- The items of an option as a table document writes them: an array that begins with the item's name. This project's own.
-use Rattle.std.specs.Prelude.{ℕ, ◌==◌, ◌^◌, nat_lt, Bool, true, false, if◌then◌else◌, List, map, codes, Option, Some, None, option_map, option_and_then, option_to_list, Result, Ok, Err, ◌≡◌, ◌-◌}
+use Rattle.std.specs.Prelude.{ℕ, ◌==◌, ◌&&◌, ◌^◌, nat_lt, Bool, true, false, if◌then◌else◌, List, map, codes, Option, Some, None, option_map, option_and_then, option_to_list, Result, Ok, Err, ◌≡◌, ◌-◌}
 use Rattle.std.specs.List.{flat_map}
 use Rattle.std.specs.Str.{bytes_eq}
 use Rattle.serde_json.specs.Data.{Data}
@@ -7,9 +7,9 @@ use Rattle.serde_json.specs.Find.{as_number, as_str, as_u64, at}
 use Rattle.gs_json.specs.Answers.{items_count}
 use Rattle.gs_bits.specs.Digits.{are_bit_digits}
 use Rattle.gs_grammar.specs.declared.item.Item.{Item}
-use Rattle.gs_grammar.specs.declared.item.Item.TheVariants.{Lit, Pad, Int, Esc, NumPad, Num, Ascii7, Fill}
+use Rattle.gs_grammar.specs.declared.item.Item.TheVariants.{Lit, Pad, Digits, Int, Esc, NumPad, Num, NumStr, Ascii7, Fill}
 use Rattle.gs_tables_document.specs.declared.field.Field.{Field}
-use Rattle.gs_tables_document.specs.declared.field.Field.TheVariants.{Filter, Gcp, Rest, Serial}
+use Rattle.gs_tables_document.specs.declared.field.Field.TheVariants.{Filter, Gcp, Rest, Piece, Total, Serial}
 use Rattle.gs_tables_document.specs.declared.error.ItemFault.{ItemFault}
 use Rattle.gs_tables_document.specs.declared.error.ItemFault.TheVariants.{Bad, Memory}
 
@@ -22,6 +22,8 @@ field_of name =
     else if bytes_eq name (codes "gcp") then Some Gcp
     else if bytes_eq name (codes "rest") then Some Rest
     else if bytes_eq name (codes "serial") then Some Serial
+    else if bytes_eq name (codes "piece") then Some Piece
+    else if bytes_eq name (codes "total") then Some Total
     else None
 
 -- trusted, own: a number that has room in this many bits
@@ -106,6 +108,10 @@ int d = sized 3 d (with_field d (option_map Int (number_arg 2 d)))
 abbrev pub esc : Data → Option FieldItem
 esc d = sized 4 d (with_field d (both (byte_arg 2 d) (byte_arg 3 d) Esc))
 
+-- trusted, own: `["digits", FIELD, lo, hi]`
+abbrev pub digits : Data → Option FieldItem
+digits d = sized 4 d (with_field d (both (byte_arg 2 d) (byte_arg 3 d) Digits))
+
 -- trusted, own: `["numpad", FIELD, bits, n]`
 abbrev pub numpad : Data → Option FieldItem
 numpad d = sized 4 d (with_field d (both (byte_arg 2 d) (byte_arg 3 d) NumPad))
@@ -113,6 +119,10 @@ numpad d = sized 4 d (with_field d (both (byte_arg 2 d) (byte_arg 3 d) NumPad))
 -- trusted, own: `["num", FIELD, bits, max]`
 abbrev pub num : Data → Option FieldItem
 num d = sized 4 d (with_field d (both (byte_arg 2 d) (number_arg 3 d) Num))
+
+-- trusted, own: `["numstr", FIELD, bits, hi]`
+abbrev pub numstr : Data → Option FieldItem
+numstr d = sized 4 d (with_field d (both (byte_arg 2 d) (byte_arg 3 d) NumStr))
 
 -- trusted, own: `["ascii7", FIELD, lo, hi, bits]`
 abbrev pub ascii7 : Data → Option FieldItem
@@ -129,6 +139,7 @@ text_item name d =
     else if bytes_eq name (codes "pad") then pad d
     else if bytes_eq name (codes "int") then int d
     else if bytes_eq name (codes "esc") then esc d
+    else if bytes_eq name (codes "digits") then digits d
     else None
 
 -- trusted, own: the items of a bit level by their names
@@ -139,12 +150,32 @@ bit_item name d =
     else if bytes_eq name (codes "num") then num d
     else if bytes_eq name (codes "ascii7") then ascii7 d
     else if bytes_eq name (codes "fill") then fill d
+    else if bytes_eq name (codes "numstr") then numstr d
     else None
 
 -- trusted, own: the item of a bit level or of a text level that the array is, and its field
 abbrev pub item_of : Bool → Data → Option FieldItem
 item_of true d = option_and_then (λ name. bit_item name d) (text_arg 0 d)
 item_of false d = option_and_then (λ name. text_item name d) (text_arg 0 d)
+
+-- trusted, own: the item is one of version 1 of the profile
+abbrev pub is_first_item : Item → Bool
+is_first_item (Digits _ _) = false
+is_first_item (NumStr _ _) = false
+is_first_item _ = true
+
+-- trusted, own: the field is one of version 1 of the profile
+abbrev pub is_first_field : Option Field → Bool
+is_first_field (Some Piece) = false
+is_first_field (Some Total) = false
+is_first_field _ = true
+
+-- trusted, own: what a document of version 2 reads an item as, and one of another version: it has no item there that
+-- version 1 does not have
+abbrev pub item_in : Bool → Option FieldItem → Option FieldItem
+item_in true answer = answer
+item_in false answer =
+    option_and_then (λ (i : FieldItem). if is_first_field i.0 && is_first_item i.1 then Some i else None) answer
 
 -- trusted, own: the answer is this one, and `Bad` exactly where there is none
 abbrev pub Reads : {X : Type 0} → Result X ItemFault → Option X → Type 0

@@ -17,6 +17,8 @@ pub struct KindRow {
     pub lead: u64,
     /// Where the serial stands: the code of its element, `tail`, or empty for nowhere.
     pub serial: Text,
+    /// The names of the further fields, in their order. A document of version 1 has none.
+    pub fields: List<Text>,
 }
 
 /// An option as a document has it, before it is judged.

@@ -23,7 +23,7 @@ pub enum LimitName {
 pub enum LoadFault {
     /// The document is not of the form of a table document.
     Json(JsonFault),
-    /// The version is not 1.
+    /// The version is neither 1 nor 2.
     Version,
     /// There is more than the limit allows.
     Limit(LimitName),

@@ -10,6 +10,10 @@ pub enum Field {
     Gcp,
     /// What follows the prefix in the key.
     Rest,
+    /// The number of the piece, where the key has pieces.
+    Piece,
+    /// How many pieces there are.
+    Total,
     /// The serial.
     Serial,
 }
@@ -27,6 +31,10 @@ impl Field {
             Some(Field::Rest)
         } else if text == b"serial".as_slice() {
             Some(Field::Serial)
+        } else if text == b"piece".as_slice() {
+            Some(Field::Piece)
+        } else if text == b"total".as_slice() {
+            Some(Field::Total)
         } else {
             None
         }

@@ -1,6 +1,6 @@
 ghost use Rattle.std.specs.Prelude.{◌≡◌, option_map};
 ghost use Rattle.serde_json.specs.View.{view};
-ghost use Rattle.gs_tables_document.specs.Items.{Reads, ascii7, bit_literal, esc, fill, int, literal, num, numpad, pad};
+ghost use Rattle.gs_tables_document.specs.Items.{Reads, ascii7, bit_literal, digits, esc, fill, int, literal, num, numpad, numstr, pad};
 ghost use Rattle.gs_tables_document.specs.ItemsSupport.{literal_text};
 
 use crate::document::FieldItem;
@@ -68,6 +68,15 @@ pub(crate) fn read_esc(item: &Value) -> Option<FieldItem>
     Some((Some(field), Item::Esc { lo, hi }))
 }
 
+/// `["digits", FIELD, lo, hi]`.
+pub(crate) fn read_digits(item: &Value) -> Option<FieldItem>
+    ensures { result ≡ digits (view item.now) }
+{
+    let field = field_arg(item, 4)?;
+    let (lo, hi) = two_bytes(item, 2)?;
+    Some((Some(field), Item::Digits { lo, hi }))
+}
+
 /// `["numpad", FIELD, bits, n]`.
 pub(crate) fn read_numpad(item: &Value) -> Option<FieldItem>
     ensures { result ≡ numpad (view item.now) }
@@ -85,6 +94,15 @@ pub(crate) fn read_num(item: &Value) -> Option<FieldItem>
     let bits = byte_arg(item, 2)?;
     let max = number_arg(item, 3)?;
     Some((Some(field), Item::Num { bits, max }))
+}
+
+/// `["numstr", FIELD, bits, hi]`.
+pub(crate) fn read_numstr(item: &Value) -> Option<FieldItem>
+    ensures { result ≡ numstr (view item.now) }
+{
+    let field = field_arg(item, 4)?;
+    let (bits, hi) = two_bytes(item, 2)?;
+    Some((Some(field), Item::NumStr { bits, hi }))
 }
 
 /// `["ascii7", FIELD, lo, hi, bits]`.

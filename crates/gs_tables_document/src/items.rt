@@ -5,8 +5,8 @@ use crate::document::FieldItem;
 use crate::error::ItemFault;
 use crate::item_args::text_arg;
 use crate::item_forms::{
-    read_ascii7, read_bits, read_esc, read_fill, read_int, read_literal, read_num, read_numpad,
-    read_pad,
+    read_ascii7, read_bits, read_digits, read_esc, read_fill, read_int, read_literal, read_num,
+    read_numpad, read_numstr, read_pad,
 };
 use gs_json::Node;
 use serde_json::Value;
@@ -58,6 +58,8 @@ fn read_text_item(alloc: Global, item: &Value, name: &[u8]) -> Result<FieldItem,
         found(read_int(item))
     } else if name == b"esc".as_slice() {
         found(read_esc(item))
+    } else if name == b"digits".as_slice() {
+        found(read_digits(item))
     } else {
         Err(ItemFault::Bad)
     }
@@ -77,6 +79,8 @@ fn read_bit_item(alloc: Global, item: &Value, name: &[u8]) -> Result<FieldItem, 
         found(read_ascii7(item))
     } else if name == b"fill".as_slice() {
         found(read_fill(item))
+    } else if name == b"numstr".as_slice() {
+        found(read_numstr(item))
     } else {
         Err(ItemFault::Bad)
     }

@@ -1,4 +1,4 @@
-use gs_chars::Text;
+use gs_chars::{List, Text};
 
 /// Where the serial of a kind of key stands.
 #[derive(Drop)]
@@ -21,6 +21,8 @@ pub struct Kind {
     pub lead: u8,
     /// Where the serial stands.
     pub serial: SerialAt,
+    /// How many digits the piece and the total have, which stand behind the check digit; empty for a kind without them.
+    pub further: List<u8>,
 }
 
 // by hand, so that a function that drops a kind calls this: a derived drop is written out at each of its exits
@@ -31,6 +33,7 @@ impl Drop for Kind {
             key: _,
             lead: _,
             serial: _,
+            further: _,
         } = self;
     }
 }

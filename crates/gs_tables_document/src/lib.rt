@@ -6,11 +6,11 @@
 //!
 //! # Example
 //!
-//! An item of a tag URI: a company prefix of seven digits. The gate runs this case, for which
-//! crates/vectors_texts/src/tables.rt makes the call, under the name that gs_tables lends it.
+//! An item of a tag URI: a company prefix of seven digits. The gate runs this case, for which crates/vectors_texts/src/rows.rt makes
+//! the call.
 //!
 //! ```text
-//! gs_tables::read_item tag ["pad","gcp",7]
+//! gs_tables_document::read_item tag ["pad","gcp",7]
 //! gcp=pad:7
 //! ```
 //!

@@ -39,10 +39,22 @@ pub(crate) fn ai_plan(alloc: Global) -> Result<List<Entry>, Memory>
     )
 }
 
-/// The members of a kind.
-pub(crate) fn kind_plan(alloc: Global) -> Result<List<Entry>, Memory>
-    ensures { IfOk result (λ plan. plan ≡ kind_plan) }
+/// The members of a kind, of a document of version 2 and of one of another version.
+pub(crate) fn kind_plan(alloc: Global, second: bool) -> Result<List<Entry>, Memory>
+    ensures { IfOk result (λ plan. plan ≡ kind_plan second) }
 {
+    if second {
+        return plan_of(
+            alloc,
+            &[
+                (b"name", true, Sort::Text),
+                (b"key", true, Sort::Text),
+                (b"lead", true, Sort::Number),
+                (b"serial", true, Sort::Text),
+                (b"fields", true, Sort::Texts),
+            ],
+        );
+    }
     plan_of(
         alloc,
         &[

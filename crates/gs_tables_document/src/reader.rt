@@ -3,7 +3,7 @@ ghost use Rattle.serde_json.specs.View.{view};
 ghost use Rattle.gs_json.specs.Answers.{OrMemory};
 ghost use Rattle.gs_json.specs.Shapes.{first_error};
 ghost use Rattle.gs_json.specs.Members.{items_of};
-ghost use Rattle.gs_tables_document.specs.Documents.{IsDocument, ai_plan, document_errors, document_plan, kind_plan, object_errors, option_plan, row_errors, rows_errors};
+ghost use Rattle.gs_tables_document.specs.Documents.{IsDocument, ai_plan, document_errors, document_plan, is_second, kind_plan, object_errors, of_bits, of_texts, option_plan, row_errors, rows_errors};
 ghost use Rattle.gs_tables_document.specs.DocumentsSupport.{AreOptions};
 ghost use Rattle.gs_tables_document.specs.Readings.{Holds, IsFormRejection, IsJson};
 ghost use Rattle.gs_tables_document.specs.ReadingsSupport.{of_json};
@@ -17,12 +17,6 @@ use gs_chars::{List, Memory};
 use gs_json::{Doc, Entry, JsonFault, Node, number_in};
 use serde_json::Value;
 use std::alloc::Global;
-
-/// How the options of bits are read.
-const BITS: Reading = Reading { bits: true };
-
-/// How all other rows are read.
-const TEXTS: Reading = Reading { bits: false };
 
 /// The rows of the table document that the bytes are, or the first error of its form, as `Json`: the bytes are no JSON
 /// text, or the document or a row has not the form of its kind. `Memory` may come in place of any answer.
@@ -94,9 +88,10 @@ fn judge_ais(alloc: Global, root: &Node<'_>) -> Result<(), JsonFault>
 /// The first error of the rows of kinds.
 fn judge_kinds(alloc: Global, root: &Node<'_>) -> Result<(), JsonFault>
     requires { root.now.place ≡ [] }
-    ensures { OrMemory result (first_error (rows_errors (codes "kinds") kind_plan (view root.now.tree))) }
+    ensures { OrMemory result (first_error
+        (rows_errors (codes "kinds") (kind_plan (is_second (view root.now.tree))) (view root.now.tree))) }
 {
-    let plan = kind_plan(alloc)?;
+    let plan = kind_plan(alloc, is_second(root.value()))?;
     judge_rows(alloc, root, "kinds", plan.items())
 }
 
@@ -134,13 +129,41 @@ fn judge_items(alloc: Global, array: &Node<'_>, plan: &[Entry]) -> Result<(), Js
     Ok(())
 }
 
+/// Whether the document is of version 2.
+fn is_second(root: &Value) -> bool
+    ensures { result ≡ is_second (view root.now) }
+{
+    number_in(root, "version") == 2
+}
+
+/// How the options of the bit level of the document are read.
+fn of_bits(root: &Value) -> Reading
+    ensures { result ≡ of_bits (view root.now) }
+{
+    Reading {
+        bits: true,
+        second: is_second(root),
+    }
+}
+
+/// How all other rows of the document are read.
+fn of_texts(root: &Value) -> Reading
+    ensures { result ≡ of_texts (view root.now) }
+{
+    Reading {
+        bits: false,
+        second: is_second(root),
+    }
+}
+
 /// The rows of a document.
 fn rows_of(alloc: Global, root: &Value) -> Result<Document, Memory>
     ensures { IfOk result (λ document. IsDocument (view root.now) document) }
 {
     let version = number_in(root, "version");
-    let ais = read_rows(alloc, root, "ais", TEXTS)?;
-    let kinds = read_rows(alloc, root, "kinds", TEXTS)?;
+    let texts = of_texts(root);
+    let ais = read_rows(alloc, root, "ais", texts)?;
+    let kinds = read_rows(alloc, root, "kinds", texts)?;
     let (binary, tag, pure) = options_of(alloc, root)?;
     Ok(Document {
         version,
@@ -159,9 +182,11 @@ fn options_of(
 ) -> Result<(List<OptionRow>, List<OptionRow>, List<OptionRow>), Memory>
     ensures { IfOk result (AreOptions (view root.now)) }
 {
+    let bits = of_bits(root);
+    let texts = of_texts(root);
     Ok((
-        read_rows(alloc, root, "binary", BITS)?,
-        read_rows(alloc, root, "tag", TEXTS)?,
-        read_rows(alloc, root, "pure", TEXTS)?,
+        read_rows(alloc, root, "binary", bits)?,
+        read_rows(alloc, root, "tag", texts)?,
+        read_rows(alloc, root, "pure", texts)?,
     ))
 }

@@ -1,16 +1,19 @@
-ghost use Rattle.std.specs.Prelude.{IfOk, codes, map};
+ghost use Rattle.std.specs.Prelude.{◌≡◌, IfOk, Some, codes, map};
 ghost use Rattle.serde_json.specs.View.{view};
 ghost use Rattle.gs_json.specs.Members.{items_in, text_in};
-ghost use Rattle.gs_tables_document.specs.Documents.{Each, IsRole};
+ghost use Rattle.gs_tables_document.specs.Documents.{Each, IsRole, part_in};
+ghost use Rattle.gs_tables_document.specs.Items.{is_first_field, is_first_item, item_in};
 ghost use Rattle.gs_tables_document.specs.DocumentsSupport.{AreAiLists};
 
 use crate::document::{FieldItem, KindRow, OptionRow};
 use crate::error::ItemFault;
+use crate::field::Field;
 use crate::items::read_value;
 use crate::members::{copy_in, str_of};
 use crate::read_mode::Reading;
 use gs_ai::{AiRow, Part, Role};
 use gs_chars::{List, Memory, Text};
+use gs_grammar::Item;
 use gs_json::{items_in, number_in, text_in, truth_in};
 use serde_json::Value;
 use std::alloc::Global;
@@ -64,11 +67,47 @@ impl Row for Text {
 impl Row for Part {
     ghost use Rattle.gs_tables_document.specs.Documents.{IsPartOf};
 
-    ghost reads = { λ _ d part. IsPartOf d part };
+    ghost reads = { λ reading d part. IsPartOf reading.second d part };
 
-    fn read(alloc: Global, value: &Value, _reading: Reading) -> Result<Part, Memory> {
-        Ok(Part::read(str_of(value).as_bytes()))
+    fn read(alloc: Global, value: &Value, reading: Reading) -> Result<Part, Memory> {
+        let part = Part::read(str_of(value).as_bytes());
+        Ok(part_in(part, reading.second))
     }
+}
+
+/// What a document of version 2 reads the part as, and one of another version.
+fn part_in(part: Part, second: bool) -> Part
+    ensures { result ≡ part_in second part }
+{
+    match part {
+        Part::NumOpt(_) if !second => Part::Other,
+        other => other,
+    }
+}
+
+/// What a document of version 2 reads the item as, and one of another version.
+fn item_in(item: FieldItem, second: bool) -> Option<FieldItem>
+    ensures { result ≡ item_in second (Some item) }
+{
+    if second || (is_first_field(item.0) && is_first_item(&item.1)) {
+        Some(item)
+    } else {
+        None
+    }
+}
+
+/// Whether the field is one of version 1.
+fn is_first_field(field: Option<Field>) -> bool
+    ensures { result ≡ is_first_field field }
+{
+    !matches!(field, Some(Field::Piece | Field::Total))
+}
+
+/// Whether the item is one of version 1.
+fn is_first_item(item: &Item) -> bool
+    ensures { result ≡ is_first_item item.now }
+{
+    !matches!(item, Item::Digits { .. } | Item::NumStr { .. })
 }
 
 /// The role that the member `role` names.
@@ -84,7 +123,7 @@ fn lists_in(
     object: &Value,
     reading: Reading,
 ) -> Result<(List<Part>, List<Text>), Memory>
-    ensures { IfOk result (AreAiLists (view object.now)) }
+    ensures { IfOk result (AreAiLists reading.second (view object.now)) }
 {
     Ok((
         read_rows(alloc, object, "parts", reading)?,
@@ -95,7 +134,7 @@ fn lists_in(
 impl Row for AiRow {
     ghost use Rattle.gs_tables_document.specs.Documents.{IsAiRow};
 
-    ghost reads = { λ _ d row. IsAiRow d row };
+    ghost reads = { λ reading d row. IsAiRow reading.second d row };
 
     fn read(alloc: Global, value: &Value, reading: Reading) -> Result<AiRow, Memory> {
         let role = role_in(value);
@@ -119,12 +158,13 @@ impl Row for KindRow {
 
     ghost reads = { λ _ d row. IsKindRow d row };
 
-    fn read(alloc: Global, value: &Value, _reading: Reading) -> Result<KindRow, Memory> {
+    fn read(alloc: Global, value: &Value, reading: Reading) -> Result<KindRow, Memory> {
         Ok(KindRow {
             lead: number_in(value, "lead"),
             name: copy_in(alloc, value, "name")?,
             key: copy_in(alloc, value, "key")?,
             serial: copy_in(alloc, value, "serial")?,
+            fields: read_rows(alloc, value, "fields", reading)?,
         })
     }
 }
@@ -151,7 +191,7 @@ impl Row for Option<FieldItem> {
 
     fn read(alloc: Global, value: &Value, reading: Reading) -> Result<Option<FieldItem>, Memory> {
         match read_value(alloc, value, reading.bits) {
-            Ok(item) => Ok(Some(item)),
+            Ok(item) => Ok(item_in(item, reading.second)),
             Err(ItemFault::Bad) => Ok(None),
             Err(ItemFault::Memory) => Err(Memory),
         }

@@ -8,7 +8,7 @@
 //! crates/vectors_runs/src/translated_lines.rt makes the call: the status, the output, and what is left of the input.
 //!
 //! ```text
-//! tdl_run::answer_lines Pure Canon - - \e no https://id.gs1.org \e 38 / 1 - urn:epc:id:sgtin:0614141.812345.6789\x0Ax / 1000 -
+//! tdl_answers::answer_lines Pure Canon - - \e no https://id.gs1.org \e 38 / 1 - urn:epc:id:sgtin:0614141.812345.6789\x0Ax / 1000 -
 //! SomeRefused ok\x20https://id.gs1.org/01/80614141123458/21/6789\x0Ano\x20reading\x0A \e
 //! ```
 //!

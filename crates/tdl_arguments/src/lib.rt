@@ -5,11 +5,12 @@
 //!
 //! # Example
 //!
-//! Arguments that ask for nothing. The gate runs this case of a whole run, for which crates/vectors_runs/src/runs.rt makes the call.
+//! The filter value of a translation, and its other values by default: no length of a company prefix, no encoding, not keys alone,
+//! and the stem. The gate runs this case, for which crates/vectors_runs/src/arguments.rt makes the call.
 //!
 //! ```text
-//! tdl_run::run check --x y / - / 1 - \e / 100000 -
-//! Usage usage:\x20tdl\x20canon\x20FORM\x20|\x20translate\x20FROM\x20TO\x20|\x20check\x20|\x20resolve\x20|\x20serve\x20|\x20gen\x20N\x20|\x20dump\x20read\x20|\x20dump\x20write,\x20then\x20--name\x20value\x20pairs\x0A \e
+//! tdl_arguments::read_arguments translate link hex --filter 1
+//! Some(1) None \e false https://id.gs1.org
 //! ```
 //!
 //! # Where it differs from the standards

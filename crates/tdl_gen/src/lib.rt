@@ -5,13 +5,12 @@
 //!
 //! # Example
 //!
-//! The counts of 1,000 lines by the built-in tables: all are answered. The gate runs this case, for which
-//! crates/vectors_runs/src/runs.rt runs the whole program; the head of crates/vectors_cases/src/lib.rt says how bytes are
-//! written.
+//! The counts of 1,000 lines by the built-in tables, written by seven bytes at a time: all are answered. The gate runs this case, for
+//! which crates/vectors_runs/src/generated.rt makes the call; the head of crates/vectors_cases/src/lib.rt says how bytes are written.
 //!
 //! ```text
-//! tdl_run::run gen 1000 / - / 7 - x / 5 -
-//! Done lines\x201000\x20ok\x201000\x20bytes\x2046890\x0A x
+//! tdl_gen::generate 1000 / 7 -
+//! Done lines\x201000\x20ok\x201000\x20bytes\x2046890\x0A
 //! ```
 //!
 //! # Where it differs from the standards

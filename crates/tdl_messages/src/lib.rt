@@ -8,11 +8,11 @@
 //!
 //! # Example
 //!
-//! Tables that lack a member. The gate runs this case of a whole run, for which crates/vectors_runs/src/runs.rt makes the call.
+//! The line of tables that lack a member. The gate runs this case, for which crates/vectors_runs/src/messages.rt makes the call.
 //!
 //! ```text
-//! tdl_run::run check --tables t / - t {"version":1} / 5 - \e / 1000 -
-//! Refused refused\x20tables\x20json\x20lacks\x20/ais\x0A \e
+//! tdl_messages::rejected_line {"version":1}
+//! refused\x20tables\x20json\x20lacks\x20/ais\x0A
 //! ```
 //!
 //! # Where it differs from the standards

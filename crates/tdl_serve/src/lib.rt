@@ -6,13 +6,12 @@
 //!
 //! # Example
 //!
-//! Two connections that ask the same; the first read of the first one fails, which ends that connection alone. The gate runs
-//! this case, for which crates/vectors_runs/src/runs.rt runs the whole program; the head of crates/vectors_cases/src/lib.rt says
-//! how bytes are written.
+//! A request for a trade item, and the redirection to its default link. The gate runs this case, for which
+//! crates/vectors_replies/src/resolved.rt makes the call; the head of crates/vectors_cases/src/lib.rt says how bytes are written.
 //!
 //! ```text
-//! tdl_run::run serve --links l --count 2 / - l {"linkset":[{"anchor":"/01/09506000134352","gs1:defaultLink":[{"href":"https://example.com/p"}]}]} / 1 - x / 4096 - / 4096 2 GET\x20/01/09506000134352\x20HTTP/1.1\x0D\x0A\x0D\x0A GET\x20/01/09506000134352\x20HTTP/1.1\x0D\x0A\x0D\x0A
-//! Done served\x202\x20faults\x201\x0A x 2 \e HTTP/1.1\x20307\x20Temporary\x20Redirect\x0D\x0ALocation:\x20https://example.com/p\x0D\x0AContent-Length:\x200\x0D\x0A\x0D\x0A
+//! tdl_serve::resolve {"linkset":[{"anchor":"/01/09506000134352","gs1:defaultLink":[{"href":"https://example.com/p"}]}]} / 4096 - GET\x20/01/09506000134352\x20HTTP/1.1\x0D\x0A\x0D\x0A / 4096 -
+//! Done HTTP/1.1\x20307\x20Temporary\x20Redirect\x0D\x0ALocation:\x20https://example.com/p\x0D\x0AContent-Length:\x200\x0D\x0A\x0D\x0A
 //! ```
 //!
 //! # Where it differs from the standards

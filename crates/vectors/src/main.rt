@@ -18,16 +18,31 @@ impl Calls for Libraries {
     fn answer(&self, alloc: Global, library: &str, call: &str, args: &[Text]) -> Answer {
         match library {
             "gs_class" => vectors_class::answer(alloc, self.set.ais(), call, args),
-            "gs_http" => vectors_replies::answer(alloc, self.set.ais(), call, args),
-            "gs_linktext" => vectors_web::answer(alloc, library, call, args),
+            "gs_http" | "tdl_serve" => vectors_replies::answer(
+                alloc,
+                self.set.ais(),
+                library,
+                call,
+                args,
+            ),
+            "gs_linktext" | "gs_linktext_grammar" => vectors_web::answer(
+                alloc, library, call, args,
+            ),
             "gs_membank" => vectors_membank::answer(alloc, &self.set, call, args),
             "gs_merge" => vectors_merge::answer(alloc, self.set.ais(), call, args),
-            "gs_port" | "tdl_lines" | "tdl_run" => {
-                vectors_runs::answer(alloc, &self.set, library, call, args)
-            }
+            "gs_port"
+            | "gs_port_memory"
+            | "tdl_answers"
+            | "tdl_arguments"
+            | "tdl_gen"
+            | "tdl_lines"
+            | "tdl_messages"
+            | "tdl_run" => { vectors_runs::answer(alloc, &self.set, library, call, args) }
             "gs_ai"
             | "gs_ident"
             | "gs_tables"
+            | "gs_tables_builtin"
+            | "gs_tables_document"
             | "gs_element"
             | "gs_dlink"
             | "gs_links"

@@ -1,15 +1,17 @@
-//! The public calls of gs_http, as cases of vectors name them: the replies to heads of requests and to whole connections, over
-//! stores of links. The head of vectors_cases says how a case and an answer are written.
+//! The public calls of gs_http and tdl_serve, as cases of vectors name them: the replies to heads of requests and to whole
+//! connections, over stores of links. The head of vectors_cases says how a case and an answer are written.
 #![tactic(auto)]
 
 mod connections;
 mod heads;
 mod languages;
+mod resolved;
 mod site;
 
 use crate::connections::{many, over_cuts, serve};
 use crate::heads::replied;
 use crate::languages::ranges;
+use crate::resolved::resolved;
 use crate::site::{Site, site_of};
 use gs_ai::AiTable;
 use gs_chars::Text;
@@ -22,6 +24,7 @@ enum SiteCall {
     Cuts,
     Many,
     Reply,
+    Resolve,
     Serve,
 }
 
@@ -39,11 +42,21 @@ const CALLS: [(&str, Call); 5] = [
     ("serve", Call::Site(SiteCall::Serve)),
 ];
 
+const SERVER_CALLS: [(&str, Call); 1] = [("resolve", Call::Site(SiteCall::Resolve))];
+
+/// The call of a name in a library.
+fn call_of(library: &str, call: &[u8]) -> Option<Call> {
+    match library {
+        "tdl_serve" => named(&SERVER_CALLS, call),
+        _ => named(&CALLS, call),
+    }
+}
+
 /// The resolver description file of a call, a hyphen where it takes none.
 fn description(call: SiteCall, args: &[Text]) -> &[u8] {
     match call {
         SiteCall::Reply => bytes_at(args, 1),
-        SiteCall::Cuts | SiteCall::Many | SiteCall::Serve => b"-",
+        SiteCall::Cuts | SiteCall::Many | SiteCall::Resolve | SiteCall::Serve => b"-",
     }
 }
 
@@ -59,6 +72,7 @@ fn write_from(
     match call {
         SiteCall::Cuts => over_cuts(alloc, line, ais, site, bytes_at(args, 1)),
         SiteCall::Many => many(alloc, line, ais, site, args),
+        SiteCall::Resolve => resolved(alloc, line, ais, site, args),
         SiteCall::Reply => replied(alloc, line, ais, site, args),
         SiteCall::Serve => serve(alloc, line, ais, site, args),
     }
@@ -70,18 +84,24 @@ fn write_at(alloc: Global, line: &mut Line, ais: &AiTable, call: SiteCall, args:
     write_from(alloc, line, ais, &site, call, args)
 }
 
-/// Writes the answer to a call of gs_http.
-fn write(alloc: Global, line: &mut Line, ais: &AiTable, call: &[u8], args: &[Text]) -> Done {
-    match named(&CALLS, call) {
+/// Writes the answer to a call.
+fn write(alloc: Global, line: &mut Line, ais: &AiTable, call: Option<Call>, args: &[Text]) -> Done {
+    match call {
         Some(Call::Ranges) => ranges(alloc, line, args),
         Some(Call::Site(call)) => write_at(alloc, line, ais, call, args),
         None => Err(Rejection::NoCase),
     }
 }
 
-/// The answer to a call of gs_http, over these application identifiers.
-pub fn answer(alloc: Global, ais: &AiTable, call: &str, args: &[Text]) -> Answer {
+/// The answer to a call of gs_http or tdl_serve, over these application identifiers.
+pub fn answer(alloc: Global, ais: &AiTable, library: &str, call: &str, args: &[Text]) -> Answer {
     let mut line = Line::new(alloc);
-    let done = write(alloc, &mut line, ais, call.as_bytes(), args);
+    let done = write(
+        alloc,
+        &mut line,
+        ais,
+        call_of(library, call.as_bytes()),
+        args,
+    );
     line.finish(done)
 }

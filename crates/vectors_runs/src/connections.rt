@@ -1,4 +1,4 @@
-//! Calls of gs_port over connections in memory. A turn reads at most 4 bytes, and writes what was read; its answer is what the
+//! Calls of gs_port and gs_port_memory over connections in memory. A turn reads at most 4 bytes, and writes what was read; its answer is what the
 //! read moved, or that it failed, and then how many bytes the write took, or that it failed.
 //!
 //! - `pair CUT FAILS BYTES / CUT FAILS`: what three turns over a source and a sink answer, then the bytes that the sink holds.

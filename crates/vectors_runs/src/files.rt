@@ -1,4 +1,4 @@
-//! Calls of gs_port over files in memory. FAILS are the numbers of the calls that fail, with commas between, or `-`.
+//! Calls of gs_port_memory and gs_port over files in memory. FAILS are the numbers of the calls that fail, with commas between, or `-`.
 //!
 //! - `open FAILS NAME BYTES .. / NAME..`: what an open of each name answers, and what a read of 4 bytes moves then.
 //! - `read_file FAILS NAME BYTES .. / NAME MAX ..`: what reading each file whole answers.

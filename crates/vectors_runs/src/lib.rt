@@ -3,9 +3,13 @@
 //! and an answer are written.
 #![tactic(auto)]
 
+mod arguments;
 mod connections;
 mod files;
+mod generated;
 mod lines;
+mod memory;
+mod messages;
 mod outside;
 mod run_objects;
 mod runs;
@@ -18,14 +22,24 @@ use vectors_cases::{Answer, Done, Line, Rejection, named};
 
 #[derive(Clone, Copy)]
 enum Library {
+    Arguments,
+    Generator,
     Lines,
+    Memory,
+    Messages,
     Port,
     Program,
 }
 
-const LIBRARIES: [(&str, Library); 3] = [
-    ("tdl_lines", Library::Lines),
+const LIBRARIES: [(&str, Library); 8] = [
     ("gs_port", Library::Port),
+    ("gs_port_memory", Library::Memory),
+    // tdl_run passes its answer_lines on
+    ("tdl_answers", Library::Program),
+    ("tdl_arguments", Library::Arguments),
+    ("tdl_gen", Library::Generator),
+    ("tdl_lines", Library::Lines),
+    ("tdl_messages", Library::Messages),
     ("tdl_run", Library::Program),
 ];
 
@@ -39,7 +53,11 @@ fn write(
     args: &[Text],
 ) -> Done {
     match named(&LIBRARIES, library) {
+        Some(Library::Arguments) => arguments::answer(alloc, line, call, args),
+        Some(Library::Generator) => generated::answer(alloc, line, set, call, args),
         Some(Library::Lines) => lines::answer(alloc, line, call, args),
+        Some(Library::Memory) => memory::answer(alloc, line, call, args),
+        Some(Library::Messages) => messages::answer(alloc, line, call, args),
         Some(Library::Port) => outside::answer(alloc, line, call, args),
         Some(Library::Program) => runs::answer(alloc, line, set, call, args),
         None => Err(Rejection::NoCase),

@@ -4,12 +4,12 @@
 //! - `write CUT FAILS PIECE..`: what a write of each piece answers, then the bytes that the sink holds.
 //! - `write_whole CUT FAILS PIECE..`: the same for each piece written whole.
 //!
-//! The calls over files stand in files.rt, and those over connections in connections.rt.
+//! The call over files, `read_file`, stands in files.rt, and `pair` in connections.rt.
 
 ghost use Rattle.std.specs.Prelude.{◌<◌};
 
-use crate::connections::{door, pair};
-use crate::files::{open, read_files};
+use crate::connections::pair;
+use crate::files::read_files;
 use gs_chars::Text;
 use gs_port::{MemSink, MemSource, ReadAnswer, Sink, Source, WriteAnswer, write_whole};
 use std::alloc::Global;
@@ -17,8 +17,6 @@ use vectors_cases::{Done, Line, Rejection, behind, bytes_at, cut_of, named, numb
 
 #[derive(Clone, Copy)]
 enum Call {
-    Door,
-    Open,
     Pair,
     Read,
     ReadFile,
@@ -26,9 +24,7 @@ enum Call {
     WriteWhole,
 }
 
-const CALLS: [(&str, Call); 7] = [
-    ("door", Call::Door),
-    ("open", Call::Open),
+const CALLS: [(&str, Call); 5] = [
     ("pair", Call::Pair),
     ("read", Call::Read),
     ("read_file", Call::ReadFile),
@@ -39,8 +35,6 @@ const CALLS: [(&str, Call); 7] = [
 /// Answers a call of gs_port.
 pub fn answer(alloc: Global, line: &mut Line, call: &[u8], args: &[Text]) -> Done {
     match named(&CALLS, call) {
-        Some(Call::Door) => door(alloc, line, args),
-        Some(Call::Open) => open(alloc, line, args),
         Some(Call::Pair) => pair(alloc, line, args),
         Some(Call::Read) => read(alloc, line, args),
         Some(Call::ReadFile) => read_files(alloc, line, args),

@@ -56,14 +56,18 @@ fn string_of(alloc: Global, word: &[u8]) -> Result<String, Rejection> {
     said(alloc, text_of(word)?)
 }
 
-/// The words of a run.
-fn words_at(alloc: Global, args: &[Text]) -> Result<Vec<String>, Rejection> {
-    let words = section(args, 0)?;
+/// The strings of words.
+pub fn strings_of(alloc: Global, words: &[Text]) -> Result<Vec<String>, Rejection> {
     let mut strings = Vec::new(alloc);
     for word in words {
         push(&mut strings, string_of(alloc, word.as_bytes()))?;
     }
     Ok(strings)
+}
+
+/// The words of a run.
+fn words_at(alloc: Global, args: &[Text]) -> Result<Vec<String>, Rejection> {
+    strings_of(alloc, section(args, 0)?)
 }
 
 /// What is left of an input.

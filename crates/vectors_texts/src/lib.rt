@@ -11,6 +11,7 @@ mod identities;
 mod links;
 mod links_by_language;
 mod many_links;
+mod rows;
 mod tables;
 mod templates;
 mod translations;
@@ -23,18 +24,20 @@ use vectors_cases::{Answer, Done, Line, Rejection, named};
 
 #[derive(Clone, Copy)]
 enum Library {
+    BuiltinRows,
     DigitalLinks,
     Elements,
     Epcs,
     Identifiers,
     Identities,
     Links,
+    TableRows,
     Tables,
     Templates,
     Translations,
 }
 
-const LIBRARIES: [(&str, Library); 9] = [
+const LIBRARIES: [(&str, Library); 11] = [
     ("gs_ai", Library::Identifiers),
     ("gs_dlink", Library::DigitalLinks),
     ("gs_element", Library::Elements),
@@ -42,6 +45,8 @@ const LIBRARIES: [(&str, Library); 9] = [
     ("gs_ident", Library::Identities),
     ("gs_links", Library::Links),
     ("gs_tables", Library::Tables),
+    ("gs_tables_builtin", Library::BuiltinRows),
+    ("gs_tables_document", Library::TableRows),
     ("gs_template", Library::Templates),
     ("gs_translate", Library::Translations),
 ];
@@ -56,12 +61,14 @@ fn write(
     args: &[Text],
 ) -> Done {
     match named(&LIBRARIES, library) {
+        Some(Library::BuiltinRows) => rows::answer_builtin(alloc, line, call),
         Some(Library::DigitalLinks) => digital_links::answer(alloc, line, set.ais(), call, args),
         Some(Library::Elements) => elements::answer(alloc, line, set.ais(), call, args),
         Some(Library::Epcs) => epcs::answer(alloc, line, set, call, args),
         Some(Library::Identifiers) => identifiers::answer(alloc, line, set.ais(), call, args),
         Some(Library::Identities) => identities::answer(alloc, line, set.ais(), call, args),
         Some(Library::Links) => links::answer(alloc, line, set.ais(), call, args),
+        Some(Library::TableRows) => rows::answer(alloc, line, call, args),
         Some(Library::Tables) => tables::answer(alloc, line, set, call, args),
         Some(Library::Templates) => templates::answer(alloc, line, set.ais(), call, args),
         Some(Library::Translations) => translations::answer(alloc, line, set, call, args),

@@ -1,17 +1,14 @@
 //! Calls of gs_tables. A LEVEL is `binary`, `tag` or `pure`.
 //!
 //! - `load DOC`: the numbers of application identifiers, kinds and options of each level, or the rejection.
-//! - `builtin`: the same numbers of the built-in set. `kind I`: the name, key, lead digits and serial of its kind I.
+//! - `builtin`: the same numbers of the built-in set. `kind I`: the name, key, lead digits and serial of its kind I, and the
+//!   lengths of its further fields.
 //! - `option LEVEL I`: the kind, encoding, prefix length and items of its option I of the level, each item that has a field
 //!   behind its name and `=`.
-//! - `read_item LEVEL JSON`: the item of the level, so written, or `Bad`.
 
 use gs_chars::Text;
 use gs_grammar::Item;
-use gs_json::{Doc, Node};
-use gs_tables::{
-    Field, ItemFault, Kind, LevelName, LoadFault, OptInfo, SerialAt, TableSet, read_item,
-};
+use gs_tables::{Field, Kind, LevelName, LoadFault, OptInfo, SerialAt, TableSet};
 use std::alloc::Global;
 use vectors_cases::{Done, Line, Rejection, add_item, bytes_at, named, number_in, number_of};
 
@@ -21,15 +18,13 @@ enum Call {
     Kind,
     Load,
     Option,
-    ReadItem,
 }
 
-const CALLS: [(&str, Call); 5] = [
+const CALLS: [(&str, Call); 4] = [
     ("builtin", Call::Builtin),
     ("kind", Call::Kind),
     ("load", Call::Load),
     ("option", Call::Option),
-    ("read_item", Call::ReadItem),
 ];
 
 /// Answers a call of gs_tables.
@@ -40,7 +35,6 @@ pub fn answer(alloc: Global, line: &mut Line, set: &TableSet, call: &[u8], args:
         Some(Call::Load) => load(alloc, line, first),
         Some(Call::Kind) => return kind(line, set, first),
         Some(Call::Option) => return option(line, set, first, bytes_at(args, 1)),
-        Some(Call::ReadItem) => return item(alloc, line, first, bytes_at(args, 1)),
         None => return Err(Rejection::NoCase),
     }
     Ok(())
@@ -54,7 +48,7 @@ fn kind(line: &mut Line, set: &TableSet, i: &[u8]) -> Done {
     Ok(())
 }
 
-const LEVELS: [(&str, LevelName); 3] = [
+pub const LEVELS: [(&str, LevelName); 3] = [
     ("binary", LevelName::Binary),
     ("pure", LevelName::Pure),
     ("tag", LevelName::Tag),
@@ -110,7 +104,7 @@ fn add_ambiguous(line: &mut Line, level: LevelName, i: usize, j: usize) {
     line.more(")");
 }
 
-/// Writes the name, the key and the lead digits of a kind, and where its serial stands.
+/// Writes the name, the key and the lead digits of a kind, where its serial stands, and the lengths of its further fields.
 fn add_kind(line: &mut Line, kind: &Kind) {
     line.bytes(kind.name.as_bytes());
     line.bytes(kind.key.as_bytes());
@@ -120,10 +114,13 @@ fn add_kind(line: &mut Line, kind: &Kind) {
         SerialAt::Tail => line.plain("Tail"),
         SerialAt::Ai(code) => line.bytes(code.as_bytes()),
     }
+    for length in kind.further.items() {
+        line.debug(*length);
+    }
 }
 
 /// Whether the symbols of a level are bits.
-fn is_bits(level: LevelName) -> bool {
+pub fn is_bits(level: LevelName) -> bool {
     matches!(level, LevelName::Binary)
 }
 
@@ -132,13 +129,15 @@ fn field_name(field: Option<Field>) -> &'static str {
         Some(Field::Filter) => "filter=",
         Some(Field::Gcp) => "gcp=",
         Some(Field::Rest) => "rest=",
+        Some(Field::Piece) => "piece=",
+        Some(Field::Total) => "total=",
         Some(Field::Serial) => "serial=",
         None => "",
     }
 }
 
 /// Writes an item with the name of its field.
-fn add_field_item(line: &mut Line, level: LevelName, field: Option<Field>, item: &Item) {
+pub fn add_field_item(line: &mut Line, level: LevelName, field: Option<Field>, item: &Item) {
     line.plain(field_name(field));
     add_item(line, is_bits(level), item);
 }
@@ -169,25 +168,4 @@ fn option(line: &mut Line, set: &TableSet, level: &[u8], i: &[u8]) -> Done {
     };
     add_option(line, level, kind, info, option.items());
     Ok(())
-}
-
-/// Writes the item that a document is, or `Bad`.
-fn item(alloc: Global, line: &mut Line, level: &[u8], document: &[u8]) -> Done {
-    let Some(level) = named(&LEVELS, level) else {
-        return Err(Rejection::NoCase);
-    };
-    match Doc::parse(alloc, document) {
-        Ok(doc) => add_item_at(alloc, line, level, &doc.root(alloc)),
-        Err(_) => return Err(Rejection::NoCase),
-    }
-    Ok(())
-}
-
-/// Writes the item that a part of a document is, or `Bad`.
-fn add_item_at(alloc: Global, line: &mut Line, level: LevelName, node: &Node<'_>) {
-    match read_item(alloc, node, is_bits(level)) {
-        Ok((field, item)) => add_field_item(line, level, field, &item),
-        Err(ItemFault::Bad) => line.plain("Bad"),
-        Err(ItemFault::Memory) => line.want_memory(),
-    }
 }

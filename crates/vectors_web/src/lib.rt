@@ -3,6 +3,7 @@
 #![tactic(auto)]
 
 mod linktexts;
+mod written_links;
 
 use gs_chars::Text;
 use std::alloc::Global;
@@ -12,6 +13,7 @@ use vectors_cases::{Answer, Done, Line, Rejection};
 fn write(alloc: Global, line: &mut Line, library: &str, call: &[u8], args: &[Text]) -> Done {
     match library {
         "gs_linktext" => linktexts::answer(alloc, line, call, args),
+        "gs_linktext_grammar" => written_links::answer(alloc, line, call, args),
         _ => Err(Rejection::NoCase),
     }
 }

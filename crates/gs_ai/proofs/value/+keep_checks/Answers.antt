@@ -1,7 +1,7 @@
 use Rattle.std.proofs.Common.{◌≡◌, ℕ, Bool, true, false, List, ◌∷◌, take, refl, ◌∙◌}
 use Rattle.std.specs.List.{list_all}
 use Rattle.gs_ai.specs.declared.part.Part.{Part}
-use Rattle.gs_ai.specs.declared.part.Part.TheVariants.{Zero, Num, NumCheck, NumUpTo, Set, SetOpt, Date, Other}
+use Rattle.gs_ai.specs.declared.part.Part.TheVariants.{Zero, Num, NumCheck, NumUpTo, NumOpt, Set, SetOpt, Date, Other}
 use Rattle.gs_ai.specs.Parts.{greatest_length}
 use Rattle.gs_ai.specs.Values.{keeps_check, pieces}
 use Rattle.gs_ai.proofs.value.+keep_checks.Goals as goal
@@ -12,6 +12,7 @@ other_passes Zero piece h = refl
 other_passes (Num k) piece h = refl
 other_passes (NumCheck k) piece h = absurd (h k refl)
 other_passes (NumUpTo k) piece h = refl
+other_passes (NumOpt k) piece h = refl
 other_passes (Set k) piece h = refl
 other_passes (SetOpt k) piece h = refl
 other_passes Date piece h = refl

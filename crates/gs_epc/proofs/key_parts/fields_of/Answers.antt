@@ -15,3 +15,13 @@ pub returns-in_err-from_bytes-2 : goal.returns-in_err-from_bytes-2
 returns-in_err-from_bytes-2 c =
     let p = err_from_is_err_and c.from_residual-in_err-from_bytes-2.result c.from_residual-in_err-from_bytes-2.ensures.1 in
     rw (p.1, p.2) tt
+
+pub returns-in_err-from_bytes-3 : goal.returns-in_err-from_bytes-3
+returns-in_err-from_bytes-3 c =
+    let p = err_from_is_err_and c.from_residual-in_err-from_bytes-3.result c.from_residual-in_err-from_bytes-3.ensures.1 in
+    rw (p.1, p.2) tt
+
+pub returns-in_err-from_bytes-4 : goal.returns-in_err-from_bytes-4
+returns-in_err-from_bytes-4 c =
+    let p = err_from_is_err_and c.from_residual-in_err-from_bytes-4.result c.from_residual-in_err-from_bytes-4.ensures.1 in
+    rw (p.1, p.2) tt

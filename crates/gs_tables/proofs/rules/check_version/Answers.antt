@@ -1,5 +1,5 @@
 use Rattle.gs_tables.proofs.RejectionLists.{version_first}
 use Rattle.gs_tables.proofs.rules.check_version.Goals as goal
 
-pub returns-else-document-eq1 : goal.returns-else-document-eq1
-returns-else-document-eq1 c = version_first c.args.document.now.version c.if-document-eq1.false
+pub returns-else-is_version : goal.returns-else-is_version
+returns-else-is_version c = version_first c.args.document.now.version c.is_version.result c.is_version.ensures c.if-is_version.false

@@ -4,7 +4,7 @@ use Rattle.std.proofs.lemmas.List.{append-nil}
 use Rattle.std.specs.Prelude.{codes}
 use Rattle.gs_chars.proofs.TruthsAndLists.{same_bytes, and_first, and_second}
 use Rattle.gs_ai.specs.declared.part.Part.{Part}
-use Rattle.gs_ai.specs.declared.part.Part.TheVariants.{Zero, Num, NumCheck, NumUpTo, Set, SetOpt, Date, Other}
+use Rattle.gs_ai.specs.declared.part.Part.TheVariants.{Zero, Num, NumCheck, NumUpTo, NumOpt, Set, SetOpt, Date, Other}
 use Rattle.gs_ai.specs.Parts.{is_part, number_text, part_text}
 use Rattle.gs_ai.proofs.part.Part.read.Goals as goal
 
@@ -34,6 +34,7 @@ returns-in-None-clause-other c = λ _ p h e. by p h e
     by (Num k) h e = between (codes "n") [] text 1 18 c.in_default.ensures.none k h (ends (codes "n") text k e)
     by (NumCheck k) h e = between (codes "n") (codes "c") text 2 18 c.in_default-read_between.ensures.none k h e
     by (NumUpTo k) h e = between (codes "n..") [] text 1 18 c.in_default-read_between-2.ensures.none k h (ends (codes "n..") text k e)
-    by (Set k) h e = between (codes "x..") [] text 1 90 c.in_default-read_between-3.ensures.none k h (ends (codes "x..") text k e)
+    by (NumOpt k) h e = between (codes "n..") (codes "?") text 1 18 c.in_default-read_between-3.ensures.none k h e
+    by (Set k) h e = between (codes "x..") [] text 1 90 c.in_default-read_between-4.ensures.none k h (ends (codes "x..") text k e)
     by (SetOpt k) h e = between (codes "x..") (codes "?") text 1 90 c.in-None.ensures.none k h e
     by Other h e = absurd (let f : false ≡ true = h in cc)

@@ -1,13 +1,12 @@
-use Rattle.gs_grammar_level.proofs.MachinesOfOptions.{none_shared, shared_bits, shows_first}
+use Rattle.std.proofs.Common.{arith}
+use Rattle.gs_grammar_level.proofs.SomeAnswer.{first_in_row, above_next, none_above}
 use Rattle.gs_grammar_level.proofs.level.Level.first_share.Goals as goal
 
-pub returns-in-Clear : goal.returns-in-Clear
-returns-in-Clear c = none_shared _ c.args.self.now c.machines.ensures (rw c.in-Clear.is at c.in_ok-check.ensures)
+pub shared_text-requires : goal.shared_text-requires
+shared_text-requires c = first_in_row _ _ _ _ c.loop-i.invariant (rw c.in-Some.is at c.in_ok-j.ensures.found)
 
-pub shown-requires : goal.shown-requires
-shown-requires c = λ bits.
-    shared_bits _ c.args.self.now.options c.args.self.now.bit_level c.in-Double.i c.in-Double.j c.in-Double.word c.machines.ensures c.bit_level.ensures.of_kind (rw c.in-Double.is at c.in_ok-check.ensures) (rw c.bit_level.ensures.is at bits)
+pub loop-i-preserved : goal.loop-i-preserved
+loop-i-preserved c = above_next _ _ c.loop-i.invariant (rw c.in_default.is at c.in_ok-j.ensures.none)
 
-pub returns-in_ok-text-in-Double : goal.returns-in_ok-text-in-Double
-returns-in_ok-text-in-Double c =
-    shows_first _ c.args.self.now c.in-Double.i c.in-Double.j c.in-Double.word _ c.machines.ensures (rw c.in-Double.is at c.in_ok-check.ensures) (rw c.bit_level.ensures.is at c.in_ok-text-in-Double.ensures)
+pub returns : goal.returns
+returns c = none_above _ _ c.loop-i.invariant (grind arith)

@@ -1,0 +1,66 @@
+ghost use Rattle.std.specs.Prelude.{◌≡◌, ◌<◌, ◌*◌, ◌^◌, [], OnOk};
+ghost use Rattle.gs_grammar_machine.specs.Machines.{states_of};
+ghost use Rattle.gs_grammar_machine.specs.MachinesSupport.{start_of};
+ghost use Rattle.gs_ambig.specs.Searches.{BothAccept, IfFound, IfNotFound, IsSingle, NoneInCommon, Parts};
+
+use crate::forks::search_forks;
+use crate::marks::Marks;
+use crate::search::search;
+use gs_chars::Memory;
+use gs_grammar_machine::Auto;
+use std::alloc::Global;
+
+/// The search of machines for lists of symbols that they share. The room that it marks states in is kept from one search to
+/// the next.
+#[derive(Drop)]
+pub struct PairSearch {
+    dead: Marks,
+    single: Marks,
+}
+
+/// Empties a set, and makes room for the pairs of the machines' states. Pairs that are too many for a number are too many for
+/// memory.
+fn make_ready(dead: &mut Marks, m: &Auto, n: &Auto) -> Result<(), Memory>
+    ensures { OnOk result ((dead.new ≡ []) × (states_of m.now * states_of n.now < 2 ^ 64)) }
+{
+    let Some(pairs) = m.states().checked_mul(n.states()) else {
+        return Err(Memory);
+    };
+    dead.clear();
+    dead.make_room(pairs)
+}
+
+impl PairSearch {
+    /// A search that has marked nothing yet. It takes no memory.
+    pub fn new(alloc: Global) -> PairSearch {
+        PairSearch {
+            dead: Marks::new(alloc),
+            single: Marks::new(alloc),
+        }
+    }
+
+    /// A list of symbols that both machines accept. `None` comes exactly where there is none. The one error is out of memory.
+    pub fn word_of_two(
+        &mut self,
+        alloc: Global,
+        m: &Auto,
+        n: &Auto,
+    ) -> Result<Option<Vec<u8>>, Memory>
+        ensures found { IfFound result (λ word. BothAccept m.now n.now word.items) }
+        ensures none { IfNotFound result (NoneInCommon m.now n.now) }
+    {
+        make_ready(&mut self.dead, m, n)?;
+        search(alloc, m, n, m.start(), n.start(), &mut self.dead)
+    }
+
+    /// A list of symbols with two different accepting runs of the machine. `None` comes exactly where there is none. The one error
+    /// is out of memory.
+    pub fn word_of_one(&mut self, alloc: Global, m: &Auto) -> Result<Option<Vec<u8>>, Memory>
+        ensures found { IfFound result (λ word. Parts m.now (start_of m.now) word.items) }
+        ensures none { IfNotFound result (IsSingle m.now (start_of m.now)) }
+    {
+        make_ready(&mut self.dead, m, m)?;
+        self.single.clear();
+        search_forks(alloc, m, m.start(), &mut self.single, &mut self.dead)
+    }
+}

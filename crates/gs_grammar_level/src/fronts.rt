@@ -1,0 +1,128 @@
+ghost use Rattle.std.specs.Prelude.{◌≡◌, ◌↔◌, ◌++◌, All, IfOk, IsTrue, OnOk, map, replicate};
+ghost use Rattle.gs_grammar.specs.Items.{IsItem, size_of};
+ghost use Rattle.gs_grammar_level.specs.Fronts.{place_of, places_of, AreApart, ArePlacesApart, AreFrontsOf, CutsAreFixed, HavePlaces, IsFrontOf};
+
+use crate::front_places::{Front, Place};
+use crate::widths::has_one_length;
+use gs_chars::{List, Memory};
+use gs_grammar::{Item, Opt};
+use std::alloc::Global;
+
+/// Appends a place of one symbol alone for each symbol of a literal.
+fn add_literal(places: &mut Vec<Place>, literal: &[u8]) -> Result<(), Memory>
+    ensures { OnOk result (places.new.items ≡ places.old.items ++ map (λ symbol. place_of symbol symbol) literal.now) }
+{
+    for symbol in literal {
+        places.push(Place {
+            least: *symbol,
+            most: *symbol,
+        })?;
+    }
+    Ok(())
+}
+
+/// Appends this many places of the symbols from the least to the most.
+fn add_places(places: &mut Vec<Place>, count: usize, least: u8, most: u8) -> Result<(), Memory>
+    ensures { OnOk result (places.new.items ≡ places.old.items ++ replicate count (place_of least most)) }
+{
+    let mut left = count;
+    while left > 0 {
+        places.push(Place { least, most })?;
+        left -= 1;
+    }
+    Ok(())
+}
+
+/// Appends the places of the words of an item whose longest word has this size.
+fn add_item(places: &mut Vec<Place>, item: &Item, size: usize) -> Result<(), Memory>
+    requires { size ≡ size_of item.now }
+    ensures { OnOk result (places.new.items ≡ places.old.items ++ places_of item.now) }
+{
+    match item {
+        Item::Lit(literal) => add_literal(places, literal.as_bytes()),
+        Item::Pad { .. } | Item::Digits { .. } | Item::Int { .. } => {
+            add_places(places, size, b'0', b'9')
+        }
+        Item::Esc { .. } => add_places(places, size, 0, u8::MAX),
+        Item::NumPad { .. } | Item::Num { .. } | Item::NumStr { .. } | Item::Ascii7 { .. } => {
+            add_places(places, size, 0, 1)
+        }
+        Item::Fill { .. } => add_places(places, size, 0, 0),
+    }
+}
+
+/// The places of the items up to the first whose words have several lengths.
+fn first_places(alloc: Global, items: &[Item]) -> Result<List<Place>, Memory>
+    requires { All IsItem items.now }
+    ensures { IfOk result (λ places. HavePlaces items.now places) }
+{
+    let mut places = Vec::new(alloc);
+    let mut left = items;
+    while let Some((item, others)) = left.split_first() {
+        let size = item.size();
+        if !has_one_length(item, size) {
+            break;
+        }
+        add_item(&mut places, item, size)?;
+        left = others;
+    }
+    Ok(List::from_vec(places))
+}
+
+/// Whether the words of each item before the last have one length.
+fn cuts_are_fixed(items: &[Item]) -> bool
+    ensures { IsTrue result → CutsAreFixed items.now }
+{
+    let mut left = items;
+    while let Some((item, others)) = left.split_first() {
+        if others.is_empty() {
+            return true;
+        }
+        if !has_one_length(item, item.size()) {
+            return false;
+        }
+        left = others;
+    }
+    true
+}
+
+/// The front of an option.
+fn front_of(alloc: Global, option: &Opt) -> Result<Front, Memory>
+    ensures { IfOk result (λ front. IsFrontOf front option.now) }
+{
+    let items = option.items();
+    Ok(Front {
+        places: first_places(alloc, items)?,
+        cuts_are_fixed: cuts_are_fixed(items),
+    })
+}
+
+/// The front of each option, in their order.
+pub fn fronts_of(alloc: Global, options: &[Opt]) -> Result<List<Front>, Memory>
+    ensures { IfOk result (λ fronts. AreFrontsOf fronts options.now) }
+{
+    let mut fronts = Vec::with_capacity(alloc, options.len())?;
+    for option in options {
+        fronts.push(front_of(alloc, option)?)?;
+    }
+    Ok(List::from_vec(fronts))
+}
+
+/// Whether no symbol may stand at both places.
+fn are_places_apart(place: Place, other: Place) -> bool
+    ensures { IsTrue result → ArePlacesApart place other }
+{
+    place.most < other.least || other.most < place.least
+}
+
+/// Whether no symbol may stand at the same place of both.
+pub fn are_apart(places: &[Place], others: &[Place]) -> bool
+    ensures { IsTrue result → AreApart places.now others.now }
+{
+    for number in 0..places.len().min(others.len()) {
+        if are_places_apart(places[number], others[number]) {
+            return true;
+        }
+    }
+    false
+}

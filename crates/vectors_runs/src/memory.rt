@@ -1,0 +1,16 @@
+//! Calls of gs_port_memory: `open` over files in memory (files.rt) and `door` over connections in memory (connections.rt).
+
+use crate::connections::door;
+use crate::files::open;
+use gs_chars::Text;
+use std::alloc::Global;
+use vectors_cases::{Done, Line, Rejection};
+
+/// Answers a call of gs_port_memory.
+pub fn answer(alloc: Global, line: &mut Line, call: &[u8], args: &[Text]) -> Done {
+    match call {
+        b"door" => door(alloc, line, args),
+        b"open" => open(alloc, line, args),
+        _ => Err(Rejection::NoCase),
+    }
+}
