@@ -20,7 +20,6 @@ use Rattle.gs_grammar.proofs.ItemTests.{between_is}
 use Rattle.gs_grammar.specs.declared.item.Item.{Item}
 use Rattle.gs_tables.specs.declared.form.Behind.TheVariants.{Nothing}
 use Rattle.gs_tables.specs.declared.form.KeyForm.TheVariants.{Digits}
-use Rattle.gs_tables.specs.declared.form.Room.TheVariants.{Characters}
 use Rattle.gs_tables.specs.Rules.{is_digits, is_gcp, is_one, keeps_gcp}
 use Rattle.gs_epc.proofs.LaidAgain.{parts_kept}
 use Rattle.gs_class.specs.declared.row.ClassRow.{ClassRow}

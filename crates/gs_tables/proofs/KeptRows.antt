@@ -34,7 +34,7 @@ use Rattle.gs_tables.specs.Tables.{fits, is_bad_item, is_same, items_alone, item
 
 -- ---- parts of rejections
 
-not_rejected : (test : Bool) (error : LoadFault) → error_if (not test) error ≡ [] → test ≡ true
+pub not_rejected : (test : Bool) (error : LoadFault) → error_if (not test) error ≡ [] → test ≡ true
 not_rejected true error h = refl
 not_rejected false error h = absurd (let g : error ∷ [] ≡ [] = h in cc)
 
@@ -45,7 +45,7 @@ within_limit size most error h = by (nat_lt most size) refl h
     by true e h = absurd (let g : error ∷ [] ≡ [] = h in cc)
     by false e h = grind (arith, nat_tests)
 
-none_listed : {X Y : Type 0} (f : X → Y) (o : Option X) → option_to_list (option_map f o) ≡ [] → o ≡ None
+pub none_listed : {X Y : Type 0} (f : X → Y) (o : Option X) → option_to_list (option_map f o) ≡ [] → o ≡ None
 none_listed f None h = refl
 none_listed f (Some x) h = absurd (let g : f x ∷ [] ≡ [] = h in cc)
 

@@ -9,3 +9,4 @@ pub mod JudgedLevels
 pub mod JudgedAnswers
 pub mod OneAnswer
 pub mod OptionLemmas
+pub mod MigratedSets

@@ -2,6 +2,7 @@ pub use Rattle.gs_tables_builtin.specs.BuiltIn
 pub use Rattle.gs_tables_document.specs.Documents
 pub use Rattle.gs_tables_document.specs.Items
 pub use Rattle.gs_tables_document.specs.Readings
+pub use Rattle.gs_tables_migration.specs.Migrations
 pub mod Forms
 pub mod KeptRules
 pub mod Numbers
@@ -14,3 +15,4 @@ pub mod Founds
 pub mod Judgements
 pub mod JudgedSupport
 pub mod Shapes
+pub mod MigratedSets

@@ -39,6 +39,7 @@ mod laws;
 mod level_table;
 mod level_tables;
 mod make;
+mod migration;
 mod option_rules;
 mod rules;
 mod table_set;
@@ -53,4 +54,5 @@ pub use gs_tables_document::{
 pub use kind_rules::{is_of_key, lists};
 pub use kinds_levels::split_items;
 pub use laws::{built_in_rows_have_one_answer, bytes_have_one_answer, options_keep_the_rules};
+pub use migration::{migrate, migrated_text};
 pub use table_set::TableSet;
