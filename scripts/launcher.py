@@ -33,9 +33,10 @@ COMMANDS = [
     ("gen N", "translates N generated lines, to measure with", False),
     ("dump read", "answers each line, a dump of the memory bank of a tag, by the line that shows it", True),
     ("dump write", "answers each line, which shows a dump, by the dump", True),
+    ("merge --links FILE --second FILE", "merges linksets to one", False),
 ]
 # the names whose value is the name of a file
-FILE_NAMES = {"--tables", "--prefixes", "--links", "--describe"}
+FILE_NAMES = {"--tables", "--prefixes", "--links", "--link-text", "--second", "--third", "--describe"}
 DOCUMENTS = [
     ("docs/EXAMPLES.md", "runs and recipes"),
     ("docs/FORMATS.md", "forms, names, limits, reasons, statuses"),

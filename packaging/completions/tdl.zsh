@@ -4,15 +4,15 @@
 local -a forms names
 forms=(hex tag pure raw bracketed link)
 case $CURRENT:$words[2] in
-2:*) compadd -- canon translate check resolve serve gen dump ;;
+2:*) compadd -- canon translate check resolve serve gen dump merge ;;
 3:canon | 3:translate) compadd -- $forms ;;
 4:translate) compadd -- $forms canon ;;
 3:gen) ;;
 3:dump) compadd -- read write ;;
 *)
     case $words[CURRENT-1] in
-    --tables | --prefixes | --links | --describe) _files ;;
-    --keys-only) compadd -- yes no ;;
+    --tables | --prefixes | --links | --link-text | --second | --third | --describe) _files ;;
+    --keys-only | --templates) compadd -- yes no ;;
     --filter) compadd -- {0..7} ;;
     --gcp) compadd -- {1..12} ;;
     --voc | --count | --listen | --encoding | --stem) ;;
@@ -20,9 +20,10 @@ case $CURRENT:$words[2] in
         case $words[2] in
         canon | gen | dump) names=(--tables) ;;
         translate) names=(--tables --prefixes --filter --gcp --encoding --keys-only --stem) ;;
-        check) names=(--tables --prefixes --links --voc) ;;
-        resolve) names=(--links --tables --voc --describe) ;;
-        serve) names=(--links --count --tables --voc --describe --listen) ;;
+        check) names=(--tables --prefixes --links --link-text --voc --templates) ;;
+        resolve) names=(--links --link-text --tables --voc --templates --describe) ;;
+        serve) names=(--links --link-text --count --tables --voc --templates --describe --listen) ;;
+        merge) names=(--links --second --third --tables --voc) ;;
         esac
         # a name stands once
         compadd -- ${names:|words}

@@ -1,5 +1,5 @@
 -- What is wanted, wherever the name of the relation lies, and the answer by the links of chosen numbers.
-use Rattle.std.proofs.Common.{◌≡◌, ◌≢◌, ◌<◌, ◌≤◌, ℕ, zero, suc, List, [], ◌∷◌, length, slice_get, Some, false, inl, inr, refl, arith}
+use Rattle.std.proofs.Common.{Bool, ◌≡◌, ◌≢◌, ◌<◌, ◌≤◌, ℕ, zero, suc, List, [], ◌∷◌, length, slice_get, Some, false, inl, inr, refl, arith}
 use Rattle.std.specs.Prelude.{All, slice_index_or}
 use Rattle.std.specs.Option.{option_map_or}
 use Rattle.std.specs.Borrow.{Bor}
@@ -10,7 +10,11 @@ use Rattle.gs_links.specs.Documents.{linked}
 use Rattle.gs_links.specs.Languages.{matches, narrowed}
 use Rattle.gs_links.specs.declared.link.Link.{Link}
 use Rattle.gs_links.specs.declared.link.Want.TheVariants.{Relation as RelationOf}
-use Rattle.gs_http.specs.Answers.{by_linkset, by_relation, choices, linkset, not_found, of_relation, redirect, text_of}
+use Rattle.gs_http_documents.specs.Forms.{rendered_as}
+use Rattle.gs_http_documents.specs.References.{reference_for}
+use Rattle.gs_http_documents.specs.declared.forms.LinksetForm.{LinksetForm}
+use Rattle.gs_linkset.specs.WrittenTrees.{written}
+use Rattle.gs_http.specs.Answers.{by_linkset, by_relation, choices, linkset, not_found, of_relation, redirect, sent_document}
 
 pub same_want : (links : List Link) (identity : Elements) (name : List ℕ) (lent : Bor (List ℕ)) → lent.now ≡ name → chosen links identity (RelationOf lent) ≡ chosen links identity (of_relation name)
 unfolding is_candidate
@@ -21,32 +25,36 @@ there [] i low = absurd (omega arith)
 there (link ∷ links) zero low = (link, refl)
 there (link ∷ links) (suc i) low = there links i (omega arith)
 
-pub no_links : (links : List Link) (numbers : List ℕ) → length numbers ≡ 0 → not_found ≡ by_relation (linked links numbers)
-no_links links [] none = refl
-no_links links (i ∷ numbers) none = absurd (omega arith)
+module _ (templates : Bool) (identity : Elements) (links : List Link) where
+  pub no_links : (numbers : List ℕ) → length numbers ≡ 0 → not_found ≡ by_relation templates identity (linked links numbers)
+  no_links [] none = refl
+  no_links (i ∷ numbers) none = absurd (omega arith)
 
-pub no_linkset : (links : List Link) (numbers : List ℕ) → length numbers ≡ 0 → not_found ≡ by_linkset (linked links numbers)
-no_linkset links [] none = refl
-no_linkset links (i ∷ numbers) none = absurd (omega arith)
+  pub no_linkset : (form : LinksetForm) (numbers : List ℕ) → length numbers ≡ 0 → not_found ≡ by_linkset templates form identity (linked links numbers)
+  no_linkset form [] none = refl
+  no_linkset form (i ∷ numbers) none = absurd (omega arith)
 
-pub one_link : (links : List Link) (numbers : List ℕ) (link : Link) → length numbers ≡ 1 → slice_get links (slice_index_or numbers 0 0) ≡ Some link → redirect link.target.href ≡ by_relation (linked links numbers)
-one_link links [] link one at = absurd (omega arith)
-one_link links (i ∷ []) link one at = rw at refl
-one_link links (i ∷ j ∷ numbers) link one at = absurd (omega arith)
+  pub one_link : (numbers : List ℕ) (link : Link) → length numbers ≡ 1 → slice_get links (slice_index_or numbers 0 0) ≡ Some link
+      → redirect (reference_for templates identity link.target.href) ≡ by_relation templates identity (linked links numbers)
+  one_link [] link one at = absurd (omega arith)
+  one_link (i ∷ []) link one at = rw at refl
+  one_link (i ∷ j ∷ numbers) link one at = absurd (omega arith)
 
-pub more_links : (links : List Link) (numbers : List ℕ) → All (λ i. i < length links) numbers → 0 < length numbers → length numbers ≢ 1 → by_relation (linked links numbers) ≡ choices (text_of (linked links numbers))
-more_links links [] all some many = absurd (omega arith)
-more_links links (i ∷ []) all some many = absurd (many refl)
-more_links links (i ∷ j ∷ numbers) all some many =
-    let a = there links i (all 0 0 (omega arith)) in
-    let b = there links j (all 1 0 (omega arith)) in
-    rw (a.1, b.1) refl
+  pub more_links : (numbers : List ℕ) → All (λ i. i < length links) numbers → 0 < length numbers → length numbers ≢ 1
+      → by_relation templates identity (linked links numbers) ≡ choices (written (sent_document templates identity (linked links numbers)))
+  more_links [] all some many = absurd (omega arith)
+  more_links (i ∷ []) all some many = absurd (many refl)
+  more_links (i ∷ j ∷ numbers) all some many =
+      let a = there links i (all 0 0 (omega arith)) in
+      let b = there links j (all 1 0 (omega arith)) in
+      rw (a.1, b.1) refl
 
-pub some_links : (links : List Link) (numbers : List ℕ) → All (λ i. i < length links) numbers → 0 < length numbers → by_linkset (linked links numbers) ≡ linkset (text_of (linked links numbers))
-some_links links [] all some = absurd (omega arith)
-some_links links (i ∷ numbers) all some =
-    let a = there links i (all 0 0 (omega arith)) in
-    rw a.1 refl
+  pub some_links : (form : LinksetForm) (numbers : List ℕ) → All (λ i. i < length links) numbers → 0 < length numbers
+      → by_linkset templates form identity (linked links numbers) ≡ linkset (rendered_as form (sent_document templates identity (linked links numbers)))
+  some_links form [] all some = absurd (omega arith)
+  some_links form (i ∷ numbers) all some =
+      let a = there links i (all 0 0 (omega arith)) in
+      rw a.1 refl
 
 -- where there is nothing to choose, languages change nothing
 pub narrowed_few : (links : List Link) (numbers : List ℕ) (ranges : List (List ℕ)) → length numbers ≤ 1 → narrowed links numbers ranges ≡ numbers

@@ -1,4 +1,5 @@
 pub mod Scans
+pub mod AcceptLemmas
 pub mod Ranges
 pub mod ChoiceLemmas
 pub mod Decisions

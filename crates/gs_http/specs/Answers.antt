@@ -11,6 +11,7 @@ use Rattle.gs_ident.specs.Elements.{Elements}
 use Rattle.gs_ident.specs.Identities.{identity_of_pairs}
 use Rattle.gs_ident.specs.declared.errors.IdentFault.{IdentFault}
 use Rattle.gs_linkset.specs.WrittenTrees.{written}
+use Rattle.gs_linkset.specs.declared.link_types.Context.{Context}
 use Rattle.gs_links.specs.Choices.{chosen}
 use Rattle.gs_links.specs.Documents.{document_of, linked}
 use Rattle.gs_links.specs.Languages.{narrowed}
@@ -18,15 +19,20 @@ use Rattle.gs_links.specs.Loads.{is_path}
 use Rattle.gs_links.specs.declared.link.Link.{Link}
 use Rattle.gs_links.specs.declared.link.Want.{Want}
 use Rattle.gs_links.specs.declared.link.Want.TheVariants.{All, Relation as RelationOf}
+use Rattle.gs_http_documents.specs.Forms.{rendered_as}
+use Rattle.gs_http_documents.specs.References.{document_for, reference_for}
+use Rattle.gs_http_documents.specs.declared.forms.LinksetForm.{LinksetForm}
+use Rattle.gs_http_documents.specs.declared.forms.Rendered.{Rendered}
 use Rattle.gs_http.specs.declared.settings.Settings.{Settings}
 use Rattle.gs_http.specs.Heads.{Asked}
-use Rattle.gs_http.specs.AskedRelations.{asked_relation}
 use Rattle.gs_http.specs.LanguageRanges.{accepted_ranges}
+use Rattle.gs_http.specs.Wishes.{Wish, for_linkset, for_relation, wish_of}
 
 -- trusted, RFC 9110, section 15: what is answered: a document with the resolver's description, a linkset, several links to
 -- choose from, the one link to go on to; or that the request is bad, that nothing is found, that the method is not allowed.
 pub data Answer : Type 0 where
-  described linkset choices redirect : List ℕ → Answer
+  linkset : Rendered → Answer
+  described choices redirect : List ℕ → Answer
   bad_request not_found not_allowed : Answer
 
 -- trusted, RFC 9110, section 9.3.1: the method is GET
@@ -46,20 +52,20 @@ abbrev pub describe : Option (List ℕ) → Answer
 describe None = not_found
 describe (Some text) = described text
 
--- trusted, RFC 9264, section 4.2: the document of links
-abbrev pub text_of : List Link → List ℕ
-text_of links = written (document_of links)
+-- trusted, RFC 9264, section 4.2: the document of links that is sent for an identity
+abbrev pub sent_document : Bool → Elements → List Link → List Context
+sent_document templates identity links = document_for templates identity (document_of links)
 
--- trusted, GS1-Conformant Resolver: for a linkset: its document, where there is a link
-abbrev pub by_linkset : List Link → Answer
-by_linkset [] = not_found
-by_linkset (link ∷ links) = linkset (text_of (link ∷ links))
+-- trusted, GS1-Conformant Resolver: for a linkset: its document in a form, where there is a link
+abbrev pub by_linkset : Bool → LinksetForm → Elements → List Link → Answer
+by_linkset templates form identity [] = not_found
+by_linkset templates form identity (link ∷ links) = linkset (rendered_as form (sent_document templates identity (link ∷ links)))
 
--- trusted, GS1-Conformant Resolver: for a relation: the one link, or several to choose from, where there is one at least
-abbrev pub by_relation : List Link → Answer
-by_relation [] = not_found
-by_relation (link ∷ []) = redirect link.target.href
-by_relation (link ∷ other ∷ links) = choices (text_of (link ∷ other ∷ links))
+-- trusted, GS1-Conformant Resolver: for a relation: the one link, or several to choose from, in JSON, where there is one at least
+abbrev pub by_relation : Bool → Elements → List Link → Answer
+by_relation templates identity [] = not_found
+by_relation templates identity (link ∷ []) = redirect (reference_for templates identity link.target.href)
+by_relation templates identity (link ∷ other ∷ links) = choices (written (sent_document templates identity (link ∷ other ∷ links)))
 
 -- trusted, own: that the links of a relation are wanted; where its name lies does not matter
 abbrev pub of_relation : List ℕ → Want
@@ -67,20 +73,21 @@ of_relation name = RelationOf (record { ref_ptr = (0, 0); now = name })
 
 -- trusted, own: by the links that are chosen for the identity: for a linkset all of them, and for a relation those in the
 -- first accepted language that one of them has
-abbrev pub by_elements : List Link → Option (List ℕ) → List (List ℕ) → Elements → Answer
-by_elements links None ranges identity = by_linkset (linked links (chosen links identity All))
-by_elements links (Some name) ranges identity = by_relation (linked links (narrowed links (chosen links identity (of_relation name)) ranges))
+abbrev pub by_elements : Bool → List Link → List (List ℕ) → Elements → Wish → Answer
+by_elements templates links ranges identity (for_linkset form) = by_linkset templates form identity (linked links (chosen links identity All))
+by_elements templates links ranges identity (for_relation name) =
+    by_relation templates identity (linked links (narrowed links (chosen links identity (of_relation name)) ranges))
 
 -- trusted, own: by the identity of the pairs that the target names, where they have one
-abbrev pub by_identity : List Link → Option (List ℕ) → List (List ℕ) → Result Elements IdentFault → Answer
-by_identity links relation ranges (Ok identity) = by_elements links relation ranges identity
-by_identity links relation ranges (Err error) = bad_request
+abbrev pub by_identity : Bool → List Link → List (List ℕ) → Wish → Result Elements IdentFault → Answer
+by_identity templates links ranges wish (Ok identity) = by_elements templates links ranges identity wish
+by_identity templates links ranges wish (Err error) = bad_request
 
 -- trusted, own: by the pairs that the target names
-abbrev pub by_pairs : List AiRow → List Link → Option (List ℕ) → List (List ℕ) → Result (List Pair) LinkFault → Answer
-by_pairs table links relation ranges (Ok pairs) = by_identity links relation ranges (identity_of_pairs table pairs)
-by_pairs table links relation ranges (Err NoKeyPath) = not_found
-by_pairs table links relation ranges (Err error) = bad_request
+abbrev pub by_pairs : List AiRow → Bool → List Link → List (List ℕ) → Wish → Result (List Pair) LinkFault → Answer
+by_pairs table templates links ranges wish (Ok pairs) = by_identity templates links ranges wish (identity_of_pairs table pairs)
+by_pairs table templates links ranges wish (Err NoKeyPath) = not_found
+by_pairs table templates links ranges wish (Err error) = bad_request
 
 -- trusted, own: the answer to a request, by the first case that fits
 unfoldable pub answer_of : List AiRow → List Link → Settings → Asked → Answer
@@ -88,4 +95,4 @@ answer_of table links settings asked =
     if not (is_get asked.method || is_head asked.method) then not_allowed
     else if not (is_path asked.target) then bad_request
     else if is_description asked.target then describe settings.describe
-    else by_pairs table links (asked_relation settings.voc asked) (accepted_ranges asked.fields) (target_answer table 0 asked.target)
+    else by_pairs table settings.templates links (accepted_ranges asked.fields) (wish_of settings.voc asked) (target_answer table 0 asked.target)

@@ -1,7 +1,6 @@
 -- What reading and writing did to a connection.
 use Rattle.std.specs.Prelude.{◌≡◌, ℕ, List, take, Option}
 use Rattle.gs_port.specs.Contents.{append_known}
-use Rattle.gs_http.specs.declared.next_head.Filled.TheVariants.{Failed, Memory}
 use Rattle.gs_http.specs.declared.output.Sent.{Sent}
 use Rattle.gs_http.specs.declared.output.Sent.TheVariants as sent
 

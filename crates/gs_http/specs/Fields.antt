@@ -1,12 +1,10 @@
--- Header fields: RFC 9110, sections 5.1 (names), 5.6.1 (lists) and 12.5.1 (`Accept`). Which of them matter is this project's own.
+-- Header fields: RFC 9110, sections 5.1 (names) and 5.6.1 (lists). Which of them matter is this project's own.
 use Rattle.std.specs.Prelude.{ℕ, ◌==◌, ◌&&◌, not, Bool, List, map, codes, bytes_eq}
 use Rattle.std.specs.Char.{to_ascii_lowercase}
-use Rattle.std.specs.List.{before_first, list_any, slice_split}
+use Rattle.std.specs.List.{list_any, slice_split}
 use Rattle.httparse.specs.Grammar.{trim_ows}
 use Rattle.gs_http.specs.declared.sign.Sign.{Sign}
-use Rattle.gs_http.specs.declared.sign.Sign.TheVariants.{Encoded, Sized, HasPart}
-use Rattle.gs_http.specs.declared.sign.Word.{Word}
-use Rattle.gs_http.specs.declared.sign.Word.TheVariants.{Close, Linkset}
+use Rattle.gs_http.specs.declared.sign.Sign.TheVariants.{Encoded, Sized, Closes}
 
 -- trusted, RFC 9110, section 5.1: the text is the word, which has no capital letters, in letters of either case
 abbrev pub is_word : List ℕ → List ℕ → Bool
@@ -20,26 +18,19 @@ is_comma c = c == 44
 abbrev pub is_semicolon : ℕ → Bool
 is_semicolon c = c == 59
 
--- trusted, own: the name of the field that may have the word
-abbrev pub field_of : Word → List ℕ
-field_of Close = codes "connection"
-field_of Linkset = codes "accept"
+-- trusted, RFC 9110, section 7.6.1: a part of a value is the word `close`
+abbrev pub is_close : List ℕ → Bool
+is_close part = is_word (codes "close") (trim_ows part)
 
--- trusted, RFC 9110, section 12.5.1: a part of the field's value is the word; of a media type, what stands before its
--- parameters
-abbrev pub is_part : Word → List ℕ → Bool
-is_part Close part = is_word (codes "close") (trim_ows part)
-is_part Linkset part = is_word (codes "application/linkset+json") (trim_ows (before_first is_semicolon part))
-
--- trusted, RFC 9110, section 5.6.1: one of the parts between commas is the word
-abbrev pub has_part : Word → List ℕ → Bool
-has_part word value = list_any (is_part word) (slice_split is_comma value)
+-- trusted, RFC 9110, section 5.6.1: one of the parts between commas is the word `close`
+abbrev pub has_close : List ℕ → Bool
+has_close value = list_any is_close (slice_split is_comma value)
 
 -- trusted, own: the field, a name and a value without the white space around it, shows the sign
 abbrev pub shows : Sign → List ℕ × List ℕ → Bool
 shows Encoded field = is_word (codes "transfer-encoding") field.0
 shows Sized field = is_word (codes "content-length") field.0 && not (bytes_eq field.1 (codes "0"))
-shows (HasPart word) field = is_word (field_of word) field.0 && has_part word field.1
+shows Closes field = is_word (codes "connection") field.0 && has_close field.1
 
 -- trusted, own: some field shows the sign
 abbrev pub is_shown : Sign → List (List ℕ × List ℕ) → Bool

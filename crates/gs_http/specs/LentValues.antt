@@ -6,11 +6,15 @@ use Rattle.httparse.specs.declared.spans.HeaderSpan.{HeaderSpan}
 use Rattle.httparse.specs.declared.spans.RequestSpans.{RequestSpans}
 use Rattle.gs_http.specs.declared.answer.Answer.{Answer as Lent}
 use Rattle.gs_http.specs.declared.answer.Answer.TheVariants.{Description, Linkset, Choices, Redirect, BadRequest, NotFound, NotAllowed}
-use Rattle.gs_http.specs.declared.asked_relation.RelationName.{RelationName}
-use Rattle.gs_http.specs.declared.asked_relation.RelationName.TheVariants.{Made, Lent as LentName}
+use Rattle.gs_http.specs.declared.wishes.RelationName.{RelationName}
+use Rattle.gs_http.specs.declared.wishes.RelationName.TheVariants.{Made, Lent as LentName}
+use Rattle.gs_http.specs.declared.wishes.Wish.{Wish as LentWish}
+use Rattle.gs_http.specs.declared.wishes.Wish.TheVariants.{Relation as OfRelation, Linkset as OfLinkset}
 use Rattle.gs_http.specs.declared.request.Request.{Request}
 use Rattle.gs_http.specs.Answers.{Answer, described, linkset, choices, redirect, bad_request, not_found, not_allowed}
 use Rattle.gs_http.specs.Heads.{Asked, asked_of}
+use Rattle.gs_http.specs.Wishes.{Wish, for_linkset, for_relation}
+use Rattle.gs_http_documents.specs.References.{reference_of}
 
 -- what the request that this crate lends says
 abbrev pub asked_by : Request → Asked
@@ -23,9 +27,9 @@ SaysHead request head spans parts = (h : RequestHead) → IsRequestAt head spans
 -- the answer that this crate lends
 abbrev pub said : Lent → Answer
 said (Description text) = described text.now
-said (Linkset text) = linkset text
+said (Linkset sent) = linkset sent
 said (Choices text) = choices text
-said (Redirect href) = redirect href.now
+said (Redirect reference) = redirect (reference_of reference)
 said BadRequest = bad_request
 said NotFound = not_found
 said NotAllowed = not_allowed
@@ -34,3 +38,8 @@ said NotAllowed = not_allowed
 abbrev pub name_of : RelationName → List ℕ
 name_of (Made name) = name
 name_of (LentName name) = name.now
+
+-- what is asked for, by a name that was made or is lent
+abbrev pub wished : LentWish → Wish
+wished (OfRelation name) = for_relation (name_of name)
+wished (OfLinkset form) = for_linkset form

@@ -1,7 +1,8 @@
 pub mod Sites
 pub mod Fields
 pub mod Heads
-pub mod AskedRelations
+pub mod AcceptedForms
+pub mod Wishes
 pub mod LanguageRanges
 pub mod Answers
 pub mod Replies

@@ -5,8 +5,9 @@ use Rattle.gs_ai.specs.declared.row.AiRow.{AiRow}
 use Rattle.gs_links.specs.declared.link.Link.{Link}
 use Rattle.gs_http.specs.declared.replies.Reply.{Reply}
 use Rattle.gs_http.specs.declared.settings.Settings.{Settings}
-use Rattle.gs_http.specs.declared.sign.Sign.TheVariants.{HasPart}
-use Rattle.gs_http.specs.declared.sign.Word.TheVariants.{Close}
+use Rattle.gs_http.specs.declared.sign.Sign.TheVariants.{Closes}
+use Rattle.gs_http_documents.specs.declared.forms.LinksetForm.{LinksetForm}
+use Rattle.gs_http_documents.specs.declared.forms.LinksetForm.TheVariants.{Json, Text}
 use Rattle.gs_http.specs.Answers.{Answer, described, linkset, choices, redirect, bad_request, not_found, not_allowed, answer_of, is_head}
 use Rattle.gs_http.specs.Fields.{is_shown}
 use Rattle.gs_http.specs.Heads.{Asked, IsAsked}
@@ -25,11 +26,16 @@ status_of bad_request = codes "400 Bad Request"
 status_of not_found = codes "404 Not Found"
 status_of not_allowed = codes "405 Method Not Allowed"
 
+-- trusted, RFC 9264, sections 4.1 and 4.2: the media type of a linkset in a form
+abbrev pub type_of : LinksetForm → List ℕ
+type_of Json = codes "application/linkset+json"
+type_of Text = codes "application/linkset"
+
 -- trusted, RFC 9110, sections 8.3, 10.2.1 and 10.2.2: the field that only this answer has: where to go on, which methods are
 -- allowed, or the type of the body
 abbrev pub own_field : Answer → List ℕ
 own_field (described _) = line (codes "Content-Type: application/json")
-own_field (linkset _) = line (codes "Content-Type: application/linkset+json")
+own_field (linkset sent) = line (codes "Content-Type: " ++ type_of sent.form)
 own_field (choices _) = line (codes "Content-Type: application/linkset+json")
 own_field (redirect href) = line (codes "Location: " ++ href)
 own_field bad_request = []
@@ -39,7 +45,7 @@ own_field not_allowed = line (codes "Allow: GET, HEAD")
 -- trusted, own: the bytes behind the head
 abbrev pub body_of : Answer → List ℕ
 body_of (described text) = text
-body_of (linkset text) = text
+body_of (linkset sent) = sent.text
 body_of (choices text) = text
 body_of (redirect _) = []
 body_of bad_request = []
@@ -66,7 +72,7 @@ reply_bytes head_only close answer =
 
 -- trusted, RFC 9112, section 9.3: the connection ends with the reply
 abbrev pub closes : Bool → Asked → Bool
-closes last asked = last || ((asked.minor == 0) || is_shown (HasPart Close) asked.fields)
+closes last asked = last || ((asked.minor == 0) || is_shown Closes asked.fields)
 
 -- trusted, own: the reply to what a head says, where it is that of a request that is answered; `last` says that the
 -- connection ends with it anyway.

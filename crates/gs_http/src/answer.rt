@@ -1,16 +1,17 @@
 use gs_chars::Text;
+use gs_http_documents::{Reference, Rendered};
 
 /// What is answered to a request.
 #[derive(Drop)]
 pub(crate) enum Answer<'a> {
     /// The resolver's description.
     Description(&'a [u8]),
-    /// A linkset, as its text.
-    Linkset(Text),
-    /// Several links to choose from, as the text of a linkset.
+    /// A linkset, in the form in which it is sent.
+    Linkset(Rendered),
+    /// Several links to choose from, as the text of a linkset in JSON.
     Choices(Text),
     /// The reference of the one link to go on to.
-    Redirect(&'a [u8]),
+    Redirect(Reference<'a>),
     /// The request is bad.
     BadRequest,
     /// There is nothing.

@@ -3,12 +3,12 @@ ghost use Rattle.std.specs.Char.{to_ascii_lowercase};
 ghost use Rattle.std.specs.List.{list_any, slice_split};
 ghost use Rattle.httparse.specs.Grammar.{is_ows, skip_ows, trim_ows};
 ghost use Rattle.httparse.specs.Spans.{IsHeaderWithin, header_bytes};
-ghost use Rattle.gs_http.specs.Fields.{field_of, has_part, is_part, is_shown, is_word, shows};
+ghost use Rattle.gs_http.specs.Fields.{has_close, is_close, is_shown, is_word, shows};
 ghost use Rattle.gs_http.specs.LentValues.{asked_by};
 
-use crate::cuts::{after, before};
+use crate::cuts::after;
 use crate::request::Request;
-use crate::sign::{Sign, Word};
+use crate::sign::Sign;
 use gs_dlink::place_of;
 use httparse::spans::HeaderSpan;
 
@@ -61,40 +61,27 @@ pub(crate) fn trimmed(text: &[u8]) -> &[u8]
     without_end(without_front(text))
 }
 
-/// Whether a part of a field's value is the word.
-fn is_part(part: &[u8], word: Word) -> bool
-    ensures { result ≡ is_part word part.now }
+/// Whether a part of a value is the word `close`.
+fn is_close(part: &[u8]) -> bool
+    ensures { result ≡ is_close part.now }
 {
-    match word {
-        Word::Close => is_word(trimmed(part), b"close"),
-        Word::Linkset => is_word(trimmed(before(part, b';')), b"application/linkset+json"),
-    }
+    is_word(trimmed(part), b"close")
 }
 
-/// Whether one of the parts between commas is the word.
-fn has_part(value: &[u8], word: Word) -> bool
-    ensures { result ≡ has_part word value.now }
+/// Whether one of the parts between commas is the word `close`.
+fn has_close(value: &[u8]) -> bool
+    ensures { result ≡ has_close value.now }
 {
     let mut rest = value;
     loop {
         let end = place_of(rest, b',');
-        if is_part(&rest[..end], word) {
+        if is_close(&rest[..end]) {
             return true;
         }
         if end == rest.len() {
             return false;
         }
         rest = after(rest, end);
-    }
-}
-
-/// Whether the name is that of the field that may have the word.
-fn is_field_of(name: &[u8], word: Word) -> bool
-    ensures { result ≡ is_word (field_of word) name.now }
-{
-    match word {
-        Word::Close => is_word(name, b"connection"),
-        Word::Linkset => is_word(name, b"accept"),
     }
 }
 
@@ -105,7 +92,7 @@ fn shows(name: &[u8], value: &[u8], sign: Sign) -> bool
     match sign {
         Sign::Encoded => is_word(name, b"transfer-encoding"),
         Sign::Sized => is_word(name, b"content-length") && value != b"0".as_slice(),
-        Sign::HasPart(word) => is_field_of(name, word) && has_part(value, word),
+        Sign::Closes => is_word(name, b"connection") && has_close(value),
     }
 }
 

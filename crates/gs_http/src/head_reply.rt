@@ -15,7 +15,7 @@ use crate::request::Request;
 use crate::resolver::Resolver;
 use crate::routing::{answer_to, is_head};
 use crate::settings::Settings;
-use crate::sign::{Sign, Word};
+use crate::sign::Sign;
 use crate::site::Site;
 use gs_ai::AiTable;
 use gs_chars::Memory;
@@ -39,7 +39,7 @@ pub(crate) fn rejection(alloc: Global) -> Result<Reply, Memory>
 fn closes(last: bool, request: &Request<'_>) -> bool
     ensures { result ≡ closes last (asked_by request.now) }
 {
-    last || request.minor == 0 || is_shown(request, Sign::HasPart(Word::Close))
+    last || request.minor == 0 || is_shown(request, Sign::Closes)
 }
 
 /// The reply to a request.

@@ -24,8 +24,8 @@
 //!   caches or for other origins.
 #![tactic(auto)]
 
+mod accepted_forms;
 mod answer;
-mod asked_relation;
 mod buffer;
 mod connection;
 mod cuts;
@@ -49,6 +49,7 @@ mod sign;
 mod site;
 mod turns;
 mod weights;
+mod wishes;
 
 pub use connection::{serve_one, serve_with};
 pub use head_reply::{reply, reply_with};

@@ -1,7 +1,7 @@
 ghost use Rattle.std.specs.Prelude.{◌≡◌, option_map};
 ghost use Rattle.std.specs.List.{after_first, find, slice_split};
 ghost use Rattle.gs_dlink.specs.Uris.{is_byte, separates_parts};
-ghost use Rattle.gs_http.specs.AskedRelations.{is_link_type, link_type};
+ghost use Rattle.gs_http.specs.Wishes.{is_link_type, link_type};
 
 use crate::cuts::{after, before, behind, query_of};
 use gs_dlink::part_len;

@@ -1,10 +1,11 @@
 ghost use Rattle.std.specs.Prelude.{◌≡◌, ◌++◌, [], codes, if◌then◌else◌, IfOk};
 ghost use Rattle.std.specs.List.{flat_map};
 ghost use Rattle.gs_http.specs.LentValues.{said};
-ghost use Rattle.gs_http.specs.Replies.{body_of, close_field, line, own_field, reply_bytes, status_of};
+ghost use Rattle.gs_http.specs.Replies.{body_of, close_field, line, own_field, reply_bytes, status_of, type_of};
 
 use crate::answer::Answer;
 use gs_chars::{Memory, Text};
+use gs_http_documents::LinksetForm;
 use std::alloc::Global;
 
 /// The line with the status code and its phrase.
@@ -28,12 +29,22 @@ fn body_of<'b>(answer: &'b Answer<'_>) -> &'b [u8]
 {
     match answer {
         Answer::Description(text) => text,
-        Answer::Linkset(text) => text.as_bytes(),
+        Answer::Linkset(sent) => sent.text.as_bytes(),
         Answer::Choices(text) => text.as_bytes(),
         Answer::Redirect(_) => &[],
         Answer::BadRequest => &[],
         Answer::NotFound => &[],
         Answer::NotAllowed => &[],
+    }
+}
+
+/// The media type of a linkset in a form.
+fn type_of(form: LinksetForm) -> &'static [u8]
+    ensures { result.now ≡ type_of form }
+{
+    match form {
+        LinksetForm::Json => b"application/linkset+json",
+        LinksetForm::Text => b"application/linkset",
     }
 }
 
@@ -43,9 +54,9 @@ fn own_field<'b>(answer: &'b Answer<'_>) -> (&'b [u8], &'b [u8], &'b [u8])
 {
     match answer {
         Answer::Description(_) => (b"Content-Type: ", b"application/json", b"\r\n"),
-        Answer::Linkset(_) => (b"Content-Type: ", b"application/linkset+json", b"\r\n"),
+        Answer::Linkset(sent) => (b"Content-Type: ", type_of(sent.form), b"\r\n"),
         Answer::Choices(_) => (b"Content-Type: ", b"application/linkset+json", b"\r\n"),
-        Answer::Redirect(href) => (b"Location: ", href, b"\r\n"),
+        Answer::Redirect(reference) => (b"Location: ", reference.as_bytes(), b"\r\n"),
         Answer::BadRequest => (b"", b"", b""),
         Answer::NotFound => (b"", b"", b""),
         Answer::NotAllowed => (b"Allow: ", b"GET, HEAD", b"\r\n"),

@@ -1,5 +1,5 @@
 ghost use Rattle.std.specs.Prelude.{◌≡◌, IfOk, vec_len};
-ghost use Rattle.gs_http.specs.AskedRelations.{default_relation};
+ghost use Rattle.gs_http.specs.Wishes.{default_relation};
 ghost use Rattle.gs_http.specs.Sites.{room_for};
 
 use crate::settings::Settings;

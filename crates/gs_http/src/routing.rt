@@ -1,32 +1,33 @@
-ghost use Rattle.std.specs.Prelude.{◌≡◌, ◌≤◌, ◌<◌, ◌==◌, ◌||◌, ℕ, List, None, Some, All, IfOk, length, option_map};
+ghost use Rattle.std.specs.Prelude.{◌≡◌, ◌≤◌, ◌<◌, ◌==◌, ◌||◌, ℕ, List, All, IfOk, length};
 ghost use Rattle.gs_dlink.specs.Answers.{target_answer};
+ghost use Rattle.gs_http_documents.specs.References.{reference_for};
 ghost use Rattle.gs_ident.specs.Elements.{Elements};
 ghost use Rattle.gs_ident.specs.Identities.{IsInOrder, identity_of_pairs};
 ghost use Rattle.gs_links.specs.Choices.{chosen as chosen_numbers};
 ghost use Rattle.gs_links.specs.Documents.{linked};
 ghost use Rattle.gs_links.specs.Languages.{narrowed};
 ghost use Rattle.gs_links.specs.declared.link.Want.{Want as Wanted};
-ghost use Rattle.gs_http.specs.Answers.{answer_of, by_elements, by_identity, by_pairs, by_relation, describe};
-ghost use Rattle.gs_http.specs.Answers.{is_description, is_get, is_head, text_of};
-ghost use Rattle.gs_http.specs.LentValues.{said};
-ghost use Rattle.gs_http.specs.LentValues.{asked_by};
+ghost use Rattle.gs_http.specs.Answers.{answer_of, by_elements, by_identity, by_pairs, by_relation, describe, redirect};
+ghost use Rattle.gs_http.specs.Answers.{is_description, is_get, is_head, sent_document};
 ghost use Rattle.gs_http.specs.LanguageRanges.{accepted_ranges};
-ghost use Rattle.gs_http.specs.LentValues.{name_of};
+ghost use Rattle.gs_http.specs.LentValues.{asked_by, said, wished};
 ghost use Rattle.gs_http.specs.Sites.{room_for};
+ghost use Rattle.gs_http.specs.Wishes.{for_linkset, for_relation};
 
 use crate::answer::Answer;
-use crate::asked_relation::{RelationName, asked_relation};
 use crate::cuts::path_of;
 use crate::languages::accepted_ranges;
 use crate::request::Request;
 use crate::resolver::Resolver;
 use crate::settings::Settings;
+use crate::wishes::{Wish, wish_of};
 use gs_ai::Pair;
-use gs_chars::{Memory, Text};
+use gs_chars::Memory;
 use gs_dlink::{LinkFault, read_target};
+use gs_http_documents::{LinksetForm, document_for, reference_for, render};
 use gs_ident::{IdentFault, Identity, make};
-use gs_links::{Store, Want};
-use gs_linkset::write;
+use gs_links::{Link, Store, Want};
+use gs_linkset::LinkDoc;
 use std::alloc::Global;
 
 /// Whether the method asks for the head of the reply alone.
@@ -60,20 +61,21 @@ fn describe(settings: &Settings) -> Answer<'_>
     }
 }
 
-/// The text of the document of chosen links.
-fn text_of(
+/// The document of chosen links that is sent for an identity.
+fn sent_document(
     alloc: Global,
-    store: &Store,
+    resolver: &Resolver<'_>,
     identity: &Identity,
     chosen: &[u32],
-) -> Result<Text, Memory>
+) -> Result<LinkDoc, Memory>
     requires chosen { (want : Wanted) × (ranges : List (List ℕ))
-        × (chosen.now ≡ narrowed store.now (chosen_numbers store.now identity.now want) ranges) }
+        × (chosen.now ≡ narrowed resolver.now.links (chosen_numbers resolver.now.links identity.now want) ranges) }
     requires some { 0 < length chosen.now }
-    ensures { IfOk result (λ text. text ≡ text_of (linked store.now chosen.now)) }
+    ensures { IfOk result (λ doc. doc ≡ sent_document resolver.now.settings.templates identity.now
+        (linked resolver.now.links chosen.now)) }
 {
-    let document = store.document(alloc, identity, chosen)?;
-    write(alloc, &document)
+    let document = resolver.store().document(alloc, identity, chosen)?;
+    document_for(alloc, resolver.settings().templates, identity, document)
 }
 
 /// Whether one link alone is chosen.
@@ -83,24 +85,42 @@ fn is_single(chosen: &[u32]) -> bool
     chosen.len() == 1
 }
 
+/// The answer to go on to a link.
+fn redirect_to<'a>(
+    alloc: Global,
+    templates: bool,
+    identity: &Identity,
+    link: &'a Link,
+) -> Result<Answer<'a>, Memory>
+    ensures { IfOk result (λ answer. said answer
+        ≡ redirect (reference_for templates identity.now link.now.target.href)) }
+{
+    let href = link.target.href.as_bytes();
+    Ok(Answer::Redirect(reference_for(alloc, templates, identity, href)?))
+}
+
 /// The answer for a relation, by the links that are chosen for the identity.
 fn by_count<'a>(
     alloc: Global,
-    store: &'a Store,
+    resolver: &Resolver<'a>,
     identity: &Identity,
     chosen: &[u32],
 ) -> Result<Answer<'a>, Memory>
     requires { (want : Wanted) × (ranges : List (List ℕ))
-        × (chosen.now ≡ narrowed store.now (chosen_numbers store.now identity.now want) ranges) }
-    ensures { IfOk result (λ answer. said answer ≡ by_relation (linked store.now chosen.now)) }
+        × (chosen.now ≡ narrowed resolver.now.links (chosen_numbers resolver.now.links identity.now want) ranges) }
+    ensures { IfOk result (λ answer. said answer ≡ by_relation resolver.now.settings.templates identity.now
+        (linked resolver.now.links chosen.now)) }
 {
     if chosen.is_empty() {
         return Ok(Answer::NotFound);
     }
     if is_single(chosen) {
-        return Ok(Answer::Redirect(store.link(chosen[0] as usize).target.href.as_bytes()));
+        let link = resolver.store().link(chosen[0] as usize);
+        return redirect_to(alloc, resolver.settings().templates, identity, link);
     }
-    Ok(Answer::Choices(text_of(alloc, store, identity, chosen)?))
+    let document = sent_document(alloc, resolver, identity, chosen)?;
+    let sent = render(alloc, LinksetForm::Json, &document)?;
+    Ok(Answer::Choices(sent.text))
 }
 
 /// Of chosen links those in the first language that the request accepts and one of them has, or all where there is none. Where
@@ -129,56 +149,61 @@ fn narrow<'n>(
 /// The answer for a relation.
 fn by_relation<'a>(
     alloc: Global,
-    store: &'a Store,
+    resolver: &Resolver<'a>,
     room: &mut [u32],
     request: &Request<'_>,
     name: &[u8],
     identity: &Identity,
 ) -> Result<Answer<'a>, Memory>
-    requires { room_for store.now ≤ length room.old }
-    ensures { IfOk result (λ answer. said answer ≡ by_elements store.now (Some name.now)
-        (accepted_ranges (asked_by request.now).fields) identity.now) }
+    requires { room_for resolver.now.links ≤ length room.old }
+    ensures { IfOk result (λ answer. said answer ≡ by_elements resolver.now.settings.templates resolver.now.links
+        (accepted_ranges (asked_by request.now).fields) identity.now (for_relation name.now)) }
 {
+    let store = resolver.store();
     let (numbers, narrowed) = room.split_at_mut(store.len());
     let chosen = store.choose(identity, Want::Relation(name), numbers);
     let chosen = narrow(alloc, store, request, &numbers[..chosen.count], narrowed)?;
-    by_count(alloc, store, identity, chosen)
+    by_count(alloc, resolver, identity, chosen)
 }
 
-/// The answer for a linkset.
+/// The answer for a linkset in a form.
 fn by_linkset<'a>(
     alloc: Global,
-    store: &'a Store,
+    resolver: &Resolver<'a>,
     room: &mut [u32],
+    form: LinksetForm,
     identity: &Identity,
 ) -> Result<Answer<'a>, Memory>
-    requires { room_for store.now ≤ length room.old }
+    requires { room_for resolver.now.links ≤ length room.old }
     ensures { (ranges : List (List ℕ)) → IfOk result (λ answer. said answer
-        ≡ by_elements store.now None ranges identity.now) }
+        ≡ by_elements resolver.now.settings.templates resolver.now.links ranges identity.now (for_linkset form)) }
 {
-    let chosen = store.choose(identity, Want::All, room);
+    let chosen = resolver.store().choose(identity, Want::All, room);
     if chosen.count == 0 {
         return Ok(Answer::NotFound);
     }
-    Ok(Answer::Linkset(text_of(alloc, store, identity, &room[..chosen.count])?))
+    let document = sent_document(alloc, resolver, identity, &room[..chosen.count])?;
+    Ok(Answer::Linkset(render(alloc, form, &document)?))
 }
 
 /// The answer by the links that are chosen for an identity.
 fn by_identity<'a>(
     alloc: Global,
-    store: &'a Store,
+    resolver: &Resolver<'a>,
     room: &mut [u32],
     request: &Request<'_>,
-    relation: &Option<RelationName<'_>>,
+    wish: &Wish<'_>,
     identity: &Identity,
 ) -> Result<Answer<'a>, Memory>
-    requires { room_for store.now ≤ length room.old }
-    ensures { IfOk result (λ answer. said answer ≡ by_elements store.now (option_map name_of relation.now)
-        (accepted_ranges (asked_by request.now).fields) identity.now) }
+    requires { room_for resolver.now.links ≤ length room.old }
+    ensures { IfOk result (λ answer. said answer ≡ by_elements resolver.now.settings.templates resolver.now.links
+        (accepted_ranges (asked_by request.now).fields) identity.now (wished wish.now)) }
 {
-    match relation {
-        Some(name) => by_relation(alloc, store, room, request, name.as_bytes(), identity),
-        None => by_linkset(alloc, store, room, identity),
+    match wish {
+        Wish::Relation(name) => {
+            by_relation(alloc, resolver, room, request, name.as_bytes(), identity)
+        }
+        Wish::Linkset(form) => by_linkset(alloc, resolver, room, *form, identity),
     }
 }
 
@@ -188,36 +213,37 @@ fn by_pairs<'a>(
     resolver: &Resolver<'a>,
     room: &mut [u32],
     request: &Request<'_>,
-    relation: &Option<RelationName<'_>>,
+    wish: &Wish<'_>,
     pairs: Vec<Pair>,
 ) -> Result<Answer<'a>, Memory>
     requires room { room_for resolver.now.links ≤ length room.old }
     requires in_order { All (IsInOrder resolver.now.table) pairs.items }
-    ensures { IfOk result (λ answer. said answer ≡ by_identity resolver.now.links (option_map name_of relation.now)
-        (accepted_ranges (asked_by request.now).fields) (identity_of_pairs resolver.now.table pairs.items)) }
+    ensures { IfOk result (λ answer. said answer ≡ by_identity resolver.now.settings.templates resolver.now.links
+        (accepted_ranges (asked_by request.now).fields) (wished wish.now)
+        (identity_of_pairs resolver.now.table pairs.items)) }
 {
     match make(alloc, resolver.table(), pairs) {
-        Ok(identity) => by_identity(alloc, resolver.store(), room, request, relation, &identity),
+        Ok(identity) => by_identity(alloc, resolver, room, request, wish, &identity),
         Err(IdentFault::Memory) => Err(Memory),
         Err(_) => Ok(Answer::BadRequest),
     }
 }
 
-/// The answer by the target of a request, for the relation that it asks for.
+/// The answer by the target of a request, for what it asks for.
 fn by_target<'a>(
     alloc: Global,
     resolver: &Resolver<'a>,
     room: &mut [u32],
     request: &Request<'_>,
-    relation: &Option<RelationName<'_>>,
+    wish: &Wish<'_>,
 ) -> Result<Answer<'a>, Memory>
     requires { room_for resolver.now.links ≤ length room.old }
-    ensures { IfOk result (λ answer. said answer ≡ by_pairs resolver.now.table resolver.now.links
-        (option_map name_of relation.now) (accepted_ranges (asked_by request.now).fields)
+    ensures { IfOk result (λ answer. said answer ≡ by_pairs resolver.now.table resolver.now.settings.templates
+        resolver.now.links (accepted_ranges (asked_by request.now).fields) (wished wish.now)
         (target_answer resolver.now.table 0 request.now.target.now)) }
 {
     match read_target(alloc, resolver.table(), request.target) {
-        Ok(pairs) => by_pairs(alloc, resolver, room, request, relation, pairs),
+        Ok(pairs) => by_pairs(alloc, resolver, room, request, wish, pairs),
         Err(LinkFault::NoKeyPath) => Ok(Answer::NotFound),
         Err(LinkFault::Memory) => Err(Memory),
         Err(_) => Ok(Answer::BadRequest),
@@ -245,6 +271,6 @@ pub(crate) fn answer_to<'a>(
     if is_description(request.target) {
         return Ok(describe(resolver.settings()));
     }
-    let relation = asked_relation(alloc, resolver, request)?;
-    by_target(alloc, resolver, room, request, &relation)
+    let wish = wish_of(alloc, resolver, request)?;
+    by_target(alloc, resolver, room, request, &wish)
 }

@@ -7,4 +7,6 @@ pub struct Settings {
     pub voc: Text,
     /// The bytes of the resolver description file, where there is one.
     pub describe: Option<Text>,
+    /// Whether references are templates, whose places the identity of a request fills.
+    pub templates: bool,
 }

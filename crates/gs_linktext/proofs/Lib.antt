@@ -7,6 +7,8 @@ pub mod OneReading
 pub mod Positions
 pub mod ReadLemmas
 pub mod ShapedLemmas
+pub mod SomeNames
+pub mod SomeReading
 pub mod SpelledAttrs
 pub mod SpelledBytes
 pub mod SpelledGrammar

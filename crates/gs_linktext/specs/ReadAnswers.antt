@@ -1,5 +1,5 @@
 -- The answers of reading.
-use Rattle.std.specs.Prelude.{◌≡◌, ℕ, List, ◌⊎◌, Some, None}
+use Rattle.std.specs.Prelude.{◌≡◌, ◌≢◌, ℕ, List, ◌⊎◌, Some, None}
 use Rattle.gs_linkset.specs.declared.link_types.Context.{Context}
 use Rattle.gs_linkset.specs.declared.link_types.Target.{Target}
 use Rattle.gs_linktext.specs.Contexts.{IsCut}
@@ -40,3 +40,8 @@ pub record IsTextOf (bytes : List ℕ) (links : List (List ℕ × List ℕ × Ta
 -- trusted, own: two errors are the same, or one of them says that memory ran out
 abbrev pub IsSameOrMemory : LinkTextFault → LinkTextFault → Type 0
 IsSameOrMemory f g = (f ≡ g) ⊎ ((f ≡ Memory) ⊎ (g ≡ Memory))
+
+-- trusted, own: a text has an answer of reading beside that memory ran out: the contexts of a linkset, or an error
+abbrev pub HasReading : List ℕ → Type 0
+HasReading bytes =
+    ((contexts : List Context) × IsReadAs bytes contexts) ⊎ ((error : LinkTextFault) × (error ≢ Memory) × IsReadError bytes error)

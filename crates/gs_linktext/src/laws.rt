@@ -4,7 +4,7 @@ ghost use Rattle.gs_linkset.specs.LinkShapes.{is_context, links_of_document};
 ghost use Rattle.gs_linkset.specs.declared.link_types.Context.{Context};
 ghost use Rattle.gs_linkset.specs.declared.link_types.Target.{Target};
 ghost use Rattle.gs_linktext.specs.Contexts.{IsCut};
-ghost use Rattle.gs_linktext.specs.ReadAnswers.{IsReadAs, IsReadError, IsSameOrMemory, IsTextOf};
+ghost use Rattle.gs_linktext.specs.ReadAnswers.{HasReading, IsReadAs, IsReadError, IsSameOrMemory, IsTextOf};
 ghost use Rattle.gs_linktext_grammar.specs.declared.error.LinkTextFault.{LinkTextFault};
 ghost use Rattle.gs_linktext_grammar.specs.declared.error.LinkTextFault.TheVariants.{Memory};
 ghost use Rattle.gs_linktext.specs.Spelling.{cannot_spell, spelled};
@@ -41,4 +41,9 @@ pub fn one_reading()
         → IsReadError bytes error → error ≡ Memory }
     ensures rejected { (bytes : List ℕ) (e f : LinkTextFault) → IsReadError bytes e → IsReadError bytes f
         → IsSameOrMemory e f }
+{}
+
+/// Each text has an answer of reading, beside that memory ran out: the contexts of a linkset, or an error.
+pub fn some_reading()
+    ensures { (bytes : List ℕ) → HasReading bytes }
 {}

@@ -3,7 +3,7 @@
 //!
 //! - `read` reads a linkset from a text, or gives its first error; `write` spells one.
 //! - What is written is read as the same links: `written_is_read`.
-//! - `one_lexing`, `one_cut`, `one_reading`, `spelled_is_read`: the other laws of reading and writing.
+//! - `one_lexing`, `one_cut`, `one_reading`, `some_reading`, `spelled_is_read`: the other laws of reading and writing.
 //!
 //! # Example
 //!
@@ -37,6 +37,6 @@ mod types;
 mod writer;
 
 pub use gs_linktext_grammar::{LinkTextFault, one_lexing};
-pub use laws::{one_cut, one_reading, spelled_is_read, written_is_read};
+pub use laws::{one_cut, one_reading, some_reading, spelled_is_read, written_is_read};
 pub use reader::read;
 pub use writer::{LinkTextWriteFault, write};

@@ -7,7 +7,7 @@ use Rattle.tdl_arguments.specs.declared.name.NameRow.{NameRow}
 use Rattle.tdl_arguments.specs.CommandReads.{command_of}
 use Rattle.tdl_arguments.specs.Commands.{names_of}
 use Rattle.tdl_arguments.specs.Names.{AreOfRows, has_required, takes}
-use Rattle.tdl_arguments.specs.Requests.{Asked, Asks, WordsInOrder, asked_of}
+use Rattle.tdl_arguments.specs.Requests.{Asked, Asks, WordsInOrder, asked_of, may_have, named_values}
 use Rattle.tdl_arguments.proofs.PairLemmas.{TakesBeside, not_behind, not_taken, of_no_word, of_one_word, one_more, same_pairs}
 use Rattle.tdl_arguments.proofs.RequestLemmas.{asks_of, not_in_order, order_of}
 
@@ -47,9 +47,19 @@ lacks command words pairs of lacking asked a =
     let f : false ≡ true = sym lacking ∙ ap (has_required (names_of command)) same ∙ has in
     cc
 
+unfit : (command : Command) (words : List (List ℕ)) (pairs : List (List ℕ × List ℕ)) → AreOfRows (names_of command) words pairs → may_have command (named_values pairs) ≡ false → (asked : Asked) → Asks command words asked → ⊥
+unfit command words pairs of unfitting asked a =
+    let same = same_pairs words pairs a.pairs of.are a.of_rows.are in
+    let fits = a.fits in
+    let f : false ≡ true = sym unfitting ∙ ap (λ ps. may_have command (named_values ps)) same ∙ fits in
+    cc
+
 asks_of_pairs : (command : Command) (words : List (List ℕ)) → HasSome (λ (pairs : List (List ℕ × List ℕ)). AreOfRows (names_of command) words pairs) → Decided (Asks command words)
 asks_of_pairs command words pairs = elim (true_or_false (has_required (names_of command) pairs.0)) as (λ _. Decided (Asks command words)) [
-  | inl all ↦ inl (asked_of command pairs.0, record { pairs = pairs.0; of_rows = pairs.1; required = all; is = refl })
+  | inl all ↦ elim (true_or_false (may_have command (named_values pairs.0))) as (λ _. Decided (Asks command words)) [
+    | inl fits ↦ inl (asked_of command pairs.0, record { pairs = pairs.0; of_rows = pairs.1; required = all; fits = fits; is = refl })
+    | inr other ↦ inr (unfit command words pairs.0 pairs.1 other)
+  ]
   | inr none ↦ inr (lacks command words pairs.0 pairs.1 none)
 ]
 

@@ -11,7 +11,7 @@ use Rattle.gs_translate.specs.declared.target.Target.{Target}
 use Rattle.gs_translate.specs.declared.target.Target.TheVariants as target
 use Rattle.gs_translate.specs.StepsSupport.{HasOne}
 use Rattle.tdl_arguments.specs.declared.command.Command.{Command}
-use Rattle.tdl_arguments.specs.declared.command.Command.TheVariants.{Canon, Translate, Check, Resolve, Serve, Gen, DumpRead, DumpWrite}
+use Rattle.tdl_arguments.specs.declared.command.Command.TheVariants.{Canon, Translate, Check, Resolve, Serve, Gen, DumpRead, DumpWrite, Merge}
 use Rattle.tdl_arguments.specs.CommandReads.{behind_name, canon_of, command_of, gen_of, form_named, forms, operated_of, or_else, plain_command, plain_commands, plain_of, stands_before, target_named, targets, translation_of}
 use Rattle.tdl_arguments.specs.Commands.{command_name, command_words, form_word, operands_in_range, operands_of, target_word}
 use Rattle.tdl_arguments.specs.Requests.{Asked, Asks, NotInOrder, WordsInOrder, asked_of}
@@ -62,6 +62,7 @@ command_read Resolve behind fits = refl
 command_read Serve behind fits = refl
 command_read DumpRead behind fits = refl
 command_read DumpWrite behind fits = refl
+command_read Merge behind fits = refl
 command_read (Gen lines) behind fits =
     let few : lines ≤ most_lines = leb-true lines most_lines fits in
     rw (number_read 0 most_lines lines (omega arith) (omega arith) few) refl

@@ -1,13 +1,13 @@
 -- The commands: for each the arguments of it and its operands, the names that it takes, and what it uses.
-use Rattle.std.specs.Prelude.{ℕ, nat_le, ◌||◌, Bool, true, false, List, [], ◌∷◌, ◌++◌, None, codes, decimal}
+use Rattle.std.specs.Prelude.{ℕ, nat_le, ◌||◌, Bool, true, false, List, [], ◌∷◌, ◌++◌, Some, None, codes, decimal}
 use Rattle.gs_translate.specs.declared.form.Form.{Form}
 use Rattle.gs_translate.specs.declared.form.Form.TheVariants.{Hex, Tag, Pure, Raw, Bracketed, Link}
 use Rattle.tdl_arguments.specs.declared.command.Command.{Command}
 use Rattle.gs_translate.specs.declared.target.Target.{Target}
 use Rattle.gs_translate.specs.declared.target.Target.TheVariants as target
-use Rattle.tdl_arguments.specs.declared.command.Command.TheVariants.{Canon, Translate, Check, Resolve, Serve, Gen, DumpRead, DumpWrite}
+use Rattle.tdl_arguments.specs.declared.command.Command.TheVariants.{Canon, Translate, Check, Resolve, Serve, Gen, DumpRead, DumpWrite, Merge}
 use Rattle.tdl_arguments.specs.declared.name.Name.{Name}
-use Rattle.tdl_arguments.specs.declared.name.Name.TheVariants.{Tables, Prefixes, Links, Describe, Voc, Listen, Count, Filter, Gcp, Encoding, KeysOnly, Stem}
+use Rattle.tdl_arguments.specs.declared.name.Name.TheVariants.{Tables, Prefixes, Links, LinkText, Second, Third, Describe, Voc, Templates, Listen, Count, Filter, Gcp, Encoding, KeysOnly, Stem}
 use Rattle.tdl_arguments.specs.declared.name.NameRow.{NameRow}
 use Rattle.tdl_arguments.specs.Ranges.{most_lines}
 
@@ -40,6 +40,7 @@ command_name Serve = codes "serve" ∷ []
 command_name (Gen lines) = codes "gen" ∷ []
 command_name DumpRead = codes "dump" ∷ codes "read" ∷ []
 command_name DumpWrite = codes "dump" ∷ codes "write" ∷ []
+command_name Merge = codes "merge" ∷ []
 
 -- trusted, own: the operands of a command
 abbrev pub operands_of : Command → List (List ℕ)
@@ -65,17 +66,27 @@ optional name = record { name = name; instead = None; required = false }
 abbrev pub needed : Name → NameRow
 needed name = record { name = name; instead = None; required = true }
 
+-- trusted, own: a name, or another in its stead, that may be absent
+abbrev pub optional_either : Name → Name → NameRow
+optional_either name other = record { name = name; instead = Some other; required = false }
+
+-- trusted, own: a name that must be there, or another in its stead
+abbrev pub needed_either : Name → Name → NameRow
+needed_either name other = record { name = name; instead = Some other; required = true }
+
 -- trusted, own: the names that a command takes
 abbrev pub names_of : Command → List NameRow
 names_of (Canon form) = optional Tables ∷ []
 names_of (Translate from to) =
     optional Tables ∷ optional Prefixes ∷ optional Filter ∷ optional Gcp ∷ optional Encoding ∷ optional KeysOnly ∷ optional Stem ∷ []
-names_of Check = optional Tables ∷ optional Prefixes ∷ optional Links ∷ optional Voc ∷ []
-names_of Resolve = needed Links ∷ optional Tables ∷ optional Voc ∷ optional Describe ∷ []
-names_of Serve = needed Links ∷ needed Count ∷ optional Tables ∷ optional Voc ∷ optional Describe ∷ optional Listen ∷ []
+names_of Check = optional Tables ∷ optional Prefixes ∷ optional_either Links LinkText ∷ optional Voc ∷ optional Templates ∷ []
+names_of Resolve = needed_either Links LinkText ∷ optional Tables ∷ optional Voc ∷ optional Templates ∷ optional Describe ∷ []
+names_of Serve =
+    needed_either Links LinkText ∷ needed Count ∷ optional Tables ∷ optional Voc ∷ optional Templates ∷ optional Describe ∷ optional Listen ∷ []
 names_of (Gen lines) = optional Tables ∷ []
 names_of DumpRead = optional Tables ∷ []
 names_of DumpWrite = optional Tables ∷ []
+names_of Merge = needed Links ∷ needed Second ∷ optional Third ∷ optional Tables ∷ optional Voc ∷ []
 
 -- trusted, own: what a command works on: the lines of the input, the heads of the input, as those of one connection, the
 -- door, or none of these
@@ -95,6 +106,7 @@ work_of Serve = on_door
 work_of (Gen lines) = on_none
 work_of DumpRead = on_lines
 work_of DumpWrite = on_lines
+work_of Merge = on_none
 
 -- trusted, own: the work is on the lines of the input
 abbrev pub is_on_lines : Work → Bool

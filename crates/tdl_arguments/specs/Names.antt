@@ -4,7 +4,7 @@ use Rattle.std.specs.List.{find, list_all, list_any}
 use Rattle.std.specs.Option.{option_map}
 use Rattle.gs_dlink.specs.Stems.{stem_ok}
 use Rattle.tdl_arguments.specs.declared.name.Name.{Name}
-use Rattle.tdl_arguments.specs.declared.name.Name.TheVariants.{Tables, Prefixes, Links, Describe, Voc, Listen, Count, Filter, Gcp, Encoding, KeysOnly, Stem}
+use Rattle.tdl_arguments.specs.declared.name.Name.TheVariants.{Tables, Prefixes, Links, LinkText, Second, Third, Describe, Voc, Templates, Listen, Count, Filter, Gcp, Encoding, KeysOnly, Stem}
 use Rattle.tdl_arguments.specs.declared.name.NameRow.{NameRow}
 use Rattle.tdl_arguments.specs.Ranges.{count_of, filter_of, gcp_of, is_vocabulary}
 
@@ -17,8 +17,12 @@ abbrev pub name_word : Name → List ℕ
 name_word Tables = codes "--tables"
 name_word Prefixes = codes "--prefixes"
 name_word Links = codes "--links"
+name_word LinkText = codes "--link-text"
+name_word Second = codes "--second"
+name_word Third = codes "--third"
 name_word Describe = codes "--describe"
 name_word Voc = codes "--voc"
+name_word Templates = codes "--templates"
 name_word Listen = codes "--listen"
 name_word Count = codes "--count"
 name_word Filter = codes "--filter"
@@ -27,19 +31,27 @@ name_word Encoding = codes "--encoding"
 name_word KeysOnly = codes "--keys-only"
 name_word Stem = codes "--stem"
 
+-- trusted, own: a value is `yes` or `no`
+abbrev pub is_yes_or_no : List ℕ → Bool
+is_yes_or_no value = bytes_eq value (codes "yes") || bytes_eq value (codes "no")
+
 -- trusted, own: the values that a name may have; a file may have any name, and an address any text
 abbrev pub in_range : Name → List ℕ → Bool
 in_range Tables value = true
 in_range Prefixes value = true
 in_range Links value = true
+in_range LinkText value = true
+in_range Second value = true
+in_range Third value = true
 in_range Describe value = true
 in_range Voc value = is_vocabulary value
+in_range Templates value = is_yes_or_no value
 in_range Listen value = true
 in_range Count value = is_some (count_of value)
 in_range Filter value = is_some (filter_of value)
 in_range Gcp value = is_some (gcp_of value)
 in_range Encoding value = nat_lt 0 (length value)
-in_range KeysOnly value = bytes_eq value (codes "yes") || bytes_eq value (codes "no")
+in_range KeysOnly value = is_yes_or_no value
 in_range Stem value = stem_ok value
 
 -- trusted, own: the value of the first pair with the name

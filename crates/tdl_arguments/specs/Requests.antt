@@ -1,12 +1,16 @@
 -- What the arguments of the command line ask for.
-use Rattle.std.specs.Prelude.{◌≡◌, ℕ, Bool, true, List, [], ◌∷◌, ◌++◌, codes, Option, Some, None, option_and_then, option_to_list, unwrap_or, bytes_eq, map, String, string_bytes}
+use Rattle.std.specs.Prelude.{◌≡◌, ℕ, Bool, true, List, [], ◌∷◌, ◌++◌, codes, Option, Some, None, option_and_then, option_map, option_to_list, unwrap_or, bytes_eq, map, String, string_bytes}
 use Rattle.std.specs.Borrow.{Bor}
 use Rattle.std.specs.List.{Contains}
 use Rattle.gs_ident.specs.Links.{canonical_stem}
 use Rattle.gs_translate.specs.declared.options.Options.{Options}
+use Rattle.gs_links.specs.Loads.{keeps_names}
 use Rattle.tdl_arguments.specs.declared.command.Command.{Command}
+use Rattle.tdl_arguments.specs.declared.command.Command.TheVariants.{Merge}
 use Rattle.tdl_arguments.specs.declared.name.Name.{Name}
-use Rattle.tdl_arguments.specs.declared.name.Name.TheVariants.{Tables, Prefixes, Links, Describe, Voc, Listen, Count, Filter, Gcp, Encoding, KeysOnly, Stem}
+use Rattle.tdl_arguments.specs.declared.name.Name.TheVariants.{Tables, Prefixes, Links, LinkText, Second, Third, Describe, Voc, Templates, Listen, Count, Filter, Gcp, Encoding, KeysOnly, Stem}
+use Rattle.tdl_arguments.specs.declared.request.LinksFile.{LinksFile}
+use Rattle.tdl_arguments.specs.declared.request.LinksFile.TheVariants.{Json, Text}
 use Rattle.tdl_arguments.specs.declared.request.NamedFiles.{NamedFiles}
 use Rattle.tdl_arguments.specs.declared.request.NamedValues.{NamedValues}
 use Rattle.tdl_arguments.specs.declared.request.Request.{Request}
@@ -18,16 +22,23 @@ use Rattle.tdl_arguments.specs.Ranges.{count_of, filter_of, gcp_of}
 abbrev pub known_words : {Z : Type 0} → List (String Z) → List (List ℕ)
 known_words words = map string_bytes words
 
+-- trusted, own: the name of a file of links, a linkset in JSON or as text
+pub data LinksName : Type 0 where
+  in_json as_text : List ℕ → LinksName
+
 -- trusted, own: the names of the files that are asked for
 pub record FileNames : Type 0 where
   pub tables : Option (List ℕ)
   pub prefixes : Option (List ℕ)
-  pub links : Option (List ℕ)
+  pub links : Option LinksName
+  pub second : Option (List ℕ)
+  pub third : Option (List ℕ)
   pub describe : Option (List ℕ)
 
 -- trusted, own: the values of the names that name no files
 pub record Values : Type 0 where
   pub voc : List ℕ
+  pub templates : Bool
   pub listen : List ℕ
   pub count : ℕ
   pub filter : Option ℕ
@@ -42,12 +53,23 @@ pub record Asked : Type 0 where
   pub files : FileNames
   pub values : Values
 
+-- trusted, own: a file of links by the name of one in JSON, or by that of one as text
+abbrev pub links_by : Option (List ℕ) → Option (List ℕ) → Option LinksName
+links_by (Some name) text = Some (in_json name)
+links_by None text = option_map as_text text
+
+-- trusted, own: the file of links that pairs name
+abbrev pub links_of_pairs : NamedPairs → Option LinksName
+links_of_pairs pairs = links_by (look_up (name_word Links) pairs) (look_up (name_word LinkText) pairs)
+
 -- trusted, own: the files that pairs name
 abbrev pub named_files : NamedPairs → FileNames
 named_files pairs = record {
   tables = look_up (name_word Tables) pairs;
   prefixes = look_up (name_word Prefixes) pairs;
-  links = look_up (name_word Links) pairs;
+  links = links_of_pairs pairs;
+  second = look_up (name_word Second) pairs;
+  third = look_up (name_word Third) pairs;
   describe = look_up (name_word Describe) pairs;
 }
 
@@ -71,12 +93,13 @@ number_named number_of name pairs = option_and_then number_of (look_up (name_wor
 abbrev pub count_named : NamedPairs → ℕ
 count_named pairs = unwrap_or (number_named count_of Count pairs) 0
 
--- trusted, own: The values of names in pairs, with their defaults: no connection, since the command that serves some must
--- name their number, no filter value, no length of a company prefix, no encoding, all elements kept, and the stem of
+-- trusted, own: The values of names in pairs, with their defaults: references that are no templates, no connection, since the
+-- command that serves some must name their number, no filter value, no length of a company prefix, no encoding, all elements kept, and the stem of
 -- canonical links.
 abbrev pub named_values : NamedPairs → Values
 named_values pairs = record {
   voc = value_or default_voc Voc pairs;
+  templates = bytes_eq (value_or (codes "no") Templates pairs) (codes "yes");
   listen = value_or default_listen Listen pairs;
   count = count_named pairs;
   filter = number_named filter_of Filter pairs;
@@ -90,12 +113,20 @@ named_values pairs = record {
 abbrev pub asked_of : Command → NamedPairs → Asked
 asked_of command pairs = record { command = command; files = named_files pairs; values = named_values pairs }
 
+-- trusted, own: the command may have these values, which are in the ranges of their names: what is merged needs a vocabulary
+-- that keeps names
+abbrev pub may_have : Command → Values → Bool
+may_have Merge values = keeps_names values.voc
+may_have command values = true
+
 -- trusted, own: Arguments behind a command and its operands ask for this: they are pairs that the command takes, each row of
--- its names at most once and those there that it must have, and what is asked is the look-up of the names.
+-- its names at most once and those there that it must have, with values that it may have, and what is asked is the look-up of
+-- the names.
 pub record Asks (command : Command) (words : List (List ℕ)) (asked : Asked) : Type 0 where
   pub pairs : NamedPairs
   pub of_rows : AreOfRows (names_of command) words pairs
   pub required : has_required (names_of command) pairs ≡ true
+  pub fits : may_have command (named_values pairs) ≡ true
   pub is : asked ≡ asked_of command pairs
 
 -- trusted, own: The arguments are in order, and ask for this: a command, its operands, which are in range, and pairs.
@@ -144,9 +175,22 @@ no_options = options_of (named_values [])
 abbrev pub tables_named : FileNames → List (List ℕ)
 tables_named files = option_to_list files.tables ++ option_to_list files.prefixes
 
--- trusted, own: the names of the files of links
+-- trusted, own: the name of a file of links
+abbrev pub name_of_links : LinksName → List ℕ
+name_of_links (in_json name) = name
+name_of_links (as_text name) = name
+
+-- trusted, own: the names of the file of links
+abbrev pub first_named : FileNames → List (List ℕ)
+first_named files = option_to_list (option_map name_of_links files.links)
+
+-- trusted, own: the names of the files of links that are merged with the first, in their order
+abbrev pub others_named : FileNames → List (List ℕ)
+others_named files = option_to_list files.second ++ option_to_list files.third
+
+-- trusted, own: the names of the files of links, in their order
 abbrev pub links_named : FileNames → List (List ℕ)
-links_named files = option_to_list files.links
+links_named files = first_named files ++ others_named files
 
 -- trusted, own: the names of the files of the description of a resolver
 abbrev pub description_named : FileNames → List (List ℕ)
@@ -169,16 +213,29 @@ NamesNoFile words = (name : List ℕ) → NamesFile words name → ⊥
 -- trusted, own: what is printed where the arguments are not in order
 abbrev pub usage_line : List ℕ
 usage_line =
-    codes "usage: tdl canon FORM | translate FROM TO | check | resolve | serve | gen N | dump read | dump write, then --name value pairs" ++ 10 ∷ []
+    codes "usage: tdl canon FORM | translate FROM TO | check | resolve | serve | gen N | dump read | dump write | merge, then --name value pairs" ++ 10 ∷ []
 
 -- trusted, own: the name of a file in a request
 abbrev pub known_name : Option (Bor (List ℕ)) → Option (List ℕ)
 known_name None = None
 known_name (Some name) = Some name.now
 
+-- trusted, own: the name of a file of links in a request
+abbrev pub known_links : Option LinksFile → Option LinksName
+known_links None = None
+known_links (Some (Json name)) = Some (in_json name.now)
+known_links (Some (Text name)) = Some (as_text name.now)
+
 -- trusted, own: the files of a request
 abbrev pub known_files : NamedFiles → FileNames
-known_files files = record { tables = known_name files.tables; prefixes = known_name files.prefixes; links = known_name files.links; describe = known_name files.describe }
+known_files files = record {
+  tables = known_name files.tables;
+  prefixes = known_name files.prefixes;
+  links = known_links files.links;
+  second = known_name files.second;
+  third = known_name files.third;
+  describe = known_name files.describe;
+}
 
 -- trusted, own: the names of the files of a request, in the order in which they are read
 abbrev pub all_named : Request → List (List ℕ)
@@ -186,7 +243,7 @@ all_named request = names_in_order (known_files request.files)
 
 -- trusted, own: the values of a request
 abbrev pub known_values : NamedValues → Values
-known_values values = record { voc = values.voc.now; listen = values.listen.now; count = values.count; filter = values.filter; gcp = values.gcp; encoding = values.encoding.now; keys_only = values.keys_only; stem = values.stem.now }
+known_values values = record { voc = values.voc.now; templates = values.templates; listen = values.listen.now; count = values.count; filter = values.filter; gcp = values.gcp; encoding = values.encoding.now; keys_only = values.keys_only; stem = values.stem.now }
 
 -- trusted, own: what a request asks for
 abbrev pub known_request : Request → Asked

@@ -1,14 +1,15 @@
 ghost use Rattle.std.specs.Prelude.{◌≡◌, ◌∷◌, IfSome, IfNone, Some, map, string_bytes};
 ghost use Rattle.tdl_arguments.specs.CommandReads.{canon_of, command_by, command_of, form_named, gen_of, known_front, known_split, operated_of, plain_command, plain_of, stands_before, target_named, translation_of};
 ghost use Rattle.tdl_arguments.specs.Commands.{form_word, target_word};
-ghost use Rattle.tdl_arguments.specs.Requests.{Asks, NotInOrder, WordsInOrder, known_request, known_words};
+ghost use Rattle.tdl_arguments.specs.Requests.{Asks, NotInOrder, WordsInOrder, known_request, known_values, known_words, may_have};
 ghost use Rattle.tdl_arguments.specs.RequestsSupport.{AsksNothing};
 
 use crate::command::Command;
 use crate::pairs::{are_of_rows, has_required};
 use crate::ranges::lines_of;
-use crate::request::Request;
+use crate::request::{NamedValues, Request};
 use crate::value_reader::{named_files, named_values};
+use gs_links::keeps_names;
 use gs_translate::{Form, Target};
 
 /// A command with its operands, and the arguments behind them.
@@ -171,6 +172,7 @@ fn plain_command(words: &[String]) -> Option<Command>
         Command::Serve,
         Command::DumpRead,
         Command::DumpWrite,
+        Command::Merge,
     ]
     .iter()
     .find(|command| stands_before(command.words(), words))
@@ -224,8 +226,19 @@ fn command_of(words: &[String]) -> Option<Split<'_>>
     }
 }
 
+/// Whether the command may have these values, which are in the ranges of their names: what is merged needs a vocabulary that
+/// keeps names.
+fn may_have(command: Command, values: NamedValues<'_>) -> bool
+    ensures { result ≡ may_have command (known_values values.entry) }
+{
+    match command {
+        Command::Merge => keeps_names(values.voc.as_bytes()),
+        _ => true,
+    }
+}
+
 /// The request of a command with the arguments behind its operands. `None` comes exactly where these are no pairs that the
-/// command takes, or lack a name that it must have.
+/// command takes, lack a name that it must have, or have a value that this command may not have.
 fn request_of(command: Command, words: &[String]) -> Option<Request<'_>>
     ensures request { IfSome result (λ request. Asks command (known_words words.now) (known_request request)) }
     ensures none { IfNone result (AsksNothing command (known_words words.now)) }
@@ -236,10 +249,14 @@ fn request_of(command: Command, words: &[String]) -> Option<Request<'_>>
     if !has_required(words, command.names()) {
         return None;
     }
+    let values = named_values(words);
+    if !may_have(command, values) {
+        return None;
+    }
     Some(Request {
         command,
         files: named_files(words),
-        values: named_values(words),
+        values,
     })
 }
 

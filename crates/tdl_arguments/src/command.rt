@@ -24,6 +24,8 @@ pub enum Command {
     DumpRead,
     /// Answers each line of the input, which shows a dump of the EPC memory bank, by the dump.
     DumpWrite,
+    /// Prints the linkset that two or three linksets are merged to.
+    Merge,
 }
 
 /// The name of the file of tables, which may be absent.
@@ -40,18 +42,39 @@ const PREFIXES: NameRow = NameRow {
     required: false,
 };
 
-/// The name of the file of links, which may be absent.
+/// The name of the file of links, in JSON or as text, which may be absent.
 const LINKS: NameRow = NameRow {
     name: Name::Links,
-    instead: None,
+    instead: Some(Name::LinkText),
     required: false,
 };
 
-/// The name of the file of links, which must be there.
+/// The name of the file of links, in JSON or as text, which must be there.
 const LINKS_NEEDED: NameRow = NameRow {
+    name: Name::Links,
+    instead: Some(Name::LinkText),
+    required: true,
+};
+
+/// The name of the file of links in JSON, which must be there.
+const JSON_NEEDED: NameRow = NameRow {
     name: Name::Links,
     instead: None,
     required: true,
+};
+
+/// The name of the second file of links, which must be there.
+const SECOND_NEEDED: NameRow = NameRow {
+    name: Name::Second,
+    instead: None,
+    required: true,
+};
+
+/// The name of the third file of links, which may be absent.
+const THIRD: NameRow = NameRow {
+    name: Name::Third,
+    instead: None,
+    required: false,
 };
 
 /// The name of the description of the resolver, which may be absent.
@@ -78,6 +101,13 @@ const COUNT_NEEDED: NameRow = NameRow {
 /// The name of the vocabulary, which may be absent.
 const VOC: NameRow = NameRow {
     name: Name::Voc,
+    instead: None,
+    required: false,
+};
+
+/// The name of whether references are templates, which may be absent.
+const TEMPLATES: NameRow = NameRow {
+    name: Name::Templates,
     instead: None,
     required: false,
 };
@@ -131,6 +161,7 @@ impl Command {
             Command::Gen(_) => &["gen"],
             Command::DumpRead => &["dump", "read"],
             Command::DumpWrite => &["dump", "write"],
+            Command::Merge => &["merge"],
         }
     }
 
@@ -141,9 +172,10 @@ impl Command {
         match self {
             Command::Canon(_) => &[TABLES],
             Command::Translate(_, _) => &[TABLES, PREFIXES, FILTER, GCP, ENCODING, KEYS_ONLY, STEM],
-            Command::Check => &[TABLES, PREFIXES, LINKS, VOC],
-            Command::Resolve => &[LINKS_NEEDED, TABLES, VOC, DESCRIBE],
-            Command::Serve => &[LINKS_NEEDED, COUNT_NEEDED, TABLES, VOC, DESCRIBE, LISTEN],
+            Command::Check => &[TABLES, PREFIXES, LINKS, VOC, TEMPLATES],
+            Command::Resolve => &[LINKS_NEEDED, TABLES, VOC, TEMPLATES, DESCRIBE],
+            Command::Serve => &[LINKS_NEEDED, COUNT_NEEDED, TABLES, VOC, TEMPLATES, DESCRIBE, LISTEN],
+            Command::Merge => &[JSON_NEEDED, SECOND_NEEDED, THIRD, TABLES, VOC],
             Command::Gen(_) | Command::DumpRead | Command::DumpWrite => &[TABLES],
         }
     }

@@ -31,5 +31,5 @@ mod words;
 pub use arguments::read_arguments;
 pub use command::Command;
 pub use name::{Name, NameRow};
-pub use request::{NamedFiles, NamedValues, Request};
+pub use request::{LinksFile, NamedFiles, NamedValues, Request};
 pub use words::without_program_name;

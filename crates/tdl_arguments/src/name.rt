@@ -11,12 +11,20 @@ pub enum Name {
     Tables,
     /// The file of the lengths of company prefixes.
     Prefixes,
-    /// The file of links.
+    /// The file of links, a linkset in JSON.
     Links,
+    /// The file of links, a linkset as text.
+    LinkText,
+    /// The second file of links of those that are merged.
+    Second,
+    /// The third file of links of those that are merged.
+    Third,
     /// The file that describes a resolver.
     Describe,
     /// What stands for `gs1:` in relations.
     Voc,
+    /// Whether the references of links are templates.
+    Templates,
     /// The address that a server listens at.
     Listen,
     /// The number of connections that a server finishes.
@@ -42,8 +50,12 @@ impl Name {
             Name::Tables => "--tables",
             Name::Prefixes => "--prefixes",
             Name::Links => "--links",
+            Name::LinkText => "--link-text",
+            Name::Second => "--second",
+            Name::Third => "--third",
             Name::Describe => "--describe",
             Name::Voc => "--voc",
+            Name::Templates => "--templates",
             Name::Listen => "--listen",
             Name::Count => "--count",
             Name::Filter => "--filter",
@@ -59,13 +71,14 @@ impl Name {
         ensures { result ≡ in_range self value.now }
     {
         match self {
-            Name::Tables | Name::Prefixes | Name::Links | Name::Describe | Name::Listen => true,
+            Name::Tables | Name::Prefixes | Name::Describe | Name::Listen => true,
+            Name::Links | Name::LinkText | Name::Second | Name::Third => true,
             Name::Voc => is_vocabulary(value),
             Name::Count => count_of(value).is_some(),
             Name::Filter => filter_of(value).is_some(),
             Name::Gcp => gcp_of(value).is_some(),
             Name::Encoding => !value.is_empty(),
-            Name::KeysOnly => value == "yes" || value == "no",
+            Name::KeysOnly | Name::Templates => value == "yes" || value == "no",
             Name::Stem => stem_ok(value.as_bytes()),
         }
     }

@@ -1,5 +1,14 @@
 use crate::command::Command;
 
+/// A file of links, as the arguments name it.
+#[derive(Clone, Copy)]
+pub enum LinksFile<'a> {
+    /// A linkset in JSON.
+    Json(&'a str),
+    /// A linkset as text.
+    Text(&'a str),
+}
+
 /// The files that the arguments name.
 #[derive(Clone, Copy)]
 pub struct NamedFiles<'a> {
@@ -8,7 +17,11 @@ pub struct NamedFiles<'a> {
     /// The lengths of company prefixes.
     pub prefixes: Option<&'a str>,
     /// The links.
-    pub links: Option<&'a str>,
+    pub links: Option<LinksFile<'a>>,
+    /// The second links that are merged, in JSON.
+    pub second: Option<&'a str>,
+    /// The third links that are merged, in JSON.
+    pub third: Option<&'a str>,
     /// The description of a resolver.
     pub describe: Option<&'a str>,
 }
@@ -18,6 +31,8 @@ pub struct NamedFiles<'a> {
 pub struct NamedValues<'a> {
     /// What stands for `gs1:` in relations.
     pub voc: &'a str,
+    /// Whether the references of links are templates.
+    pub templates: bool,
     /// The address that a server listens at.
     pub listen: &'a str,
     /// The number of connections that a server finishes, 1 to 1,000,000, and 0 where it is not named.

@@ -1,12 +1,12 @@
 ghost use Rattle.std.specs.Prelude.{◌≡◌, Option, unwrap_or};
 ghost use Rattle.tdl_arguments.specs.Names.{OfPairs};
 ghost use Rattle.tdl_arguments.specs.Ranges.{count_of, filter_of, gcp_of};
-ghost use Rattle.tdl_arguments.specs.Requests.{count_named, named_files, named_values, number_named, known_files, known_values, known_words, value_or};
+ghost use Rattle.tdl_arguments.specs.Requests.{count_named, known_files, known_links, known_values, known_words, links_of_pairs, named_files, named_values, number_named, value_or};
 
 use crate::name::Name;
 use crate::pairs::look_up;
 use crate::ranges::{count_of, filter_of, gcp_of};
-use crate::request::{NamedFiles, NamedValues};
+use crate::request::{LinksFile, NamedFiles, NamedValues};
 use gs_ident::CANONICAL_STEM;
 
 /// What stands for `gs1:` in relations where that is not named.
@@ -15,6 +15,16 @@ const DEFAULT_VOC: &str = "https://ref.gs1.org/voc/";
 /// The address of a server where it is not named.
 const DEFAULT_LISTEN: &str = "127.0.0.1:8080";
 
+/// The file of links that pairs name, in JSON or as text.
+fn named_links(words: &[String]) -> Option<LinksFile<'_>>
+    ensures { OfPairs (known_words words.now) (λ pairs. known_links result ≡ links_of_pairs pairs) }
+{
+    match look_up(words, Name::Links.word()) {
+        Some(name) => Some(LinksFile::Json(name)),
+        None => Some(LinksFile::Text(look_up(words, Name::LinkText.word())?)),
+    }
+}
+
 /// The files that pairs name.
 pub fn named_files(words: &[String]) -> NamedFiles<'_>
     ensures { OfPairs (known_words words.now) (λ pairs. known_files result ≡ named_files pairs) }
@@ -22,7 +32,9 @@ pub fn named_files(words: &[String]) -> NamedFiles<'_>
     NamedFiles {
         tables: look_up(words, Name::Tables.word()),
         prefixes: look_up(words, Name::Prefixes.word()),
-        links: look_up(words, Name::Links.word()),
+        links: named_links(words),
+        second: look_up(words, Name::Second.word()),
+        third: look_up(words, Name::Third.word()),
         describe: look_up(words, Name::Describe.word()),
     }
 }
@@ -67,6 +79,7 @@ pub fn named_values(words: &[String]) -> NamedValues<'_>
 {
     NamedValues {
         voc: value_or(words, Name::Voc, DEFAULT_VOC),
+        templates: value_or(words, Name::Templates, "no") == "yes",
         listen: value_or(words, Name::Listen, DEFAULT_LISTEN),
         count: named_count(words),
         filter: named_filter(words),

@@ -15,8 +15,12 @@ use Rattle.gs_links.specs.declared.error.AnchorWhy.{AnchorWhy}
 use Rattle.gs_links.specs.declared.error.AnchorWhy.TheVariants as anchor
 use Rattle.gs_links.specs.declared.error.StoreFault.{StoreFault}
 use Rattle.gs_links.specs.declared.error.StoreFault.TheVariants as store
+use Rattle.gs_linktext_grammar.specs.declared.error.LinkTextFault.{LinkTextFault}
+use Rattle.gs_linktext_grammar.specs.declared.error.LinkTextFault.TheVariants as text
 use Rattle.gs_prefix.specs.declared.error.PrefixFault.{PrefixFault}
 use Rattle.gs_prefix.specs.declared.error.PrefixFault.TheVariants as prefix
+use Rattle.gs_template.specs.declared.error.PlaceFault.{PlaceFault}
+use Rattle.gs_template.specs.declared.error.PlaceFault.TheVariants.{Brace, Code}
 use Rattle.gs_translate.specs.declared.reason.Reason.TheVariants.{Ident}
 use Rattle.gs_translate.specs.Meanings.{link_reason}
 use Rattle.gs_translate.specs.Reasons.{numbered, reason_text}
@@ -24,13 +28,16 @@ use Rattle.tdl_messages.specs.declared.file_kind.FileKind.{FileKind}
 use Rattle.tdl_messages.specs.declared.file_kind.FileKind.TheVariants as kind
 use Rattle.tdl_messages.specs.declared.rejection.Rejection.{Rejection}
 use Rattle.tdl_messages.specs.declared.rejection.FileFault.{FileFault}
-use Rattle.tdl_messages.specs.declared.rejection.FileFault.TheVariants.{Over, Tables, Prefixes, Linkset, Store}
+use Rattle.tdl_messages.specs.declared.rejection.FileFault.TheVariants.{Over, Tables, Prefixes, Linkset, Store, LinkText, Place}
 
 -- trusted, own: the word that a rejection of a kind of file is printed with
 abbrev pub file_word : FileKind → List ℕ
 file_word kind.Tables = codes "tables"
 file_word kind.Prefixes = codes "prefixes"
 file_word kind.Links = codes "links"
+file_word kind.Second = codes "second"
+file_word kind.Third = codes "third"
+file_word kind.Merge = codes "merge"
 file_word kind.Describe = codes "describe"
 
 -- trusted, own: the most bytes of a kind of file
@@ -38,6 +45,9 @@ abbrev pub file_limit : FileKind → ℕ
 file_limit kind.Tables = 1048576
 file_limit kind.Prefixes = 4194304
 file_limit kind.Links = 16777216
+file_limit kind.Second = 16777216
+file_limit kind.Third = 16777216
+file_limit kind.Merge = 16777216
 file_limit kind.Describe = 1048576
 
 -- trusted, own: a byte as it is printed: a question mark where it is no visible character
@@ -142,6 +152,18 @@ store_text (store.BadAnchor i why) = bad_anchor_text i why
 store_text (store.BadHref i r t) = bad_href_text i r t
 store_text store.Memory = codes "memory"
 
+-- trusted, own: an error of a linkset as text, by the number of its link
+abbrev pub link_text_text : LinkTextFault → List ℕ
+link_text_text text.Syntax = codes "text syntax"
+link_text_text (text.Anchor i) = numbered (codes "text anchor") i
+link_text_text (text.Rel i) = numbered (codes "text rel") i
+link_text_text text.Memory = codes "text memory"
+
+-- trusted, own: an error of the template that the reference of a link is, by the number of the link and the place of the byte
+abbrev pub place_text : ℕ → PlaceFault → List ℕ
+place_text i (Brace at) = numbered_twice (codes "brace") i at
+place_text i (Code at) = numbered_twice (codes "place") i at
+
 -- trusted, own: why a file is rejected
 abbrev pub error_text : FileFault → List ℕ
 error_text Over = codes "over"
@@ -149,6 +171,8 @@ error_text (Tables error) = tables_text error
 error_text (Prefixes error) = prefixes_text error
 error_text (Linkset error) = codes "json " ++ json_text error
 error_text (Store error) = store_text error
+error_text (LinkText error) = link_text_text error
+error_text (Place i error) = place_text i error
 
 -- trusted, own: the line of a rejected file: `refused WHICH REASON`, and a line feed
 abbrev pub rejected_line : Rejection → List ℕ

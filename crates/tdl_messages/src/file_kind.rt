@@ -10,6 +10,12 @@ pub enum FileKind {
     Prefixes,
     /// The links.
     Links,
+    /// The second links that are merged.
+    Second,
+    /// The third links that are merged.
+    Third,
+    /// The links that others are merged to: no file, but rejected as one is.
+    Merge,
     /// The description of a resolver.
     Describe,
 }
@@ -23,6 +29,9 @@ impl FileKind {
             FileKind::Tables => b"tables",
             FileKind::Prefixes => b"prefixes",
             FileKind::Links => b"links",
+            FileKind::Second => b"second",
+            FileKind::Third => b"third",
+            FileKind::Merge => b"merge",
             FileKind::Describe => b"describe",
         }
     }
@@ -34,7 +43,7 @@ impl FileKind {
         match self {
             FileKind::Tables => 1_048_576,
             FileKind::Prefixes => 4_194_304,
-            FileKind::Links => 16_777_216,
+            FileKind::Links | FileKind::Second | FileKind::Third | FileKind::Merge => 16_777_216,
             FileKind::Describe => 1_048_576,
         }
     }

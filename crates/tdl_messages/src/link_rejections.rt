@@ -1,9 +1,11 @@
 ghost use Rattle.std.specs.Prelude.{◌≡◌, ◌++◌, OnOk};
-ghost use Rattle.tdl_messages.specs.Rejections.{anchor_text, bad_anchor_text, bad_href_text, store_text};
+ghost use Rattle.tdl_messages.specs.Rejections.{anchor_text, bad_anchor_text, bad_href_text, link_text_text, place_text, store_text};
 
 use crate::numbers::append_numbered_twice;
 use gs_chars::Memory;
 use gs_links::{AnchorWhy, StoreFault};
+use gs_linktext_grammar::LinkTextFault;
+use gs_template::PlaceFault;
 use gs_translate::{
     Reason, append_ident, append_number, append_numbered, append_reason, append_word,
 };
@@ -57,5 +59,36 @@ pub fn append_store(alloc: Global, out: &mut Vec<u8>, error: &StoreFault) -> Res
         StoreFault::BadAnchor(i, why) => append_bad_anchor(alloc, out, *i, why),
         StoreFault::BadHref(i, r, t) => append_bad_href(alloc, out, *i, *r, *t),
         StoreFault::Memory => append_word(out, b"memory"),
+    }
+}
+
+/// Appends an error of a linkset as text.
+pub fn append_link_text(
+    alloc: Global,
+    out: &mut Vec<u8>,
+    error: LinkTextFault,
+) -> Result<(), Memory>
+    ensures { OnOk result (out.new.items ≡ out.old.items ++ link_text_text error) }
+{
+    match error {
+        LinkTextFault::Syntax => append_word(out, b"text syntax"),
+        LinkTextFault::Anchor(i) => append_numbered(alloc, out, b"text anchor", i),
+        LinkTextFault::Rel(i) => append_numbered(alloc, out, b"text rel", i),
+        LinkTextFault::Memory => append_word(out, b"text memory"),
+    }
+}
+
+/// Appends an error of the template that the reference of a link is.
+pub fn append_place_of(
+    alloc: Global,
+    out: &mut Vec<u8>,
+    i: usize,
+    error: PlaceFault,
+) -> Result<(), Memory>
+    ensures { OnOk result (out.new.items ≡ out.old.items ++ place_text i error) }
+{
+    match error {
+        PlaceFault::Brace(at) => append_numbered_twice(alloc, out, b"brace", i, at),
+        PlaceFault::Code(at) => append_numbered_twice(alloc, out, b"place", i, at),
     }
 }

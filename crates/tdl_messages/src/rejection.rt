@@ -1,8 +1,10 @@
 use crate::file_kind::FileKind;
 use gs_json::JsonFault;
 use gs_links::StoreFault;
+use gs_linktext_grammar::LinkTextFault;
 use gs_prefix::PrefixFault;
 use gs_tables_document::LoadFault;
+use gs_template::PlaceFault;
 
 /// Why a file, or the rows in its place, are rejected.
 #[derive(Drop)]
@@ -17,6 +19,10 @@ pub enum FileFault {
     Linkset(JsonFault),
     /// The linkset breaks a rule of links, which is never out of memory.
     Store(StoreFault),
+    /// The links are no linkset as text, which is never out of memory.
+    LinkText(LinkTextFault),
+    /// The reference of the link with this number, from 0, is no template of its anchor.
+    Place(usize, PlaceFault),
 }
 
 /// A file that is rejected.

@@ -1,7 +1,7 @@
 ghost use Rattle.std.specs.Prelude.{◌≡◌, ◌++◌, IfOk, OnOk, codes};
 ghost use Rattle.tdl_messages.specs.Rejections.{ai_text, ambiguous_text, error_text, json_text, level_text, limit_text, mismatch_text, of_level, of_level_twice, prefixes_text, rejected_line, shown, shown_byte, tables_text};
 
-use crate::link_rejections::append_store;
+use crate::link_rejections::{append_link_text, append_place_of, append_store};
 use crate::numbers::{append_numbered_twice, append_words};
 use crate::rejection::{FileFault, Rejection};
 use gs_ai::AiFault;
@@ -200,6 +200,8 @@ fn append_error(alloc: Global, out: &mut Vec<u8>, error: &FileFault) -> Result<(
         FileFault::Prefixes(error) => append_prefixes(alloc, out, error),
         FileFault::Linkset(error) => append_form(out, error),
         FileFault::Store(error) => append_store(alloc, out, error),
+        FileFault::LinkText(error) => append_link_text(alloc, out, *error),
+        FileFault::Place(i, error) => append_place_of(alloc, out, *i, *error),
     }
 }
 

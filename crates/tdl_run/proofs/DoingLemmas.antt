@@ -3,7 +3,7 @@ use Rattle.std.proofs.Common.{◌≡◌, ◌⊎◌, inl, inr, ℕ, ◌||◌, fal
 use Rattle.tdl_answers.proofs.DumpLineLemmas.{one_dump_read, one_dump_written, some_dump_read, some_dump_written}
 use Rattle.tdl_answers.proofs.LineLemmas.{one_translated, some_translated}
 use Rattle.tdl_arguments.specs.declared.command.Command.{Command}
-use Rattle.tdl_arguments.specs.declared.command.Command.TheVariants.{Canon, Translate, Check, Resolve, Serve, Gen, DumpRead, DumpWrite}
+use Rattle.tdl_arguments.specs.declared.command.Command.TheVariants.{Canon, Translate, Check, Resolve, Serve, Gen, DumpRead, DumpWrite, Merge}
 use Rattle.tdl_arguments.specs.Commands.{Work, is_on_heads, is_on_lines, on_door, on_heads, on_lines, on_none}
 use Rattle.tdl_arguments.specs.Requests.{Values}
 use Rattle.tdl_gen.proofs.OneCount.{one_generated, some_generated}
@@ -21,7 +21,7 @@ use Rattle.gs_translate.specs.StepsSupport.{HasOne, HasSome}
 use Rattle.tdl_run.specs.declared.loads.Loaded.{Loaded}
 use Rattle.tdl_run.specs.RanSupport.{WorkCause}
 use Rattle.tdl_run.specs.Runs.{AreAlike, but_errors, same}
-use Rattle.tdl_run.specs.Works.{Doing, DoingEnded, DoingRun, Doorway, LeavesOutput, LinesAnswered, Outcome, answers, canonizing, counts_line, doing_of, input_limit, outcome_of, prints, resolves, serves, translating}
+use Rattle.tdl_run.specs.Works.{Doing, DoingEnded, DoingRun, Doorway, LeavesOutput, LinesAnswered, Outcome, answers, canonizing, counts_line, doing_of, input_limit, merged_line, outcome_of, prints, resolves, serves, translating}
 use Rattle.tdl_run.proofs.RanLemmas.{lines_some}
 use Rattle.tdl_run.proofs.ServeLemmas.{serves_alike, serves_some}
 use Rattle.tdl_run.proofs.SiteLemmas.{one_resolved, some_resolved}
@@ -44,6 +44,7 @@ command_defined Serve values loaded keeps = tt
 command_defined (Gen lines) values loaded keeps = (some_generated loaded.tables keeps lines, one_generated loaded.tables lines)
 command_defined DumpRead values loaded keeps = (some_dump_read loaded.tables keeps, one_dump_read loaded.tables)
 command_defined DumpWrite values loaded keeps = (some_dump_written loaded.tables keeps, one_dump_written loaded.tables)
+command_defined Merge values loaded keeps = ((merged_line loaded, refl), (λ one other a b. a ∙ sym b))
 
 -- ---- there is an outcome
 

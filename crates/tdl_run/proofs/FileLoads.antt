@@ -12,7 +12,7 @@ use Rattle.tdl_run.specs.declared.loads.Unloaded.{Unloaded}
 use Rattle.tdl_run.specs.declared.loads.Unloaded.TheVariants as unloaded
 use Rattle.tdl_run.specs.Loads.{FileGives, StandsFor, Stop, absent, judged, missing, of_verdict, rejected, too_large}
 use Rattle.tdl_run.specs.LoadsSupport.{LoadedBy}
-use Rattle.tdl_run.specs.Reads.{JudgedAs, ReadBy}
+use Rattle.tdl_run.specs.Reads.{JudgedAs, JudgedBy, ReadBy}
 
 -- a file that was not read
 pub file_unloaded : {A : Type 0} (files : Option (List (List ℕ × List ℕ))) (kind : FileKind) (Judges : List ℕ → Result A FileFault → Type 0) (name : List ℕ) (before now : ℕ) (u : Unloaded) → ReadBy files kind name before now (Err u) → LoadedBy (FileGives files kind Judges name) before now (Err u)
@@ -27,6 +27,14 @@ file_judged files kind Judges name bytes before now verdict (Ok a) is few j e = 
 file_judged files kind Judges name bytes before now verdict (Err unloaded.Memory) is few j e = tt
 file_judged files kind Judges name bytes before now verdict (Err unloaded.ReadFault) is few j e = absurd e
 file_judged files kind Judges name bytes before now verdict (Err (unloaded.Refused rejection)) is few j e = judged bytes verdict is few j (sym e)
+
+-- a file that was judged by what it is judged
+pub file_judged_by : {A : Type 0} (files : Option (List (List ℕ × List ℕ))) (kind : FileKind) (Judges : List ℕ → Result A FileFault → Type 0) (name bytes : List ℕ) (before now : ℕ) (result : Result A Unloaded) → IsFile files name bytes → length bytes ≤ file_limit kind → JudgedBy kind (Judges bytes) result → LoadedBy (FileGives files kind Judges name) before now result
+file_judged_by files kind Judges name bytes before now (Ok a) is few j = judged bytes (Ok a) is few j refl
+file_judged_by files kind Judges name bytes before now (Err unloaded.Memory) is few j = tt
+file_judged_by files kind Judges name bytes before now (Err unloaded.ReadFault) is few j = absurd j
+file_judged_by files kind Judges name bytes before now (Err (unloaded.Refused rejection)) is few j =
+    judged bytes (Err rejection.error) is few j.1 (ap (λ (k : FileKind). Err (rejected (record { kind = k; error = rejection.error }))) j.0)
 
 -- what stands in the place of a file that is not named
 pub unnamed_judged : {A : Type 0} (kind : FileKind) (Unnamed : Result A FileFault → Type 0) (before now : ℕ) (verdict : Result A FileFault) (result : Result A Unloaded) → Unnamed verdict → JudgedAs kind verdict result → LoadedBy (StandsFor kind Unnamed) before now result

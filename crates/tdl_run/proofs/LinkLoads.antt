@@ -1,30 +1,163 @@
--- What is loaded of links where none are named.
-use Rattle.std.proofs.Common.{◌≡◌, ℕ, List, [], refl, sym, ◌∙◌}
-use Rattle.std.specs.Prelude.{Result, Ok}
+-- What is loaded of links, by how they were read and judged.
+use Rattle.std.proofs.Common.{◌≡◌, ◌⊎◌, ℕ, ◌+◌, ◌≤◌, Bool, true, false, List, [], ◌∷◌, ◌++◌, Option, Some, None, drop, length, map, slice_get, refl, sym, ap, subst, ◌∙◌, inl, inr, arith}
+use Rattle.std.specs.Prelude.{Result, Ok, Err, OnErr}
+use Rattle.std.specs.List.{enumerate_from, flat_map}
 use Rattle.gs_ai.specs.declared.row.AiRow.{AiRow}
+use Rattle.gs_chars.specs.Answers.{OrError, first_or}
+use Rattle.gs_links.specs.declared.error.StoreFault.{StoreFault}
+use Rattle.gs_links.specs.declared.error.StoreFault.TheVariants as store
 use Rattle.gs_links.specs.declared.link.Link.{Link}
 use Rattle.gs_links.specs.Loads.{links_of, load_answer, store_errors}
-use Rattle.gs_linkset.specs.declared.doc.DocFault.{DocFault}
 use Rattle.gs_linkset.specs.declared.link_types.Context.{Context}
-use Rattle.gs_linkset.specs.LinkShapes.{new_answer}
-use Rattle.tdl_messages.specs.declared.file_kind.FileKind.TheVariants.{Links}
+use Rattle.gs_linktext.specs.ReadAnswers.{IsReadAs, IsReadError}
+use Rattle.gs_linktext_grammar.proofs.PartLemmas.{drop_all, drop_at}
+use Rattle.gs_template.specs.Errors.{first_error}
+use Rattle.gs_template.specs.declared.error.PlaceFault.{PlaceFault}
+use Rattle.gs_translate.specs.Steps.{Then, goes_on}
+use Rattle.tdl_messages.specs.declared.file_kind.FileKind.{FileKind}
+use Rattle.tdl_messages.specs.declared.file_kind.FileKind.TheVariants as kind
+use Rattle.tdl_messages.specs.declared.rejection.FileFault.{FileFault}
+use Rattle.tdl_messages.specs.declared.rejection.FileFault.TheVariants.{Place}
+use Rattle.tdl_messages.specs.declared.rejection.Rejection.{Rejection}
+use Rattle.tdl_run.specs.declared.loads.Linked.{Linked}
 use Rattle.tdl_run.specs.declared.loads.Unloaded.{Unloaded}
-use Rattle.tdl_run.specs.Loads.{store_verdict}
-use Rattle.tdl_run.specs.Reads.{JudgedAs}
+use Rattle.tdl_run.specs.declared.loads.Unloaded.TheVariants as unloaded
+use Rattle.tdl_run.specs.Loads.{AreLinked, JudgesText, Stop, link_errors, linked_with, merge_verdict, merged_store, merged_with, merging, of_verdict, other_verdict, placed, places_errors, read_as, rejected, store_verdict}
+use Rattle.tdl_run.specs.LoadsSupport.{LoadedBy}
+use Rattle.tdl_run.specs.Reads.{JudgedAs, JudgedBy}
 
--- the empty linkset has the shape of one, and is the store of no link
-no_context : new_answer [] ≡ Ok []
-unfolding new_answer
-no_context = refl
+-- ---- no link
 
-no_link : (ais : List AiRow) (voc : List ℕ) → load_answer ais voc [] ≡ Ok []
+-- the empty linkset is the store of no link
+pub no_link : (ais : List AiRow) (voc : List ℕ) → load_answer ais voc [] ≡ Ok []
 unfolding load_answer store_errors links_of
 no_link ais voc = refl
 
-pub no_link_loaded : (ais : List AiRow) (voc : List ℕ) (list doc : List Context) (answer : Result (List Context) DocFault) (result : Result (List Link) Unloaded) → list ≡ [] → answer ≡ new_answer list → answer ≡ Ok doc → JudgedAs Links (store_verdict (load_answer ais voc doc)) result → JudgedAs Links (Ok []) result
-no_link_loaded ais voc list doc answer result empty made is judged =
-    let none : new_answer [] ≡ Ok doc = rw empty at (sym made ∙ is) in
-    let both : Ok [] ≡ Ok doc = sym no_context ∙ none in
-    let same : doc ≡ [] = cc in
-    let of_none : JudgedAs Links (store_verdict (load_answer ais voc [])) result = rw same at judged in
-    rw (no_link ais voc) at of_none
+-- ---- templates
+
+place_error : (i : ℕ) (errors : List PlaceFault) (error : PlaceFault) → Err error ≡ first_error errors → Err (Place i error) ≡ first_or (map (Place i) errors) tt
+place_error i [] error e = absurd (let made : Result (Unit {0}) PlaceFault = Err error in let f : made ≡ Ok tt = e in cc)
+place_error i (one ∷ errors) error e =
+    let made : Result (Unit {0}) PlaceFault = Err error in
+    let f : made ≡ Err one = e in
+    let same : error ≡ one = cc in
+    ap (λ x. Err (Place i x)) same
+
+no_place_error : (i : ℕ) (errors : List PlaceFault) → Ok tt ≡ first_error errors → Ok tt ≡ first_or (map (Place i) errors) tt
+no_place_error i [] e = refl
+no_place_error i (one ∷ errors) e = absurd (let made : Result (Unit {0}) PlaceFault = Ok tt in let f : made ≡ Err one = e in cc)
+
+-- a link whose reference is in order, or has an error
+pub link_placed : (ais : List AiRow) (i : ℕ) (link : Link) (errors : List PlaceFault) → link_errors ais (i, link) ≡ map (Place i) errors → Ok tt ≡ first_error errors → Ok tt ≡ first_or (link_errors ais (i, link)) tt
+link_placed ais i link errors is e = rw is (no_place_error i errors e)
+
+pub link_misplaced : (ais : List AiRow) (i : ℕ) (link : Link) (errors : List PlaceFault) (error : PlaceFault) → link_errors ais (i, link) ≡ map (Place i) errors → Err error ≡ first_error errors → Err (Place i error) ≡ first_or (link_errors ais (i, link)) tt
+link_misplaced ais i link errors error is e = rw is (place_error i errors error e)
+
+none_first : (errors : List FileFault) → Ok tt ≡ first_or errors tt → errors ≡ []
+none_first [] e = refl
+none_first (one ∷ errors) e = absurd (let made : Result (Unit {0}) FileFault = Ok tt in let f : made ≡ Err one = e in cc)
+
+front_first : (errors more : List FileFault) (error : FileFault) → Err error ≡ first_or errors tt → Err error ≡ first_or (errors ++ more) tt
+front_first [] more error e = absurd (let made : Result (Unit {0}) FileFault = Err error in let f : made ≡ Ok tt = e in cc)
+front_first (one ∷ errors) more error e = e
+
+-- the errors of the links from one on
+abbrev pub errors_from : List AiRow → List Link → ℕ → List FileFault
+errors_from ais links i = flat_map (link_errors ais) (enumerate_from i (drop i links))
+
+pub places_begin : (ais : List AiRow) (links : List Link) → places_errors ais links ≡ errors_from ais links 0
+unfolding places_errors
+places_begin ais links = refl
+
+pub places_end : (ais : List AiRow) (links : List Link) (i : ℕ) → length links ≤ i → errors_from ais links i ≡ []
+places_end ais links i high = rw (drop_all links i high) refl
+
+pub places_more : (ais : List AiRow) (links : List Link) (i : ℕ) (link : Link) → slice_get links i ≡ Some link → Ok tt ≡ first_or (link_errors ais (i, link)) tt → errors_from ais links i ≡ errors_from ais links (i + 1)
+places_more ais links i link at none = rw (drop_at links i link at) (ap (λ (es : List FileFault). es ++ errors_from ais links (i + 1)) (none_first (link_errors ais (i, link)) none))
+
+pub places_found : (ais : List AiRow) (links : List Link) (i : ℕ) (link : Link) (error : FileFault) → slice_get links i ≡ Some link → Err error ≡ first_or (link_errors ais (i, link)) tt → Err error ≡ first_or (errors_from ais links i) tt
+places_found ais links i link error at found = rw (drop_at links i link at) (front_first (link_errors ais (i, link)) (errors_from ais links (i + 1)) error found)
+
+pub placed_links : (templates : Bool) (ais : List AiRow) (links : List Link) → templates ≡ true → Ok tt ≡ first_or (places_errors ais links) tt → placed templates ais links ≡ Ok links
+placed_links templates ais links is none = rw (is, none_first (places_errors ais links) none) refl
+
+placed_by : (errors : List FileFault) (links : List Link) (error : FileFault) → Err error ≡ first_or errors tt → first_or errors links ≡ Err error
+placed_by [] links error e = absurd (let made : Result (Unit {0}) FileFault = Err error in let f : made ≡ Ok tt = e in cc)
+placed_by (one ∷ errors) links error e =
+    let made : Result (Unit {0}) FileFault = Err error in
+    let f : made ≡ Err one = e in
+    let same : error ≡ one = cc in
+    ap Err (sym same)
+
+pub misplaced_links : (kind : FileKind) (templates : Bool) (ais : List AiRow) (links : List Link) (error : FileFault) → templates ≡ true → Err error ≡ first_or (places_errors ais links) tt → of_verdict kind (placed templates ais links) ≡ Err (rejected (record { kind = kind; error = error }))
+misplaced_links kind templates ais links error is found = rw (is, placed_by (places_errors ais links) links error found) refl
+
+-- ---- stores
+
+-- a store that was loaded, as its links are placed
+pub store_placed : (kind : FileKind) (templates : Bool) (ais : List AiRow) (answer : Result (List Link) StoreFault) (links : List Link) (result : Result (List Link) Unloaded) → OrError store.Memory (Ok links) answer → JudgedAs kind (placed templates ais links) result → JudgedAs kind (store_verdict templates ais answer) result
+store_placed kind templates ais answer links result (inl e) j = absurd (let made : Result (List Link) StoreFault = Ok links in let f : made ≡ Err store.Memory = e in cc)
+store_placed kind templates ais answer links result (inr e) j = rw (← e) j
+
+-- ---- verdicts by what is judged
+
+-- a verdict is told by its error
+judged_error : {A : Type 0} (kind : FileKind) (verdict : Result A FileFault) (rejection : Rejection) → of_verdict kind verdict ≡ Err (rejected rejection) → (rejection.kind ≡ kind) × (verdict ≡ Err rejection.error)
+judged_error kind (Ok a) rejection e = absurd (let f : Ok a ≡ Err (rejected rejection) = e in cc)
+judged_error {A = A} kind (Err error) rejection e =
+    let made : Result A Stop = Err (rejected (record { kind = kind; error = error })) in
+    let f : made ≡ Err (rejected rejection) = e in
+    let same : record { kind = kind; error = error } ≡ rejection = cc in
+    (sym (ap (λ (r : Rejection). r.kind) same), ap (λ (r : Rejection). Err r.error) same)
+
+pub judged_by : {A : Type 0} (kind : FileKind) (Judges : Result A FileFault → Type 0) (verdict : Result A FileFault) (result : Result A Unloaded) → Judges verdict → JudgedAs kind verdict result → JudgedBy kind Judges result
+judged_by kind Judges verdict (Ok a) j e = subst Judges e j
+judged_by kind Judges verdict (Err unloaded.Memory) j e = tt
+judged_by kind Judges verdict (Err unloaded.ReadFault) j e = absurd e
+judged_by kind Judges verdict (Err (unloaded.Refused rejection)) j e =
+    let told = judged_error kind verdict rejection e in
+    (told.0, subst Judges told.1 j)
+
+pub text_judged : (kind : FileKind) (templates : Bool) (ais : List AiRow) (voc bytes : List ℕ) (contexts : List Context) (result : Result (List Link) Unloaded) → IsReadAs bytes contexts → JudgedAs kind (store_verdict templates ais (load_answer ais voc contexts)) result → JudgedBy kind (JudgesText templates ais voc bytes) result
+text_judged kind templates ais voc bytes contexts result is j =
+    judged_by kind (JudgesText templates ais voc bytes) (store_verdict templates ais (load_answer ais voc contexts)) result (read_as contexts is refl) j
+
+-- ---- links that are merged
+
+pub other_unjudged : (kind : FileKind) (verdict : Result (List Link) FileFault) (u : Unloaded) → JudgedAs kind verdict (Err u) → JudgedAs kind (other_verdict verdict) (Err u)
+other_unjudged kind verdict unloaded.Memory j = tt
+other_unjudged kind verdict unloaded.ReadFault j = absurd j
+other_unjudged kind verdict (unloaded.Refused rejection) j =
+    let told = judged_error kind verdict rejection j in
+    rw told.1 (ap (λ (k : FileKind). Err (rejected (record { kind = k; error = rejection.error }))) (sym told.0))
+
+pub store_merged : (ais : List AiRow) (verdict : Result (List Link) FileFault) (store links : List Link) (result : Result (List Context) Unloaded) → verdict ≡ Ok store → JudgedAs kind.Merge (merged_store (Ok store) links) result → JudgedAs kind.Merge (merged_store verdict links) result
+store_merged ais verdict store links result e j = rw e j
+
+pub store_unmerged : (verdict : Result (List Link) FileFault) (links : List Link) (u : Unloaded) → JudgedAs kind.Merge verdict (Err u) → JudgedAs kind.Merge (merged_store verdict links) (Err u)
+store_unmerged verdict links unloaded.Memory j = tt
+store_unmerged verdict links unloaded.ReadFault j = absurd j
+store_unmerged verdict links (unloaded.Refused rejection) j =
+    let told = judged_error kind.Merge verdict rejection j in
+    rw told.1 (ap (λ (k : FileKind). Err (rejected (record { kind = k; error = rejection.error }))) (sym told.0))
+
+merged_error : (ais : List AiRow) (voc : List ℕ) (error : FileFault) (third : Option (List Link)) → merged_with ais voc (Err error) third ≡ Err error
+merged_error ais voc error None = refl
+merged_error ais voc error (Some links) = refl
+
+pub with_unmerged : (ais : List AiRow) (voc : List ℕ) (verdict : Result (List Context) FileFault) (third : Option (List Link)) (u : Unloaded) → JudgedAs kind.Merge verdict (Err u) → JudgedAs kind.Merge (merged_with ais voc verdict third) (Err u)
+with_unmerged ais voc verdict third unloaded.Memory j = tt
+with_unmerged ais voc verdict third unloaded.ReadFault j = absurd j
+with_unmerged ais voc verdict third (unloaded.Refused rejection) j =
+    let told = judged_error kind.Merge verdict rejection j in
+    rw (told.1, merged_error ais voc rejection.error third) (ap (λ (k : FileKind). Err (rejected (record { kind = k; error = rejection.error }))) (sym told.0))
+
+-- links, with the document that they were merged to, or a merge that gives none
+pub linked_is : (ais : List AiRow) (voc : List ℕ) (links : List Link) (second third : Option (List Link)) (contexts : List Context) → merging ais voc links second third ≡ Ok contexts → AreLinked ais voc links second third (Ok (record { links = links; merged = contexts }))
+linked_is ais voc links second third contexts e = rw e refl
+
+pub linked_not : (ais : List AiRow) (voc : List ℕ) (links : List Link) (second third : Option (List Link)) (First : Result (Option (List Link)) Stop → Type 0) (before now : ℕ) (u : Unloaded) → First (Ok third) → JudgedAs kind.Merge (merging ais voc links second third) (Err u) → LoadedBy (Then First (AreLinked ais voc links second)) before now (Err u)
+linked_not ais voc links second third First before now unloaded.Memory first j = tt
+linked_not ais voc links second third First before now unloaded.ReadFault first j = absurd j
+linked_not ais voc links second third First before now (unloaded.Refused rejection) first j = goes_on third first (ap (linked_with links) (sym j))

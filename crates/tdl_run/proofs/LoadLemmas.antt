@@ -1,11 +1,15 @@
 -- What files give: one answer, and no other but for the text of an ambiguous level.
-use Rattle.std.proofs.Common.{◌≡◌, ℕ, ◌<◌, ◌≤◌, List, [], Option, Some, None, length, refl, sym, ◌∙◌, ap, inl, inr, arith}
-use Rattle.std.specs.Prelude.{Result, Ok, Err}
+use Rattle.std.proofs.Common.{◌≡◌, ℕ, Bool, ◌<◌, ◌≤◌, List, [], Option, Some, None, length, refl, sym, ◌∙◌, ap, inl, inr, arith, false}
+use Rattle.std.specs.Prelude.{Result, Ok, Err, option_map}
 use Rattle.std.proofs.lemmas.Bool.Decides.{leb_tells}
 use Rattle.gs_ai.specs.declared.row.AiRow.{AiRow}
 use Rattle.gs_tables_document.specs.declared.error.LoadFault.{LoadFault}
 use Rattle.gs_links.specs.declared.link.Link.{Link}
+use Rattle.gs_links.specs.Loads.{load_answer as store_answer}
 use Rattle.gs_linkset.specs.Answers.{read_answer}
+use Rattle.gs_linktext.specs.ReadAnswers.{HasReading, IsSameOrMemory}
+use Rattle.gs_linktext.proofs.OneReading.{error_free, same_contexts, same_errors}
+use Rattle.gs_linktext.proofs.SomeReading.{some_reading}
 use Rattle.gs_port.specs.Files.{IsAbsent, IsFile, file_of}
 use Rattle.gs_prefix.specs.Answers.{load_answer}
 use Rattle.gs_tables.specs.Judgements.{Judged}
@@ -19,12 +23,13 @@ use Rattle.gs_translate.proofs.StepLaws.{then_some}
 use Rattle.tdl_messages.specs.declared.file_kind.FileKind.{FileKind}
 use Rattle.tdl_messages.specs.declared.file_kind.FileKind.TheVariants as kind
 use Rattle.tdl_messages.specs.declared.rejection.FileFault.{FileFault}
-use Rattle.tdl_messages.specs.declared.rejection.FileFault.TheVariants.{Over}
+use Rattle.tdl_messages.specs.declared.rejection.FileFault.TheVariants.{LinkText, Over}
 use Rattle.tdl_messages.specs.Rejections.{file_limit}
-use Rattle.tdl_arguments.specs.Requests.{Asked, FileNames}
+use Rattle.tdl_arguments.specs.Requests.{Asked, FileNames, LinksName, Values, as_text, in_json, name_of_links}
+use Rattle.tdl_run.specs.declared.loads.Linked.{Linked}
 use Rattle.tdl_run.specs.declared.loads.Loaded.{Loaded}
 use Rattle.tdl_run.specs.declared.loads.Tabled.{Tabled}
-use Rattle.tdl_run.specs.Loads.{AreSettings, DescriptionGives, FileGives, FilesGive, Gives, GivesLinks, GivesPrefixes, GivesSettings, IsLoadedOf, AreTabled, AreNone, IsNoLink, IsNoPrefix, AreBytes, JudgesLinks, JudgesPrefixes, JudgesTables, LinksGive, PrefixesGive, SettingsGive, Stop, TabledGive, TablesGive, links_verdict, prefixes_verdict, absent, judged, missing, of_verdict, tables_verdict, too_large}
+use Rattle.tdl_run.specs.Loads.{AreLinked, GivesOthers, GivesThird, IsNoOther, JudgesFile, JudgesOther, JudgesText, LinkedGive, OtherGives, linked_with, merging, other_verdict, read_as, store_verdict, unread, AreSettings, DescriptionGives, FileGives, FilesGive, Gives, GivesLinks, GivesPrefixes, GivesSettings, IsLoadedOf, AreTabled, AreNone, IsNoLink, IsNoPrefix, AreBytes, JudgesLinks, JudgesPrefixes, JudgesTables, LinksGive, PrefixesGive, SettingsGive, Stop, TabledGive, TablesGive, links_verdict, prefixes_verdict, absent, judged, missing, of_verdict, tables_verdict, too_large}
 use Rattle.tdl_run.specs.Runs.{Ambiguity, ambiguous, of_tables}
 
 -- ---- at most one answer
@@ -108,29 +113,69 @@ prefixes_one files name = gives_one files kind.Prefixes JudgesPrefixes IsNoPrefi
     (λ bytes x y e f. one_stop (ap (of_verdict kind.Prefixes) (e ∙ sym f)))
     (λ x y e f. one_stop (ap (of_verdict kind.Prefixes) (e ∙ sym f)))
 
-links_one : (files : List (List ℕ × List ℕ)) (ais : List AiRow) (voc : List ℕ) (name : Option (List ℕ)) → AreAlikeAll (LinksGive (Some files) ais voc name)
-links_one files ais voc name = gives_one files kind.Links (JudgesLinks ais voc) IsNoLink name
-    (λ bytes x y e f. one_stop (ap (of_verdict kind.Links) (e ∙ sym f)))
+text_one : (templates : Bool) (ais : List AiRow) (voc bytes : List ℕ) → AlikeVerdicts kind.Links (JudgesText templates ais voc bytes)
+text_one templates ais voc bytes a b (read_as c x e) (read_as d y f) =
+    one_stop (ap (of_verdict kind.Links) (e ∙ ap (λ contexts. store_verdict templates ais (store_answer ais voc contexts)) (same_contexts bytes c d x y) ∙ sym f))
+text_one templates ais voc bytes a b (read_as c x e) (unread error not y f) = absurd (not (error_free bytes x.written error x.document x.error_free y))
+text_one templates ais voc bytes a b (unread error not x e) (read_as d y f) = absurd (not (error_free bytes y.written error y.document y.error_free x))
+text_one templates ais voc bytes a b (unread error not x e) (unread other not' y f) = by (same_errors bytes error other x y)
+  where
+    by : IsSameOrMemory error other → AlikeStops (of_verdict kind.Links a) (of_verdict kind.Links b)
+    by (inl same) = one_stop (ap (of_verdict kind.Links) (e ∙ ap (λ x. Err (LinkText x)) same ∙ sym f))
+    by (inr (inl none)) = absurd (not none)
+    by (inr (inr none)) = absurd (not' none)
+
+json_one : (templates : Bool) (ais : List AiRow) (voc bytes : List ℕ) → AlikeVerdicts kind.Links (JudgesLinks templates ais voc bytes)
+json_one templates ais voc bytes x y e f = one_stop (ap (of_verdict kind.Links) (e ∙ sym f))
+
+file_links_one : (templates : Bool) (ais : List AiRow) (voc : List ℕ) (name : Option LinksName) (bytes : List ℕ) → AlikeVerdicts kind.Links (JudgesFile templates ais voc name bytes)
+file_links_one templates ais voc None bytes = json_one templates ais voc bytes
+file_links_one templates ais voc (Some (in_json name)) bytes = json_one templates ais voc bytes
+file_links_one templates ais voc (Some (as_text name)) bytes = text_one templates ais voc bytes
+
+links_one : (files : List (List ℕ × List ℕ)) (templates : Bool) (ais : List AiRow) (voc : List ℕ) (name : Option LinksName) → AreAlikeAll (LinksGive (Some files) templates ais voc name)
+links_one files templates ais voc name = gives_one files kind.Links (JudgesFile templates ais voc name) IsNoLink (option_map name_of_links name)
+    (file_links_one templates ais voc name)
     (λ x y e f. one_stop (ap (of_verdict kind.Links) (e ∙ sym f)))
+
+other_one : (files : List (List ℕ × List ℕ)) (kind : FileKind) (ais : List AiRow) (voc : List ℕ) (name : Option (List ℕ)) → AreAlikeAll (OtherGives (Some files) kind ais voc name)
+other_one files kind ais voc name = gives_one files kind (JudgesOther ais voc) IsNoOther name
+    (λ bytes x y e f. one_stop (ap (of_verdict kind) (e ∙ sym f)))
+    (λ x y e f. one_stop (ap (of_verdict kind) (e ∙ sym f)))
+
+third_one : (files : List (List ℕ × List ℕ)) (names : FileNames) (ais : List AiRow) (voc : List ℕ) (links : List Link) (second : Option (List Link)) → AreAlikeAll (GivesThird (Some files) names ais voc links second)
+third_one files names ais voc links second = then_alike (OtherGives (Some files) kind.Third ais voc names.third) (AreLinked ais voc links second)
+    (other_one files kind.Third ais voc names.third)
+    (λ third x y e f. one_stop (e ∙ sym f))
+
+others_one : (files : List (List ℕ × List ℕ)) (names : FileNames) (ais : List AiRow) (voc : List ℕ) (links : List Link) → AreAlikeAll (GivesOthers (Some files) names ais voc links)
+others_one files names ais voc links = then_alike (OtherGives (Some files) kind.Second ais voc names.second) (GivesThird (Some files) names ais voc links)
+    (other_one files kind.Second ais voc names.second)
+    (third_one files names ais voc links)
+
+linked_one : (files : List (List ℕ × List ℕ)) (names : FileNames) (values : Values) (ais : List AiRow) → AreAlikeAll (LinkedGive (Some files) names values ais)
+linked_one files names values ais = then_alike (LinksGive (Some files) values.templates ais values.voc names.links) (GivesOthers (Some files) names ais values.voc)
+    (links_one files values.templates ais values.voc names.links)
+    (others_one files names ais values.voc)
 
 description_one : (files : List (List ℕ × List ℕ)) (name : Option (List ℕ)) → AreAlikeAll (DescriptionGives (Some files) name)
 description_one files name = gives_one files kind.Describe AreBytes AreNone name
     (λ bytes x y e f. one_stop (ap (of_verdict kind.Describe) (e ∙ sym f)))
     (λ x y e f. one_stop (ap (of_verdict kind.Describe) (e ∙ sym f)))
 
-settings_one : (files : List (List ℕ × List ℕ)) (names : FileNames) (voc : List ℕ) → AreAlikeAll (SettingsGive (Some files) names voc)
-settings_one files names voc = then_alike (DescriptionGives (Some files) names.describe) (AreSettings voc)
+settings_one : (files : List (List ℕ × List ℕ)) (names : FileNames) (values : Values) → AreAlikeAll (SettingsGive (Some files) names values)
+settings_one files names values = then_alike (DescriptionGives (Some files) names.describe) (AreSettings values)
     (description_one files names.describe)
     (λ describe x y e f. one_stop (e ∙ sym f))
 
-with_settings_one : (files : List (List ℕ × List ℕ)) (asked : Asked) (tabled : Tabled) (links : List Link) → AreAlikeAll (GivesSettings (Some files) asked tabled links)
-with_settings_one files asked tabled links = then_alike (SettingsGive (Some files) asked.files asked.values.voc) (IsLoadedOf tabled links)
-    (settings_one files asked.files asked.values.voc)
+with_settings_one : (files : List (List ℕ × List ℕ)) (asked : Asked) (tabled : Tabled) (linked : Linked) → AreAlikeAll (GivesSettings (Some files) asked tabled linked)
+with_settings_one files asked tabled linked = then_alike (SettingsGive (Some files) asked.files asked.values) (IsLoadedOf tabled linked)
+    (settings_one files asked.files asked.values)
     (λ settings x y e f. one_stop (e ∙ sym f))
 
 with_links_one : (files : List (List ℕ × List ℕ)) (asked : Asked) (tabled : Tabled) → AreAlikeAll (GivesLinks (Some files) asked tabled)
-with_links_one files asked tabled = then_alike (LinksGive (Some files) tabled.tables.ais asked.values.voc asked.files.links) (GivesSettings (Some files) asked tabled)
-    (links_one files tabled.tables.ais asked.values.voc asked.files.links)
+with_links_one files asked tabled = then_alike (LinkedGive (Some files) asked.files asked.values tabled.tables.ais) (GivesSettings (Some files) asked tabled)
+    (linked_one files asked.files asked.values tabled.tables.ais)
     (with_settings_one files asked tabled)
 
 with_prefixes_one : (files : List (List ℕ × List ℕ)) (names : FileNames) (set : TableRows) → AreAlikeAll (GivesPrefixes (Some files) names set)
@@ -176,26 +221,53 @@ tables_some Answer some = (tables_verdict some.0, record { answer = some.0; enou
 prefixes_some : (files : Option (List (List ℕ × List ℕ))) (name : Option (List ℕ)) → HasSome (PrefixesGive files name)
 prefixes_some files name = gives_some files kind.Prefixes JudgesPrefixes IsNoPrefix name (λ bytes. (prefixes_verdict (load_answer bytes), refl)) (Ok [], refl)
 
-links_some : (files : Option (List (List ℕ × List ℕ))) (ais : List AiRow) (voc : List ℕ) (name : Option (List ℕ)) → HasSome (LinksGive files ais voc name)
-links_some files ais voc name = gives_some files kind.Links (JudgesLinks ais voc) IsNoLink name (λ bytes. (links_verdict ais voc (read_answer bytes), refl)) (Ok [], refl)
+text_some : (templates : Bool) (ais : List AiRow) (voc bytes : List ℕ) → HasReading bytes → HasSome (JudgesText templates ais voc bytes)
+text_some templates ais voc bytes (inl found) = (store_verdict templates ais (store_answer ais voc found.0), read_as found.0 found.1 refl)
+text_some templates ais voc bytes (inr none) = (Err (LinkText none.0), unread none.0 none.1 none.2 refl)
+
+file_links_some : (templates : Bool) (ais : List AiRow) (voc : List ℕ) (name : Option LinksName) (bytes : List ℕ) → HasSome (JudgesFile templates ais voc name bytes)
+file_links_some templates ais voc None bytes = (links_verdict templates ais voc (read_answer bytes), refl)
+file_links_some templates ais voc (Some (in_json name)) bytes = (links_verdict templates ais voc (read_answer bytes), refl)
+file_links_some templates ais voc (Some (as_text name)) bytes = text_some templates ais voc bytes (some_reading bytes)
+
+links_some : (files : Option (List (List ℕ × List ℕ))) (templates : Bool) (ais : List AiRow) (voc : List ℕ) (name : Option LinksName) → HasSome (LinksGive files templates ais voc name)
+links_some files templates ais voc name = gives_some files kind.Links (JudgesFile templates ais voc name) IsNoLink (option_map name_of_links name) (file_links_some templates ais voc name) (Ok [], refl)
+
+other_some : (files : Option (List (List ℕ × List ℕ))) (kind : FileKind) (ais : List AiRow) (voc : List ℕ) (name : Option (List ℕ)) → HasSome (OtherGives files kind ais voc name)
+other_some files kind ais voc name = gives_some files kind (JudgesOther ais voc) IsNoOther name (λ bytes. (other_verdict (links_verdict false ais voc (read_answer bytes)), refl)) (Ok None, refl)
+
+third_some : (files : Option (List (List ℕ × List ℕ))) (names : FileNames) (ais : List AiRow) (voc : List ℕ) (links : List Link) (second : Option (List Link)) → HasSome (GivesThird files names ais voc links second)
+third_some files names ais voc links second = then_some (OtherGives files kind.Third ais voc names.third) (AreLinked ais voc links second)
+    (other_some files kind.Third ais voc names.third)
+    (λ third gives. (linked_with links (of_verdict kind.Merge (merging ais voc links second third)), refl))
+
+others_some : (files : Option (List (List ℕ × List ℕ))) (names : FileNames) (ais : List AiRow) (voc : List ℕ) (links : List Link) → HasSome (GivesOthers files names ais voc links)
+others_some files names ais voc links = then_some (OtherGives files kind.Second ais voc names.second) (GivesThird files names ais voc links)
+    (other_some files kind.Second ais voc names.second)
+    (λ second gives. third_some files names ais voc links second)
+
+linked_some : (files : Option (List (List ℕ × List ℕ))) (names : FileNames) (values : Values) (ais : List AiRow) → HasSome (LinkedGive files names values ais)
+linked_some files names values ais = then_some (LinksGive files values.templates ais values.voc names.links) (GivesOthers files names ais values.voc)
+    (links_some files values.templates ais values.voc names.links)
+    (λ links gives. others_some files names ais values.voc links)
 
 description_some : (files : Option (List (List ℕ × List ℕ))) (name : Option (List ℕ)) → HasSome (DescriptionGives files name)
 description_some files name = gives_some files kind.Describe AreBytes AreNone name (λ bytes. (Ok (Some bytes), refl)) (Ok None, refl)
 
-settings_some : (files : Option (List (List ℕ × List ℕ))) (names : FileNames) (voc : List ℕ) → HasSome (SettingsGive files names voc)
-settings_some files names voc = then_some (DescriptionGives files names.describe) (AreSettings voc)
+settings_some : (files : Option (List (List ℕ × List ℕ))) (names : FileNames) (values : Values) → HasSome (SettingsGive files names values)
+settings_some files names values = then_some (DescriptionGives files names.describe) (AreSettings values)
     (description_some files names.describe)
-    (λ describe gives. (Ok (record { voc = voc; describe = describe }), refl))
+    (λ describe gives. (Ok (record { voc = values.voc; describe = describe; templates = values.templates }), refl))
 
-with_settings_some : (files : Option (List (List ℕ × List ℕ))) (asked : Asked) (tabled : Tabled) (links : List Link) → HasSome (GivesSettings files asked tabled links)
-with_settings_some files asked tabled links = then_some (SettingsGive files asked.files asked.values.voc) (IsLoadedOf tabled links)
-    (settings_some files asked.files asked.values.voc)
-    (λ settings gives. (Ok (record { tables = tabled.tables; prefixes = tabled.prefixes; links = links; settings = settings }), refl))
+with_settings_some : (files : Option (List (List ℕ × List ℕ))) (asked : Asked) (tabled : Tabled) (linked : Linked) → HasSome (GivesSettings files asked tabled linked)
+with_settings_some files asked tabled linked = then_some (SettingsGive files asked.files asked.values) (IsLoadedOf tabled linked)
+    (settings_some files asked.files asked.values)
+    (λ settings gives. (Ok (record { tables = tabled.tables; prefixes = tabled.prefixes; links = linked.links; merged = linked.merged; settings = settings }), refl))
 
 with_links_some : (files : Option (List (List ℕ × List ℕ))) (asked : Asked) (tabled : Tabled) → HasSome (GivesLinks files asked tabled)
-with_links_some files asked tabled = then_some (LinksGive files tabled.tables.ais asked.values.voc asked.files.links) (GivesSettings files asked tabled)
-    (links_some files tabled.tables.ais asked.values.voc asked.files.links)
-    (λ links gives. with_settings_some files asked tabled links)
+with_links_some files asked tabled = then_some (LinkedGive files asked.files asked.values tabled.tables.ais) (GivesSettings files asked tabled)
+    (linked_some files asked.files asked.values tabled.tables.ais)
+    (λ linked gives. with_settings_some files asked tabled linked)
 
 with_prefixes_some : (files : Option (List (List ℕ × List ℕ))) (names : FileNames) (set : TableRows) → HasSome (GivesPrefixes files names set)
 with_prefixes_some files names set = then_some (PrefixesGive files names.prefixes) (AreTabled set)

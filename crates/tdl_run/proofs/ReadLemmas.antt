@@ -73,7 +73,7 @@ tabled_loaded files names tabled (goes_on set gives (goes_on list g e)) =
 pub loaded_of : (files : Option (List (List ℕ × List ℕ))) (asked : Asked) (loaded : Loaded) → FilesGive files asked (Ok loaded) → IsLoaded loaded.tables
 loaded_of files asked loaded (rejects stop gives e) = absurd (let f : Ok loaded ≡ Err stop = e in cc)
 loaded_of files asked loaded (goes_on tabled gives (rejects stop g e)) = absurd (let f : Ok loaded ≡ Err stop = e in cc)
-loaded_of files asked loaded (goes_on tabled gives (goes_on links g (rejects stop h e))) = absurd (let f : Ok loaded ≡ Err stop = e in cc)
-loaded_of files asked loaded (goes_on tabled gives (goes_on links g (goes_on settings h e))) =
-    let same : loaded ≡ record { tables = tabled.tables; prefixes = tabled.prefixes; links = links; settings = settings } = cc in
+loaded_of files asked loaded (goes_on tabled gives (goes_on linked g (rejects stop h e))) = absurd (let f : Ok loaded ≡ Err stop = e in cc)
+loaded_of files asked loaded (goes_on tabled gives (goes_on linked g (goes_on settings h e))) =
+    let same : loaded ≡ record { tables = tabled.tables; prefixes = tabled.prefixes; links = linked.links; merged = linked.merged; settings = settings } = cc in
     rw same (tabled_loaded files asked.files tabled gives)

@@ -1,28 +1,38 @@
 -- What files give, and the rows in their place where they are not named.
-use Rattle.std.specs.Prelude.{◌≡◌, ℕ, ◌<◌, ◌≤◌, List, [], length, take, Option, Some, None, Result, Ok, Err, IfOk}
+use Rattle.std.specs.Prelude.{◌≡◌, ◌≢◌, ℕ, ◌<◌, ◌≤◌, Bool, false, if◌then◌else◌, List, [], length, map, take, Option, Some, None, option_map, Result, Ok, Err, IfOk}
+use Rattle.std.specs.List.{enumerate_from, flat_map}
 use Rattle.gs_ai.specs.declared.row.AiRow.{AiRow}
+use Rattle.gs_chars.specs.Answers.{first_or}
 use Rattle.gs_tables_document.specs.declared.error.LoadFault.{LoadFault}
 use Rattle.gs_http.specs.declared.settings.Settings.{Settings}
 use Rattle.gs_json.specs.declared.error.JsonFault.{JsonFault}
 use Rattle.gs_links.specs.declared.error.StoreFault.{StoreFault}
+use Rattle.gs_links.specs.declared.error.StoreFault.TheVariants.{TooMany}
 use Rattle.gs_links.specs.declared.link.Link.{Link}
 use Rattle.gs_links.specs.Loads.{load_answer as store_answer}
 use Rattle.gs_linkset.specs.declared.link_types.Context.{Context}
 use Rattle.gs_linkset.specs.Answers.{read_answer}
+use Rattle.gs_linktext.specs.ReadAnswers.{IsReadAs, IsReadError}
+use Rattle.gs_linktext_grammar.specs.declared.error.LinkTextFault.{LinkTextFault}
+use Rattle.gs_linktext_grammar.specs.declared.error.LinkTextFault.TheVariants as text
+use Rattle.gs_merge.specs.MergedDocuments.{merge_answer}
+use Rattle.gs_merge.specs.declared.error.MergeFault.{MergeFault}
 use Rattle.gs_port.specs.Files.{AddsNames, IsAbsent, IsFile}
 use Rattle.gs_prefix.specs.Answers.{load_answer}
 use Rattle.gs_prefix.specs.declared.entry.PrefixEntry.{PrefixEntry}
 use Rattle.gs_prefix.specs.declared.error.PrefixFault.{PrefixFault}
 use Rattle.gs_tables.specs.Shapes.{BuiltInAnswer, HasMemory, LoadAnswer}
 use Rattle.gs_tables.specs.Tables.{TableRows}
+use Rattle.gs_template.specs.Errors.{place_errors}
 use Rattle.gs_translate.specs.Steps.{Then}
 use Rattle.tdl_messages.specs.declared.file_kind.FileKind.{FileKind}
 use Rattle.tdl_messages.specs.declared.file_kind.FileKind.TheVariants as kind
 use Rattle.tdl_messages.specs.declared.rejection.FileFault.{FileFault}
-use Rattle.tdl_messages.specs.declared.rejection.FileFault.TheVariants.{Over, Tables, Prefixes, Linkset, Store}
+use Rattle.tdl_messages.specs.declared.rejection.FileFault.TheVariants.{Over, Tables, Prefixes, Linkset, Store, LinkText, Place}
 use Rattle.tdl_messages.specs.declared.rejection.Rejection.{Rejection}
 use Rattle.tdl_messages.specs.Rejections.{file_limit}
-use Rattle.tdl_arguments.specs.Requests.{Asked, FileNames}
+use Rattle.tdl_arguments.specs.Requests.{Asked, FileNames, LinksName, Values, as_text, in_json, name_of_links}
+use Rattle.tdl_run.specs.declared.loads.Linked.{Linked}
 use Rattle.tdl_run.specs.declared.loads.Loaded.{Loaded}
 use Rattle.tdl_run.specs.declared.loads.Tabled.{Tabled}
 use Rattle.tdl_run.specs.declared.loads.Unloaded.{Unloaded}
@@ -92,28 +102,113 @@ IsNoPrefix verdict = verdict ≡ Ok []
 abbrev pub PrefixesGive : Option FilesInMemory → Option (List ℕ) → Result (List PrefixEntry) Stop → Type 0
 PrefixesGive files name answer = Gives files kind.Prefixes JudgesPrefixes IsNoPrefix name answer
 
--- trusted, own: the verdict on a linkset by the answer of its load as a store
-abbrev pub store_verdict : Result (List Link) StoreFault → Result (List Link) FileFault
-store_verdict (Ok links) = Ok links
-store_verdict (Err error) = Err (Store error)
+-- trusted, own: the errors of the template that the reference of the link of a number is, beside the key of its anchor
+abbrev pub link_errors : List AiRow → ℕ × Link → List FileFault
+link_errors ais row = map (Place row.0) (place_errors ais row.1.anchor.key.code row.1.target.href)
+
+-- trusted, own: the errors of the templates that the references of links are, in the order of the links
+unfoldable pub places_errors : List AiRow → List Link → List FileFault
+places_errors ais links = flat_map (link_errors ais) (enumerate_from 0 links)
+
+-- trusted, own: links, or, where their references are templates, the first error of these
+abbrev pub placed : Bool → List AiRow → List Link → Result (List Link) FileFault
+placed templates ais links = if templates then first_or (places_errors ais links) links else Ok links
+
+-- trusted, own: the verdict on a linkset by the answer of its load as a store; its references are templates or are not
+abbrev pub store_verdict : Bool → List AiRow → Result (List Link) StoreFault → Result (List Link) FileFault
+store_verdict templates ais (Ok links) = placed templates ais links
+store_verdict templates ais (Err error) = Err (Store error)
 
 -- trusted, own: the verdict on links by the answer of reading them as a linkset, over application identifiers and a
 -- vocabulary
-abbrev pub links_verdict : List AiRow → List ℕ → Result (List Context) JsonFault → Result (List Link) FileFault
-links_verdict ais voc (Ok contexts) = store_verdict (store_answer ais voc contexts)
-links_verdict ais voc (Err error) = Err (Linkset error)
+abbrev pub links_verdict : Bool → List AiRow → List ℕ → Result (List Context) JsonFault → Result (List Link) FileFault
+links_verdict templates ais voc (Ok contexts) = store_verdict templates ais (store_answer ais voc contexts)
+links_verdict templates ais voc (Err error) = Err (Linkset error)
 
--- trusted, own: the verdict on links by their bytes
-abbrev pub JudgesLinks : List AiRow → List ℕ → List ℕ → Result (List Link) FileFault → Type 0
-JudgesLinks ais voc bytes verdict = verdict ≡ links_verdict ais voc (read_answer bytes)
+-- trusted, own: the verdict on links by their bytes in JSON
+abbrev pub JudgesLinks : Bool → List AiRow → List ℕ → List ℕ → Result (List Link) FileFault → Type 0
+JudgesLinks templates ais voc bytes verdict = verdict ≡ links_verdict templates ais voc (read_answer bytes)
+
+-- trusted, own: the verdict on links by their bytes as text, which are read as a linkset or have an error
+pub data JudgesText (templates : Bool) (ais : List AiRow) (voc bytes : List ℕ) (verdict : Result (List Link) FileFault) : Type 0 where
+  read_as : (contexts : List Context) → IsReadAs bytes contexts → verdict ≡ store_verdict templates ais (store_answer ais voc contexts) → JudgesText templates ais voc bytes verdict
+  unread : (error : LinkTextFault) → error ≢ text.Memory → IsReadError bytes error → verdict ≡ Err (LinkText error) → JudgesText templates ais voc bytes verdict
+
+-- trusted, own: the verdict on links by their bytes, in JSON or as text by the name of their file
+abbrev pub JudgesFile : Bool → List AiRow → List ℕ → Option LinksName → List ℕ → Result (List Link) FileFault → Type 0
+JudgesFile templates ais voc None bytes verdict = JudgesLinks templates ais voc bytes verdict
+JudgesFile templates ais voc (Some (in_json name)) bytes verdict = JudgesLinks templates ais voc bytes verdict
+JudgesFile templates ais voc (Some (as_text name)) bytes verdict = JudgesText templates ais voc bytes verdict
 
 -- trusted, own: the store of no link
 abbrev pub IsNoLink : Result (List Link) FileFault → Type 0
 IsNoLink verdict = verdict ≡ Ok []
 
 -- trusted, own: the links of the named file, or none where none is named
-abbrev pub LinksGive : Option FilesInMemory → List AiRow → List ℕ → Option (List ℕ) → Result (List Link) Stop → Type 0
-LinksGive files ais voc name answer = Gives files kind.Links (JudgesLinks ais voc) IsNoLink name answer
+abbrev pub LinksGive : Option FilesInMemory → Bool → List AiRow → List ℕ → Option LinksName → Result (List Link) Stop → Type 0
+LinksGive files templates ais voc name answer =
+    Gives files kind.Links (JudgesFile templates ais voc name) IsNoLink (option_map name_of_links name) answer
+
+-- trusted, own: the verdict on links that are merged with others
+abbrev pub other_verdict : Result (List Link) FileFault → Result (Option (List Link)) FileFault
+other_verdict (Ok links) = Ok (Some links)
+other_verdict (Err error) = Err error
+
+-- trusted, own: the verdict on links that are merged with others, by their bytes in JSON
+abbrev pub JudgesOther : List AiRow → List ℕ → List ℕ → Result (Option (List Link)) FileFault → Type 0
+JudgesOther ais voc bytes verdict = verdict ≡ other_verdict (links_verdict false ais voc (read_answer bytes))
+
+-- trusted, own: no links that are merged with others
+abbrev pub IsNoOther : Result (Option (List Link)) FileFault → Type 0
+IsNoOther verdict = verdict ≡ Ok None
+
+-- trusted, own: the links of the named file of a kind that are merged with others, or none where none is named
+abbrev pub OtherGives : Option FilesInMemory → FileKind → List AiRow → List ℕ → Option (List ℕ) → Result (Option (List Link)) Stop → Type 0
+OtherGives files kind ais voc name answer = Gives files kind (JudgesOther ais voc) IsNoOther name answer
+
+-- trusted, own: the verdict on a merged document by the answer of merging: that it has too many targets, as a store would
+abbrev pub merge_verdict : Result (List Context) MergeFault → Result (List Context) FileFault
+merge_verdict (Ok contexts) = Ok contexts
+merge_verdict (Err error) = Err (Store TooMany)
+
+-- trusted, own: the document of a store that is merged with links
+abbrev pub merged_store : Result (List Link) FileFault → List Link → Result (List Context) FileFault
+merged_store (Ok store) links = merge_verdict (merge_answer store links)
+merged_store (Err error) links = Err error
+
+-- trusted, own: a merged document that is loaded and merged with further links, where there are such. It is never rejected
+-- as a store, by the law `merged_document_loads`.
+abbrev pub merged_with : List AiRow → List ℕ → Result (List Context) FileFault → Option (List Link) → Result (List Context) FileFault
+merged_with ais voc verdict None = verdict
+merged_with ais voc (Err error) (Some links) = Err error
+merged_with ais voc (Ok contexts) (Some links) = merged_store (store_verdict false ais (store_answer ais voc contexts)) links
+
+-- trusted, own: the document that links, and second and third ones, are merged to; that of no context without second ones
+abbrev pub merging : List AiRow → List ℕ → List Link → Option (List Link) → Option (List Link) → Result (List Context) FileFault
+merging ais voc links None third = Ok []
+merging ais voc links (Some second) third = merged_with ais voc (merge_verdict (merge_answer links second)) third
+
+-- trusted, own: links, with the document that they were merged to
+abbrev pub linked_with : List Link → Result (List Context) Stop → Result Linked Stop
+linked_with links (Ok contexts) = Ok (record { links = links; merged = contexts })
+linked_with links (Err stop) = Err stop
+
+-- trusted, own: these links, with the document that they and second and third ones are merged to
+abbrev pub AreLinked : List AiRow → List ℕ → List Link → Option (List Link) → Option (List Link) → Result Linked Stop → Type 0
+AreLinked ais voc links second third answer = answer ≡ linked_with links (of_verdict kind.Merge (merging ais voc links second third))
+
+-- trusted, own: what the file of third links gives behind these links and second ones
+abbrev pub GivesThird : Option FilesInMemory → FileNames → List AiRow → List ℕ → List Link → Option (List Link) → Result Linked Stop → Type 0
+GivesThird files names ais voc links second answer = Then (OtherGives files kind.Third ais voc names.third) (AreLinked ais voc links second) answer
+
+-- trusted, own: what the files of second and of third links give behind these links
+abbrev pub GivesOthers : Option FilesInMemory → FileNames → List AiRow → List ℕ → List Link → Result Linked Stop → Type 0
+GivesOthers files names ais voc links answer = Then (OtherGives files kind.Second ais voc names.second) (GivesThird files names ais voc links) answer
+
+-- trusted, own: what the files of links give, by the application identifiers and the values of a request
+abbrev pub LinkedGive : Option FilesInMemory → FileNames → Values → List AiRow → Result Linked Stop → Type 0
+LinkedGive files names values ais answer =
+    Then (LinksGive files values.templates ais values.voc names.links) (GivesOthers files names ais values.voc) answer
 
 -- trusted, own: the verdict on bytes that are taken as they are
 abbrev pub AreBytes : List ℕ → Result (Option (List ℕ)) FileFault → Type 0
@@ -143,27 +238,27 @@ GivesPrefixes files names set answer = Then (PrefixesGive files names.prefixes) 
 abbrev pub TabledGive : Option FilesInMemory → FileNames → Result Tabled Stop → Type 0
 TabledGive files names answer = Then (TablesGive files names.tables) (GivesPrefixes files names) answer
 
--- trusted, own: how requests are answered, with a vocabulary and a description
-abbrev pub AreSettings : List ℕ → Option (List ℕ) → Result Settings Stop → Type 0
-AreSettings voc describe answer = answer ≡ Ok (record { voc = voc; describe = describe })
+-- trusted, own: how requests are answered, by the values of a request and with a description
+abbrev pub AreSettings : Values → Option (List ℕ) → Result Settings Stop → Type 0
+AreSettings values describe answer = answer ≡ Ok (record { voc = values.voc; describe = describe; templates = values.templates })
 
--- trusted, own: how requests are answered, by the vocabulary and by what the file of the description gives
-abbrev pub SettingsGive : Option FilesInMemory → FileNames → List ℕ → Result Settings Stop → Type 0
-SettingsGive files names voc answer = Then (DescriptionGives files names.describe) (AreSettings voc) answer
+-- trusted, own: how requests are answered, by the values of a request and by what the file of the description gives
+abbrev pub SettingsGive : Option FilesInMemory → FileNames → Values → Result Settings Stop → Type 0
+SettingsGive files names values answer = Then (DescriptionGives files names.describe) (AreSettings values) answer
 
 -- trusted, own: what is loaded of these tables and prefixes, these links and these settings
-abbrev pub IsLoadedOf : Tabled → List Link → Settings → Result Loaded Stop → Type 0
-IsLoadedOf tabled links settings answer =
-    answer ≡ Ok (record { tables = tabled.tables; prefixes = tabled.prefixes; links = links; settings = settings })
+abbrev pub IsLoadedOf : Tabled → Linked → Settings → Result Loaded Stop → Type 0
+IsLoadedOf tabled linked settings answer =
+    answer ≡ Ok (record { tables = tabled.tables; prefixes = tabled.prefixes; links = linked.links; merged = linked.merged; settings = settings })
 
 -- trusted, own: what the file of the description gives behind these tables and prefixes, and these links
-abbrev pub GivesSettings : Option FilesInMemory → Asked → Tabled → List Link → Result Loaded Stop → Type 0
-GivesSettings files asked tabled links answer = Then (SettingsGive files asked.files asked.values.voc) (IsLoadedOf tabled links) answer
+abbrev pub GivesSettings : Option FilesInMemory → Asked → Tabled → Linked → Result Loaded Stop → Type 0
+GivesSettings files asked tabled linked answer = Then (SettingsGive files asked.files asked.values) (IsLoadedOf tabled linked) answer
 
--- trusted, own: what the file of links and that of the description give behind these tables and prefixes
+-- trusted, own: what the files of links and that of the description give behind these tables and prefixes
 abbrev pub GivesLinks : Option FilesInMemory → Asked → Tabled → Result Loaded Stop → Type 0
 GivesLinks files asked tabled answer =
-    Then (LinksGive files tabled.tables.ais asked.values.voc asked.files.links) (GivesSettings files asked tabled) answer
+    Then (LinkedGive files asked.files asked.values tabled.tables.ais) (GivesSettings files asked tabled) answer
 
 -- trusted, own: What the files give, in their order, of what is asked of each, or the first that is not there, is too large
 -- or is rejected: the tables and the company prefix lengths, the links, and how requests are answered.

@@ -38,6 +38,13 @@ JudgedAs kind verdict (Err Memory) = Unit {0}
 JudgedAs kind verdict (Err ReadFault) = ⊥
 JudgedAs kind verdict (Err (Refused rejection)) = of_verdict kind verdict ≡ Err (rejected rejection)
 
+-- a verdict on a file of a kind by what it is judged, with out of memory in place of any
+abbrev pub JudgedBy : {A : Type 0} → FileKind → (Result A FileFault → Type 0) → Result A Unloaded → Type 0
+JudgedBy kind Judges (Ok a) = Judges (Ok a)
+JudgedBy kind Judges (Err Memory) = Unit {0}
+JudgedBy kind Judges (Err ReadFault) = ⊥
+JudgedBy kind Judges (Err (Refused rejection)) = (rejection.kind ≡ kind) × Judges (Err rejection.error)
+
 -- the answer of a load of company prefix lengths, with out of memory as no rejection
 abbrev pub PrefixesUnloadedAs : Result (List PrefixEntry) PrefixFault → Result (List PrefixEntry) Unloaded → Type 0
 PrefixesUnloadedAs answer (Ok list) = answer ≡ Ok list

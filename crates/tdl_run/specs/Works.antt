@@ -10,6 +10,7 @@ use Rattle.gs_port.specs.Connections.{Aside, Finished}
 use Rattle.tdl_serve.specs.Doors.{line_of}
 use Rattle.tdl_serve.specs.Resolutions.{Resolved, Resolves}
 use Rattle.gs_http.specs.Sites.{SiteData}
+use Rattle.gs_linkset.specs.WrittenTrees.{written}
 use Rattle.gs_tables.specs.Tables.{TableRows}
 use Rattle.tdl_serve.specs.Visits.{AreVisits, Visit, entries_of, inputs_of, wants_memory}
 use Rattle.gs_translate.specs.declared.form.Form.{Form}
@@ -20,7 +21,7 @@ use Rattle.gs_translate.specs.Meanings.{IsRead}
 use Rattle.gs_translate.specs.Targets.{kept}
 use Rattle.gs_translate.specs.Translations.{Translating, translating_by}
 use Rattle.tdl_arguments.specs.declared.command.Command.{Command}
-use Rattle.tdl_arguments.specs.declared.command.Command.TheVariants.{Canon, Translate, Check, Resolve, Serve, Gen, DumpRead, DumpWrite}
+use Rattle.tdl_arguments.specs.declared.command.Command.TheVariants.{Canon, Translate, Check, Resolve, Serve, Gen, DumpRead, DumpWrite, Merge}
 use Rattle.tdl_answers.specs.DumpAnswers.{IsDumpReadLine, IsDumpWriteLine}
 use Rattle.tdl_answers.specs.TranslatedAnswers.{IsTranslatedLine}
 use Rattle.tdl_arguments.specs.Commands.{Work, on_door, on_heads, on_lines, on_none, work_of}
@@ -65,9 +66,17 @@ counts_line loaded =
     ++ codes " pure " ++ decimal (length loaded.tables.pure.info) ++ codes " prefixes " ++ decimal (length loaded.prefixes)
     ++ codes " links " ++ decimal (length loaded.links) ++ 10 ∷ []
 
+-- trusted, own: the document that links were merged to, in JSON, and a line feed
+abbrev pub merged_line : Loaded → List ℕ
+merged_line loaded = written loaded.merged ++ 10 ∷ []
+
+-- trusted, own: a line was written to a sink, or a prefix of it, by the status
+abbrev pub PrintsLine : List ℕ → Status → Option (List ℕ) → Option (List ℕ) → Type 0
+PrintsLine line ending held held' = Appends held held' (λ output. PrintedAs Done line output ending)
+
 -- trusted, own: the line of counts was written to a sink, or a prefix of it, by the status
 abbrev pub PrintsCounts : Loaded → Status → Option (List ℕ) → Option (List ℕ) → Type 0
-PrintsCounts loaded ending held held' = Appends held held' (λ output. PrintedAs Done (counts_line loaded) output ending)
+PrintsCounts loaded ending held held' = PrintsLine (counts_line loaded) ending held held'
 
 -- trusted, own: more than 4,294,967,296 bytes were taken of an input
 abbrev pub PassesLimit : Option (List ℕ) → Option (List ℕ) → Type 0
@@ -159,6 +168,7 @@ doing_of Serve values loaded = serves values.count
 doing_of (Gen lines) values loaded = prints (Generated loaded.tables lines)
 doing_of DumpRead values loaded = answers (IsDumpReadLine loaded.tables)
 doing_of DumpWrite values loaded = answers (IsDumpWriteLine loaded.tables)
+doing_of Merge values loaded = prints (λ output. output ≡ merged_line loaded)
 
 -- trusted, own: what is left by what is done, of what is answered from a site, an input, as far as it is known, and a door
 abbrev pub DoingRun : {work : Work} → Doing work → SiteData → Option (List ℕ) → Doorway → Outcome → Type 0

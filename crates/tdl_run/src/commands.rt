@@ -11,6 +11,7 @@ ghost use Rattle.tdl_run.specs.Works.{Leaves, doorway_of, site_of};
 use crate::check_command::check;
 use crate::dump_command::{show_dumps, write_dumps};
 use crate::loads::Loaded;
+use crate::merge_command::print_merged;
 use crate::translate_command::{canonize, translate_loaded};
 use gs_http::Site;
 use gs_port::{Door, Sink, Source};
@@ -77,5 +78,6 @@ pub fn run_command<S: Source, K: Sink, D: Door>(
         Command::Gen(lines) => generate(alloc, &loaded.tables, lines, output),
         Command::DumpRead => show_dumps(alloc, loaded, input, output),
         Command::DumpWrite => write_dumps(alloc, loaded, input, output),
+        Command::Merge => print_merged(alloc, loaded, output),
     }
 }

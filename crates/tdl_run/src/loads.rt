@@ -1,21 +1,22 @@
 ghost use Rattle.std.specs.Prelude.{◌≡◌, true};
 ghost use Rattle.tdl_arguments.specs.Ranges.{is_vocabulary};
-ghost use Rattle.tdl_arguments.specs.Requests.{all_named, description_named, known_files, known_request, tables_named};
+ghost use Rattle.tdl_arguments.specs.Requests.{all_named, description_named, known_files, known_request, known_values, tables_named};
 ghost use Rattle.tdl_run.specs.Loads.{FilesGive, SettingsGive, TabledGive};
 ghost use Rattle.tdl_run.specs.LoadsSupport.{Loads, files_known};
 
-use crate::links::load_links;
+use crate::linked::load_linked;
 use crate::named_files::read_if_named;
 use crate::prefixes::load_prefixes;
 use crate::tables::load_tables;
 use gs_chars::{Memory, Text};
 use gs_http::Settings;
 use gs_links::Store;
+use gs_linkset::LinkDoc;
 use gs_port::Files;
 use gs_prefix::PrefixList;
 use gs_tables::TableSet;
 use std::alloc::Global;
-use tdl_arguments::{NamedFiles, Request};
+use tdl_arguments::{NamedFiles, NamedValues, Request};
 use tdl_messages::{FileKind, Rejection};
 
 /// The tables and the company prefix lengths that a run has loaded.
@@ -27,6 +28,16 @@ pub struct Tabled {
     pub prefixes: PrefixList,
 }
 
+/// The links that a run has loaded, and the document that they and others were merged to, which has no context where there are no
+/// others.
+#[derive(Drop)]
+pub struct Linked {
+    /// The links.
+    pub links: Store,
+    /// The merged document.
+    pub merged: LinkDoc,
+}
+
 /// What a run has loaded.
 pub struct Loaded {
     /// The tables.
@@ -35,7 +46,9 @@ pub struct Loaded {
     pub prefixes: PrefixList,
     /// The links.
     pub links: Store,
-    /// How requests are answered: the vocabulary, and the description of the resolver.
+    /// The document that the links and others were merged to.
+    pub merged: LinkDoc,
+    /// How requests are answered: the vocabulary, the description of the resolver, and whether references are templates.
     pub settings: Settings,
 }
 
@@ -46,6 +59,7 @@ impl Drop for Loaded {
             tables: _,
             prefixes: _,
             links: _,
+            merged: _,
             settings: _,
         } = self;
     }
@@ -89,26 +103,31 @@ fn load_tabled<F: Files>(
     Ok(Tabled { tables, prefixes })
 }
 
-/// Loads how requests are answered: the vocabulary, and the description, which is none where it is not named.
+/// Loads how requests are answered: by the values, and the description, which is none where it is not named.
 fn load_settings<F: Files>(
     alloc: Global,
-    voc: &str,
+    values: NamedValues<'_>,
     named: NamedFiles<'_>,
     files: &mut F,
 ) -> Result<Settings, Unloaded>
-    ensures { Loads (λ known. SettingsGive known (known_files named.entry) voc.now)
+    ensures { Loads (λ known. SettingsGive known (known_files named.entry) (known_values values.entry))
         (description_named (known_files named.entry))
         (files.new ≡ files.old)
         (files_known (F.files files.old) (F.opened files.old) (F.errors files.old))
         (files_known (F.files files.new) (F.opened files.new) (F.errors files.new)) result }
 {
     let describe = read_if_named(alloc, FileKind::Describe, named.describe, files)?;
-    let voc = Text::from_bytes(alloc, voc.as_bytes())?;
-    Ok(Settings { voc, describe })
+    let voc = Text::from_bytes(alloc, values.voc.as_bytes())?;
+    Ok(Settings {
+        voc,
+        describe,
+        templates: values.templates,
+    })
 }
 
-/// Loads the files in their order, tables and company prefix lengths, links, and then the description, up to the first that is
-/// not there, cannot be read or is rejected. What is not named is the built-in tables, and no prefix, no link and no description.
+/// Loads the files in their order, tables and company prefix lengths, links, second and third ones, and then the description, up
+/// to the first that is not there, cannot be read or is rejected. What is not named is the built-in tables, and no prefix, no link
+/// and no description.
 pub fn load_files<F: Files>(
     alloc: Global,
     request: Request<'_>,
@@ -120,15 +139,17 @@ pub fn load_files<F: Files>(
         (files_known (F.files files.old) (F.opened files.old) (F.errors files.old))
         (files_known (F.files files.new) (F.opened files.new) (F.errors files.new)) result }
 {
-    let voc = request.values.voc;
-    let tabled = load_tabled(alloc, request.files, files)?;
-    let links = load_links(alloc, tabled.tables.ais(), voc, request.files.links, files)?;
-    let settings = load_settings(alloc, voc, request.files, files)?;
+    let Request { files: named, values, .. } = request;
+    let tabled = load_tabled(alloc, named, files)?;
+    let linked = load_linked(alloc, tabled.tables.ais(), values, named, files)?;
+    let settings = load_settings(alloc, values, named, files)?;
     let Tabled { tables, prefixes } = tabled;
+    let Linked { links, merged } = linked;
     Ok(Loaded {
         tables,
         prefixes,
         links,
+        merged,
         settings,
     })
 }

@@ -56,6 +56,7 @@ pub fn page_for(
     let settings = Settings {
         voc: Text::from_bytes(alloc, VOCABULARY.as_bytes())?,
         describe: None,
+        templates: false,
     };
     Ok(reply(alloc, ais, &store, &settings, head, false)?)
 }

@@ -39,6 +39,7 @@ impl Calls for Libraries {
             | "tdl_messages"
             | "tdl_run" => { vectors_runs::answer(alloc, &self.set, library, call, args) }
             "gs_ai"
+            | "gs_http_documents"
             | "gs_ident"
             | "gs_tables"
             | "gs_tables_builtin"

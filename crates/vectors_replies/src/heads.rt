@@ -1,7 +1,7 @@
 //! A call of gs_http over heads, by the built-in table of application identifiers. STORE is as in site.rt.
 //!
-//! - `reply STORE DESCRIBE LAST HEAD`, with DESCRIBE the resolver description file or `-`, and LAST `last` or `-`: the bytes of
-//!   the reply, and `closes` or `stays`.
+//! - `reply STORE DESCRIBE LAST HEAD TEMPLATES`, with DESCRIBE the resolver description file or `-`, LAST `last` or `-`, and
+//!   `templates` behind them where references are templates: the bytes of the reply, and `closes` or `stays`.
 
 use crate::site::Site;
 use gs_ai::AiTable;

@@ -60,6 +60,14 @@ fn description(call: SiteCall, args: &[Text]) -> &[u8] {
     }
 }
 
+/// Whether references are templates.
+fn has_templates(call: SiteCall, args: &[Text]) -> bool {
+    match call {
+        SiteCall::Reply => bytes_at(args, 4) == b"templates".as_slice(),
+        SiteCall::Cuts | SiteCall::Many | SiteCall::Serve => false,
+    }
+}
+
 /// Writes the answer to a call from this site, which is lent so that it is dropped at one exit.
 fn write_from(
     alloc: Global,
@@ -80,7 +88,8 @@ fn write_from(
 
 /// Writes the answer to a call over a site.
 fn write_at(alloc: Global, line: &mut Line, ais: &AiTable, call: SiteCall, args: &[Text]) -> Done {
-    let site = site_of(alloc, ais, bytes_at(args, 0), description(call, args))?;
+    let describe = description(call, args);
+    let site = site_of(alloc, ais, bytes_at(args, 0), describe, has_templates(call, args))?;
     write_from(alloc, line, ais, &site, call, args)
 }
 

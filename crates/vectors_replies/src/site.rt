@@ -63,20 +63,25 @@ fn described(alloc: Global, describe: &[u8]) -> Result<Option<Text>, Rejection> 
 }
 
 /// The settings with this description, or with none where it is a hyphen.
-fn settings_of(alloc: Global, describe: &[u8]) -> Result<Settings, Rejection> {
+fn settings_of(alloc: Global, describe: &[u8], templates: bool) -> Result<Settings, Rejection> {
     let describe = described(alloc, describe)?;
     let voc = Text::from_bytes(alloc, VOC)?;
-    Ok(Settings { voc, describe })
+    Ok(Settings {
+        voc,
+        describe,
+        templates,
+    })
 }
 
-/// The site of a STORE and a description, the latter a hyphen where there is none.
+/// The site of a STORE and a description, the latter a hyphen where there is none; its references are templates or are not.
 pub fn site_of(
     alloc: Global,
     table: &AiTable,
     store: &[u8],
     describe: &[u8],
+    templates: bool,
 ) -> Result<Site, Rejection> {
-    let settings = settings_of(alloc, describe)?;
+    let settings = settings_of(alloc, describe, templates)?;
     // the store last, since its drop is long and would be written out at each exit behind it
     let store = store_of(alloc, table, linkset_of(store))?;
     Ok(Site { store, settings })

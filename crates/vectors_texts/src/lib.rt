@@ -3,6 +3,7 @@
 #![tactic(auto)]
 
 mod digital_links;
+mod documents;
 mod elements;
 mod epc_writer;
 mod epcs;
@@ -26,6 +27,7 @@ use vectors_cases::{Answer, Done, Line, Rejection, named};
 enum Library {
     BuiltinRows,
     DigitalLinks,
+    Documents,
     Elements,
     Epcs,
     Identifiers,
@@ -37,11 +39,12 @@ enum Library {
     Translations,
 }
 
-const LIBRARIES: [(&str, Library); 11] = [
+const LIBRARIES: [(&str, Library); 12] = [
     ("gs_ai", Library::Identifiers),
     ("gs_dlink", Library::DigitalLinks),
     ("gs_element", Library::Elements),
     ("gs_epc", Library::Epcs),
+    ("gs_http_documents", Library::Documents),
     ("gs_ident", Library::Identities),
     ("gs_links", Library::Links),
     ("gs_tables", Library::Tables),
@@ -63,6 +66,7 @@ fn write(
     match named(&LIBRARIES, library) {
         Some(Library::BuiltinRows) => rows::answer_builtin(alloc, line, call),
         Some(Library::DigitalLinks) => digital_links::answer(alloc, line, set.ais(), call, args),
+        Some(Library::Documents) => documents::answer(alloc, line, set.ais(), call, args),
         Some(Library::Elements) => elements::answer(alloc, line, set.ais(), call, args),
         Some(Library::Epcs) => epcs::answer(alloc, line, set, call, args),
         Some(Library::Identifiers) => identifiers::answer(alloc, line, set.ais(), call, args),

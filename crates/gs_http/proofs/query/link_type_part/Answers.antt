@@ -1,6 +1,6 @@
 use Rattle.std.proofs.Common.{◌<◌, length, sym, ◌∙◌, arith}
 use Rattle.gs_dlink.specs.Uris.{separates_parts}
-use Rattle.gs_http.specs.AskedRelations.{is_link_type}
+use Rattle.gs_http.specs.Wishes.{is_link_type}
 use Rattle.gs_http.proofs.Scans.{none_found, part_found, part_passed}
 use Rattle.gs_http.proofs.query.link_type_part.Goals as goal
 

@@ -1,7 +1,7 @@
 use Rattle.std.proofs.Common.{◌≡◌, length}
 use Rattle.std.specs.List.{find, slice_split}
 use Rattle.gs_dlink.specs.Uris.{separates_parts}
-use Rattle.gs_http.specs.AskedRelations.{is_link_type}
+use Rattle.gs_http.specs.Wishes.{is_link_type}
 use Rattle.gs_http.proofs.query.link_type_part.Given as goal
 
 -- none of the parts so far

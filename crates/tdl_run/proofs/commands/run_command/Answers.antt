@@ -158,3 +158,23 @@ returns-in-DumpWrite-clause-used g c = rw c.in-DumpWrite.is (λ uses. absurd (fa
 pub returns-in-Serve-clause-used : goal.returns-in-Serve-clause-used
 returns-in-Serve-clause-used g c =
     λ uses. record { closed = c.serve.ensures.closed; waiting = visits_finish _ _ _ _ _ _ c.serve.result c.serve.ensures.ran; listens = c.serve.ensures.opens }
+
+pub returns-in-Merge-clause-ran : goal.returns-in-Merge-clause-ran
+returns-in-Merge-clause-ran g c =
+    let w = c.print_merged.ensures.written in
+    rw c.in-Merge.is ([], none_more _, (w.0, w.1, ran_of_line _ _ _ _ _ _ _ w.0 c.print_merged.result (record { is_output = refl; none_finished = refl; done = refl }) w.2 c.print_merged.ensures.error refl refl refl c.print_merged.ensures.counts))
+
+pub returns-in-Merge-clause-served : goal.returns-in-Merge-clause-served
+returns-in-Merge-clause-served g c = rw c.in-Merge.is (λ heads. absurd (false≢true heads))
+
+pub returns-in-Merge-clause-unread : goal.returns-in-Merge-clause-unread
+returns-in-Merge-clause-unread g c = λ none. refl
+
+pub returns-in-Merge-clause-unserved : goal.returns-in-Merge-clause-unserved
+returns-in-Merge-clause-unserved g c = λ none. refl
+
+pub returns-in-Merge-clause-door_counts : goal.returns-in-Merge-clause-door_counts
+returns-in-Merge-clause-door_counts g c = omega arith
+
+pub returns-in-Merge-clause-used : goal.returns-in-Merge-clause-used
+returns-in-Merge-clause-used g c = rw c.in-Merge.is (λ uses. absurd (false≢true uses))

@@ -1,0 +1,112 @@
+ghost use Rattle.std.specs.Prelude.{◌≡◌, IfOk};
+ghost use Rattle.percent_encoding.specs.Percent.{percent_decode};
+ghost use Rattle.gs_http.specs.AcceptedForms.{accepted_form};
+ghost use Rattle.gs_http.specs.LentValues.{asked_by, name_of, wished};
+ghost use Rattle.gs_http.specs.Wishes.{form_or_json, wish_named, wish_of, wish_unnamed};
+
+use crate::accepted_forms::accepted_form;
+use crate::query::link_type;
+use crate::request::Request;
+use crate::resolver::Resolver;
+use gs_chars::{Memory, Text};
+use gs_http_documents::LinksetForm;
+use gs_links::expand;
+use percent_encoding::percent_decode;
+use std::alloc::Global;
+
+/// The name of a relation.
+#[derive(Drop)]
+pub(crate) enum RelationName<'a> {
+    /// One that was made of what a request names.
+    Made(Text),
+    /// One that was made before.
+    Lent(&'a [u8]),
+}
+
+impl RelationName<'_> {
+    /// Its bytes.
+    pub(crate) fn as_bytes(&self) -> &[u8]
+        ensures { result.now ≡ name_of self.now }
+    {
+        match self {
+            RelationName::Made(name) => name.as_bytes(),
+            RelationName::Lent(name) => name,
+        }
+    }
+}
+
+/// What a request asks for.
+#[derive(Drop)]
+pub(crate) enum Wish<'a> {
+    /// The links of a relation.
+    Relation(RelationName<'a>),
+    /// A linkset in a form.
+    Linkset(LinksetForm),
+}
+
+/// The form in which a request wants a linkset that it asks for: that which it accepts first, else JSON.
+fn wanted_form(request: &Request<'_>) -> LinksetForm
+    ensures { result ≡ form_or_json (accepted_form (asked_by request.now).fields) }
+{
+    match accepted_form(request) {
+        Some(form) => form,
+        None => LinksetForm::Json,
+    }
+}
+
+/// What a decoded link type asks for.
+fn wish_named<'a>(
+    alloc: Global,
+    voc: &[u8],
+    request: &Request<'_>,
+    value: Text,
+) -> Result<Wish<'a>, Memory>
+    ensures { IfOk result (λ wish. wished wish
+        ≡ wish_named voc.now (accepted_form (asked_by request.now).fields) value) }
+{
+    let name = value.as_bytes();
+    if name == b"linkset".as_slice() || name == b"all".as_slice() {
+        return Ok(Wish::Linkset(wanted_form(request)));
+    }
+    Ok(Wish::Relation(RelationName::Made(expand(alloc, voc, value)?)))
+}
+
+/// What a link type asks for.
+fn by_link_type<'a>(
+    alloc: Global,
+    voc: &[u8],
+    request: &Request<'_>,
+    value: &[u8],
+) -> Result<Wish<'a>, Memory>
+    ensures { IfOk result (λ wish. wished wish
+        ≡ wish_named voc.now (accepted_form (asked_by request.now).fields) (percent_decode value.now)) }
+{
+    let mut decoded = Vec::new(alloc);
+    percent_decode(value).append_to(&mut decoded)?;
+    wish_named(alloc, voc, request, Text::from_vec(decoded))
+}
+
+/// What is asked for without a link type, by the form that is accepted.
+fn wish_unnamed<'r>(resolver: &'r Resolver<'_>, accepted: Option<LinksetForm>) -> Wish<'r>
+    ensures { wished result ≡ wish_unnamed resolver.now.settings.voc accepted }
+{
+    match accepted {
+        Some(form) => Wish::Linkset(form),
+        None => Wish::Relation(RelationName::Lent(resolver.default_relation())),
+    }
+}
+
+/// What a request asks for.
+#[tactic(auto, unfolding(crate::specs::Wishes::wish_of))]
+pub(crate) fn wish_of<'r>(
+    alloc: Global,
+    resolver: &'r Resolver<'_>,
+    request: &Request<'_>,
+) -> Result<Wish<'r>, Memory>
+    ensures { IfOk result (λ wish. wished wish ≡ wish_of resolver.now.settings.voc (asked_by request.now)) }
+{
+    match link_type(request.target) {
+        Some(value) => by_link_type(alloc, resolver.settings().voc.as_bytes(), request, value),
+        None => Ok(wish_unnamed(resolver, accepted_form(request))),
+    }
+}

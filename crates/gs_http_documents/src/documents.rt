@@ -1,0 +1,108 @@
+ghost use Rattle.std.specs.Prelude.{◌≡◌, IfOk, map, true};
+ghost use Rattle.std.specs.List.{list_all};
+ghost use Rattle.gs_http_documents.specs.References.{document_for};
+
+use gs_chars::{List, Memory};
+use gs_ident::Identity;
+use gs_linkset::{Context, LinkDoc, Relation, Target};
+use gs_template::expand;
+use std::alloc::Global;
+
+/// What has references that an identity's values fill.
+trait Template: Drop {
+    ghost use Rattle.std.specs.Prelude.{Bool};
+    ghost use Rattle.gs_ident.specs.Elements.{Elements};
+
+    /// What it is with its references filled.
+    ghost filled: { Elements → Self → Self };
+
+    /// Whether it has the shape of a linkset's part.
+    ghost shape: { Self → Bool };
+
+    /// What it is with its references filled.
+    fn fill(self, alloc: Global, identity: &Identity) -> Result<Self, Memory>
+        ensures value { IfOk result (λ made. made ≡ filled identity.now self) }
+        ensures shape { IfOk result (λ made. shape self ≡ true → shape made ≡ true) };
+}
+
+/// A list of things with their references filled.
+fn fill_all<T: Template>(
+    alloc: Global,
+    identity: &Identity,
+    things: List<T>,
+) -> Result<List<T>, Memory>
+    ensures value { IfOk result (λ made. made ≡ map (T.filled identity.now) things) }
+    ensures shape { IfOk result (λ made. list_all T.shape things ≡ true → list_all T.shape made ≡ true) }
+{
+    let mut made = Vec::new(alloc);
+    for thing in things.into_vec() {
+        made.push(thing.fill(alloc, identity)?)?;
+    }
+    Ok(List::from_vec(made))
+}
+
+impl Template for Target {
+    ghost use Rattle.gs_linkset.specs.LinkShapes.{is_target};
+    ghost use Rattle.gs_http_documents.specs.References.{target_for};
+
+    ghost filled = { target_for };
+
+    ghost shape = { is_target };
+
+    #[tactic(auto, unfolding(gs_linkset::specs::LinkShapes::is_target))]
+    fn fill(self, alloc: Global, identity: &Identity) -> Result<Target, Memory> {
+        let mut target = self;
+        target.href = expand(alloc, target.href.as_bytes(), identity)?;
+        Ok(target)
+    }
+}
+
+impl Template for Relation {
+    ghost use Rattle.gs_linkset.specs.LinkShapes.{is_relation};
+    ghost use Rattle.gs_http_documents.specs.References.{relation_for};
+
+    ghost filled = { relation_for };
+
+    ghost shape = { is_relation };
+
+    #[tactic(auto, unfolding(gs_linkset::specs::LinkShapes::is_relation))]
+    fn fill(self, alloc: Global, identity: &Identity) -> Result<Relation, Memory> {
+        let Relation { name, targets } = self;
+        let targets = fill_all(alloc, identity, targets)?;
+        Ok(Relation { name, targets })
+    }
+}
+
+impl Template for Context {
+    ghost use Rattle.gs_linkset.specs.LinkShapes.{is_context};
+    ghost use Rattle.gs_http_documents.specs.References.{context_for};
+
+    ghost filled = { context_for };
+
+    ghost shape = { is_context };
+
+    #[tactic(auto, unfolding(gs_linkset::specs::LinkShapes::is_context), using(crate::proofs::DocumentLemmas::same_names))]
+    fn fill(self, alloc: Global, identity: &Identity) -> Result<Context, Memory> {
+        let Context { anchor, relations } = self;
+        let relations = fill_all(alloc, identity, relations)?;
+        Ok(Context { anchor, relations })
+    }
+}
+
+/// A document for an identity. Where references are templates, the reference of each target has its places filled by the
+/// identity's values, as `gs_template::expand` fills them, and all else stays; else the document is the one that was given. What
+/// stays is moved, so that nothing of the document is copied. The one error is out of memory.
+pub fn document_for(
+    alloc: Global,
+    templates: bool,
+    identity: &Identity,
+    doc: LinkDoc,
+) -> Result<LinkDoc, Memory>
+    ensures { IfOk result (λ made. made ≡ document_for templates identity.now doc) }
+{
+    if !templates {
+        return Ok(doc);
+    }
+    let contexts = fill_all(alloc, identity, doc.into_contexts())?;
+    Ok(LinkDoc::of_contexts(contexts))
+}
