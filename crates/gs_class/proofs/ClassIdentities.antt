@@ -1,5 +1,5 @@
 -- What a class says fits its key and its element, and is laid out as the identity of the class.
-use Rattle.std.proofs.Common.{◌≡◌, ℕ, ◌-◌, true, false, List, [], ◌∷◌, Option, Some, None, Ok, is_some, find, refl, sym, ◌∙◌}
+use Rattle.std.proofs.Common.{◌≡◌, ℕ, ◌-◌, true, false, List, [], ◌∷◌, Option, Some, Ok, is_some, find, refl, sym, ◌∙◌}
 use Rattle.std.specs.Option.{option_map_or}
 use Rattle.std.proofs.lemmas.List.{append-nil}
 use Rattle.gs_ai.specs.declared.pair.Pair.{Pair}
@@ -13,7 +13,9 @@ use Rattle.gs_ident.specs.QualifiedKeys.{IsQualifiedKey, pairs_in}
 use Rattle.gs_grammar.specs.Derivations.{EachWord}
 use Rattle.gs_tables_document.specs.declared.kind.SerialAt.TheVariants.{Ai}
 use Rattle.gs_tables_document.specs.Items.{alone, present}
+use Rattle.gs_tables.specs.declared.form.Behind.TheVariants.{Nothing}
 use Rattle.gs_tables.specs.declared.form.KeyForm.TheVariants.{Digits}
+use Rattle.gs_tables.specs.declared.form.Room.TheVariants.{Characters}
 use Rattle.gs_tables.specs.Forms.{characters_of, serial_room}
 use Rattle.gs_tables.specs.KeptRules.{KeptKind}
 use Rattle.gs_tables.specs.Rules.{is_serial_of}
@@ -36,23 +38,24 @@ use Rattle.gs_class.proofs.KeptClasses.{KeptClass}
 characters_there : (found : Option AiRow) (element : AiRow) (most : ℕ) → found ≡ Some element → characters_of element.parts ≡ Some most → option_map_or (λ (row : AiRow). is_some (characters_of row.parts)) found false ≡ true
 characters_there found element most e f = rw (e, f) refl
 
-pub serial_kept : (ais : List AiRow) (row : ClassRow) (kept : KeptClass ais row) → is_serial_of ais kept.key (Digits (kept.k - 1) None) (Ai row.element) ≡ true
+pub serial_kept : (ais : List AiRow) (row : ClassRow) (kept : KeptClass ais row) → is_serial_of ais kept.key (Digits (kept.k - 1) Nothing) (Ai row.element) ≡ true
 serial_kept ais row kept = rw (kept.lists, characters_there (find (has_code row.element) ais) kept.element kept.most kept.element_found kept.room.characters) refl
 
 -- the kind that a class is keeps the rules of kinds
 abbrev pub kind_kept : (ais : List AiRow) (row : ClassRow) (kept : KeptClass ais row) → KeptKind ais (kind_of (class_of row))
 kind_kept ais row kept = record {
   row = kept.key;
-  form = Digits (kept.k - 1) None;
+  form = Digits (kept.k - 1) Nothing;
   found = kept.found;
   key = kept.role;
   formed = rw kept.parts refl;
   lead = kept.lead;
   serial = serial_kept ais row kept;
+  further = refl;
 }
 
-room_is : (ais : List AiRow) (row : ClassRow) (kept : KeptClass ais row) → serial_room ais (Digits (kept.k - 1) None) (Ai row.element) ≡ Some kept.most
-room_is ais row kept = rw kept.element_found kept.room.characters
+room_is : (ais : List AiRow) (row : ClassRow) (kept : KeptClass ais row) → serial_room ais (Digits (kept.k - 1) Nothing) (Ai row.element) ≡ Some (Characters kept.most)
+room_is ais row kept = rw (kept.element_found, kept.room.characters) refl
 
 none_stands : (ais : List AiRow) (row : ClassRow) (kept : KeptClass ais row) (value : List ℕ) → stands_for_none ais (record { code = row.element; value = value }) ≡ false
 none_stands ais row kept value = rw (kept.element_found, kept.room.none) refl
@@ -62,10 +65,10 @@ pub fits_class : (ais : List AiRow) (row : ClassRow) (kept : KeptClass ais row) 
 fits_class ais row kept values words each =
     let parts = present row.items in
     let held : AreHeld false parts values words = record { each = each; good = kept.bounds.none_bad } in
-    let fit = fits_prefix (Digits (kept.k - 1) None) row.lead row.gcp false parts values words held kept.gcp kept.rest in
-    let room = fits_room (Some kept.most) false parts values words held kept.serial in
+    let fit = fits_prefix (Digits (kept.k - 1) Nothing) row.lead row.gcp false parts values words held kept.gcp kept.rest in
+    let room = fits_room (Some (Characters kept.most)) false parts values words held kept.serial in
     record {
-      fit = record { of_kind = kind_kept ais row kept; prefix_least = fit.prefix_least; prefix_most = fit.prefix_most; fits = fit.fits; room = rw (room_is ais row kept) room };
+      fit = record { of_kind = kind_kept ais row kept; prefix_least = fit.prefix_least; prefix_most = fit.prefix_most; fits = fit.fits; further = (refl, refl); room = rw (room_is ais row kept) room };
       k = kept.k;
       parts = kept.parts;
       counts = none_stands ais row kept;
@@ -87,7 +90,7 @@ module _ (ais : List AiRow) (class : Class) (said : KeyFields) (fits : FitsClass
   value_is : key_value (parts_at ais class.key) (kind_of class) said ≡ with_check (key_digits class.lead said.prefix said.rest)
   value_is =
       let parts : parts_at ais class.key ≡ NumCheck fits.k ∷ [] = rw (fits.fit.of_kind.found, fits.parts) refl in
-      rw parts (append-nil (with_check (key_digits class.lead said.prefix said.rest)))
+      rw (parts, fits.fit.further.0, fits.fit.further.1) (append-nil (with_check (key_digits class.lead said.prefix said.rest)))
 
   -- the identity of the class is the layout of its kind
   pub laid_is : lay ais (kind_of class) said ≡ class_identity class said

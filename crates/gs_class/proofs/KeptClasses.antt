@@ -20,7 +20,9 @@ use Rattle.gs_grammar.specs.Levels.{KeepBounds}
 use Rattle.gs_grammar.specs.Limits.{most_symbols}
 use Rattle.gs_tables_document.specs.declared.field.Field.TheVariants.{Gcp, Rest, Serial}
 use Rattle.gs_tables_document.specs.Items.{FieldItem, alone, present}
+use Rattle.gs_tables.specs.declared.form.Behind.TheVariants.{Nothing}
 use Rattle.gs_tables.specs.declared.form.KeyForm.TheVariants.{Digits}
+use Rattle.gs_tables.specs.declared.form.Room.TheVariants.{Characters}
 use Rattle.gs_tables.specs.Forms.{characters_of}
 use Rattle.gs_tables.specs.Rules.{items_of_field, keeps_gcp, keeps_rest, keeps_serial}
 use Rattle.gs_tables.proofs.KeptRows.{gcp_kept}
@@ -97,24 +99,24 @@ pub record KeptClass (ais : List AiRow) (row : ClassRow) : Type 0 where
   pub most : ℕ
   pub element_found : find (has_code row.element) ais ≡ Some element
   pub room : IsRoom element most
-  pub gcp : keeps_gcp (Digits (k - 1) None) row.lead row.gcp (items_of_field Gcp (present row.items)) ≡ true
-  pub rest : keeps_rest (Digits (k - 1) None) row.gcp (items_of_field Rest (present row.items)) ≡ true
-  pub serial : keeps_serial (Some most) (items_of_field Serial (present row.items)) ≡ true
+  pub gcp : keeps_gcp (Digits (k - 1) Nothing) row.lead row.gcp (items_of_field Gcp (present row.items)) ≡ true
+  pub rest : keeps_rest (Digits (k - 1) Nothing) row.gcp (items_of_field Rest (present row.items)) ≡ true
+  pub serial : keeps_serial (Some (Characters most)) (items_of_field Serial (present row.items)) ≡ true
   pub bounds : KeepBounds false (alone (present row.items))
   pub none_bad : position is_bad_item row.items ≡ None
 
 -- the items of a row fit
 record KeptItems (row : ClassRow) (digits most : ℕ) : Type 0 where
-  gcp : keeps_gcp (Digits digits None) row.lead row.gcp (items_of_field Gcp (present row.items)) ≡ true
-  rest : keeps_rest (Digits digits None) row.gcp (items_of_field Rest (present row.items)) ≡ true
-  serial : keeps_serial (Some most) (items_of_field Serial (present row.items)) ≡ true
+  gcp : keeps_gcp (Digits digits Nothing) row.lead row.gcp (items_of_field Gcp (present row.items)) ≡ true
+  rest : keeps_rest (Digits digits Nothing) row.gcp (items_of_field Rest (present row.items)) ≡ true
+  serial : keeps_serial (Some (Characters most)) (items_of_field Serial (present row.items)) ≡ true
 
 items_kept : (row : ClassRow) (digits most : ℕ) → keeps_items row digits most ≡ true → KeptItems row digits most
 unfolding keeps_items
 items_kept row digits most h =
-    let gcp = keeps_gcp (Digits digits None) row.lead row.gcp (items_of_field Gcp (present row.items)) in
-    let rest = keeps_rest (Digits digits None) row.gcp (items_of_field Rest (present row.items)) in
-    let whole = and_parts (gcp && rest) (keeps_serial (Some most) (items_of_field Serial (present row.items))) h in
+    let gcp = keeps_gcp (Digits digits Nothing) row.lead row.gcp (items_of_field Gcp (present row.items)) in
+    let rest = keeps_rest (Digits digits Nothing) row.gcp (items_of_field Rest (present row.items)) in
+    let whole = and_parts (gcp && rest) (keeps_serial (Some (Characters most)) (items_of_field Serial (present row.items))) h in
     let both = and_parts gcp rest whole.0 in
     record { gcp = both.0; rest = both.1; serial = whole.1 }
 
@@ -226,4 +228,4 @@ pub record CanBeMade (row : ClassRow) : Type 0 where
 pub can_be_made : (ais : List AiRow) (rows : List ClassRow) (i : ℕ) (row : ClassRow) → class_rejections ais rows ≡ [] → slice_get rows i ≡ Some row → CanBeMade row
 can_be_made ais rows i row none at =
     let kept = class_at ais rows i row none at in
-    record { lead = leb-true row.lead 1 kept.lead; gcp = gcp_kept (Digits (kept.k - 1) None) row.lead row.gcp (present row.items) kept.gcp; items = kept.bounds }
+    record { lead = leb-true row.lead 1 kept.lead; gcp = gcp_kept (Digits (kept.k - 1) Nothing) row.lead row.gcp (present row.items) kept.gcp; items = kept.bounds }

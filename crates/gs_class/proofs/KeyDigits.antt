@@ -18,6 +18,7 @@ use Rattle.gs_ident.specs.Identities.{IsInOrder, IsMadeWith}
 use Rattle.gs_grammar.specs.Items.{is_between}
 use Rattle.gs_grammar.proofs.ItemTests.{between_is}
 use Rattle.gs_grammar.specs.declared.item.Item.{Item}
+use Rattle.gs_tables.specs.declared.form.Behind.TheVariants.{Nothing}
 use Rattle.gs_tables.specs.declared.form.KeyForm.TheVariants.{Digits}
 use Rattle.gs_tables.specs.Rules.{is_digits, is_gcp, is_one, keeps_gcp}
 use Rattle.gs_epc.proofs.LaidAgain.{parts_kept}
@@ -76,18 +77,18 @@ pub record IsLength (digits lead n : ℕ) : Type 0 where
   pub some : 1 ≤ n
   pub room : n ≤ digits - lead
 
-pub length_kept : (digits lead n : ℕ) (items : List Item) → keeps_gcp (Digits digits None) lead n items ≡ true → IsLength digits lead n
+pub length_kept : (digits lead n : ℕ) (items : List Item) → keeps_gcp (Digits digits Nothing) lead n items ≡ true → IsLength digits lead n
 unfolding keeps_gcp
 length_kept digits lead n items h =
-    let both = and_parts (is_gcp (Digits digits None) lead n) (is_one (is_digits n) items) h in
+    let both = and_parts (is_gcp (Digits digits Nothing) lead n) (is_one (is_digits n) items) h in
     let parts = and_parts (is_between 1 12 n) (nat_le n (digits - lead)) both.0 in
     let low = (between_is 1 12 n parts.0).0 in
     let room = parts.1 in
     record { some = low; room = grind (arith, nat_tests) }
 
-pub one_of_prefix : (digits lead n : ℕ) (items : List Item) → keeps_gcp (Digits digits None) lead n items ≡ true → is_one (is_digits n) items ≡ true
+pub one_of_prefix : (digits lead n : ℕ) (items : List Item) → keeps_gcp (Digits digits Nothing) lead n items ≡ true → is_one (is_digits n) items ≡ true
 unfolding keeps_gcp
-one_of_prefix digits lead n items h = (and_parts (is_gcp (Digits digits None) lead n) (is_one (is_digits n) items) h).1
+one_of_prefix digits lead n items h = (and_parts (is_gcp (Digits digits Nothing) lead n) (is_one (is_digits n) items) h).1
 
 -- so many digits
 pub record AreDigits (n : ℕ) (text : List ℕ) : Type 0 where

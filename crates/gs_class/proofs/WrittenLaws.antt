@@ -249,11 +249,13 @@ abbrev fields_of_value : ℕ → ℕ → List ℕ → List ℕ → KeyFields
 fields_of_value lead n value serial = record {
   prefix = take n (drop lead (unchecked value));
   rest = take lead (unchecked value) ++ drop n (drop lead (unchecked value));
+  piece = [];
+  total = [];
   serial = serial;
 }
 
-fields_there : (parts : List Part) (k lead n : ℕ) (value serial : List ℕ) → parts ≡ NumCheck k ∷ [] → length value ≡ k → fields_at parts lead n value serial ≡ fields_of_value lead n value serial
-fields_there parts k lead n value serial p count = rw (p, ← count) refl
+fields_there : (parts : List Part) (k : ℕ) (class : Class) (n : ℕ) (value serial : List ℕ) → parts ≡ NumCheck k ∷ [] → length value ≡ k → fields_at parts (kind_of class) n value serial ≡ fields_of_value class.lead n value serial
+fields_there parts k class n value serial p count = rw (p, ← count) refl
 
 -- a pair that is not extra has the code of the key or of the element
 one_of_two : (key element code : List ℕ) → (not (bytes_eq key code) && not (bytes_eq element code)) ≡ false → (bytes_eq key code ≡ true) ⊎ (element ≡ code)
@@ -358,8 +360,8 @@ module _ (ais : List AiRow) (rules : KeepsRules ais) (set : ClassRows) (identity
   parts_are : parts_at ais s.class.key ≡ NumCheck its_kept.k ∷ []
   parts_are = parts_there ais s.class.key its_kept.key its_kept.k (subst (λ (code : List ℕ). find (has_code code) ais ≡ Some its_kept.key) (sym pair_is.0) found_key) its_kept.parts
 
-  fields_are : fields_at (parts_at ais s.class.key) s.class.lead s.class.gcp identity.key.value (lot_of s.class identity) ≡ said_of s.class identity
-  fields_are = fields_there (parts_at ais s.class.key) its_kept.k s.class.lead s.class.gcp identity.key.value (lot_of s.class identity) parts_are value_is.count
+  fields_are : fields_at (parts_at ais s.class.key) (kind_of s.class) s.class.gcp identity.key.value (lot_of s.class identity) ≡ said_of s.class identity
+  fields_are = fields_there (parts_at ais s.class.key) its_kept.k s.class s.class.gcp identity.key.value (lot_of s.class identity) parts_are value_is.count
 
   laid_out : identity ≡ lay ais (kind_of s.class) (said_of s.class identity)
   laid_out =

@@ -24,6 +24,8 @@ abbrev pub said_by : Class → List (List ℕ) → KeyFields
 said_by class values = record {
   prefix = value_of Gcp class.fields values;
   rest = value_of Rest class.fields values;
+  piece = [];
+  total = [];
   serial = value_of Serial class.fields values;
 }
 

@@ -16,7 +16,9 @@ use Rattle.gs_grammar.specs.Limits.{most_symbols}
 use Rattle.gs_tables_document.specs.declared.field.Field.TheVariants.{Gcp, Rest, Serial}
 use Rattle.gs_tables_document.specs.Items.{FieldItem, alone, present}
 use Rattle.gs_tables_document.specs.Limits.{most_items}
+use Rattle.gs_tables.specs.declared.form.Behind.TheVariants.{Nothing}
 use Rattle.gs_tables.specs.declared.form.KeyForm.TheVariants.{Digits}
+use Rattle.gs_tables.specs.declared.form.Room.TheVariants.{Characters}
 use Rattle.gs_tables.specs.Forms.{characters_of}
 use Rattle.gs_tables.specs.Rules.{items_of_field, keeps_gcp, keeps_rest, keeps_serial}
 use Rattle.gs_class.specs.declared.error.ClassLoadFault.{ClassLoadFault}
@@ -57,9 +59,9 @@ element_room ais element =
 -- trusted, own: the company prefix, the rest and the lot fit a key of so many digits and an element of at most so many characters
 unfoldable pub keeps_items : ClassRow → ℕ → ℕ → Bool
 keeps_items row digits most =
-    keeps_gcp (Digits digits None) row.lead row.gcp (items_of_field Gcp (present row.items))
-    && keeps_rest (Digits digits None) row.gcp (items_of_field Rest (present row.items))
-    && keeps_serial (Some most) (items_of_field Serial (present row.items))
+    keeps_gcp (Digits digits Nothing) row.lead row.gcp (items_of_field Gcp (present row.items))
+    && keeps_rest (Digits digits Nothing) row.gcp (items_of_field Rest (present row.items))
+    && keeps_serial (Some (Characters most)) (items_of_field Serial (present row.items))
 
 -- trusted, own: the items fit the key and the element
 abbrev pub fits_parts : List AiRow → ClassRow → List Part → Bool

@@ -55,6 +55,8 @@ abbrev pub said_of : Class → Elements → KeyFields
 said_of class identity = record {
   prefix = take class.gcp (drop class.lead (unchecked identity.key.value));
   rest = take class.lead (unchecked identity.key.value) ++ drop class.gcp (drop class.lead (unchecked identity.key.value));
+  piece = [];
+  total = [];
   serial = lot_of class identity;
 }
 

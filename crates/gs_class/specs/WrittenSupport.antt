@@ -15,7 +15,7 @@ use Rattle.gs_class.specs.Written.{said_of, value_for}
 
 -- what is said, as the fields of a key
 abbrev pub fields_in : Said → KeyFields
-fields_in said = record { prefix = said.prefix; rest = said.rest; serial = said.serial }
+fields_in said = record { prefix = said.prefix; rest = said.rest; piece = []; total = []; serial = said.serial }
 
 -- every item but that of the lot holds its value
 abbrev pub HoldOthers : Class → List Item → Elements → Type 0

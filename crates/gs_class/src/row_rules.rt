@@ -7,7 +7,8 @@ use gs_ai::{AiRow, AiTable, Part};
 use gs_chars::are_visible;
 use gs_grammar::Item;
 use gs_tables::{
-    Field, KeyForm, characters_of, is_of_key, keeps_gcp, keeps_rest, keeps_serial, lists,
+    Behind, Field, KeyForm, Room, characters_of, is_of_key, keeps_gcp, keeps_rest, keeps_serial,
+    lists,
 };
 use gs_tables_document::FieldItem;
 
@@ -66,11 +67,11 @@ fn element_room(ais: &AiTable, element: &[u8]) -> Option<u8>
 fn keeps_items(row: &ClassRow, digits: u8, most: u8) -> bool
     ensures { result ≡ keeps_items row.now digits most }
 {
-    let form = KeyForm::Digits(digits, None);
+    let form = KeyForm::Digits(digits, Behind::Nothing);
     let items = row.items.items();
     keeps_gcp(form, row.lead, row.gcp, items)
         && keeps_rest(form, row.gcp, items)
-        && keeps_serial(Some(most), items)
+        && keeps_serial(Some(Room::Characters(most)), items)
 }
 
 /// Whether the items fit the key and the element.

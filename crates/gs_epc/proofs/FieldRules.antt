@@ -6,7 +6,7 @@ use Rattle.std.proofs.lemmas.Bool.Decides.{nat_tests}
 use Rattle.std.proofs.lemmas.Fmt.{decimal_digit}
 use Rattle.gs_chars.proofs.TruthsAndLists.{and_first, and_second}
 use Rattle.gs_ai.specs.Tables.{is_empty}
-use Rattle.gs_tables_document.specs.declared.field.Field.TheVariants.{Filter, Gcp, Rest, Serial}
+use Rattle.gs_tables_document.specs.declared.field.Field.TheVariants.{Filter, Gcp, Rest, Piece, Total, Serial}
 use Rattle.gs_tables_document.specs.declared.level_name.LevelName.{LevelName}
 use Rattle.gs_tables_document.specs.declared.level_name.LevelName.TheVariants.{Binary, Tag, Pure}
 use Rattle.gs_tables_document.specs.declared.opt_info.OptInfo.{OptInfo}
@@ -42,6 +42,8 @@ filter_of_items ((None, item) ∷ items) values words (one_item _ value w _ valu
 filter_of_items ((Some Filter, item) ∷ items) values words (one_item _ value w _ values' words' word each) all = word_of_filter item value w (and_first (is_filter item) (list_all is_filter (items_of_field Filter items)) all) word
 filter_of_items ((Some Gcp, item) ∷ items) values words (one_item _ value w _ values' words' word each) all = filter_of_items items values' words' each all
 filter_of_items ((Some Rest, item) ∷ items) values words (one_item _ value w _ values' words' word each) all = filter_of_items items values' words' each all
+filter_of_items ((Some Piece, item) ∷ items) values words (one_item _ value w _ values' words' word each) all = filter_of_items items values' words' each all
+filter_of_items ((Some Total, item) ∷ items) values words (one_item _ value w _ values' words' word each) all = filter_of_items items values' words' each all
 filter_of_items ((Some Serial, item) ∷ items) values words (one_item _ value w _ values' words' word each) all = filter_of_items items values' words' each all
 
 -- ---- the filter items of a row

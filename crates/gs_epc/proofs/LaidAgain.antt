@@ -25,7 +25,7 @@ use Rattle.gs_tables.specs.declared.form.Room.TheVariants as room
 use Rattle.gs_tables.specs.Forms.{further_of, key_form, tail_of}
 use Rattle.gs_tables.specs.Rules.{is_lead}
 use Rattle.gs_epc.specs.Layout.{behind_check, key_digits, key_value, tail_of_key, with_check}
-use Rattle.gs_epc.specs.KeyParts.{fields_at, prefix_in, rest_in, tail_in}
+use Rattle.gs_epc.specs.KeyParts.{fields_at, tail_in}
 
 -- ---- a value in order
 

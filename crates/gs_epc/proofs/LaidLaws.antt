@@ -24,7 +24,7 @@ use Rattle.gs_tables.specs.Tables.{IsShaped, TableRows, kind_of, kinds_rejection
 use Rattle.gs_tables.proofs.KeptRows.{kind_at}
 use Rattle.gs_epc.specs.declared.epc.Epc.{Epc}
 use Rattle.gs_epc.specs.Layout.{IsLaidOut, lay, parts_at, serial_elements}
-use Rattle.gs_epc.specs.KeyParts.{IsOfKind, epc_at, epc_of_key, prefix_in, rest_in, serial_in, take_apart, fields_at}
+use Rattle.gs_epc.specs.KeyParts.{IsOfKind, epc_at, epc_of_key, serial_in, take_apart, fields_at}
 use Rattle.gs_epc.proofs.LaidAgain.{key_again, parts_kept}
 use Rattle.gs_epc.proofs.LaidSets.{AllOf, are_one, is_tail, no_pairs, own_element}
 use Rattle.gs_ident.proofs.KeyPairs.{found_place}

@@ -25,7 +25,7 @@ use Rattle.gs_tables.specs.declared.form.Behind.TheVariants.{Nothing, Further, T
 use Rattle.gs_tables.specs.declared.form.KeyForm.{KeyForm}
 use Rattle.gs_tables.specs.declared.form.KeyForm.TheVariants.{Digits, Characters}
 use Rattle.gs_tables.specs.declared.form.Room.{Room}
-use Rattle.gs_tables.specs.declared.form.Room.TheVariants as room
+use Rattle.gs_tables.specs.declared.form.Room.TheVariants as in_room
 use Rattle.gs_tables_document.specs.declared.kind.Kind.{Kind}
 use Rattle.gs_tables_document.specs.declared.kind.SerialAt.{SerialAt}
 use Rattle.gs_tables_document.specs.declared.kind.SerialAt.TheVariants.{Nowhere, Tail, Ai}
@@ -102,16 +102,16 @@ digits_kept (NumCheck k ∷ []) form lead prefix rest piece total tail formed pa
     let room' : tail ≡ [] = subst (λ f. FitsRoom (tail_of f) tail) (sym same) room in
     digits_value k [] Nothing form lead prefix rest (piece ++ (total ++ tail)) same parts some fits (rw (none.0, none.1, room') nothing)
 digits_kept (NumCheck k ∷ SetOpt most ∷ []) form lead prefix rest piece total tail formed parts some fits further room =
-    let same : Digits (k - 1) (BehindTail (room.Characters most)) ≡ form = cc in
+    let same : Digits (k - 1) (BehindTail (in_room.Characters most)) ≡ form = cc in
     let none = subst (λ f. FitsFurther (further_of f) piece total) (sym same) further in
     let room' = subst (λ f. FitsRoom (tail_of f) tail) (sym same) room in
-    digits_value k (SetOpt most ∷ []) (BehindTail (room.Characters most)) form lead prefix rest (piece ++ (total ++ tail)) same parts some fits
+    digits_value k (SetOpt most ∷ []) (BehindTail (in_room.Characters most)) form lead prefix rest (piece ++ (total ++ tail)) same parts some fits
     (rw (none.0, none.1) (at_end (SetOpt most) tail (optional_piece most tail room')))
 digits_kept (NumCheck k ∷ NumOpt most ∷ []) form lead prefix rest piece total tail formed parts some fits further room =
-    let same : Digits (k - 1) (BehindTail (room.Digits most)) ≡ form = cc in
+    let same : Digits (k - 1) (BehindTail (in_room.Digits most)) ≡ form = cc in
     let none = subst (λ f. FitsFurther (further_of f) piece total) (sym same) further in
     let room' = subst (λ f. FitsRoom (tail_of f) tail) (sym same) room in
-    digits_value k (NumOpt most ∷ []) (BehindTail (room.Digits most)) form lead prefix rest (piece ++ (total ++ tail)) same parts some fits
+    digits_value k (NumOpt most ∷ []) (BehindTail (in_room.Digits most)) form lead prefix rest (piece ++ (total ++ tail)) same parts some fits
     (rw (none.0, none.1) (at_end (NumOpt most) tail (number_piece most tail room')))
 digits_kept parts form lead prefix rest piece total tail formed are some fits further room = absurd (let e : None ≡ Some form = formed in cc)
 
@@ -157,12 +157,12 @@ tail_fits ais row form (Ai code) serial rule room = no_tail (tail_of form) (list
 
 -- ---- the value of a serial that has an element of its own
 
-characters_kept : (parts : List Part) (serial : List ℕ) → is_some (characters_of parts) ≡ true → FitsRoom (option_map room.Characters (characters_of parts)) serial → KeepsParts parts serial
+characters_kept : (parts : List Part) (serial : List ℕ) → is_some (characters_of parts) ≡ true → FitsRoom (option_map in_room.Characters (characters_of parts)) serial → KeepsParts parts serial
 characters_kept (Set most ∷ []) serial some room = at_end (Set most) serial (set_piece most serial room)
 characters_kept parts serial some room = absurd (let e : false ≡ true = some in cc)
 
 serial_by_row : (found : Option AiRow) (serial : List ℕ) → option_map_or (λ (row : AiRow). is_some (characters_of row.parts)) found false ≡ true
-    → FitsRoom (option_and_then (λ (row : AiRow). option_map room.Characters (characters_of row.parts)) found) serial → option_map_or (λ (row : AiRow). parts_error row.parts serial) found (Some Unknown) ≡ None
+    → FitsRoom (option_and_then (λ (row : AiRow). option_map in_room.Characters (characters_of row.parts)) found) serial → option_map_or (λ (row : AiRow). parts_error row.parts serial) found (Some Unknown) ≡ None
 serial_by_row None serial are room = absurd (let e : false ≡ true = are in cc)
 serial_by_row (Some row) serial are room = no_error row.parts serial (characters_kept row.parts serial are room)
 
@@ -209,11 +209,11 @@ by_digits (NumCheck k ∷ []) form lead prefix rest formed parts some fits =
     let same : Digits (k - 1) Nothing ≡ form = cc in
     key_digits_of k form Nothing lead prefix rest same (and_left (is_part (NumCheck k)) true parts) some fits
 by_digits (NumCheck k ∷ SetOpt most ∷ []) form lead prefix rest formed parts some fits =
-    let same : Digits (k - 1) (BehindTail (room.Characters most)) ≡ form = cc in
-    key_digits_of k form (BehindTail (room.Characters most)) lead prefix rest same (and_left (is_part (NumCheck k)) (list_all is_part (SetOpt most ∷ [])) parts) some fits
+    let same : Digits (k - 1) (BehindTail (in_room.Characters most)) ≡ form = cc in
+    key_digits_of k form (BehindTail (in_room.Characters most)) lead prefix rest same (and_left (is_part (NumCheck k)) (list_all is_part (SetOpt most ∷ [])) parts) some fits
 by_digits (NumCheck k ∷ NumOpt most ∷ []) form lead prefix rest formed parts some fits =
-    let same : Digits (k - 1) (BehindTail (room.Digits most)) ≡ form = cc in
-    key_digits_of k form (BehindTail (room.Digits most)) lead prefix rest same (and_left (is_part (NumCheck k)) (list_all is_part (NumOpt most ∷ [])) parts) some fits
+    let same : Digits (k - 1) (BehindTail (in_room.Digits most)) ≡ form = cc in
+    key_digits_of k form (BehindTail (in_room.Digits most)) lead prefix rest same (and_left (is_part (NumCheck k)) (list_all is_part (NumOpt most ∷ [])) parts) some fits
 by_digits parts form lead prefix rest formed are some fits = absurd (let e : None ≡ Some form = formed in cc)
 
 by_parts : (parts : List Part) (form : KeyForm) (lead : ℕ) (prefix rest : List ℕ) → key_form parts ≡ Some form → is_some (characters_of parts) ≡ false → list_all is_part parts ≡ true → 1 ≤ length prefix → FitForm form lead prefix rest → AreKeyDigits lead prefix rest

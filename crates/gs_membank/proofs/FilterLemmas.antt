@@ -9,7 +9,7 @@ use Rattle.gs_grammar.specs.Derivations.{EachWord, one_item}
 use Rattle.gs_grammar.specs.Items.{size_of_all}
 use Rattle.gs_grammar.specs.Words.{decimal_value}
 use Rattle.gs_grammar.proofs.Numbers.{value_decimal}
-use Rattle.gs_tables_document.specs.declared.field.Field.TheVariants.{Filter, Gcp, Rest, Serial}
+use Rattle.gs_tables_document.specs.declared.field.Field.TheVariants.{Filter, Gcp, Rest, Piece, Total, Serial}
 use Rattle.gs_tables_document.specs.declared.level_name.LevelName.{LevelName}
 use Rattle.gs_tables_document.specs.declared.level_name.LevelName.TheVariants.{Binary, Tag, Pure}
 use Rattle.gs_tables_document.specs.declared.opt_info.OptInfo.{OptInfo}
@@ -34,6 +34,8 @@ there ((None, item) ∷ parts) values words (one_item _ value w _ values' words'
 there ((Some Filter, item) ∷ parts) values words (one_item _ value w _ values' words' word each) one = (value, refl)
 there ((Some Gcp, item) ∷ parts) values words (one_item _ value w _ values' words' word each) one = there parts values' words' each one
 there ((Some Rest, item) ∷ parts) values words (one_item _ value w _ values' words' word each) one = there parts values' words' each one
+there ((Some Piece, item) ∷ parts) values words (one_item _ value w _ values' words' word each) one = there parts values' words' each one
+there ((Some Total, item) ∷ parts) values words (one_item _ value w _ values' words' word each) one = there parts values' words' each one
 there ((Some Serial, item) ∷ parts) values words (one_item _ value w _ values' words' word each) one = there parts values' words' each one
 
 nothing_there : (parts : List FieldItem) (values : List (List ℕ)) → is_empty (items_of_field Filter parts) ≡ true → value_at Filter (fields_of parts) values ≡ None
@@ -43,6 +45,8 @@ nothing_there ((None, item) ∷ parts) (value ∷ values) h = nothing_there part
 nothing_there ((Some Filter, item) ∷ parts) (value ∷ values) h = absurd (let e : false ≡ true = h in cc)
 nothing_there ((Some Gcp, item) ∷ parts) (value ∷ values) h = nothing_there parts values h
 nothing_there ((Some Rest, item) ∷ parts) (value ∷ values) h = nothing_there parts values h
+nothing_there ((Some Piece, item) ∷ parts) (value ∷ values) h = nothing_there parts values h
+nothing_there ((Some Total, item) ∷ parts) (value ∷ values) h = nothing_there parts values h
 nothing_there ((Some Serial, item) ∷ parts) (value ∷ values) h = nothing_there parts values h
 
 has_of : (given : Option (List ℕ)) (value : List ℕ) → given ≡ Some value → IfSome given IsFilter → HasFilter (option_map decimal_value given)

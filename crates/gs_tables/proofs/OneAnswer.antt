@@ -1,5 +1,5 @@
 -- What the rules answer to bytes and to the built-in rows: one answer beside out of memory, and no other.
-use Rattle.std.proofs.Common.{◌≡◌, ℕ, ◌==◌, not, true, false, List, [], ◌∷◌, Some, None, slice_get, refl, sym, ap, ◌∙◌, ◌⊎◌, inl, inr}
+use Rattle.std.proofs.Common.{◌≡◌, ℕ, not, true, false, List, [], ◌∷◌, Some, None, slice_get, refl, sym, ap, ◌∙◌, ◌⊎◌, inl, inr}
 use Rattle.std.specs.Prelude.{Result, Ok, Err}
 use Rattle.gs_chars.proofs.TruthsAndLists.{none_behind}
 use Rattle.gs_tables_builtin.specs.BuiltIn.{builtin_document}

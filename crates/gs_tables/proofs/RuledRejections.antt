@@ -1,5 +1,5 @@
 -- Every rejection of rows is one by a rule: none is out of memory, and none names an ambiguous level.
-use Rattle.std.proofs.Common.{◌≡◌, ℕ, ◌==◌, ◌||◌, nat_lt, not, Bool, true, false, List, [], ◌∷◌, ◌++◌, take, map, position, Option, Some, None, slice_get, refl, option_map}
+use Rattle.std.proofs.Common.{◌≡◌, ℕ, ◌||◌, nat_lt, not, Bool, true, false, List, [], ◌∷◌, ◌++◌, take, map, position, Option, Some, None, slice_get, refl, option_map}
 use Rattle.std.specs.Prelude.{option_to_list}
 use Rattle.std.specs.List.{flat_map, list_any, enumerate_from}
 use Rattle.gs_chars.proofs.TruthsAndLists.{or_parts}

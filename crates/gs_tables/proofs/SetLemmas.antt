@@ -1,5 +1,5 @@
 -- The set of rows, and the first of their rejections.
-use Rattle.std.proofs.Common.{◌≡◌, ℕ, List, [], ◌++◌, map, Some, None, slice_get, Bool, true, false, not, ◌==◌, refl, sym, ◌∙◌, inl, inr}
+use Rattle.std.proofs.Common.{◌≡◌, ℕ, List, [], ◌++◌, map, Some, None, slice_get, Bool, true, false, not, refl, sym, ◌∙◌, inl, inr}
 use Rattle.std.specs.Prelude.{Result, Ok, Err}
 use Rattle.gs_chars.proofs.TruthsAndLists.{first_of_back, first_of_front, none_behind, none_in_front, none_of_both}
 use Rattle.gs_ai.specs.declared.row.AiRow.{AiRow}

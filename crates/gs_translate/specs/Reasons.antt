@@ -72,6 +72,8 @@ abbrev pub field_text : Field → List ℕ
 field_text field.Filter = codes "filter"
 field_text field.Gcp = codes "gcp"
 field_text field.Rest = codes "rest"
+field_text field.Piece = codes "piece"
+field_text field.Total = codes "total"
 field_text field.Serial = codes "serial"
 
 -- trusted, own: why an item does not hold a value

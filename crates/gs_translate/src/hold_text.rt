@@ -26,6 +26,8 @@ fn field_name(field: Field) -> &'static [u8]
         Field::Filter => b"filter",
         Field::Gcp => b"gcp",
         Field::Rest => b"rest",
+        Field::Piece => b"piece",
+        Field::Total => b"total",
         Field::Serial => b"serial",
     }
 }

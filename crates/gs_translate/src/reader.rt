@@ -31,6 +31,8 @@ fn meaning_of(alloc: Global, set: &TableSet, read: Result<Epc, EpcFault>) -> Res
                 gcp,
                 prefix: _,
                 rest: _,
+                piece: _,
+                total: _,
                 serial: _,
             } = epc;
             Ok(Meaning {

@@ -1,7 +1,8 @@
 //! Calls of gs_epc that write EPCs and that take identities apart, by the built-in tables. A KIND is the name of a kind,
 //! and a FILTER a digit from 0 to 7, or `-` where there is none.
 //!
-//! - `write_hex KIND ENCODING FILTER GCP PREFIX REST SERIAL`, `write_tag ..`, `write_pure ..`: the text, or the rejection.
+//! - `write_hex KIND ENCODING FILTER GCP PREFIX REST SERIAL`, `write_tag ..`, `write_pure ..`: the text, or the rejection; a
+//!   PIECE and a TOTAL may follow.
 //! - `fields_of KIND GCP CODE VALUE ..`: the fields of the identity of these pairs as `read_tag` shows them, or the
 //!   rejection.
 
@@ -92,6 +93,8 @@ fn epc_of(alloc: Global, set: &TableSet, args: &[Text]) -> Result<Epc, Rejection
         prefix: Text::from_bytes(alloc, bytes_at(args, 4))?,
         rest: Text::from_bytes(alloc, bytes_at(args, 5))?,
         serial: Text::from_bytes(alloc, bytes_at(args, 6))?,
+        piece: Text::from_bytes(alloc, bytes_at(args, 7))?,
+        total: Text::from_bytes(alloc, bytes_at(args, 8))?,
     })
 }
 

@@ -1,7 +1,7 @@
 //! Calls of gs_epc, by the built-in tables, or by those of a document.
 //!
-//! - `read_hex TEXT`, `read_tag TEXT`, `read_pure TEXT`: the kind, encoding, filter value, prefix length, prefix, rest and
-//!   serial, or the error.
+//! - `read_hex TEXT`, `read_tag TEXT`, `read_pure TEXT`: the kind, encoding, filter value, prefix length, prefix, rest, piece and
+//!   total where the kind has them, and serial, or the error.
 //! - `identity_of FORM TEXT`, with FORM `hex`, `tag` or `pure`: the canonical link of the identity of what is read, or the
 //!   error.
 //! - `by DOC FORM TEXT`: the same by the tables of a document.
@@ -84,6 +84,10 @@ pub fn add_epc(line: &mut Line, set: &TableSet, epc: &Epc) -> Done {
     line.debug(epc.gcp);
     line.bytes(epc.prefix.as_bytes());
     line.bytes(epc.rest.as_bytes());
+    if !kind.further.items().is_empty() {
+        line.bytes(epc.piece.as_bytes());
+        line.bytes(epc.total.as_bytes());
+    }
     line.bytes(epc.serial.as_bytes());
     Ok(())
 }

@@ -96,6 +96,7 @@ fn part_texts(part: Part) -> (&'static str, Option<u8>, &'static str) {
         Part::Num(k) => ("n", Some(k), ""),
         Part::NumCheck(k) => ("n", Some(k), "c"),
         Part::NumUpTo(k) => ("n..", Some(k), ""),
+        Part::NumOpt(k) => ("n..", Some(k), "?"),
         Part::Set(k) => ("x..", Some(k), ""),
         Part::SetOpt(k) => ("x..", Some(k), "?"),
         Part::Date => ("date", None, ""),

@@ -1,7 +1,8 @@
 //! Calls of gs_tables. A LEVEL is `binary`, `tag` or `pure`.
 //!
 //! - `load DOC`: the numbers of application identifiers, kinds and options of each level, or the rejection.
-//! - `builtin`: the same numbers of the built-in set. `kind I`: the name, key, lead digits and serial of its kind I.
+//! - `builtin`: the same numbers of the built-in set. `kind I`: the name, key, lead digits and serial of its kind I, and the
+//!   lengths of its further fields.
 //! - `option LEVEL I`: the kind, encoding, prefix length and items of its option I of the level, each item that has a field
 //!   behind its name and `=`.
 //! - `read_item LEVEL JSON`: the item of the level, so written, or `Bad`.
@@ -110,7 +111,7 @@ fn add_ambiguous(line: &mut Line, level: LevelName, i: usize, j: usize) {
     line.more(")");
 }
 
-/// Writes the name, the key and the lead digits of a kind, and where its serial stands.
+/// Writes the name, the key and the lead digits of a kind, where its serial stands, and the lengths of its further fields.
 fn add_kind(line: &mut Line, kind: &Kind) {
     line.bytes(kind.name.as_bytes());
     line.bytes(kind.key.as_bytes());
@@ -119,6 +120,9 @@ fn add_kind(line: &mut Line, kind: &Kind) {
         SerialAt::Nowhere => line.plain("Nowhere"),
         SerialAt::Tail => line.plain("Tail"),
         SerialAt::Ai(code) => line.bytes(code.as_bytes()),
+    }
+    for length in kind.further.items() {
+        line.debug(*length);
     }
 }
 
@@ -132,6 +136,8 @@ fn field_name(field: Option<Field>) -> &'static str {
         Some(Field::Filter) => "filter=",
         Some(Field::Gcp) => "gcp=",
         Some(Field::Rest) => "rest=",
+        Some(Field::Piece) => "piece=",
+        Some(Field::Total) => "total=",
         Some(Field::Serial) => "serial=",
         None => "",
     }

@@ -113,8 +113,8 @@ class Readings(unittest.TestCase):
         for option in ROWS.options["tag"]:
             if option.gcp == 7:
                 kind = next(it for it in ROWS.kinds.values() if it.name == option.kind)
-                rest = {"sscc": 10, "gsrn": 10, "sgtin": 6, "giai": 3}.get(kind.name, 5)
-                tail = ".4" if kind.serial else ""
+                rest = {"sscc": 10, "gsrn": 10, "gsrnp": 10, "sgtin": 6, "itip": 6, "giai": 3}.get(kind.name, 5)
+                tail = ".01" * len(kind.fields) + (".4" if kind.serial else "")
                 (reading,) = asked(f"urn:epc:tag:{option.encoding}:1.0614141.{'1' * rest}{tail}")["readings"]
                 self.assertEqual(reading["encoding"], option.encoding)
                 self.assertEqual(len({it["role"] for it in reading["bits"]} & {"header", "filter", "partition", "prefix", "reference"}), 5)

@@ -2,7 +2,6 @@ use Rattle.std.proofs.Common.{◌≡◌, ◌∷◌, List, Ok, ℕ, refl}
 use Rattle.std.proofs.lemmas.Result.{IfOk-weaker}
 use Rattle.gs_ident.specs.Identities.{identity_of_pairs}
 use Rattle.gs_ident.specs.QualifiedKeys.{pairs_in}
-use Rattle.gs_ai.specs.declared.pair.Pair.{Pair}
 use Rattle.gs_ai.specs.declared.row.AiRow.{AiRow}
 use Rattle.gs_tables_document.specs.declared.kind.Kind.{Kind}
 use Rattle.gs_epc.specs.Layout.{KeyFields, fields_in, key_pair, key_value, lay, parts_at}

@@ -46,9 +46,10 @@ def _pattern(item: Tuple) -> str:
         return re.escape(rest[0])
     if name == "fill":
         return f"0{{{rest[0]}}}|0{{{rest[1]}}}"
-    if name in ("num", "numpad", "ascii7"):
+    if name in ("num", "numpad", "numstr", "ascii7"):
         return f"[01]{{{rest[-1] if name == 'ascii7' else rest[1]}}}"
-    return {"pad": f"[0-9]{{{rest[1]}}}", "int": "0|[1-9][0-9]*", "esc": f"(?:{ESCAPED}){{{rest[1]},{rest[-1]}}}"}[name]
+    patterns = {"pad": f"[0-9]{{{rest[1]}}}", "digits": f"[0-9]{{{rest[1]},{rest[-1]}}}"}
+    return (patterns | {"int": "0|[1-9][0-9]*", "esc": f"(?:{ESCAPED}){{{rest[1]},{rest[-1]}}}"})[name]
 
 
 @lru_cache(maxsize=512)
@@ -70,8 +71,11 @@ def _value(item: Tuple, word: str) -> Optional[str]:
     if name == "numpad":
         digits = str(int(word, 2)).zfill(rest[2])
         return digits if len(digits) == rest[2] else None
-    if name == "pad":
+    if name in ("pad", "digits"):
         return word
+    if name == "numstr":
+        digits = str(int(word, 2))
+        return digits[1:] if digits[0] == "1" and 2 <= len(digits) <= rest[2] + 1 else None
     number = int(word, 2 if name == "num" else 10)
     return str(number) if number <= rest[-1] else None
 

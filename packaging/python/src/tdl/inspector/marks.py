@@ -8,14 +8,18 @@ from .elements import Element, elements
 from .fields import Reading, read_fields
 from .rows import Ai, Kind, Rows
 
-LEADS = {"01": "indicator digit", "00": "extension digit"}
+LEADS = {"01": "indicator digit", "00": "extension digit", "8006": "indicator digit"}
+ROLES = {"gcp": "prefix", "rest": "reference", "piece": "part"}
 REFERENCES = {
     "00": "serial reference",
     "01": "item reference",
     "253": "document type",
+    "255": "coupon reference",
     "414": "location reference",
     "8003": "asset type",
     "8004": "asset reference",
+    "8006": "item reference",
+    "8017": "service reference",
     "8018": "service reference",
 }
 LABELS = {
@@ -25,9 +29,11 @@ LABELS = {
     "fixed": "fixed",
     "header": "header",
     "padding": "padding",
+    "part": "piece",
     "partition": "partition value",
     "prefix": "company prefix",
     "serial": "serial",
+    "total": "total of pieces",
     "undivided": "prefix and reference",
     "zero": "filler digit",
 }
@@ -74,10 +80,15 @@ def pieces(text: bytes, marks: Iterable[Mark], key: Optional[str] = None) -> Lis
 def _key_marks(ai: Ai, kind: Kind, gcp: Optional[int], length: int) -> List[Tuple[int, int, str]]:
     """The fields of a key by the characters of its value."""
     found: List[Tuple[int, int, str]] = []
+    behind = [ROLES.get(name, name) for name in kind.fields] or ["serial"]
+    checked = False
     for part, start, end in ai.places(length):
         if part.sort == "zero":
             found.append((start, end, "zero"))
+        elif checked:
+            found.append((start, end, behind.pop(0) if behind else "serial"))
         elif part.has_check or part.sort == "digits":
+            checked = part.has_check
             body = end - 1 if part.has_check else end
             found += [(start, start + kind.lead, "lead"), *_body(start + kind.lead, body, gcp), (body, end, "check")]
         else:
@@ -132,7 +143,7 @@ def field_marks(reading: Reading, lead: int) -> List[Mark]:
             middle = min(field.start + lead, field.end)
             marks += [Mark(field.start, middle, "lead"), Mark(middle, field.end, "reference")]
         elif field.name not in ("fixed", "header"):
-            marks.append(Mark(field.start, field.end, {"gcp": "prefix"}.get(field.name, field.name)))
+            marks.append(Mark(field.start, field.end, ROLES.get(field.name, field.name)))
     return marks
 
 
@@ -152,7 +163,7 @@ def bit_rows(reading: Reading, rows: Rows) -> List[Dict[str, str]]:
     kind = next((it for it in rows.kinds.values() if it.name == reading.option.kind), None)
     key, found = kind.key if kind else None, []
     for field in reading.fields:
-        role = {"gcp": "prefix", "rest": "reference"}.get(field.name, field.name)
+        role = ROLES.get(field.name, field.name)
         label, bits, value = label_of(role, key), reading.symbols[field.start : field.end], field.value
         if role == "reference" and kind and kind.lead:
             label = f"{label_of('lead', key)} and {label}"

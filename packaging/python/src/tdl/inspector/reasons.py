@@ -25,7 +25,7 @@ HOLDS = {
     "zero": "begins with a zero, which is lost in",
     "large": "is too large for",
 }
-FIELDS = {"gcp": "company prefix", "rest": "reference", "filter": "filter value", "serial": "serial"}
+FIELDS = {"gcp": "company prefix", "rest": "reference", "filter": "filter value", "piece": "piece", "total": "total of pieces", "serial": "serial"}
 NEEDS = {"missing gcp": "gcp", "missing filter": "filter", "hold": "encoding", "option": "encoding", "extra": "keys_only"}
 
 

@@ -65,12 +65,14 @@ class Ai:
 
 @dataclass(frozen=True)
 class Kind:
-    """A kind of EPC: its name in URIs, the code of its key, the lead digits, and where its serial stands: `tail`, a code or empty."""
+    """A kind of EPC: its name in URIs, the code of its key, the lead digits, where its serial stands: `tail`, a code or empty, and the
+    names of its further fields."""
 
     name: str
     key: str
     lead: int
     serial: str
+    fields: Tuple[str, ...] = ()
 
 
 @dataclass(frozen=True)
@@ -92,7 +94,7 @@ class Rows:
             row["code"]: Ai(row["code"], tuple(map(Part.of, row["parts"])), row["role"], row.get("short", False)) for row in document["ais"]
         }
         self.kinds: Dict[str, Kind] = {
-            row["key"]: Kind(row["name"], row["key"], row["lead"], row["serial"]) for row in document["kinds"]
+            row["key"]: Kind(row["name"], row["key"], row["lead"], row["serial"], tuple(row.get("fields", ()))) for row in document["kinds"]
         }
         self.options: Dict[str, List[Option]] = {
             form: [Option(row["kind"], row["encoding"], row["gcp"], tuple(map(tuple, row["items"]))) for row in document[level]]
