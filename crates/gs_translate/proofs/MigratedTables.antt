@@ -1,7 +1,6 @@
 -- Tables that loads of one text give translate alike.
-use Rattle.std.proofs.Common.{◌≡◌, ℕ, List, refl, ap, sym, subst}
-use Rattle.std.specs.Prelude.{Ok, Err, Result}
-use Rattle.gs_tables_document.specs.declared.error.LoadFault.{LoadFault}
+use Rattle.std.proofs.Common.{◌≡◌, ℕ, List, subst}
+use Rattle.std.specs.Prelude.{Ok, Err}
 use Rattle.gs_tables_document.specs.declared.error.LoadFault.TheVariants.{Ambiguous, Memory}
 use Rattle.gs_tables.specs.MigratedSets.{LoadsAlike}
 use Rattle.gs_tables.specs.Shapes.{AreAlike, LoadAnswer, Shape, but_text, same}
