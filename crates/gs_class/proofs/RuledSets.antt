@@ -1,4 +1,4 @@
--- The sets that the rules make keep the bounds of items, and are of the table.
+-- The sets that the rules make keep the bounds of items.
 use Rattle.std.proofs.Common.{◌≡◌, ℕ, ◌==◌, not, false, List, [], ◌∷◌, ◌++◌, map, Option, Some, None, get_or, refl, sym}
 use Rattle.std.specs.Prelude.{All, Ok, Err, codes}
 use Rattle.std.specs.Option.{option_map_or}
@@ -19,7 +19,7 @@ use Rattle.gs_class.specs.declared.row.ClassRow.{ClassRow}
 use Rattle.gs_class.specs.Answers.{ruled_bytes, ruled_document, ruled_rows}
 use Rattle.gs_class.specs.Documents.{form_errors, rows_of}
 use Rattle.gs_class.specs.Rules.{class_rejections}
-use Rattle.gs_class.specs.Sets.{ClassRows, IsOfTable, option_of, set_of}
+use Rattle.gs_class.specs.Sets.{ClassRows, option_of, set_of}
 use Rattle.gs_class.proofs.KeptClasses.{class_at}
 use Rattle.gs_class.proofs.OneClass.{AreGood}
 
@@ -52,24 +52,3 @@ good_of_bytes ais bytes set h = by (document_of bytes) h
     by : (found : Option Data) → option_map_or (ruled_document ais) found (Err (Json Syntax)) ≡ Ok set → AreGood set
     by None h = absurd (let e : Err (Json Syntax) ≡ Ok set = h in cc)
     by (Some d) h = good_of_document ais d set h
-
--- ---- the table
-
-pub of_table_rows : (ais : List AiRow) (rows : List ClassRow) (set : ClassRows) → ruled_rows ais rows ≡ Ok set → IsOfTable ais set
-of_table_rows ais rows set h = let made = set_made (class_rejections ais rows) rows set h in record { rows = rows; in_order = made.0; made = made.1 }
-
-of_table_document : (ais : List AiRow) (d : Data) (set : ClassRows) → ruled_document ais d ≡ Ok set → IsOfTable ais set
-unfolding ruled_document
-of_table_document ais d set h =
-    let version = error_if (not (number_in (codes "version") d == 1)) Version in
-    let made = set_made (map Json (form_errors d) ++ (version ++ class_rejections ais (rows_of d))) (rows_of d) set h in
-    let behind = (nil_parts (map Json (form_errors d)) (version ++ class_rejections ais (rows_of d)) made.0).1 in
-    record { rows = rows_of d; in_order = (nil_parts version (class_rejections ais (rows_of d)) behind).1; made = made.1 }
-
-pub of_table_bytes : (ais : List AiRow) (bytes : List ℕ) (set : ClassRows) → ruled_bytes ais bytes ≡ Ok set → IsOfTable ais set
-unfolding ruled_bytes
-of_table_bytes ais bytes set h = by (document_of bytes) h
-  where
-    by : (found : Option Data) → option_map_or (ruled_document ais) found (Err (Json Syntax)) ≡ Ok set → IsOfTable ais set
-    by None h = absurd (let e : Err (Json Syntax) ≡ Ok set = h in cc)
-    by (Some d) h = of_table_document ais d set h

@@ -9,7 +9,7 @@
 //!
 //! ```text
 //! tdl_run::run check --x y / - / 1 - \e / 100000 -
-//! Usage usage:\x20tdl\x20canon\x20FORM\x20|\x20translate\x20FROM\x20TO\x20|\x20check\x20|\x20resolve\x20|\x20serve\x20|\x20gen\x20N\x20|\x20dump\x20read\x20|\x20dump\x20write,\x20then\x20--name\x20value\x20pairs\x0A \e
+//! Usage usage:\x20tdl\x20canon\x20FORM\x20|\x20translate\x20FROM\x20TO\x20|\x20check\x20|\x20resolve\x20|\x20serve\x20|\x20gen\x20N\x20|\x20class\x20canon\x20|\x20class\x20uri\x20|\x20dump\x20read\x20|\x20dump\x20write,\x20then\x20--name\x20value\x20pairs\x0A \e
 //! ```
 //!
 //! # Where it differs from the standards
