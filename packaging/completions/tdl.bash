@@ -4,10 +4,11 @@ _tdl() {
     local current=${COMP_WORDS[COMP_CWORD]} previous=${COMP_WORDS[COMP_CWORD - 1]}
     local forms="hex tag pure raw bracketed link" words="" place
     case $COMP_CWORD:${COMP_WORDS[1]} in
-    1:*) words="canon translate check resolve serve gen" ;;
+    1:*) words="canon translate check resolve serve gen dump" ;;
     2:canon | 2:translate) words=$forms ;;
     3:translate) words="$forms canon" ;;
     2:gen) return ;;
+    2:dump) words="read write" ;;
     *)
         case $previous in
         --tables | --prefixes | --links | --describe)
@@ -21,7 +22,7 @@ _tdl() {
         --voc | --count | --listen | --encoding | --stem) return ;;
         *)
             case ${COMP_WORDS[1]} in
-            canon | gen) words="--tables" ;;
+            canon | gen | dump) words="--tables" ;;
             translate) words="--tables --prefixes --filter --gcp --encoding --keys-only --stem" ;;
             check) words="--tables --prefixes --links --voc" ;;
             resolve) words="--links --tables --voc --describe" ;;

@@ -11,10 +11,11 @@ function __tdl_place
 end
 
 complete -c tdl -f
-complete -c tdl -n '__tdl_place 1' -a 'canon translate check resolve serve gen'
+complete -c tdl -n '__tdl_place 1' -a 'canon translate check resolve serve gen dump'
 complete -c tdl -n '__tdl_place 2; and __tdl_behind canon translate' -a 'hex tag pure raw bracketed link'
 complete -c tdl -n '__tdl_place 3; and __tdl_behind translate' -a 'hex tag pure raw bracketed link canon'
-complete -c tdl -n '__tdl_behind canon translate check resolve serve gen' -l tables -r -F
+complete -c tdl -n '__tdl_place 2; and __tdl_behind dump' -a 'read write'
+complete -c tdl -n '__tdl_behind canon translate check resolve serve gen dump' -l tables -r -F
 complete -c tdl -n '__tdl_behind translate check' -l prefixes -r -F
 complete -c tdl -n '__tdl_behind check resolve serve' -l links -r -F
 complete -c tdl -n '__tdl_behind check resolve serve' -l voc -x

@@ -4,10 +4,11 @@
 local -a forms names
 forms=(hex tag pure raw bracketed link)
 case $CURRENT:$words[2] in
-2:*) compadd -- canon translate check resolve serve gen ;;
+2:*) compadd -- canon translate check resolve serve gen dump ;;
 3:canon | 3:translate) compadd -- $forms ;;
 4:translate) compadd -- $forms canon ;;
 3:gen) ;;
+3:dump) compadd -- read write ;;
 *)
     case $words[CURRENT-1] in
     --tables | --prefixes | --links | --describe) _files ;;
@@ -17,7 +18,7 @@ case $CURRENT:$words[2] in
     --voc | --count | --listen | --encoding | --stem) ;;
     *)
         case $words[2] in
-        canon | gen) names=(--tables) ;;
+        canon | gen | dump) names=(--tables) ;;
         translate) names=(--tables --prefixes --filter --gcp --encoding --keys-only --stem) ;;
         check) names=(--tables --prefixes --links --voc) ;;
         resolve) names=(--links --tables --voc --describe) ;;
