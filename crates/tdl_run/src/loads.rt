@@ -128,10 +128,10 @@ pub fn load_files<F: Files>(
 {
     let voc = request.values.voc;
     let tabled = load_tabled(alloc, request.files, files)?;
-    let ais = tabled.tables.ais();
-    let links = load_links(alloc, ais, voc, request.files.links, files)?;
+    let table = tabled.tables.ais();
+    let links = load_links(alloc, table, voc, request.files.links, files)?;
     let settings = load_settings(alloc, voc, request.files, files)?;
-    let classes = load_classes(alloc, ais, request.command, request.files.classes, files)?;
+    let classes = load_classes(alloc, table, request.command, request.files.classes, files)?;
     let Tabled { tables, prefixes } = tabled;
     Ok(Loaded {
         tables,
