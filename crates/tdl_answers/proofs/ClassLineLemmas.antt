@@ -1,5 +1,5 @@
 -- The answer lines of class URIs, and of links by class URIs: each text has one.
-use Rattle.std.proofs.Common.{◌≡◌, ℕ, List, ap, refl, sym, ◌∙◌}
+use Rattle.std.proofs.Common.{◌≡◌, ℕ, List, Some, slice_get, subst, ap, refl, sym, ◌∙◌}
 use Rattle.std.specs.Prelude.{◌≢◌, Result, Ok, Err}
 use Rattle.gs_ai.specs.declared.row.AiRow.{AiRow}
 use Rattle.gs_class.specs.declared.error.ClassFault.{ClassFault}
@@ -44,8 +44,16 @@ module _ (ais : List AiRow) (set : ClassRows) (text : List ℕ) (of : IsOfTable 
   counted_class (none_of none) = (Err reading.NoReading, (λ e. cc), no_class set text none)
   counted_class (one_of option values one) =
       let read = class_read ais set text option values of one in
-      let identity : Elements = class_identity read.class (said_by read.class values) in
-      (Ok identity, (λ e. let f : Ok identity ≡ Err reading.Memory = e in cc), record { derivation = one.derivation; class = read.class; named = rw one.of_option read.at; is = rw one.of_values refl })
+      let identity : Elements = class_identity read.class (said_by read.class values) in (
+        Ok identity,
+        (λ e. let f : Ok identity ≡ Err reading.Memory = e in cc),
+        record {
+          derivation = one.derivation;
+          class = read.class;
+          named = subst (λ (o : ℕ). slice_get set.classes o ≡ Some read.class) (sym one.of_option) read.at;
+          is = ap (λ (v : List (List ℕ)). class_identity read.class (said_by read.class v)) (sym one.of_values);
+        },
+      )
   counted_class (two_of two) = absurd (clear (record { w = text; two = two }))
 
   some_class : SomeKnown reading.Memory (ReadsAs set text)

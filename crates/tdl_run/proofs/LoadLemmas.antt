@@ -7,7 +7,7 @@ use Rattle.gs_class.specs.declared.error.ClassLoadFault.{ClassLoadFault}
 use Rattle.gs_class.specs.Answers.{AreAlike as AlikeClasses, BuiltInAnswer as BuiltInClasses, LoadAnswer as ClassesAnswer, but_text as but_class_text, ruled_bytes, ruled_rows, same as same_classes}
 use Rattle.gs_class.specs.BuiltIn.{built_in_rows}
 use Rattle.gs_class.specs.Sets.{ClassRows, set_of}
-use Rattle.gs_class.proofs.OneClass.{alike, some_judged}
+use Rattle.gs_class.proofs.OneClass.{alike as both_alike, some_judged}
 use Rattle.gs_class.proofs.RuledSets.{good_of_bytes, good_of_rows}
 use Rattle.gs_tables_document.specs.declared.error.LoadFault.{LoadFault}
 use Rattle.gs_links.specs.declared.link.Link.{Link}
@@ -142,12 +142,12 @@ judged_classes_one : (Answer : Result ClassRows ClassLoadFault → Type 0) → (
 judged_classes_one Answer both a b x y = rw (x.is, y.is) (alike_classes x.answer y.answer (both x.answer y.answer x.is_answer y.is_answer))
 
 unnamed_classes_one : (ais : List AiRow) (works : Bool) → AlikeVerdicts kind.Classes (UnnamedClasses ais works)
-unnamed_classes_one ais true = judged_classes_one (BuiltInClasses ais) (alike (ruled_rows ais built_in_rows))
+unnamed_classes_one ais true = judged_classes_one (BuiltInClasses ais) (both_alike (ruled_rows ais built_in_rows))
 unnamed_classes_one ais false = λ x y e f. one_stop (ap (of_verdict kind.Classes) (e ∙ sym f))
 
 classes_one : (files : List (List ℕ × List ℕ)) (ais : List AiRow) (command : Command) (name : Option (List ℕ)) → AreAlikeAll (ClassesGive (Some files) ais command name)
 classes_one files ais command name = gives_one files kind.Classes (λ bytes. JudgesClasses (ClassesAnswer ais bytes)) (UnnamedClasses ais (is_of_classes command)) name
-    (λ bytes. judged_classes_one (ClassesAnswer ais bytes) (alike (ruled_bytes ais bytes)))
+    (λ bytes. judged_classes_one (ClassesAnswer ais bytes) (both_alike (ruled_bytes ais bytes)))
     (unnamed_classes_one ais (is_of_classes command))
 
 with_classes_one : (files : List (List ℕ × List ℕ)) (asked : Asked) (tabled : Tabled) (links : List Link) (settings : Settings) → AreAlikeAll (GivesClasses (Some files) asked tabled links settings)
