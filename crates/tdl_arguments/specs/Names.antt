@@ -4,7 +4,7 @@ use Rattle.std.specs.List.{find, list_all, list_any}
 use Rattle.std.specs.Option.{option_map}
 use Rattle.gs_dlink.specs.Stems.{stem_ok}
 use Rattle.tdl_arguments.specs.declared.name.Name.{Name}
-use Rattle.tdl_arguments.specs.declared.name.Name.TheVariants.{Tables, Prefixes, Links, Describe, Voc, Listen, Count, Filter, Gcp, Encoding, KeysOnly, Stem}
+use Rattle.tdl_arguments.specs.declared.name.Name.TheVariants.{Tables, Prefixes, Links, Describe, Classes, Voc, Listen, Count, Filter, Gcp, Encoding, KeysOnly, Stem}
 use Rattle.tdl_arguments.specs.declared.name.NameRow.{NameRow}
 use Rattle.tdl_arguments.specs.Ranges.{count_of, filter_of, gcp_of, is_vocabulary}
 
@@ -18,6 +18,7 @@ name_word Tables = codes "--tables"
 name_word Prefixes = codes "--prefixes"
 name_word Links = codes "--links"
 name_word Describe = codes "--describe"
+name_word Classes = codes "--classes"
 name_word Voc = codes "--voc"
 name_word Listen = codes "--listen"
 name_word Count = codes "--count"
@@ -33,6 +34,7 @@ in_range Tables value = true
 in_range Prefixes value = true
 in_range Links value = true
 in_range Describe value = true
+in_range Classes value = true
 in_range Voc value = is_vocabulary value
 in_range Listen value = true
 in_range Count value = is_some (count_of value)

@@ -6,7 +6,7 @@ use Rattle.gs_ident.specs.Links.{canonical_stem}
 use Rattle.gs_translate.specs.declared.options.Options.{Options}
 use Rattle.tdl_arguments.specs.declared.command.Command.{Command}
 use Rattle.tdl_arguments.specs.declared.name.Name.{Name}
-use Rattle.tdl_arguments.specs.declared.name.Name.TheVariants.{Tables, Prefixes, Links, Describe, Voc, Listen, Count, Filter, Gcp, Encoding, KeysOnly, Stem}
+use Rattle.tdl_arguments.specs.declared.name.Name.TheVariants.{Tables, Prefixes, Links, Describe, Classes, Voc, Listen, Count, Filter, Gcp, Encoding, KeysOnly, Stem}
 use Rattle.tdl_arguments.specs.declared.request.NamedFiles.{NamedFiles}
 use Rattle.tdl_arguments.specs.declared.request.NamedValues.{NamedValues}
 use Rattle.tdl_arguments.specs.declared.request.Request.{Request}
@@ -24,6 +24,7 @@ pub record FileNames : Type 0 where
   pub prefixes : Option (List ℕ)
   pub links : Option (List ℕ)
   pub describe : Option (List ℕ)
+  pub classes : Option (List ℕ)
 
 -- trusted, own: the values of the names that name no files
 pub record Values : Type 0 where
@@ -49,6 +50,7 @@ named_files pairs = record {
   prefixes = look_up (name_word Prefixes) pairs;
   links = look_up (name_word Links) pairs;
   describe = look_up (name_word Describe) pairs;
+  classes = look_up (name_word Classes) pairs;
 }
 
 -- trusted, own: what stands for `gs1:` in relations where that is not named
@@ -152,9 +154,13 @@ links_named files = option_to_list files.links
 abbrev pub description_named : FileNames → List (List ℕ)
 description_named files = option_to_list files.describe
 
+-- trusted, own: the names of the files of classes
+abbrev pub classes_named : FileNames → List (List ℕ)
+classes_named files = option_to_list files.classes
+
 -- trusted, own: the names of the files that are read, in their order
 abbrev pub names_in_order : FileNames → List (List ℕ)
-names_in_order files = tables_named files ++ (links_named files ++ description_named files)
+names_in_order files = tables_named files ++ (links_named files ++ (description_named files ++ classes_named files))
 
 -- trusted, own: the arguments name a file
 pub record NamesFile (words : List (List ℕ)) (name : List ℕ) : Type 0 where
@@ -169,7 +175,7 @@ NamesNoFile words = (name : List ℕ) → NamesFile words name → ⊥
 -- trusted, own: what is printed where the arguments are not in order
 abbrev pub usage_line : List ℕ
 usage_line =
-    codes "usage: tdl canon FORM | translate FROM TO | check | resolve | serve | gen N | dump read | dump write, then --name value pairs" ++ 10 ∷ []
+    codes "usage: tdl canon FORM | translate FROM TO | check | resolve | serve | gen N | class canon | class uri | dump read | dump write, then --name value pairs" ++ 10 ∷ []
 
 -- trusted, own: the name of a file in a request
 abbrev pub known_name : Option (Bor (List ℕ)) → Option (List ℕ)
@@ -178,7 +184,13 @@ known_name (Some name) = Some name.now
 
 -- trusted, own: the files of a request
 abbrev pub known_files : NamedFiles → FileNames
-known_files files = record { tables = known_name files.tables; prefixes = known_name files.prefixes; links = known_name files.links; describe = known_name files.describe }
+known_files files = record {
+  tables = known_name files.tables;
+  prefixes = known_name files.prefixes;
+  links = known_name files.links;
+  describe = known_name files.describe;
+  classes = known_name files.classes;
+}
 
 -- trusted, own: the names of the files of a request, in the order in which they are read
 abbrev pub all_named : Request → List (List ℕ)

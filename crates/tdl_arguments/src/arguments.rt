@@ -169,6 +169,8 @@ fn plain_command(words: &[String]) -> Option<Command>
         Command::Check,
         Command::Resolve,
         Command::Serve,
+        Command::ClassCanon,
+        Command::ClassUri,
         Command::DumpRead,
         Command::DumpWrite,
     ]

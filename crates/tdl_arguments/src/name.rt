@@ -15,6 +15,8 @@ pub enum Name {
     Links,
     /// The file that describes a resolver.
     Describe,
+    /// The file of the classes of class URIs.
+    Classes,
     /// What stands for `gs1:` in relations.
     Voc,
     /// The address that a server listens at.
@@ -43,6 +45,7 @@ impl Name {
             Name::Prefixes => "--prefixes",
             Name::Links => "--links",
             Name::Describe => "--describe",
+            Name::Classes => "--classes",
             Name::Voc => "--voc",
             Name::Listen => "--listen",
             Name::Count => "--count",
@@ -59,7 +62,12 @@ impl Name {
         ensures { result ≡ in_range self value.now }
     {
         match self {
-            Name::Tables | Name::Prefixes | Name::Links | Name::Describe | Name::Listen => true,
+            Name::Tables
+            | Name::Prefixes
+            | Name::Links
+            | Name::Describe
+            | Name::Classes
+            | Name::Listen => true,
             Name::Voc => is_vocabulary(value),
             Name::Count => count_of(value).is_some(),
             Name::Filter => filter_of(value).is_some(),

@@ -24,6 +24,7 @@ pub fn named_files(words: &[String]) -> NamedFiles<'_>
         prefixes: look_up(words, Name::Prefixes.word()),
         links: look_up(words, Name::Links.word()),
         describe: look_up(words, Name::Describe.word()),
+        classes: look_up(words, Name::Classes.word()),
     }
 }
 

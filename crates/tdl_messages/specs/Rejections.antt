@@ -9,6 +9,8 @@ use Rattle.gs_tables_document.specs.declared.error.LoadFault.{LoadFault}
 use Rattle.gs_tables_document.specs.declared.error.LoadFault.TheVariants.{Json, Version, Limit, Ai, BadKind, BadItem, Mismatch, Duplicate, Ambiguous, Memory}
 use Rattle.gs_tables_document.specs.declared.level_name.LevelName.{LevelName}
 use Rattle.gs_tables_document.specs.declared.level_name.LevelName.TheVariants.{Binary, Tag, Pure}
+use Rattle.gs_class.specs.declared.error.ClassLoadFault.{ClassLoadFault}
+use Rattle.gs_class.specs.declared.error.ClassLoadFault.TheVariants as class
 use Rattle.gs_json.specs.declared.error.JsonFault.{JsonFault}
 use Rattle.gs_json.specs.declared.error.JsonFault.TheVariants as json
 use Rattle.gs_links.specs.declared.error.AnchorWhy.{AnchorWhy}
@@ -24,7 +26,7 @@ use Rattle.tdl_messages.specs.declared.file_kind.FileKind.{FileKind}
 use Rattle.tdl_messages.specs.declared.file_kind.FileKind.TheVariants as kind
 use Rattle.tdl_messages.specs.declared.rejection.Rejection.{Rejection}
 use Rattle.tdl_messages.specs.declared.rejection.FileFault.{FileFault}
-use Rattle.tdl_messages.specs.declared.rejection.FileFault.TheVariants.{Over, Tables, Prefixes, Linkset, Store}
+use Rattle.tdl_messages.specs.declared.rejection.FileFault.TheVariants.{Over, Tables, Prefixes, Linkset, Store, Classes}
 
 -- trusted, own: the word that a rejection of a kind of file is printed with
 abbrev pub file_word : FileKind → List ℕ
@@ -32,6 +34,7 @@ file_word kind.Tables = codes "tables"
 file_word kind.Prefixes = codes "prefixes"
 file_word kind.Links = codes "links"
 file_word kind.Describe = codes "describe"
+file_word kind.Classes = codes "classes"
 
 -- trusted, own: the most bytes of a kind of file
 abbrev pub file_limit : FileKind → ℕ
@@ -39,6 +42,7 @@ file_limit kind.Tables = 1048576
 file_limit kind.Prefixes = 4194304
 file_limit kind.Links = 16777216
 file_limit kind.Describe = 1048576
+file_limit kind.Classes = 1048576
 
 -- trusted, own: a byte as it is printed: a question mark where it is no visible character
 abbrev pub shown_byte : ℕ → ℕ
@@ -142,6 +146,22 @@ store_text (store.BadAnchor i why) = bad_anchor_text i why
 store_text (store.BadHref i r t) = bad_href_text i r t
 store_text store.Memory = codes "memory"
 
+-- trusted, own: the first pair of classes that shares a text, and a text that shows it
+abbrev pub ambiguous_classes_text : ℕ → ℕ → List ℕ → List ℕ
+ambiguous_classes_text i j text = numbered_twice (codes "ambiguous") i j ++ 32 ∷ text
+
+-- trusted, own: an error of classes
+abbrev pub classes_text : ClassLoadFault → List ℕ
+classes_text (class.Json error) = codes "json " ++ json_text error
+classes_text class.Version = codes "version"
+classes_text class.Limit = codes "limit"
+classes_text (class.BadItem i k) = numbered_twice (codes "bad-item") i k
+classes_text (class.Size i) = numbered (codes "size") i
+classes_text (class.Mismatch i) = numbered (codes "mismatch") i
+classes_text (class.Duplicate j i) = numbered_twice (codes "duplicate") j i
+classes_text (class.Ambiguous i j text) = ambiguous_classes_text i j text
+classes_text class.Memory = codes "memory"
+
 -- trusted, own: why a file is rejected
 abbrev pub error_text : FileFault → List ℕ
 error_text Over = codes "over"
@@ -149,6 +169,7 @@ error_text (Tables error) = tables_text error
 error_text (Prefixes error) = prefixes_text error
 error_text (Linkset error) = codes "json " ++ json_text error
 error_text (Store error) = store_text error
+error_text (Classes error) = classes_text error
 
 -- trusted, own: the line of a rejected file: `refused WHICH REASON`, and a line feed
 abbrev pub rejected_line : Rejection → List ℕ

@@ -12,6 +12,8 @@ pub enum FileKind {
     Links,
     /// The description of a resolver.
     Describe,
+    /// The classes of class URIs.
+    Classes,
 }
 
 impl FileKind {
@@ -24,6 +26,7 @@ impl FileKind {
             FileKind::Prefixes => b"prefixes",
             FileKind::Links => b"links",
             FileKind::Describe => b"describe",
+            FileKind::Classes => b"classes",
         }
     }
 
@@ -36,6 +39,7 @@ impl FileKind {
             FileKind::Prefixes => 4_194_304,
             FileKind::Links => 16_777_216,
             FileKind::Describe => 1_048_576,
+            FileKind::Classes => 1_048_576,
         }
     }
 }

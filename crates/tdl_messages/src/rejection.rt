@@ -1,4 +1,5 @@
 use crate::file_kind::FileKind;
+use gs_class::ClassLoadFault;
 use gs_json::JsonFault;
 use gs_links::StoreFault;
 use gs_prefix::PrefixFault;
@@ -17,6 +18,8 @@ pub enum FileFault {
     Linkset(JsonFault),
     /// The linkset breaks a rule of links, which is never out of memory.
     Store(StoreFault),
+    /// The classes break a rule, which is never out of memory.
+    Classes(ClassLoadFault),
 }
 
 /// A file that is rejected.

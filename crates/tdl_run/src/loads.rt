@@ -4,11 +4,13 @@ ghost use Rattle.tdl_arguments.specs.Requests.{all_named, description_named, kno
 ghost use Rattle.tdl_run.specs.Loads.{FilesGive, SettingsGive, TabledGive};
 ghost use Rattle.tdl_run.specs.LoadsSupport.{Loads, files_known};
 
+use crate::classes::load_classes;
 use crate::links::load_links;
 use crate::named_files::read_if_named;
 use crate::prefixes::load_prefixes;
 use crate::tables::load_tables;
 use gs_chars::{Memory, Text};
+use gs_class::ClassSet;
 use gs_http::Settings;
 use gs_links::Store;
 use gs_port::Files;
@@ -37,6 +39,8 @@ pub struct Loaded {
     pub links: Store,
     /// How requests are answered: the vocabulary, and the description of the resolver.
     pub settings: Settings,
+    /// The classes of class URIs.
+    pub classes: ClassSet,
 }
 
 // by hand, so that a function that drops what was loaded calls this one: a derived drop is written out at each of its exits
@@ -47,6 +51,7 @@ impl Drop for Loaded {
             prefixes: _,
             links: _,
             settings: _,
+            classes: _,
         } = self;
     }
 }
@@ -107,8 +112,9 @@ fn load_settings<F: Files>(
     Ok(Settings { voc, describe })
 }
 
-/// Loads the files in their order, tables and company prefix lengths, links, and then the description, up to the first that is
-/// not there, cannot be read or is rejected. What is not named is the built-in tables, and no prefix, no link and no description.
+/// Loads the files in their order, tables and company prefix lengths, links, the description, and then the classes, up to the first
+/// that is not there, cannot be read or is rejected. What is not named is the built-in tables, no prefix, no link, no description, and
+/// the built-in classes of a command that works on class URIs, else none.
 pub fn load_files<F: Files>(
     alloc: Global,
     request: Request<'_>,
@@ -122,13 +128,16 @@ pub fn load_files<F: Files>(
 {
     let voc = request.values.voc;
     let tabled = load_tabled(alloc, request.files, files)?;
-    let links = load_links(alloc, tabled.tables.ais(), voc, request.files.links, files)?;
+    let table = tabled.tables.ais();
+    let links = load_links(alloc, table, voc, request.files.links, files)?;
     let settings = load_settings(alloc, voc, request.files, files)?;
+    let classes = load_classes(alloc, table, request.command, request.files.classes, files)?;
     let Tabled { tables, prefixes } = tabled;
     Ok(Loaded {
         tables,
         prefixes,
         links,
         settings,
+        classes,
     })
 }
