@@ -1,5 +1,5 @@
 -- The answers to class URIs and to links, by what reading and writing answered.
-use Rattle.std.proofs.Common.{◌≡◌, ◌≤◌, ◌⊎◌, ℕ, List, length, refl, sym, ap, inl, inr}
+use Rattle.std.proofs.Common.{◌≡◌, ◌≤◌, ℕ, List, length, refl, ap, inl, inr}
 use Rattle.std.specs.Prelude.{◌≢◌, Result, Ok, Err}
 use Rattle.gs_class.specs.declared.error.ClassFault.{ClassFault}
 use Rattle.gs_class.specs.declared.error.ClassFault.TheVariants as reading
@@ -17,7 +17,6 @@ use Rattle.gs_translate.specs.declared.reason.Reason.TheVariants as reason
 use Rattle.gs_translate.specs.Meanings.{IsRead}
 use Rattle.gs_translate.specs.Steps.{UnlessMemory, goes_on, rejects}
 use Rattle.gs_translate.proofs.StepLaws.{known_answer}
-use Rattle.tdl_answers.specs.declared.class_reason.ClassReason.{ClassReason}
 use Rattle.tdl_answers.specs.declared.class_reason.ClassReason.TheVariants.{Common}
 use Rattle.tdl_answers.specs.ClassAnswers.{ClassWriting, IsClassLink, IsClassText}
 use Rattle.tdl_answers.specs.ClassReasons.{of_class, of_class_writing}

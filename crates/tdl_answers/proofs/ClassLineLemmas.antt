@@ -15,7 +15,6 @@ use Rattle.gs_ident.specs.Elements.{Elements}
 use Rattle.gs_ident.specs.Links.{canonical_link}
 use Rattle.gs_membank.proofs.OneDump.{SomeKnown}
 use Rattle.gs_translate.specs.declared.form.Form.TheVariants.{Link}
-use Rattle.gs_translate.specs.declared.meaning.Meaning.{Meaning}
 use Rattle.gs_translate.specs.declared.reason.Reason.TheVariants.{Long}
 use Rattle.gs_translate.specs.Meanings.{IsRead}
 use Rattle.gs_translate.proofs.AnswerLaws.{one_read, some_read}

@@ -1,6 +1,6 @@
 -- Long texts, and answers whose reasons are said in other words: one answer, and some answer.
-use Rattle.std.proofs.Common.{◌≡◌, ◌<◌, ◌≤◌, ℕ, List, length, refl, sym, ◌∙◌, ap, inl, inr, arith}
-use Rattle.std.specs.Prelude.{◌≢◌, Result, Ok, Err}
+use Rattle.std.proofs.Common.{◌≡◌, ◌≤◌, ℕ, List, length, refl, sym, ◌∙◌, ap, inl, inr}
+use Rattle.std.specs.Prelude.{◌≢◌, Result, Err}
 use Rattle.std.proofs.Math.Nat.{not-le_of_lt}
 use Rattle.std.proofs.lemmas.Bool.Decides.{leb_tells}
 use Rattle.tdl_lines.specs.Lines.{longest_text}

@@ -1,5 +1,4 @@
-use Rattle.std.proofs.Common.{◌≡◌, ap, refl}
-use Rattle.std.specs.Prelude.{Ok, Err}
+use Rattle.std.proofs.Common.{ap, refl}
 use Rattle.std.proofs.lemmas.Result.{err_from_is_err_and}
 use Rattle.tdl_answers.specs.ClassReasons.{of_class}
 use Rattle.tdl_answers.proofs.ClassLemmas.{class_links, class_rejects}
