@@ -206,6 +206,53 @@ returns-in-DumpWrite-clause-waiting g c = none_finish _
 pub returns-in-DumpWrite-clause-listens : goal.returns-in-DumpWrite-clause-listens
 returns-in-DumpWrite-clause-listens g c = rw c.in-DumpWrite.is (λ uses. absurd (false≢true uses))
 
+pub returns-in-ClassCanon-clause-ran : goal.returns-in-ClassCanon-clause-ran
+returns-in-ClassCanon-clause-ran g c = rw c.in-ClassCanon.is ([], none_more _, c.link_classes.ensures)
+
+pub returns-in-ClassCanon-clause-served : goal.returns-in-ClassCanon-clause-served
+returns-in-ClassCanon-clause-served g c = rw c.in-ClassCanon.is (λ heads. absurd (false≢true heads))
+
+pub returns-in-ClassCanon-clause-unread : goal.returns-in-ClassCanon-clause-unread
+returns-in-ClassCanon-clause-unread g c = rw c.in-ClassCanon.is (λ none. absurd (false≢true (sym none)))
+
+pub returns-in-ClassCanon-clause-unserved : goal.returns-in-ClassCanon-clause-unserved
+returns-in-ClassCanon-clause-unserved g c = λ none. refl
+
+pub returns-in-ClassCanon-clause-door_counts : goal.returns-in-ClassCanon-clause-door_counts
+returns-in-ClassCanon-clause-door_counts g c = omega arith
+
+pub returns-in-ClassUri-clause-ran : goal.returns-in-ClassUri-clause-ran
+returns-in-ClassUri-clause-ran g c = rw c.in-ClassUri.is ([], none_more _, c.write_classes.ensures)
+
+pub returns-in-ClassUri-clause-served : goal.returns-in-ClassUri-clause-served
+returns-in-ClassUri-clause-served g c = rw c.in-ClassUri.is (λ heads. absurd (false≢true heads))
+
+pub returns-in-ClassUri-clause-unread : goal.returns-in-ClassUri-clause-unread
+returns-in-ClassUri-clause-unread g c = rw c.in-ClassUri.is (λ none. absurd (false≢true (sym none)))
+
+pub returns-in-ClassUri-clause-unserved : goal.returns-in-ClassUri-clause-unserved
+returns-in-ClassUri-clause-unserved g c = λ none. refl
+
+pub returns-in-ClassUri-clause-door_counts : goal.returns-in-ClassUri-clause-door_counts
+returns-in-ClassUri-clause-door_counts g c = omega arith
+
+pub returns-in-ClassCanon-clause-closed : goal.returns-in-ClassCanon-clause-closed
+returns-in-ClassCanon-clause-closed g c = c.requires.none_open
+
+pub returns-in-ClassCanon-clause-waiting : goal.returns-in-ClassCanon-clause-waiting
+returns-in-ClassCanon-clause-waiting g c = none_finish _
+
+pub returns-in-ClassCanon-clause-listens : goal.returns-in-ClassCanon-clause-listens
+returns-in-ClassCanon-clause-listens g c = rw c.in-ClassCanon.is (λ uses. absurd (false≢true uses))
+
+pub returns-in-ClassUri-clause-closed : goal.returns-in-ClassUri-clause-closed
+returns-in-ClassUri-clause-closed g c = c.requires.none_open
+
+pub returns-in-ClassUri-clause-waiting : goal.returns-in-ClassUri-clause-waiting
+returns-in-ClassUri-clause-waiting g c = none_finish _
+
+pub returns-in-ClassUri-clause-listens : goal.returns-in-ClassUri-clause-listens
+returns-in-ClassUri-clause-listens g c = rw c.in-ClassUri.is (λ uses. absurd (false≢true uses))
 pub returns-in-Merge-clause-ran : goal.returns-in-Merge-clause-ran
 returns-in-Merge-clause-ran g c =
     let w = c.print_merged.ensures.written in
