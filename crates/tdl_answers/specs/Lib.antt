@@ -4,3 +4,6 @@ pub mod LongTexts
 pub mod DumpReasons
 pub mod DumpAnswers
 pub mod LongDumps
+pub mod ClassReasons
+pub mod ClassAnswers
+pub mod LongClasses

@@ -1,5 +1,4 @@
 -- All long dumps, and all long lines, have the same answers.
-use Rattle.std.specs.Prelude.{ℕ, List}
 use Rattle.gs_tables.specs.Tables.{TableRows}
 use Rattle.gs_translate.specs.declared.reason.Reason.TheVariants.{Long}
 use Rattle.tdl_answers.specs.declared.dump_reason.DumpReason.TheVariants.{Common}

@@ -22,6 +22,12 @@ pub record Reworded {A E R : Type 0} (memory : E) (say : E → R) (Answer : Resu
   pub is_given : Answer given
   pub is : answer ≡ reworded say given
 
+-- trusted, own: an answer, with its reason said in other words
+pub record Restated {A E R : Type 0} (say : E → R) (Answer : Result A E → Type 0) (answer : Result A R) : Type 0 where
+  pub given : Result A E
+  pub is_given : Answer given
+  pub is : answer ≡ reworded say given
+
 module _ {A E : Type 0} (long : E) (Short : List ℕ → Result A E → Type 0) where
   -- all long texts have one answer
   long_moves : (text other : List ℕ) (answer : Result A E) → longest_text < length text → longest_text < length other → AfterLong long Short text answer → AfterLong long Short other answer

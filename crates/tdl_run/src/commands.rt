@@ -5,10 +5,12 @@ ghost use Rattle.gs_translate.specs.Translations.{AreInOrder};
 ghost use Rattle.tdl_arguments.specs.Commands.{answers_heads, reads_input, uses_door};
 ghost use Rattle.tdl_arguments.specs.Requests.{options_of, known_values};
 ghost use Rattle.tdl_run.specs.CommandRuns.{moment_of};
+ghost use Rattle.tdl_run.specs.LoadsSupport.{AreKept};
 ghost use Rattle.tdl_run.specs.RanSupport.{CommandRan, UsesDoor};
 ghost use Rattle.tdl_run.specs.Works.{Leaves, doorway_of, site_of};
 
 use crate::check_command::check;
+use crate::class_command::{link_classes, write_classes};
 use crate::dump_command::{show_dumps, write_dumps};
 use crate::loads::Loaded;
 use crate::merge_command::print_merged;
@@ -44,6 +46,7 @@ pub fn run_command<S: Source, K: Sink, D: Door>(
 ) -> Status
     requires none_open { D.is_open door.old ≡ false }
     requires loaded { IsLoaded loaded.now.tables }
+    requires classes { AreKept loaded.now.tables.ais loaded.now.classes }
     requires options { AreInOrder (options_of (known_values values)) }
     ensures ran { Leaves (K.held output.old) (K.held output.new)
         (D.aside door.old).finished (D.aside door.new).finished result
@@ -76,6 +79,8 @@ pub fn run_command<S: Source, K: Sink, D: Door>(
             output,
         ),
         Command::Gen(lines) => generate(alloc, &loaded.tables, lines, output),
+        Command::ClassCanon => link_classes(alloc, loaded, input, output),
+        Command::ClassUri => write_classes(alloc, values, loaded, input, output),
         Command::DumpRead => show_dumps(alloc, loaded, input, output),
         Command::DumpWrite => write_dumps(alloc, loaded, input, output),
         Command::Merge => print_merged(alloc, loaded, output),

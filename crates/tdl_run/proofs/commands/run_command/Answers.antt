@@ -159,6 +159,36 @@ pub returns-in-Serve-clause-used : goal.returns-in-Serve-clause-used
 returns-in-Serve-clause-used g c =
     λ uses. record { closed = c.serve.ensures.closed; waiting = visits_finish _ _ _ _ _ _ c.serve.result c.serve.ensures.ran; listens = c.serve.ensures.opens }
 
+pub returns-in-ClassCanon-clause-ran : goal.returns-in-ClassCanon-clause-ran
+returns-in-ClassCanon-clause-ran g c = rw c.in-ClassCanon.is ([], none_more _, c.link_classes.ensures)
+
+pub returns-in-ClassCanon-clause-served : goal.returns-in-ClassCanon-clause-served
+returns-in-ClassCanon-clause-served g c = rw c.in-ClassCanon.is (λ heads. absurd (false≢true heads))
+
+pub returns-in-ClassCanon-clause-unread : goal.returns-in-ClassCanon-clause-unread
+returns-in-ClassCanon-clause-unread g c = rw c.in-ClassCanon.is (λ none. absurd (false≢true (sym none)))
+
+pub returns-in-ClassCanon-clause-unserved : goal.returns-in-ClassCanon-clause-unserved
+returns-in-ClassCanon-clause-unserved g c = λ none. refl
+
+pub returns-in-ClassCanon-clause-door_counts : goal.returns-in-ClassCanon-clause-door_counts
+returns-in-ClassCanon-clause-door_counts g c = omega arith
+
+pub returns-in-ClassUri-clause-ran : goal.returns-in-ClassUri-clause-ran
+returns-in-ClassUri-clause-ran g c = rw c.in-ClassUri.is ([], none_more _, c.write_classes.ensures)
+
+pub returns-in-ClassUri-clause-served : goal.returns-in-ClassUri-clause-served
+returns-in-ClassUri-clause-served g c = rw c.in-ClassUri.is (λ heads. absurd (false≢true heads))
+
+pub returns-in-ClassUri-clause-unread : goal.returns-in-ClassUri-clause-unread
+returns-in-ClassUri-clause-unread g c = rw c.in-ClassUri.is (λ none. absurd (false≢true (sym none)))
+
+pub returns-in-ClassUri-clause-unserved : goal.returns-in-ClassUri-clause-unserved
+returns-in-ClassUri-clause-unserved g c = λ none. refl
+
+pub returns-in-ClassUri-clause-door_counts : goal.returns-in-ClassUri-clause-door_counts
+returns-in-ClassUri-clause-door_counts g c = omega arith
+
 pub returns-in-Merge-clause-ran : goal.returns-in-Merge-clause-ran
 returns-in-Merge-clause-ran g c =
     let w = c.print_merged.ensures.written in
@@ -178,3 +208,9 @@ returns-in-Merge-clause-door_counts g c = omega arith
 
 pub returns-in-Merge-clause-used : goal.returns-in-Merge-clause-used
 returns-in-Merge-clause-used g c = rw c.in-Merge.is (λ uses. absurd (false≢true uses))
+
+pub returns-in-ClassCanon-clause-used : goal.returns-in-ClassCanon-clause-used
+returns-in-ClassCanon-clause-used g c = rw c.in-ClassCanon.is (λ uses. absurd (false≢true uses))
+
+pub returns-in-ClassUri-clause-used : goal.returns-in-ClassUri-clause-used
+returns-in-ClassUri-clause-used g c = rw c.in-ClassUri.is (λ uses. absurd (false≢true uses))
