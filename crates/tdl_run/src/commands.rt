@@ -1,5 +1,4 @@
 ghost use Rattle.std.specs.Prelude.{◌≡◌, ◌≤◌, None, false, true};
-ghost use Rattle.tdl_serve.specs.Doors.{OpensAt};
 ghost use Rattle.tdl_serve.specs.Resolutions.{StreamServed};
 ghost use Rattle.gs_tables.specs.Judgements.{IsLoaded};
 ghost use Rattle.gs_translate.specs.Translations.{AreInOrder};
@@ -7,8 +6,8 @@ ghost use Rattle.tdl_arguments.specs.Commands.{answers_heads, reads_input, uses_
 ghost use Rattle.tdl_arguments.specs.Requests.{options_of, known_values};
 ghost use Rattle.tdl_run.specs.CommandRuns.{moment_of};
 ghost use Rattle.tdl_run.specs.LoadsSupport.{AreKept};
-ghost use Rattle.tdl_run.specs.RanSupport.{CommandRan};
-ghost use Rattle.tdl_run.specs.Works.{FinishesFirst, Leaves, doorway_of, site_of};
+ghost use Rattle.tdl_run.specs.RanSupport.{CommandRan, UsesDoor};
+ghost use Rattle.tdl_run.specs.Works.{Leaves, doorway_of, site_of};
 
 use crate::check_command::check;
 use crate::class_command::{link_classes, write_classes};
@@ -59,10 +58,8 @@ pub fn run_command<S: Source, K: Sink, D: Door>(
         (S.left input.old) (S.left input.new) None None (K.held output.old) (K.held output.new) }
     ensures unread { reads_input command ≡ false → input.new ≡ input.old }
     ensures unserved { uses_door command ≡ false → door.new ≡ door.old }
-    ensures closed { D.is_open door.new ≡ false }
-    ensures waiting { FinishesFirst (D.aside door.old) (D.aside door.new) }
-    ensures listens { uses_door command ≡ true
-        → OpensAt (known_values values.entry).listen (D.aside door.old) (D.aside door.new) }
+    ensures used { uses_door command ≡ true → UsesDoor (known_values values.entry).listen
+        (D.is_open door.new) (D.aside door.old) (D.aside door.new) }
     ensures door_counts { (D.aside door.old).errors ≤ (D.aside door.new).errors }
 {
     match command {
