@@ -11,7 +11,7 @@ use Rattle.gs_class.specs.declared.error.ClassLoadFault.TheVariants as class
 use Rattle.gs_class.specs.declared.error.ClassLoadFault.TheVariants.{Json, Version}
 use Rattle.gs_class.specs.Answers.{BuiltInAnswer, Judged, LoadAnswer, OrMemory, ruled_bytes, ruled_document, ruled_rows}
 use Rattle.gs_class.specs.BuiltIn.{built_in_rows}
-use Rattle.gs_class.specs.Sets.{ClassRows, IsClear, IsOfTable, set_of}
+use Rattle.gs_class.specs.Sets.{ClassRows, IsOfTable, set_of}
 use Rattle.gs_class.specs.Documents.{form_errors, rows_of}
 use Rattle.gs_class.specs.Rules.{class_rejections}
 use Rattle.gs_class.proofs.SetParts.{none_of_table}

@@ -6,8 +6,8 @@ use Rattle.tdl_lines.specs.OutputsSupport.{HasAnswers}
 use Rattle.tdl_run.specs.CommandRuns.{AnswersLines, Moment}
 use Rattle.tdl_run.proofs.class_command.link_classes.Goals as goal
 
-pub new-requires : goal.new-requires
-new-requires g c = rw c.ais.ensures.rows c.requires.of_table
+pub new-answerer-requires : goal.new-answerer-requires
+new-answerer-requires g c = rw c.ais.ensures.rows c.requires.of_table
 
 pub answer_input-requires : goal.answer_input-requires
 answer_input-requires g c =

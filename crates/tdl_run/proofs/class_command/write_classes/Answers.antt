@@ -1,11 +1,11 @@
-use Rattle.std.proofs.Common.{subst, sym}
+use Rattle.std.proofs.Common.{subst}
 use Rattle.tdl_answers.specs.ClassAnswers.{ClassWriting, IsClassUriLine}
 use Rattle.tdl_answers.proofs.ClassLineLemmas.{some_class_written}
 use Rattle.tdl_run.specs.CommandRuns.{AnswersLines, Moment}
 use Rattle.tdl_run.proofs.class_command.write_classes.Goals as goal
 
-pub new-requires : goal.new-requires
-new-requires g c = c.requires.of_table
+pub new-answerer-requires : goal.new-answerer-requires
+new-answerer-requires g c = c.requires.of_table
 
 pub answer_input-requires : goal.answer_input-requires
 answer_input-requires g c = some_class_written c.new-answerer.result
