@@ -11,7 +11,7 @@ use Rattle.gs_class.specs.Sets.{ClassRows}
 use Rattle.tdl_answers.specs.ClassAnswers.{ClassWriting, IsClassCanonLine, IsClassText, IsClassUriLine, IsLinkRead, LinksClass}
 use Rattle.tdl_answers.specs.ClassReasons.{class_text}
 use Rattle.tdl_answers.specs.LongLines.{long_read}
-use Rattle.tdl_answers.specs.LongTexts.{long_lines}
+use Rattle.tdl_answers.specs.LongTextsSupport.{long_lines}
 use Rattle.tdl_lines.specs.Lines.{longest_text}
 use Rattle.tdl_lines.specs.OutputsSupport.{AnswersLongAlike}
 
