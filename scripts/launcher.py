@@ -31,12 +31,14 @@ COMMANDS = [
     ("resolve --links FILE", "answers the HTTP requests on standard input by a linkset", True),
     ("serve --links FILE --count N", "answers the requests of N connections by a linkset", False),
     ("gen N", "translates N generated lines, to measure with", False),
+    ("class canon", "answers each line, a class URI, by its canonical link", True),
+    ("class uri", "answers each line, a link, by its class URI", True),
     ("dump read", "answers each line, a dump of the memory bank of a tag, by the line that shows it", True),
     ("dump write", "answers each line, which shows a dump, by the dump", True),
     ("merge --links FILE --second FILE", "merges linksets to one", False),
 ]
 # the names whose value is the name of a file
-FILE_NAMES = {"--tables", "--prefixes", "--links", "--link-text", "--second", "--third", "--describe"}
+FILE_NAMES = {"--tables", "--prefixes", "--links", "--link-text", "--second", "--third", "--describe", "--classes"}
 DOCUMENTS = [
     ("docs/EXAMPLES.md", "runs and recipes"),
     ("docs/FORMATS.md", "forms, names, limits, reasons, statuses"),

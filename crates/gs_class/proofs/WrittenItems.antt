@@ -18,7 +18,7 @@ use Rattle.gs_grammar.specs.declared.item.Item.TheVariants.{Lit, Pad, Digits as 
 use Rattle.gs_grammar.specs.Items.{is_bad, is_in_bounds}
 use Rattle.gs_grammar.specs.WrittenWords.{AreHeld, IsFirstRejection, why_not, written}
 use Rattle.gs_tables_document.specs.declared.field.Field.{Field}
-use Rattle.gs_tables_document.specs.declared.field.Field.TheVariants.{Filter, Gcp, Rest, Serial}
+use Rattle.gs_tables_document.specs.declared.field.Field.TheVariants.{Filter, Piece, Total, Gcp, Rest, Serial}
 use Rattle.gs_tables_document.specs.Items.{FieldItem, alone, fields_of, present}
 use Rattle.gs_tables.specs.Rules.{has_room, is_digits, is_field, is_one, items_of_field, keeps_rest, keeps_serial}
 use Rattle.gs_epc.proofs.KeptFields.{the_one}
@@ -175,6 +175,8 @@ module _ (ais : List AiRow) (row : ClassRow) (kept : KeptClass ais row) (identit
   holds_at k item (Some Rest) at good other = rest_holds k item at good.bounds
   holds_at k item (Some Serial) at good other = absurd (let e : true ≡ false = other in cc)
   holds_at k item (Some Filter) at good other = absurd (let e : false ≡ true = good.classy in cc)
+  holds_at k item (Some Piece) at good other = absurd (let e : false ≡ true = good.classy in cc)
+  holds_at k item (Some Total) at good other = absurd (let e : false ≡ true = good.classy in cc)
 
   others_hold : HoldOthers (class_of row) (alone parts) identity
   others_hold k item field a b other =

@@ -1,6 +1,8 @@
 //! Table sets: the application identifiers, kinds and options that a document or the built-in rows give, and their rules.
 //!
 //! - `TableSet::load` reads a table document (JSON), or gives its first rejection; `builtin` makes the set of the built-in rows.
+//! - `migrate` makes the text of a document as one of version 2, which loads to the same set; `migrated_text` that of a document
+//!   that is known to load.
 //! - `TableSet::ais`, `kinds`, `level`, `info` and `candidates` lend the parts of a set.
 //! - `KeyForm`, `Room`, `are_characters` and `characters_of` tell the form of the values of a key and of its serial; `keeps_gcp`, `keeps_rest`,
 //!   `keeps_serial` and `size_within_limit` are the tests of an option's items, `is_of_key` and `lists` those of a key's row; for them

@@ -10,3 +10,4 @@ pub mod TaggedLaws
 pub mod OneWriting
 pub mod SomeWriting
 pub mod OneTranslation
+pub mod MigratedTables

@@ -8,3 +8,4 @@ pub mod Targets
 pub mod TargetsSupport
 pub mod Translations
 pub mod Conditions
+pub mod MigratedTables

@@ -32,6 +32,7 @@ mod form;
 mod hold_text;
 mod laws;
 mod meaning;
+mod migration_laws;
 mod narrower;
 mod options;
 mod reader;

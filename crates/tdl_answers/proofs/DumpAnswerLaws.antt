@@ -1,21 +1,18 @@
 -- Dumps, and the lines that show them, have one answer each by tables that are loaded.
-use Rattle.std.proofs.Common.{◌≡◌, ◌⊎◌, ◌+◌, ◌-◌, ◌*◌, ◌/◌, ◌<◌, ◌≤◌, ℕ, Bool, true, false, List, [], ◌∷◌, ◌++◌, length, take, drop, Option, Some, None, unwrap_or, refl, sym, ap, ◌∙◌, inl, inr, arith}
+use Rattle.std.proofs.Common.{◌≡◌, ◌+◌, ◌*◌, ◌/◌, ◌<◌, ◌≤◌, ℕ, Bool, true, false, List, [], ◌∷◌, ◌++◌, length, drop, Option, Some, None, refl, sym, ap, ◌∙◌, inl, inr, arith}
 use Rattle.std.specs.Prelude.{◌≢◌, if◌then◌else◌, nat_le, Result, Ok, Err}
 use Rattle.std.proofs.lemmas.Bool.{cases_eq}
 use Rattle.std.proofs.lemmas.Bool.Decides.{leb_tells}
 use Rattle.std.proofs.lemmas.List.{length-drop}
 use Rattle.gs_bits.specs.HexText.{hex_of_bits}
 use Rattle.gs_chars.specs.Escapes.{hex_value}
-use Rattle.gs_grammar.specs.Derivations.{Derivation}
-use Rattle.gs_grammar.specs.declared.error.Why.{Why}
 use Rattle.gs_epc.specs.declared.epc.Epc.{Epc}
 use Rattle.gs_epc.specs.declared.error.EpcFault.{EpcFault}
 use Rattle.gs_epc.specs.declared.error.EpcFault.TheVariants as epc
 use Rattle.gs_epc.specs.declared.write_error.EpcWriteFault.{EpcWriteFault}
 use Rattle.gs_epc.specs.declared.write_error.EpcWriteFault.TheVariants as write
-use Rattle.gs_epc.specs.Epcs.{options_of}
 use Rattle.gs_epc.specs.Readings.{ReadsAs, ReadsHex, Says}
-use Rattle.gs_epc.specs.Writes.{Writes, WritesAs}
+use Rattle.gs_epc.specs.Writes.{WritesAs}
 use Rattle.gs_membank.specs.declared.dump.Dump.{Dump}
 use Rattle.gs_membank.specs.declared.error.DumpFault.TheVariants as reading
 use Rattle.gs_membank.specs.declared.error.DumpLineFault.{DumpLineFault}
@@ -24,12 +21,11 @@ use Rattle.gs_membank.specs.declared.error.DumpWriteFault.{DumpWriteFault}
 use Rattle.gs_membank.specs.declared.error.DumpWriteFault.TheVariants as writing
 use Rattle.gs_membank.specs.Answers.{ReadsDump, ReadsShown, ShowsDump, WritesDump, of_writing, word_of}
 use Rattle.gs_membank.specs.Banks.{bit_of, control_bits}
-use Rattle.gs_membank.specs.ShownLines.{IsShownStart, shown_line, start_with}
+use Rattle.gs_membank.specs.ShownLines.{IsShownStart, shown_line}
 use Rattle.gs_membank.proofs.DumpLaws.{one_epc}
 use Rattle.gs_membank.proofs.OneDump.{SomeKnown, some_dump}
 use Rattle.gs_membank.proofs.RoundTrips.{one_start}
 use Rattle.gs_membank.proofs.WriteLemmas.{dump_written, too_long as dump_too_long}
-use Rattle.gs_tables_document.specs.declared.field.Field.{Field}
 use Rattle.gs_tables_document.specs.declared.level_name.LevelName.{LevelName}
 use Rattle.gs_tables_document.specs.declared.level_name.LevelName.TheVariants as level
 use Rattle.gs_tables.specs.Judgements.{IsLoaded}

@@ -1,17 +1,12 @@
 -- The answers to dumps and to the lines that show them, by what reading, showing and writing answered.
-use Rattle.std.proofs.Common.{◌≡◌, ◌≢◌, ◌≤◌, ℕ, Bool, List, length, refl, ap}
-use Rattle.std.specs.Prelude.{Result, Ok, Err, IfOk}
-use Rattle.gs_membank.specs.declared.dump.Dump.{Dump}
-use Rattle.gs_tables.specs.Tables.{TableRows}
+use Rattle.std.proofs.Common.{◌≡◌, ◌≢◌, ◌≤◌, ℕ, List, length, refl}
+use Rattle.std.specs.Prelude.{Result, Ok, Err}
 use Rattle.gs_translate.specs.declared.reason.Reason.TheVariants as reason
 use Rattle.gs_translate.specs.Steps.{Then, goes_on, rejects}
 use Rattle.tdl_answers.specs.declared.dump_reason.DumpReason.{DumpReason}
 use Rattle.tdl_answers.specs.declared.dump_reason.DumpReason.TheVariants.{Common}
 use Rattle.tdl_answers.specs.LongTexts.{AfterLong, Reworded, is_short, reworded}
 use Rattle.tdl_lines.specs.Lines.{longest_text}
-use Rattle.tdl_lines.specs.Outputs.{AddsAnswer}
-use Rattle.tdl_messages.specs.AnswerLines.{AddsLine, HasMemory, IsLineOf}
-use Rattle.tdl_answers.proofs.LineLemmas.{adds_line}
 
 -- two steps, whose errors are said in other words
 module _ {A E F : Type 0} (memory : E) (say : E → DumpReason) (memory' : F) (say' : F → DumpReason) (First : List ℕ → Result A E → Type 0) (Next : A → Result (List ℕ) F → Type 0) (text : List ℕ) where

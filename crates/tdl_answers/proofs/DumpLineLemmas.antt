@@ -1,5 +1,4 @@
 -- The answer lines of dumps, and of the lines that show them: each text has one.
-use Rattle.std.proofs.Common.{ℕ, List}
 use Rattle.gs_membank.specs.declared.error.DumpFault.TheVariants as reading
 use Rattle.gs_membank.specs.declared.error.DumpLineFault.TheVariants as line
 use Rattle.gs_membank.specs.declared.error.DumpWriteFault.TheVariants as writing

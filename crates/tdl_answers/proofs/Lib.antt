@@ -3,3 +3,5 @@ pub mod LongTextLemmas
 pub mod DumpLemmas
 pub mod DumpAnswerLaws
 pub mod DumpLineLemmas
+pub mod ClassLemmas
+pub mod ClassLineLemmas

@@ -1,6 +1,10 @@
 pub mod TranslatedAnswers
 pub mod LongLines
 pub mod LongTexts
+pub mod LongTextsSupport
 pub mod DumpReasons
 pub mod DumpAnswers
 pub mod LongDumps
+pub mod ClassReasons
+pub mod ClassAnswers
+pub mod LongClasses

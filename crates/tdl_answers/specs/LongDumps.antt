@@ -1,11 +1,10 @@
 -- All long dumps, and all long lines, have the same answers.
-use Rattle.std.specs.Prelude.{ℕ, List}
 use Rattle.gs_tables.specs.Tables.{TableRows}
 use Rattle.gs_translate.specs.declared.reason.Reason.TheVariants.{Long}
 use Rattle.tdl_answers.specs.declared.dump_reason.DumpReason.TheVariants.{Common}
 use Rattle.tdl_answers.specs.DumpAnswers.{IsDumpReadLine, IsDumpWriteLine, ShowsText, WritesText}
 use Rattle.tdl_answers.specs.DumpReasons.{dump_text}
-use Rattle.tdl_answers.specs.LongTexts.{long_lines}
+use Rattle.tdl_answers.specs.LongTextsSupport.{long_lines}
 use Rattle.tdl_lines.specs.OutputsSupport.{AnswersLongAlike}
 
 pub long_dumps_read : (set : TableRows) → AnswersLongAlike (IsDumpReadLine set)

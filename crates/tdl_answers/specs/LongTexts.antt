@@ -1,9 +1,6 @@
 -- Long texts, and answers whose reasons are said in other words.
 use Rattle.std.specs.Prelude.{◌≡◌, ◌≢◌, ◌<◌, ◌≤◌, ℕ, List, length, Result, Ok, Err}
-use Rattle.std.proofs.Math.Nat.{not-le_of_lt}
 use Rattle.tdl_lines.specs.Lines.{longest_text}
-use Rattle.tdl_lines.specs.OutputsSupport.{AnswersLongAlike}
-use Rattle.tdl_messages.specs.AnswerLines.{IsLineOf}
 
 -- trusted, own: An answer to a text: a text of more than 2,048 bytes is long, and any other is answered so.
 pub data AfterLong {A E : Type 0} (long : E) (Short : List ℕ → Result A E → Type 0) (text : List ℕ) (answer : Result A E) : Type 0 where
@@ -22,13 +19,8 @@ pub record Reworded {A E R : Type 0} (memory : E) (say : E → R) (Answer : Resu
   pub is_given : Answer given
   pub is : answer ≡ reworded say given
 
-module _ {A E : Type 0} (long : E) (Short : List ℕ → Result A E → Type 0) where
-  -- all long texts have one answer
-  long_moves : (text other : List ℕ) (answer : Result A E) → longest_text < length text → longest_text < length other → AfterLong long Short text answer → AfterLong long Short other answer
-  long_moves text other answer more more' (is_long _ is) = is_long more' is
-  long_moves text other answer more more' (is_short few _) = absurd (not-le_of_lt more few)
-
--- the lines of all long texts are one
-pub long_lines : {E : Type 0} (long : E) (Short : List ℕ → Result (List ℕ) E → Type 0) (show : E → List ℕ) → AnswersLongAlike (λ text line. IsLineOf show (AfterLong long Short text) line)
-long_lines long Short show text other line more more' is =
-    record { answer = is.answer; is_answer = long_moves long Short text other is.answer more more' is.is_answer; is = is.is }
+-- trusted, own: an answer, with its reason said in other words
+pub record Restated {A E R : Type 0} (say : E → R) (Answer : Result A E → Type 0) (answer : Result A R) : Type 0 where
+  pub given : Result A E
+  pub is_given : Answer given
+  pub is : answer ≡ reworded say given

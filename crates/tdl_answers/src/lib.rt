@@ -17,10 +17,14 @@
 //! - No standard has lines of texts and answers: their form is this project's own (docs/FORMATS.md, 'Lines').
 #![tactic(auto)]
 
+mod class_lines;
+mod class_reason;
 mod dump_lines;
 mod dump_reason;
 mod translated_lines;
 
+pub use class_lines::{ClassCanonLines, ClassUriLines};
+pub use class_reason::ClassReason;
 pub use dump_lines::{DumpReadLines, DumpWriteLines};
 pub use dump_reason::DumpReason;
 pub use translated_lines::{TranslatedLines, answer_lines};

@@ -2,6 +2,8 @@
 use Rattle.std.proofs.Common.{◌≡◌, ℕ, ◌≤◌, ◌&&◌, Bool, true, false, List, [], ◌∷◌, ◌++◌, Option, None, Some, append-nil, arith, drop, length, refl, subst, sym, ◌∙◌, ap, inl, inr}
 use Rattle.std.specs.List.{list_all}
 use Rattle.std.proofs.lemmas.Bool.{le-leb, leb-true}
+use Rattle.std.proofs.lemmas.List.{length-map}
+use Rattle.std.specs.Borrow.{Bor}
 use Rattle.std.specs.Prelude.{bytes_eq, codes, find, option_and_then, option_map}
 use Rattle.gs_chars.proofs.TruthsAndLists.{and_parts, equal_bytes, mapped_some, true_or_false}
 use Rattle.gs_ident.proofs.PairLemmas.{found_passes}
@@ -11,8 +13,8 @@ use Rattle.gs_translate.specs.declared.target.Target.{Target}
 use Rattle.gs_translate.specs.declared.target.Target.TheVariants as target
 use Rattle.gs_translate.specs.StepsSupport.{HasOne}
 use Rattle.tdl_arguments.specs.declared.command.Command.{Command}
-use Rattle.tdl_arguments.specs.declared.command.Command.TheVariants.{Canon, Translate, Check, Resolve, Serve, Gen, DumpRead, DumpWrite, Merge}
-use Rattle.tdl_arguments.specs.CommandReads.{behind_name, canon_of, command_of, gen_of, form_named, forms, operated_of, or_else, plain_command, plain_commands, plain_of, stands_before, target_named, targets, translation_of}
+use Rattle.tdl_arguments.specs.declared.command.Command.TheVariants.{Canon, Translate, Check, Resolve, Serve, Gen, ClassCanon, ClassUri, DumpRead, DumpWrite, Merge}
+use Rattle.tdl_arguments.specs.CommandReads.{behind_name, canon_of, command_of, gen_of, form_named, forms, known_front, operated_of, or_else, plain_command, plain_commands, plain_of, stands_before, target_named, targets, translation_of}
 use Rattle.tdl_arguments.specs.Commands.{command_name, command_words, form_word, operands_in_range, operands_of, target_word}
 use Rattle.tdl_arguments.specs.Requests.{Asked, Asks, NotInOrder, WordsInOrder, asked_of}
 use Rattle.tdl_arguments.specs.Ranges.{lines_of, most_lines}
@@ -60,6 +62,8 @@ command_read (Translate from to) behind fits = rw (form_read from, target_read t
 command_read Check behind fits = refl
 command_read Resolve behind fits = refl
 command_read Serve behind fits = refl
+command_read ClassCanon behind fits = refl
+command_read ClassUri behind fits = refl
 command_read DumpRead behind fits = refl
 command_read DumpWrite behind fits = refl
 command_read Merge behind fits = refl
@@ -107,6 +111,22 @@ plain_spelled words parts e =
     let plain = and_parts _ _ (found_has (λ (command : Command). stands_before (command_name command) words) (λ command. is_empty (operands_of command) && operands_in_range command) plain_commands m.0 refl m.1) in
     let of_found : AreOf words (behind_name words m.0) = rw (no_word (operands_of m.0) plain.0, append-nil (command_name m.0)) (split, plain.1) in
     subst (λ (p : Parts). AreOf words p) m.2 of_found
+
+-- words that stand in front of arguments are no more than these
+stands_length : (front words : List (List ℕ)) → stands_before front words ≡ true → length front ≤ length words
+stands_length [] words e = omega arith
+stands_length (word ∷ front) [] e = absurd (let f : false ≡ true = e in cc)
+stands_length (word ∷ front) (first ∷ words) e =
+    let fewer = stands_length front words (and_parts (bytes_eq first word) (stands_before front words) e).1 in
+    omega arith
+
+-- the words of the command without operands that arguments begin with are no more than these
+pub plain_count : (front : List (Bor (List ℕ))) (words : List (List ℕ)) (count : ℕ) (found : Option Command) (command : Command) → found ≡ plain_command words → found ≡ Some command → known_front front ≡ command_name command → length words ≡ count → length front ≤ count
+plain_count front words count found command is was same counted =
+    let stands = found_passes (λ (command : Command). stands_before (command_name command) words) plain_commands command (sym is ∙ was) in
+    let fewer = stands_length (command_name command) words stands in
+    let fronts : length front ≡ length (command_name command) = sym (length-map front (λ (word : Bor (List ℕ)). word.now)) ∙ ap length same in
+    omega (arith, fewer, fronts, counted)
 
 canon_spelled : (words : List (List ℕ)) (parts : Parts) → canon_of words ≡ Some parts → AreOf (codes "canon" ∷ words) parts
 canon_spelled [] parts e = absurd (let f : None ≡ Some parts = e in cc)

@@ -10,7 +10,7 @@ use Rattle.gs_ident.specs.Links.{canonical_stem}
 use Rattle.gs_translate.specs.Targets.{FitsFilter}
 use Rattle.gs_translate.specs.Translations.{AreInOrder}
 use Rattle.tdl_arguments.specs.declared.name.Name.{Name}
-use Rattle.tdl_arguments.specs.declared.name.Name.TheVariants.{Tables, Prefixes, Links, LinkText, Second, Third, Describe, Voc, Templates, Listen, Count, Filter, Gcp, Encoding, KeysOnly, Stem}
+use Rattle.tdl_arguments.specs.declared.name.Name.TheVariants.{Tables, Prefixes, Links, Describe, Classes, Voc, Listen, Count, Filter, Gcp, Encoding, KeysOnly, Stem, LinkText, Second, Third, Templates}
 use Rattle.tdl_arguments.specs.declared.name.NameRow.{NameRow}
 use Rattle.tdl_arguments.specs.Names.{AreTaken, in_range, is_given, look_up, name_takes, name_word, none_taken, one_taken, row_takes, takes}
 use Rattle.tdl_arguments.specs.Ranges.{filter_of, is_numeral, is_vocabulary}
@@ -19,7 +19,7 @@ use Rattle.tdl_arguments.specs.Requests.{Asked, WordsInOrder, default_voc, no_op
 -- ---- names by their words
 
 names : List Name
-names = Tables ∷ Prefixes ∷ Links ∷ LinkText ∷ Second ∷ Third ∷ Describe ∷ Voc ∷ Templates ∷ Listen ∷ Count ∷ Filter ∷ Gcp ∷ Encoding ∷ KeysOnly ∷ Stem ∷ []
+names = Tables ∷ Prefixes ∷ Links ∷ LinkText ∷ Second ∷ Third ∷ Describe ∷ Classes ∷ Voc ∷ Templates ∷ Listen ∷ Count ∷ Filter ∷ Gcp ∷ Encoding ∷ KeysOnly ∷ Stem ∷ []
 
 abbrev name_of : List ℕ → Option Name
 name_of word = find (λ (name : Name). bytes_eq word (name_word name)) names
@@ -33,6 +33,7 @@ name_read LinkText = refl
 name_read Second = refl
 name_read Third = refl
 name_read Describe = refl
+name_read Classes = refl
 name_read Voc = refl
 name_read Templates = refl
 name_read Listen = refl

@@ -4,7 +4,7 @@ use Rattle.std.specs.List.{find, list_all, list_any}
 use Rattle.std.specs.Option.{option_map}
 use Rattle.gs_dlink.specs.Stems.{stem_ok}
 use Rattle.tdl_arguments.specs.declared.name.Name.{Name}
-use Rattle.tdl_arguments.specs.declared.name.Name.TheVariants.{Tables, Prefixes, Links, LinkText, Second, Third, Describe, Voc, Templates, Listen, Count, Filter, Gcp, Encoding, KeysOnly, Stem}
+use Rattle.tdl_arguments.specs.declared.name.Name.TheVariants.{Tables, Prefixes, Links, Describe, Classes, Voc, Listen, Count, Filter, Gcp, Encoding, KeysOnly, Stem, LinkText, Second, Third, Templates}
 use Rattle.tdl_arguments.specs.declared.name.NameRow.{NameRow}
 use Rattle.tdl_arguments.specs.Ranges.{count_of, filter_of, gcp_of, is_vocabulary}
 
@@ -21,6 +21,7 @@ name_word LinkText = codes "--link-text"
 name_word Second = codes "--second"
 name_word Third = codes "--third"
 name_word Describe = codes "--describe"
+name_word Classes = codes "--classes"
 name_word Voc = codes "--voc"
 name_word Templates = codes "--templates"
 name_word Listen = codes "--listen"
@@ -44,6 +45,7 @@ in_range LinkText value = true
 in_range Second value = true
 in_range Third value = true
 in_range Describe value = true
+in_range Classes value = true
 in_range Voc value = is_vocabulary value
 in_range Templates value = is_yes_or_no value
 in_range Listen value = true

@@ -8,7 +8,7 @@ use Rattle.gs_links.specs.Loads.{keeps_names}
 use Rattle.tdl_arguments.specs.declared.command.Command.{Command}
 use Rattle.tdl_arguments.specs.declared.command.Command.TheVariants.{Merge}
 use Rattle.tdl_arguments.specs.declared.name.Name.{Name}
-use Rattle.tdl_arguments.specs.declared.name.Name.TheVariants.{Tables, Prefixes, Links, LinkText, Second, Third, Describe, Voc, Templates, Listen, Count, Filter, Gcp, Encoding, KeysOnly, Stem}
+use Rattle.tdl_arguments.specs.declared.name.Name.TheVariants.{Tables, Prefixes, Links, Describe, Classes, Voc, Listen, Count, Filter, Gcp, Encoding, KeysOnly, Stem, LinkText, Second, Third, Templates}
 use Rattle.tdl_arguments.specs.declared.request.LinksFile.{LinksFile}
 use Rattle.tdl_arguments.specs.declared.request.LinksFile.TheVariants.{Json, Text}
 use Rattle.tdl_arguments.specs.declared.request.NamedFiles.{NamedFiles}
@@ -34,6 +34,7 @@ pub record FileNames : Type 0 where
   pub second : Option (List ℕ)
   pub third : Option (List ℕ)
   pub describe : Option (List ℕ)
+  pub classes : Option (List ℕ)
 
 -- trusted, own: the values of the names that name no files
 pub record Values : Type 0 where
@@ -71,6 +72,7 @@ named_files pairs = record {
   second = look_up (name_word Second) pairs;
   third = look_up (name_word Third) pairs;
   describe = look_up (name_word Describe) pairs;
+  classes = look_up (name_word Classes) pairs;
 }
 
 -- trusted, own: what stands for `gs1:` in relations where that is not named
@@ -196,9 +198,13 @@ links_named files = first_named files ++ others_named files
 abbrev pub description_named : FileNames → List (List ℕ)
 description_named files = option_to_list files.describe
 
+-- trusted, own: the names of the files of classes
+abbrev pub classes_named : FileNames → List (List ℕ)
+classes_named files = option_to_list files.classes
+
 -- trusted, own: the names of the files that are read, in their order
 abbrev pub names_in_order : FileNames → List (List ℕ)
-names_in_order files = tables_named files ++ (links_named files ++ description_named files)
+names_in_order files = tables_named files ++ (links_named files ++ (description_named files ++ classes_named files))
 
 -- trusted, own: the arguments name a file
 pub record NamesFile (words : List (List ℕ)) (name : List ℕ) : Type 0 where
@@ -213,7 +219,7 @@ NamesNoFile words = (name : List ℕ) → NamesFile words name → ⊥
 -- trusted, own: what is printed where the arguments are not in order
 abbrev pub usage_line : List ℕ
 usage_line =
-    codes "usage: tdl canon FORM | translate FROM TO | check | resolve | serve | gen N | dump read | dump write | merge, then --name value pairs" ++ 10 ∷ []
+    codes "usage: tdl canon FORM | translate FROM TO | check | resolve | serve | gen N | class canon | class uri | dump read | dump write | merge, then --name value pairs" ++ 10 ∷ []
 
 -- trusted, own: the name of a file in a request
 abbrev pub known_name : Option (Bor (List ℕ)) → Option (List ℕ)
@@ -235,6 +241,7 @@ known_files files = record {
   second = known_name files.second;
   third = known_name files.third;
   describe = known_name files.describe;
+  classes = known_name files.classes;
 }
 
 -- trusted, own: the names of the files of a request, in the order in which they are read

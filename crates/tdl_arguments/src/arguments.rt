@@ -170,6 +170,8 @@ fn plain_command(words: &[String]) -> Option<Command>
         Command::Check,
         Command::Resolve,
         Command::Serve,
+        Command::ClassCanon,
+        Command::ClassUri,
         Command::DumpRead,
         Command::DumpWrite,
         Command::Merge,

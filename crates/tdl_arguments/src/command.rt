@@ -20,6 +20,10 @@ pub enum Command {
     Serve,
     /// Translates so many generated lines, and counts the answers.
     Gen(u32),
+    /// Answers each line of the input, a class URI, by the canonical link of what it names.
+    ClassCanon,
+    /// Answers each line of the input, a link, by the class URI of what it names.
+    ClassUri,
     /// Answers each line of the input, a dump of the EPC memory bank, by the line that shows it.
     DumpRead,
     /// Answers each line of the input, which shows a dump of the EPC memory bank, by the dump.
@@ -38,6 +42,13 @@ const TABLES: NameRow = NameRow {
 /// The name of the file of company prefix lengths, which may be absent.
 const PREFIXES: NameRow = NameRow {
     name: Name::Prefixes,
+    instead: None,
+    required: false,
+};
+
+/// The name of the file of classes, which may be absent.
+const CLASSES: NameRow = NameRow {
+    name: Name::Classes,
     instead: None,
     required: false,
 };
@@ -159,6 +170,8 @@ impl Command {
             Command::Resolve => &["resolve"],
             Command::Serve => &["serve"],
             Command::Gen(_) => &["gen"],
+            Command::ClassCanon => &["class", "canon"],
+            Command::ClassUri => &["class", "uri"],
             Command::DumpRead => &["dump", "read"],
             Command::DumpWrite => &["dump", "write"],
             Command::Merge => &["merge"],
@@ -177,6 +190,8 @@ impl Command {
             Command::Serve => &[LINKS_NEEDED, COUNT_NEEDED, TABLES, VOC, TEMPLATES, DESCRIBE, LISTEN],
             Command::Merge => &[JSON_NEEDED, SECOND_NEEDED, THIRD, TABLES, VOC],
             Command::Gen(_) | Command::DumpRead | Command::DumpWrite => &[TABLES],
+            Command::ClassCanon => &[TABLES, CLASSES],
+            Command::ClassUri => &[TABLES, PREFIXES, CLASSES, GCP],
         }
     }
 }

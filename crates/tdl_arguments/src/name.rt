@@ -21,6 +21,8 @@ pub enum Name {
     Third,
     /// The file that describes a resolver.
     Describe,
+    /// The file of the classes of class URIs.
+    Classes,
     /// What stands for `gs1:` in relations.
     Voc,
     /// Whether the references of links are templates.
@@ -54,6 +56,7 @@ impl Name {
             Name::Second => "--second",
             Name::Third => "--third",
             Name::Describe => "--describe",
+            Name::Classes => "--classes",
             Name::Voc => "--voc",
             Name::Templates => "--templates",
             Name::Listen => "--listen",
@@ -71,7 +74,7 @@ impl Name {
         ensures { result ≡ in_range self value.now }
     {
         match self {
-            Name::Tables | Name::Prefixes | Name::Describe | Name::Listen => true,
+            Name::Tables | Name::Prefixes | Name::Describe | Name::Classes | Name::Listen => true,
             Name::Links | Name::LinkText | Name::Second | Name::Third => true,
             Name::Voc => is_vocabulary(value),
             Name::Count => count_of(value).is_some(),

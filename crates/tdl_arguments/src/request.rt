@@ -24,6 +24,8 @@ pub struct NamedFiles<'a> {
     pub third: Option<&'a str>,
     /// The description of a resolver.
     pub describe: Option<&'a str>,
+    /// The classes of class URIs.
+    pub classes: Option<&'a str>,
 }
 
 /// The values of the names that name no files, with their defaults.

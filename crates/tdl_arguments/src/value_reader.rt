@@ -36,6 +36,7 @@ pub fn named_files(words: &[String]) -> NamedFiles<'_>
         second: look_up(words, Name::Second.word()),
         third: look_up(words, Name::Third.word()),
         describe: look_up(words, Name::Describe.word()),
+        classes: look_up(words, Name::Classes.word()),
     }
 }
 

@@ -27,3 +27,4 @@ mod generator;
 mod laws;
 
 pub use generation::generate;
+pub use laws::each_count_has_one_line;

@@ -9,6 +9,8 @@ use Rattle.gs_tables_document.specs.declared.error.LoadFault.{LoadFault}
 use Rattle.gs_tables_document.specs.declared.error.LoadFault.TheVariants.{Json, Version, Limit, Ai, BadKind, BadItem, Mismatch, Duplicate, Ambiguous, Memory}
 use Rattle.gs_tables_document.specs.declared.level_name.LevelName.{LevelName}
 use Rattle.gs_tables_document.specs.declared.level_name.LevelName.TheVariants.{Binary, Tag, Pure}
+use Rattle.gs_class.specs.declared.error.ClassLoadFault.{ClassLoadFault}
+use Rattle.gs_class.specs.declared.error.ClassLoadFault.TheVariants as class
 use Rattle.gs_json.specs.declared.error.JsonFault.{JsonFault}
 use Rattle.gs_json.specs.declared.error.JsonFault.TheVariants as json
 use Rattle.gs_links.specs.declared.error.AnchorWhy.{AnchorWhy}
@@ -28,7 +30,7 @@ use Rattle.tdl_messages.specs.declared.file_kind.FileKind.{FileKind}
 use Rattle.tdl_messages.specs.declared.file_kind.FileKind.TheVariants as kind
 use Rattle.tdl_messages.specs.declared.rejection.Rejection.{Rejection}
 use Rattle.tdl_messages.specs.declared.rejection.FileFault.{FileFault}
-use Rattle.tdl_messages.specs.declared.rejection.FileFault.TheVariants.{Over, Tables, Prefixes, Linkset, Store, LinkText, Place}
+use Rattle.tdl_messages.specs.declared.rejection.FileFault.TheVariants.{Over, Tables, Prefixes, Linkset, Store, Classes, LinkText, Place}
 
 -- trusted, own: the word that a rejection of a kind of file is printed with
 abbrev pub file_word : FileKind → List ℕ
@@ -39,6 +41,7 @@ file_word kind.Second = codes "second"
 file_word kind.Third = codes "third"
 file_word kind.Merge = codes "merge"
 file_word kind.Describe = codes "describe"
+file_word kind.Classes = codes "classes"
 
 -- trusted, own: the most bytes of a kind of file
 abbrev pub file_limit : FileKind → ℕ
@@ -49,6 +52,7 @@ file_limit kind.Second = 16777216
 file_limit kind.Third = 16777216
 file_limit kind.Merge = 16777216
 file_limit kind.Describe = 1048576
+file_limit kind.Classes = 1048576
 
 -- trusted, own: a byte as it is printed: a question mark where it is no visible character
 abbrev pub shown_byte : ℕ → ℕ
@@ -163,6 +167,21 @@ link_text_text text.Memory = codes "text memory"
 abbrev pub place_text : ℕ → PlaceFault → List ℕ
 place_text i (Brace at) = numbered_twice (codes "brace") i at
 place_text i (Code at) = numbered_twice (codes "place") i at
+-- trusted, own: the first pair of classes that shares a text, and a text that shows it
+abbrev pub ambiguous_classes_text : ℕ → ℕ → List ℕ → List ℕ
+ambiguous_classes_text i j text = numbered_twice (codes "ambiguous") i j ++ 32 ∷ text
+
+-- trusted, own: an error of classes
+abbrev pub classes_text : ClassLoadFault → List ℕ
+classes_text (class.Json error) = codes "json " ++ json_text error
+classes_text class.Version = codes "version"
+classes_text class.Limit = codes "limit"
+classes_text (class.BadItem i k) = numbered_twice (codes "bad-item") i k
+classes_text (class.Size i) = numbered (codes "size") i
+classes_text (class.Mismatch i) = numbered (codes "mismatch") i
+classes_text (class.Duplicate j i) = numbered_twice (codes "duplicate") j i
+classes_text (class.Ambiguous i j text) = ambiguous_classes_text i j text
+classes_text class.Memory = codes "memory"
 
 -- trusted, own: why a file is rejected
 abbrev pub error_text : FileFault → List ℕ
@@ -173,6 +192,7 @@ error_text (Linkset error) = codes "json " ++ json_text error
 error_text (Store error) = store_text error
 error_text (LinkText error) = link_text_text error
 error_text (Place i error) = place_text i error
+error_text (Classes error) = classes_text error
 
 -- trusted, own: the line of a rejected file: `refused WHICH REASON`, and a line feed
 abbrev pub rejected_line : Rejection → List ℕ

@@ -18,6 +18,8 @@ pub enum FileKind {
     Merge,
     /// The description of a resolver.
     Describe,
+    /// The classes of class URIs.
+    Classes,
 }
 
 impl FileKind {
@@ -33,6 +35,7 @@ impl FileKind {
             FileKind::Third => b"third",
             FileKind::Merge => b"merge",
             FileKind::Describe => b"describe",
+            FileKind::Classes => b"classes",
         }
     }
 
@@ -45,6 +48,7 @@ impl FileKind {
             FileKind::Prefixes => 4_194_304,
             FileKind::Links | FileKind::Second | FileKind::Third | FileKind::Merge => 16_777_216,
             FileKind::Describe => 1_048_576,
+            FileKind::Classes => 1_048_576,
         }
     }
 }

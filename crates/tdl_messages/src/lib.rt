@@ -21,6 +21,7 @@
 #![tactic(auto)]
 
 mod answer_lines;
+mod class_rejections;
 mod file_kind;
 mod link_rejections;
 mod numbers;

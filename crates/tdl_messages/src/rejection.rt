@@ -1,4 +1,5 @@
 use crate::file_kind::FileKind;
+use gs_class::ClassLoadFault;
 use gs_json::JsonFault;
 use gs_links::StoreFault;
 use gs_linktext_grammar::LinkTextFault;
@@ -23,6 +24,8 @@ pub enum FileFault {
     LinkText(LinkTextFault),
     /// The reference of the link with this number, from 0, is no template of its anchor.
     Place(usize, PlaceFault),
+    /// The classes break a rule, which is never out of memory.
+    Classes(ClassLoadFault),
 }
 
 /// A file that is rejected.

@@ -1,6 +1,7 @@
 ghost use Rattle.std.specs.Prelude.{◌≡◌, ◌++◌, IfOk, OnOk, codes};
 ghost use Rattle.tdl_messages.specs.Rejections.{ai_text, ambiguous_text, error_text, json_text, level_text, limit_text, mismatch_text, of_level, of_level_twice, prefixes_text, rejected_line, shown, shown_byte, tables_text};
 
+use crate::class_rejections::append_classes;
 use crate::link_rejections::{append_link_text, append_place_of, append_store};
 use crate::numbers::{append_numbered_twice, append_words};
 use crate::rejection::{FileFault, Rejection};
@@ -140,7 +141,7 @@ fn append_ambiguous(
 }
 
 /// Appends an error of the form of a document.
-fn append_form(out: &mut Vec<u8>, error: &JsonFault) -> Result<(), Memory>
+pub(crate) fn append_form(out: &mut Vec<u8>, error: &JsonFault) -> Result<(), Memory>
     ensures { OnOk result (out.new.items ≡ out.old.items ++ (codes "json " ++ json_text error.now)) }
 {
     append_word(out, b"json ")?;
@@ -202,6 +203,7 @@ fn append_error(alloc: Global, out: &mut Vec<u8>, error: &FileFault) -> Result<(
         FileFault::Store(error) => append_store(alloc, out, error),
         FileFault::LinkText(error) => append_link_text(alloc, out, *error),
         FileFault::Place(i, error) => append_place_of(alloc, out, *i, *error),
+        FileFault::Classes(error) => append_classes(alloc, out, error),
     }
 }
 

@@ -28,13 +28,14 @@ use Rattle.tdl_run.specs.Works.{CommandEnded, CommandRun, Doorway, Leaves, Outco
 use Rattle.tdl_run.proofs.DoingLemmas.{command_defined, doing_some, either_cause, ended_by}
 use Rattle.tdl_run.proofs.LoadLemmas.{files_some}
 use Rattle.tdl_run.proofs.RanLemmas.{PrintedCase, error, no_memory, printed_case, same_count, takes_nothing, whole}
+use Rattle.tdl_run.proofs.ClassLoads.{classes_kept}
 use Rattle.tdl_run.proofs.ReadLemmas.{loaded_of}
 
 -- ---- what is asked has an outcome
 
 asked_from : (asked : Asked) (world : World) (answer : Result Loaded Stop) → FilesGive world.files asked answer → HasSome (AskedRun asked world)
 asked_from asked world (Ok loaded) gives =
-    let defined = command_defined asked.command asked.values loaded (loaded_of world.files asked loaded gives) in
+    let defined = command_defined asked.command asked.values loaded (loaded_of world.files asked loaded gives) (classes_kept world.files asked loaded gives) in
     let c = doing_some (doing_of asked.command asked.values loaded) (site_of loaded) world.input world.door defined in
     (c.0, ran loaded gives c.1)
 asked_from asked world (Err stop) gives = (stopped stop, stops stop gives refl)

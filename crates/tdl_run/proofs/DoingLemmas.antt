@@ -1,9 +1,10 @@
 -- What is done has an outcome, and no other but such as is alike.
 use Rattle.std.proofs.Common.{◌≡◌, ◌⊎◌, inl, inr, ℕ, ◌||◌, false, List, [], Option, Some, refl, sym, ◌∙◌, ap}
+use Rattle.tdl_answers.proofs.ClassLineLemmas.{one_class_read, one_class_written, some_class_read, some_class_written}
 use Rattle.tdl_answers.proofs.DumpLineLemmas.{one_dump_read, one_dump_written, some_dump_read, some_dump_written}
 use Rattle.tdl_answers.proofs.LineLemmas.{one_translated, some_translated}
 use Rattle.tdl_arguments.specs.declared.command.Command.{Command}
-use Rattle.tdl_arguments.specs.declared.command.Command.TheVariants.{Canon, Translate, Check, Resolve, Serve, Gen, DumpRead, DumpWrite, Merge}
+use Rattle.tdl_arguments.specs.declared.command.Command.TheVariants.{Canon, Translate, Check, Resolve, Serve, Gen, ClassCanon, ClassUri, DumpRead, DumpWrite, Merge}
 use Rattle.tdl_arguments.specs.Commands.{Work, is_on_heads, is_on_lines, on_door, on_heads, on_lines, on_none}
 use Rattle.tdl_arguments.specs.Requests.{Values}
 use Rattle.tdl_gen.proofs.OneCount.{one_generated, some_generated}
@@ -19,9 +20,10 @@ use Rattle.gs_port.specs.Connections.{Finished}
 use Rattle.gs_tables.specs.Judgements.{IsLoaded}
 use Rattle.gs_translate.specs.StepsSupport.{HasOne, HasSome}
 use Rattle.tdl_run.specs.declared.loads.Loaded.{Loaded}
+use Rattle.tdl_run.specs.LoadsSupport.{AreKept}
 use Rattle.tdl_run.specs.RanSupport.{WorkCause}
 use Rattle.tdl_run.specs.Runs.{AreAlike, but_errors, same}
-use Rattle.tdl_run.specs.Works.{Doing, DoingEnded, DoingRun, Doorway, LeavesOutput, LinesAnswered, Outcome, answers, canonizing, counts_line, doing_of, input_limit, merged_line, outcome_of, prints, resolves, serves, translating}
+use Rattle.tdl_run.specs.Works.{Doing, DoingEnded, DoingRun, Doorway, LeavesOutput, LinesAnswered, Outcome, answers, canonizing, counts_line, doing_of, input_limit, outcome_of, prints, resolves, serves, translating, writing_classes, merged_line}
 use Rattle.tdl_run.proofs.RanLemmas.{lines_some}
 use Rattle.tdl_run.proofs.ServeLemmas.{serves_alike, serves_some}
 use Rattle.tdl_run.proofs.SiteLemmas.{one_resolved, some_resolved}
@@ -35,16 +37,18 @@ IsDefined resolves = Unit {0}
 IsDefined (serves count) = Unit {0}
 IsDefined (prints IsOutput) = HasSome IsOutput × HasOne IsOutput
 
-pub command_defined : (command : Command) (values : Values) (loaded : Loaded) → IsLoaded loaded.tables → IsDefined (doing_of command values loaded)
-command_defined (Canon form) values loaded keeps = (some_translated (canonizing loaded form) keeps, one_translated (canonizing loaded form) keeps)
-command_defined (Translate from to) values loaded keeps = (some_translated (translating loaded values from to) keeps, one_translated (translating loaded values from to) keeps)
-command_defined Check values loaded keeps = ((counts_line loaded, refl), (λ one other a b. a ∙ sym b))
-command_defined Resolve values loaded keeps = tt
-command_defined Serve values loaded keeps = tt
-command_defined (Gen lines) values loaded keeps = (some_generated loaded.tables keeps lines, one_generated loaded.tables lines)
-command_defined DumpRead values loaded keeps = (some_dump_read loaded.tables keeps, one_dump_read loaded.tables)
-command_defined DumpWrite values loaded keeps = (some_dump_written loaded.tables keeps, one_dump_written loaded.tables)
-command_defined Merge values loaded keeps = ((merged_line loaded, refl), (λ one other a b. a ∙ sym b))
+pub command_defined : (command : Command) (values : Values) (loaded : Loaded) → IsLoaded loaded.tables → AreKept loaded.tables.ais loaded.classes → IsDefined (doing_of command values loaded)
+command_defined (Canon form) values loaded keeps classes = (some_translated (canonizing loaded form) keeps, one_translated (canonizing loaded form) keeps)
+command_defined (Translate from to) values loaded keeps classes = (some_translated (translating loaded values from to) keeps, one_translated (translating loaded values from to) keeps)
+command_defined Check values loaded keeps classes = ((counts_line loaded, refl), (λ one other a b. a ∙ sym b))
+command_defined Resolve values loaded keeps classes = tt
+command_defined Serve values loaded keeps classes = tt
+command_defined (Gen lines) values loaded keeps classes = (some_generated loaded.tables keeps lines, one_generated loaded.tables lines)
+command_defined ClassCanon values loaded keeps classes = (some_class_read loaded.tables.ais loaded.classes classes.of_table classes.clear, one_class_read loaded.classes classes.clear)
+command_defined ClassUri values loaded keeps classes = (some_class_written (writing_classes loaded values), one_class_written (writing_classes loaded values))
+command_defined DumpRead values loaded keeps classes = (some_dump_read loaded.tables keeps, one_dump_read loaded.tables)
+command_defined DumpWrite values loaded keeps classes = (some_dump_written loaded.tables keeps, one_dump_written loaded.tables)
+command_defined Merge values loaded keeps classes = ((merged_line loaded, refl), (λ one other a b. a ∙ sym b))
 
 -- ---- there is an outcome
 

@@ -15,3 +15,4 @@ pub mod AskedLemmas
 pub mod RunLemmas
 pub mod CompleteLemmas
 pub mod RunLaws
+pub mod ClassLoads

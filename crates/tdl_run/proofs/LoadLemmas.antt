@@ -1,8 +1,14 @@
 -- What files give: one answer, and no other but for the text of an ambiguous level.
-use Rattle.std.proofs.Common.{◌≡◌, ℕ, Bool, ◌<◌, ◌≤◌, List, [], Option, Some, None, length, refl, sym, ◌∙◌, ap, inl, inr, arith, false}
+use Rattle.std.proofs.Common.{◌≡◌, ℕ, ◌<◌, ◌≤◌, Bool, true, false, List, [], Option, Some, None, length, refl, sym, ◌∙◌, ap, inl, inr, arith}
 use Rattle.std.specs.Prelude.{Result, Ok, Err, option_map}
 use Rattle.std.proofs.lemmas.Bool.Decides.{leb_tells}
 use Rattle.gs_ai.specs.declared.row.AiRow.{AiRow}
+use Rattle.gs_class.specs.declared.error.ClassLoadFault.{ClassLoadFault}
+use Rattle.gs_class.specs.Answers.{AreAlike as AlikeClasses, BuiltInAnswer as BuiltInClasses, LoadAnswer as ClassesAnswer, but_text as but_class_text, ruled_bytes, ruled_rows, same as same_classes}
+use Rattle.gs_class.specs.BuiltIn.{built_in_rows}
+use Rattle.gs_class.specs.Sets.{ClassRows, set_of}
+use Rattle.gs_class.proofs.OneClass.{alike as both_alike, some_judged}
+use Rattle.gs_class.proofs.RuledSets.{good_of_bytes, good_of_rows}
 use Rattle.gs_tables_document.specs.declared.error.LoadFault.{LoadFault}
 use Rattle.gs_links.specs.declared.link.Link.{Link}
 use Rattle.gs_links.specs.Loads.{load_answer as store_answer}
@@ -25,12 +31,14 @@ use Rattle.tdl_messages.specs.declared.file_kind.FileKind.TheVariants as kind
 use Rattle.tdl_messages.specs.declared.rejection.FileFault.{FileFault}
 use Rattle.tdl_messages.specs.declared.rejection.FileFault.TheVariants.{LinkText, Over}
 use Rattle.tdl_messages.specs.Rejections.{file_limit}
+use Rattle.gs_http.specs.declared.settings.Settings.{Settings}
+use Rattle.tdl_arguments.specs.declared.command.Command.{Command}
 use Rattle.tdl_arguments.specs.Requests.{Asked, FileNames, LinksName, Values, as_text, in_json, name_of_links}
-use Rattle.tdl_run.specs.declared.loads.Linked.{Linked}
 use Rattle.tdl_run.specs.declared.loads.Loaded.{Loaded}
 use Rattle.tdl_run.specs.declared.loads.Tabled.{Tabled}
-use Rattle.tdl_run.specs.Loads.{AreLinked, GivesOthers, GivesThird, IsNoOther, JudgesFile, JudgesOther, JudgesText, LinkedGive, OtherGives, linked_with, merging, other_verdict, read_as, store_verdict, unread, AreSettings, DescriptionGives, FileGives, FilesGive, Gives, GivesLinks, GivesPrefixes, GivesSettings, IsLoadedOf, AreTabled, AreNone, IsNoLink, IsNoPrefix, AreBytes, JudgesLinks, JudgesPrefixes, JudgesTables, LinksGive, PrefixesGive, SettingsGive, Stop, TabledGive, TablesGive, links_verdict, prefixes_verdict, absent, judged, missing, of_verdict, tables_verdict, too_large}
-use Rattle.tdl_run.specs.Runs.{Ambiguity, ambiguous, of_tables}
+use Rattle.tdl_run.specs.Loads.{AreSettings, ClassesGive, DescriptionGives, FileGives, FilesGive, Gives, GivesClasses, GivesLinks, GivesPrefixes, GivesSettings, IsLoadedOf, AreTabled, AreNone, IsNoLink, IsNoPrefix, AreBytes, JudgesLinks, JudgesPrefixes, JudgesClasses, JudgesTables, LinksGive, PrefixesGive, SettingsGive, Stop, TabledGive, TablesGive, UnnamedClasses, classes_verdict, is_of_classes, links_verdict, prefixes_verdict, absent, judged, missing, of_verdict, tables_verdict, too_large, AreLinked, GivesOthers, GivesThird, IsNoOther, JudgesFile, JudgesOther, JudgesText, LinkedGive, OtherGives, linked_with, merging, other_verdict, read_as, store_verdict, unread}
+use Rattle.tdl_run.specs.Runs.{Ambiguity, ambiguous, of_classes, of_tables}
+use Rattle.tdl_run.specs.declared.loads.Linked.{Linked}
 
 -- ---- at most one answer
 
@@ -168,10 +176,34 @@ settings_one files names values = then_alike (DescriptionGives (Some files) name
     (description_one files names.describe)
     (λ describe x y e f. one_stop (e ∙ sym f))
 
+abbrev classes_stop : Result ClassRows ClassLoadFault → Result ClassRows Stop
+classes_stop answer = of_verdict kind.Classes (classes_verdict answer)
+
+alike_classes : (one other : Result ClassRows ClassLoadFault) → AlikeClasses one other → AlikeStops (classes_stop one) (classes_stop other)
+alike_classes one other (same_classes e) = one_stop (ap classes_stop e)
+alike_classes one other (but_class_text i j text text' e f) = two_texts (of_classes i j) text text' (ap classes_stop e) (ap classes_stop f)
+
+judged_classes_one : (Answer : Result ClassRows ClassLoadFault → Type 0) → ((one other : Result ClassRows ClassLoadFault) → Answer one → Answer other → AlikeClasses one other) → AlikeVerdicts kind.Classes (JudgesClasses Answer)
+judged_classes_one Answer both a b x y = rw (x.is, y.is) (alike_classes x.answer y.answer (both x.answer y.answer x.is_answer y.is_answer))
+
+unnamed_classes_one : (ais : List AiRow) (works : Bool) → AlikeVerdicts kind.Classes (UnnamedClasses ais works)
+unnamed_classes_one ais true = judged_classes_one (BuiltInClasses ais) (both_alike (ruled_rows ais built_in_rows))
+unnamed_classes_one ais false = λ x y e f. one_stop (ap (of_verdict kind.Classes) (e ∙ sym f))
+
+classes_one : (files : List (List ℕ × List ℕ)) (ais : List AiRow) (command : Command) (name : Option (List ℕ)) → AreAlikeAll (ClassesGive (Some files) ais command name)
+classes_one files ais command name = gives_one files kind.Classes (λ bytes. JudgesClasses (ClassesAnswer ais bytes)) (UnnamedClasses ais (is_of_classes command)) name
+    (λ bytes. judged_classes_one (ClassesAnswer ais bytes) (both_alike (ruled_bytes ais bytes)))
+    (unnamed_classes_one ais (is_of_classes command))
+
+with_classes_one : (files : List (List ℕ × List ℕ)) (asked : Asked) (tabled : Tabled) (linked : Linked) (settings : Settings) → AreAlikeAll (GivesClasses (Some files) asked tabled linked settings)
+with_classes_one files asked tabled linked settings = then_alike (ClassesGive (Some files) tabled.tables.ais asked.command asked.files.classes) (IsLoadedOf tabled linked settings)
+    (classes_one files tabled.tables.ais asked.command asked.files.classes)
+    (λ classes x y e f. one_stop (e ∙ sym f))
+
 with_settings_one : (files : List (List ℕ × List ℕ)) (asked : Asked) (tabled : Tabled) (linked : Linked) → AreAlikeAll (GivesSettings (Some files) asked tabled linked)
-with_settings_one files asked tabled linked = then_alike (SettingsGive (Some files) asked.files asked.values) (IsLoadedOf tabled linked)
+with_settings_one files asked tabled linked = then_alike (SettingsGive (Some files) asked.files asked.values) (GivesClasses (Some files) asked tabled linked)
     (settings_one files asked.files asked.values)
-    (λ settings x y e f. one_stop (e ∙ sym f))
+    (with_classes_one files asked tabled linked)
 
 with_links_one : (files : List (List ℕ × List ℕ)) (asked : Asked) (tabled : Tabled) → AreAlikeAll (GivesLinks (Some files) asked tabled)
 with_links_one files asked tabled = then_alike (LinkedGive (Some files) asked.files asked.values tabled.tables.ais) (GivesSettings (Some files) asked tabled)
@@ -259,10 +291,24 @@ settings_some files names values = then_some (DescriptionGives files names.descr
     (description_some files names.describe)
     (λ describe gives. (Ok (record { voc = values.voc; describe = describe; templates = values.templates }), refl))
 
+classes_some_by : (ais : List AiRow) (works : Bool) → HasSome (UnnamedClasses ais works)
+classes_some_by ais true = let some = some_judged (ruled_rows ais built_in_rows) (good_of_rows ais built_in_rows) in (classes_verdict some.0, record { answer = some.0; is_answer = some.1; is = refl })
+classes_some_by ais false = (Ok (set_of []), refl)
+
+classes_some : (files : Option (List (List ℕ × List ℕ))) (ais : List AiRow) (command : Command) (name : Option (List ℕ)) → HasSome (ClassesGive files ais command name)
+classes_some files ais command name = gives_some files kind.Classes (λ bytes. JudgesClasses (ClassesAnswer ais bytes)) (UnnamedClasses ais (is_of_classes command)) name
+    (λ bytes. let some = some_judged (ruled_bytes ais bytes) (good_of_bytes ais bytes) in (classes_verdict some.0, record { answer = some.0; is_answer = some.1; is = refl }))
+    (classes_some_by ais (is_of_classes command))
+
+with_classes_some : (files : Option (List (List ℕ × List ℕ))) (asked : Asked) (tabled : Tabled) (linked : Linked) (settings : Settings) → HasSome (GivesClasses files asked tabled linked settings)
+with_classes_some files asked tabled linked settings = then_some (ClassesGive files tabled.tables.ais asked.command asked.files.classes) (IsLoadedOf tabled linked settings)
+    (classes_some files tabled.tables.ais asked.command asked.files.classes)
+    (λ classes gives. (Ok (record { tables = tabled.tables; prefixes = tabled.prefixes; links = linked.links; merged = linked.merged; settings = settings; classes = classes }), refl))
+
 with_settings_some : (files : Option (List (List ℕ × List ℕ))) (asked : Asked) (tabled : Tabled) (linked : Linked) → HasSome (GivesSettings files asked tabled linked)
-with_settings_some files asked tabled linked = then_some (SettingsGive files asked.files asked.values) (IsLoadedOf tabled linked)
+with_settings_some files asked tabled linked = then_some (SettingsGive files asked.files asked.values) (GivesClasses files asked tabled linked)
     (settings_some files asked.files asked.values)
-    (λ settings gives. (Ok (record { tables = tabled.tables; prefixes = tabled.prefixes; links = linked.links; merged = linked.merged; settings = settings }), refl))
+    (λ settings gives. with_classes_some files asked tabled linked settings)
 
 with_links_some : (files : Option (List (List ℕ × List ℕ))) (asked : Asked) (tabled : Tabled) → HasSome (GivesLinks files asked tabled)
 with_links_some files asked tabled = then_some (LinkedGive files asked.files asked.values tabled.tables.ais) (GivesSettings files asked tabled)

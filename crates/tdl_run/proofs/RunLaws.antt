@@ -13,6 +13,7 @@ use Rattle.tdl_run.specs.Works.{CommandRun, Outcome, doing_of, outcome_of, site_
 use Rattle.tdl_run.proofs.AskedLemmas.{asked_some}
 use Rattle.tdl_run.proofs.DoingLemmas.{command_defined, doing_one}
 use Rattle.tdl_run.proofs.LoadLemmas.{AlikeStops, files_one, one_stop, two_texts}
+use Rattle.tdl_run.proofs.ClassLoads.{classes_kept}
 use Rattle.tdl_run.proofs.ReadLemmas.{loaded_of}
 
 -- stops that are alike leave outcomes that are alike
@@ -36,7 +37,7 @@ pub asked_one : (asked : Asked) (files : List (List ℕ × List ℕ)) (input : L
 asked_one asked files input waiting reads writes one other (ran loaded gives a) (ran loaded' gives' b) =
     let is = same_loaded loaded loaded' (files_one files asked (Ok loaded) (Ok loaded') gives gives') in
     let moved : CommandRun asked.command asked.values loaded (Some input) (record { waiting = Some waiting; reads = reads; writes = writes }) other = rw is b in
-    let defined = command_defined asked.command asked.values loaded (loaded_of (Some files) asked loaded gives) in
+    let defined = command_defined asked.command asked.values loaded (loaded_of (Some files) asked loaded gives) (classes_kept (Some files) asked loaded gives) in
     doing_one (doing_of asked.command asked.values loaded) (site_of loaded) input waiting reads writes defined one other a moved
 asked_one asked files input waiting reads writes one other (ran loaded gives a) (stops stop gives' b) = absurd (not_alike loaded stop (files_one files asked (Ok loaded) (Err stop) gives gives'))
 asked_one asked files input waiting reads writes one other (stops stop gives a) (ran loaded gives' b) = absurd (not_alike loaded stop (files_one files asked (Ok loaded) (Err stop) gives' gives))

@@ -1,5 +1,5 @@
 -- What serving connections did.
-use Rattle.std.proofs.Common.{◌≡◌, ◌≢◌, ◌⊎◌, inl, inr, ℕ, ◌≤◌, zero, suc, true, false, List, [], ◌∷◌, ◌++◌, length, take, Option, None, Some, append-nil, refl, sym, ◌∙◌, ap, arith}
+use Rattle.std.proofs.Common.{◌≡◌, ◌≢◌, ◌⊎◌, inl, inr, ℕ, ◌≤◌, zero, suc, Bool, true, false, List, [], ◌∷◌, ◌++◌, length, take, Option, None, Some, append-nil, refl, sym, ◌∙◌, ap, arith}
 use Rattle.std.specs.Prelude.{IfSome, option_map}
 use Rattle.std.proofs.lemmas.List.{take_all, length-map}
 use Rattle.std.proofs.Math.Seq.{take-append_seam}
@@ -21,7 +21,7 @@ use Rattle.tdl_arguments.specs.declared.command.Command.TheVariants.{Serve}
 use Rattle.tdl_arguments.specs.Requests.{Values}
 use Rattle.tdl_run.specs.declared.loads.Loaded.{Loaded}
 use Rattle.tdl_run.specs.CommandRuns.{BeginsOne, CutShort, Moment}
-use Rattle.tdl_run.specs.RanSupport.{CommandRan}
+use Rattle.tdl_run.specs.RanSupport.{CommandRan, UsesDoor}
 use Rattle.tdl_run.specs.Runs.{AlikeServed, AlikeVisits, more_visits, no_visits}
 use Rattle.tdl_run.specs.Works.{Doorway, FinishesFirst, Leaves, Outcome, Serves, ServesFirst, doorway_of, served_outcome, site_of}
 use Rattle.tdl_run.proofs.RanLemmas.{none_more, same_count}
@@ -203,6 +203,11 @@ still_wait (Some waiting) = refl
 -- a door that is as it was
 pub none_finish : (aside : Aside) → FinishesFirst aside aside
 none_finish aside = record { inputs = []; entries = []; waited = still_wait aside.waiting; finished = none_more aside.finished; as_many = refl }
+
+-- a door behind a command, which is as it was where the command does not use it
+pub door_left : {Door : Type 0} (is_open : Door → Bool) (aside : Door → Aside) (before now : Door) (uses : Bool) (listen : List ℕ) → is_open before ≡ false → (uses ≡ false → now ≡ before) → (uses ≡ true → UsesDoor listen (is_open now) (aside before) (aside now)) → (is_open now ≡ false) × FinishesFirst (aside before) (aside now)
+door_left is_open aside before now true listen none same used = let u = used refl in (u.closed, u.waiting)
+door_left is_open aside before now false listen none same used = rw (same refl) (none, none_finish (aside before))
 
 pub visits_finish : (site : SiteData) (count : ℕ) (door door' : DoorState) (held holds : Option (List ℕ)) (s : Status) → Appends held holds (λ output. ServeRan site count door door' output s) → FinishesFirst door.aside door'.aside
 visits_finish site count door door' held holds s a =

@@ -1,9 +1,12 @@
 -- What files give, and the rows in their place where they are not named.
-use Rattle.std.specs.Prelude.{◌≡◌, ◌≢◌, ℕ, ◌<◌, ◌≤◌, Bool, false, if◌then◌else◌, List, [], length, map, take, Option, Some, None, option_map, Result, Ok, Err, IfOk}
+use Rattle.std.specs.Prelude.{◌≡◌, ℕ, ◌<◌, ◌≤◌, Bool, true, false, List, [], length, take, Option, Some, None, Result, Ok, Err, IfOk, ◌≢◌, if◌then◌else◌, map, option_map}
 use Rattle.std.specs.List.{enumerate_from, flat_map}
 use Rattle.gs_ai.specs.declared.row.AiRow.{AiRow}
 use Rattle.gs_chars.specs.Answers.{first_or}
 use Rattle.gs_tables_document.specs.declared.error.LoadFault.{LoadFault}
+use Rattle.gs_class.specs.declared.error.ClassLoadFault.{ClassLoadFault}
+use Rattle.gs_class.specs.Answers.{BuiltInAnswer as BuiltInClasses, LoadAnswer as ClassesAnswer}
+use Rattle.gs_class.specs.Sets.{ClassRows, set_of}
 use Rattle.gs_http.specs.declared.settings.Settings.{Settings}
 use Rattle.gs_json.specs.declared.error.JsonFault.{JsonFault}
 use Rattle.gs_links.specs.declared.error.StoreFault.{StoreFault}
@@ -28,9 +31,11 @@ use Rattle.gs_translate.specs.Steps.{Then}
 use Rattle.tdl_messages.specs.declared.file_kind.FileKind.{FileKind}
 use Rattle.tdl_messages.specs.declared.file_kind.FileKind.TheVariants as kind
 use Rattle.tdl_messages.specs.declared.rejection.FileFault.{FileFault}
-use Rattle.tdl_messages.specs.declared.rejection.FileFault.TheVariants.{Over, Tables, Prefixes, Linkset, Store, LinkText, Place}
+use Rattle.tdl_messages.specs.declared.rejection.FileFault.TheVariants.{Over, Tables, Prefixes, Linkset, Store, Classes, LinkText, Place}
 use Rattle.tdl_messages.specs.declared.rejection.Rejection.{Rejection}
 use Rattle.tdl_messages.specs.Rejections.{file_limit}
+use Rattle.tdl_arguments.specs.declared.command.Command.{Command}
+use Rattle.tdl_arguments.specs.declared.command.Command.TheVariants.{ClassCanon, ClassUri}
 use Rattle.tdl_arguments.specs.Requests.{Asked, FileNames, LinksName, Values, as_text, in_json, name_of_links}
 use Rattle.tdl_run.specs.declared.loads.Linked.{Linked}
 use Rattle.tdl_run.specs.declared.loads.Loaded.{Loaded}
@@ -246,22 +251,54 @@ AreSettings values describe answer = answer ≡ Ok (record { voc = values.voc; d
 abbrev pub SettingsGive : Option FilesInMemory → FileNames → Values → Result Settings Stop → Type 0
 SettingsGive files names values answer = Then (DescriptionGives files names.describe) (AreSettings values) answer
 
--- trusted, own: what is loaded of these tables and prefixes, these links and these settings
-abbrev pub IsLoadedOf : Tabled → Linked → Settings → Result Loaded Stop → Type 0
-IsLoadedOf tabled linked settings answer =
-    answer ≡ Ok (record { tables = tabled.tables; prefixes = tabled.prefixes; links = linked.links; merged = linked.merged; settings = settings })
+-- trusted, own: the command works on class URIs
+abbrev pub is_of_classes : Command → Bool
+is_of_classes ClassCanon = true
+is_of_classes ClassUri = true
+is_of_classes command = false
 
--- trusted, own: what the file of the description gives behind these tables and prefixes, and these links
+-- trusted, own: the verdict on classes by an answer of their load
+abbrev pub classes_verdict : Result ClassRows ClassLoadFault → Result ClassRows FileFault
+classes_verdict (Ok set) = Ok set
+classes_verdict (Err error) = Err (Classes error)
+
+-- trusted, own: the verdict on classes by what is an answer of their load
+pub record JudgesClasses (Answer : Result ClassRows ClassLoadFault → Type 0) (verdict : Result ClassRows FileFault) : Type 0 where
+  pub answer : Result ClassRows ClassLoadFault
+  pub is_answer : Answer answer
+  pub is : verdict ≡ classes_verdict answer
+
+-- trusted, own: the classes where no file of them is named: the built-in ones of a command that works on class URIs, else none
+abbrev pub UnnamedClasses : List AiRow → Bool → Result ClassRows FileFault → Type 0
+UnnamedClasses ais true verdict = JudgesClasses (BuiltInClasses ais) verdict
+UnnamedClasses ais false verdict = verdict ≡ Ok (set_of [])
+
+-- trusted, own: the classes of the named file, or those in its place, over application identifiers
+abbrev pub ClassesGive : Option FilesInMemory → List AiRow → Command → Option (List ℕ) → Result ClassRows Stop → Type 0
+ClassesGive files ais command name answer =
+    Gives files kind.Classes (λ bytes. JudgesClasses (ClassesAnswer ais bytes)) (UnnamedClasses ais (is_of_classes command)) name answer
+
+-- trusted, own: what is loaded of these tables and prefixes, these links, these settings and these classes
+abbrev pub IsLoadedOf : Tabled → Linked → Settings → ClassRows → Result Loaded Stop → Type 0
+IsLoadedOf tabled linked settings classes answer =
+    answer ≡ Ok (record { tables = tabled.tables; prefixes = tabled.prefixes; links = linked.links; merged = linked.merged; settings = settings; classes = classes })
+
+-- trusted, own: what the file of classes gives behind these tables and prefixes, these links and these settings
+abbrev pub GivesClasses : Option FilesInMemory → Asked → Tabled → Linked → Settings → Result Loaded Stop → Type 0
+GivesClasses files asked tabled linked settings answer =
+    Then (ClassesGive files tabled.tables.ais asked.command asked.files.classes) (IsLoadedOf tabled linked settings) answer
+
+-- trusted, own: what the files of the description and of classes give behind these tables and prefixes, and these links
 abbrev pub GivesSettings : Option FilesInMemory → Asked → Tabled → Linked → Result Loaded Stop → Type 0
-GivesSettings files asked tabled linked answer = Then (SettingsGive files asked.files asked.values) (IsLoadedOf tabled linked) answer
+GivesSettings files asked tabled linked answer = Then (SettingsGive files asked.files asked.values) (GivesClasses files asked tabled linked) answer
 
--- trusted, own: what the files of links and that of the description give behind these tables and prefixes
+-- trusted, own: what the files of links, of the description and of classes give behind these tables and prefixes
 abbrev pub GivesLinks : Option FilesInMemory → Asked → Tabled → Result Loaded Stop → Type 0
 GivesLinks files asked tabled answer =
     Then (LinkedGive files asked.files asked.values tabled.tables.ais) (GivesSettings files asked tabled) answer
 
 -- trusted, own: What the files give, in their order, of what is asked of each, or the first that is not there, is too large
--- or is rejected: the tables and the company prefix lengths, the links, and how requests are answered.
+-- or is rejected: the tables and the company prefix lengths, the links, how requests are answered, and the classes.
 abbrev pub FilesGive : Option FilesInMemory → Asked → Result Loaded Stop → Type 0
 FilesGive files asked answer = Then (TabledGive files asked.files) (GivesLinks files asked) answer
 

@@ -1,10 +1,14 @@
 -- What proofs and private functions say beside the definitions of Loads.antt.
 use Rattle.std.specs.Prelude.{◌≡◌, ◌⊎◌, ℕ, ◌≤◌, List, [], Option, None, Result, Ok, Err}
+use Rattle.gs_ai.specs.declared.row.AiRow.{AiRow}
+use Rattle.gs_class.specs.Sets.{ClassRows, IsClear, IsOfTable}
 use Rattle.gs_port.specs.Counts.{Rises}
 use Rattle.gs_tables.specs.Tables.{TableRows}
+use Rattle.tdl_arguments.specs.declared.command.Command.{Command}
+use Rattle.tdl_messages.specs.declared.file_kind.FileKind.TheVariants.{Classes}
 use Rattle.tdl_run.specs.declared.loads.Unloaded.{Unloaded}
 use Rattle.tdl_run.specs.declared.loads.Unloaded.TheVariants.{Refused, ReadFault, Memory}
-use Rattle.tdl_run.specs.Loads.{FilesInMemory, Stop, TablesGive, OpensFirst, Opens, missing, rejected}
+use Rattle.tdl_run.specs.Loads.{FilesInMemory, StandsFor, Stop, TablesGive, UnnamedClasses, OpensFirst, Opens, is_of_classes, missing, rejected}
 
 -- The answer of a load, by what the files give: an error comes only where the files counted one, or where the first that is
 -- not loaded is not there.
@@ -38,3 +42,12 @@ pub record Loads {A : Type 0} (Give : Option FilesInMemory → Result A Stop →
   pub unopened : names ≡ [] → AsTheyWere
   pub known : now.files ≡ before.files
   pub counts : before.errors ≤ now.errors
+
+-- the answer of a load of classes is that of those in the place of a file that is not named
+abbrev pub AreUnnamedClasses : List AiRow → Command → Result ClassRows Unloaded → Type 0
+AreUnnamedClasses ais command answer = (before now : ℕ) → LoadedBy (StandsFor Classes (UnnamedClasses ais (is_of_classes command))) before now answer
+
+-- classes that are loaded: they are of the table, and no text has two readings by them
+pub record AreKept (ais : List AiRow) (set : ClassRows) : Type 0 where
+  pub of_table : IsOfTable ais set
+  pub clear : IsClear set

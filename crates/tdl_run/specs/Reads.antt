@@ -1,5 +1,8 @@
 -- How the reading of a file and the load of tables end, for a run.
 use Rattle.std.specs.Prelude.{◌≡◌, ◌≢◌, ◌⊎◌, ℕ, ◌<◌, ◌≤◌, List, length, Option, Result, Ok, Err}
+use Rattle.gs_class.specs.declared.error.ClassLoadFault.{ClassLoadFault}
+use Rattle.gs_class.specs.declared.error.ClassLoadFault.TheVariants as class
+use Rattle.gs_class.specs.Sets.{ClassRows}
 use Rattle.gs_tables_document.specs.declared.error.LoadFault.{LoadFault}
 use Rattle.gs_port.specs.Counts.{Rises}
 use Rattle.gs_port.specs.Files.{IsAbsent, IsFile}
@@ -17,7 +20,7 @@ use Rattle.tdl_messages.specs.declared.rejection.FileFault.TheVariants.{LinkText
 use Rattle.tdl_messages.specs.Rejections.{file_limit}
 use Rattle.tdl_run.specs.declared.loads.Unloaded.{Unloaded}
 use Rattle.tdl_run.specs.declared.loads.Unloaded.TheVariants.{Refused, ReadFault, Memory}
-use Rattle.tdl_run.specs.Loads.{FilesInMemory, of_verdict, prefixes_verdict, rejected, tables_verdict}
+use Rattle.tdl_run.specs.Loads.{FilesInMemory, classes_verdict, of_verdict, prefixes_verdict, rejected, tables_verdict}
 
 -- the bytes of a named file, that it has too many, or an error
 abbrev pub ReadBy : Option FilesInMemory → FileKind → List ℕ → ℕ → ℕ → Result (List ℕ) Unloaded → Type 0
@@ -59,3 +62,11 @@ PrefixesUnloadedAs answer (Err Memory) = Unit {0}
 PrefixesUnloadedAs answer (Err ReadFault) = ⊥
 PrefixesUnloadedAs answer (Err (Refused rejection)) =
     (answer ≢ Err prefix.Memory) × (of_verdict kind.Prefixes (prefixes_verdict answer) ≡ Err (rejected rejection))
+
+-- the answer of a load of classes, with out of memory as no rejection
+abbrev pub ClassesUnloadedAs : Result ClassRows ClassLoadFault → Result ClassRows Unloaded → Type 0
+ClassesUnloadedAs answer (Ok set) = answer ≡ Ok set
+ClassesUnloadedAs answer (Err Memory) = Unit {0}
+ClassesUnloadedAs answer (Err ReadFault) = ⊥
+ClassesUnloadedAs answer (Err (Refused rejection)) =
+    (answer ≢ Err class.Memory) × (of_verdict kind.Classes (classes_verdict answer) ≡ Err (rejected rejection))

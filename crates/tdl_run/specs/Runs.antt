@@ -5,15 +5,16 @@ use Rattle.tdl_lines.specs.declared.status.Status.TheVariants as status
 use Rattle.tdl_lines.specs.Inputs.{IsAtEnd, TakesAtMost}
 use Rattle.tdl_lines.specs.Outputs.{Appends}
 use Rattle.tdl_lines.specs.Statuses.{OnAnswered, is_answered}
+use Rattle.gs_class.specs.declared.error.ClassLoadFault.TheVariants.{Ambiguous as AmbiguousClasses}
 use Rattle.gs_tables_document.specs.declared.error.LoadFault.TheVariants.{Ambiguous}
 use Rattle.gs_tables_document.specs.declared.level_name.LevelName.{LevelName}
-use Rattle.tdl_messages.specs.declared.file_kind.FileKind.TheVariants.{Tables}
+use Rattle.tdl_messages.specs.declared.file_kind.FileKind.TheVariants.{Tables, Classes}
 use Rattle.gs_port.specs.Connections.{Aside}
 use Rattle.gs_port.specs.Counts.{Rises}
 use Rattle.gs_port.specs.Files.{AddsNames}
 use Rattle.tdl_serve.specs.Resolutions.{StreamServed}
 use Rattle.tdl_serve.specs.Visits.{Visit, is_done}
-use Rattle.tdl_messages.specs.declared.rejection.FileFault.TheVariants.{Tables as Errored}
+use Rattle.tdl_messages.specs.declared.rejection.FileFault.TheVariants.{Tables as Errored, Classes as ErroredClasses}
 use Rattle.tdl_messages.specs.declared.rejection.Rejection.{Rejection}
 use Rattle.tdl_messages.specs.Rejections.{rejected_line}
 use Rattle.tdl_arguments.specs.declared.request.Request.{Request}
@@ -67,13 +68,16 @@ pub data DefinedRun (words : List (List ℕ)) (world : World) (outcome : Outcome
   by_request : (asked : Asked) → WordsInOrder words asked → AskedRun asked world outcome → DefinedRun words world outcome
   by_usage : NotInOrder words → outcome ≡ outcome_of usage_line status.Usage → DefinedRun words world outcome
 
--- trusted, own: where two derivations of one text were found: at a level of the tables, by a pair of its options
+-- trusted, own: where two derivations of one text were found: at a level of the tables, by a pair of its options, or by a pair of
+-- classes
 pub data Ambiguity : Type 0 where
   of_tables : LevelName → ℕ → ℕ → Ambiguity
+  of_classes : ℕ → ℕ → Ambiguity
 
 -- trusted, own: what a run stops at where two derivations of this text were found
 abbrev pub ambiguous : Ambiguity → List ℕ → Stop
 ambiguous (of_tables name i j) text = rejected (record { kind = Tables; error = Errored (Ambiguous name i j text) })
+ambiguous (of_classes i j) text = rejected (record { kind = Classes; error = ErroredClasses (AmbiguousClasses i j text) })
 
 -- trusted, own: the same connections were served twice: those at which serving was done both times were written the same
 pub data AlikeVisits : List Visit → List Visit → Type 0 where

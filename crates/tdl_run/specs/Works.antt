@@ -21,7 +21,8 @@ use Rattle.gs_translate.specs.Meanings.{IsRead}
 use Rattle.gs_translate.specs.Targets.{kept}
 use Rattle.gs_translate.specs.Translations.{Translating, translating_by}
 use Rattle.tdl_arguments.specs.declared.command.Command.{Command}
-use Rattle.tdl_arguments.specs.declared.command.Command.TheVariants.{Canon, Translate, Check, Resolve, Serve, Gen, DumpRead, DumpWrite, Merge}
+use Rattle.tdl_arguments.specs.declared.command.Command.TheVariants.{Canon, Translate, Check, Resolve, Serve, Gen, ClassCanon, ClassUri, DumpRead, DumpWrite, Merge}
+use Rattle.tdl_answers.specs.ClassAnswers.{ClassWriting, IsClassCanonLine, IsClassUriLine, writing_by}
 use Rattle.tdl_answers.specs.DumpAnswers.{IsDumpReadLine, IsDumpWriteLine}
 use Rattle.tdl_answers.specs.TranslatedAnswers.{IsTranslatedLine}
 use Rattle.tdl_arguments.specs.Commands.{Work, on_door, on_heads, on_lines, on_none, work_of}
@@ -100,6 +101,10 @@ abbrev pub KeepOne : TableRows → Bool → Form → List ℕ → Form → List 
 KeepOne set keys_only form text other given =
     (one two : Meaning) → IsRead set form text (Ok one) → IsRead set other given (Ok two) → (kept set keys_only one).identity ≡ (kept set keys_only two).identity
 
+-- trusted, own: `class uri` writes by the classes and the prefixes that are loaded, and by the length that is named
+abbrev pub writing_classes : Loaded → Values → ClassWriting
+writing_classes loaded values = writing_by loaded.tables loaded.prefixes loaded.classes values.gcp
+
 -- trusted, own: what is left by a command that writes this output, and finishes no connection
 pub record LeavesOutput (IsOutput : List ℕ → Type 0) (outcome : Outcome) : Type 0 where
   pub is_output : IsOutput outcome.output
@@ -166,6 +171,8 @@ doing_of Check values loaded = prints (λ output. output ≡ counts_line loaded)
 doing_of Resolve values loaded = resolves
 doing_of Serve values loaded = serves values.count
 doing_of (Gen lines) values loaded = prints (Generated loaded.tables lines)
+doing_of ClassCanon values loaded = answers (IsClassCanonLine loaded.classes)
+doing_of ClassUri values loaded = answers (IsClassUriLine (writing_classes loaded values))
 doing_of DumpRead values loaded = answers (IsDumpReadLine loaded.tables)
 doing_of DumpWrite values loaded = answers (IsDumpWriteLine loaded.tables)
 doing_of Merge values loaded = prints (λ output. output ≡ merged_line loaded)

@@ -1,15 +1,16 @@
 ghost use Rattle.std.specs.Prelude.{◌≡◌, ◌≤◌, None, false, true};
-ghost use Rattle.tdl_serve.specs.Doors.{OpensAt};
 ghost use Rattle.tdl_serve.specs.Resolutions.{StreamServed};
 ghost use Rattle.gs_tables.specs.Judgements.{IsLoaded};
 ghost use Rattle.gs_translate.specs.Translations.{AreInOrder};
 ghost use Rattle.tdl_arguments.specs.Commands.{answers_heads, reads_input, uses_door};
 ghost use Rattle.tdl_arguments.specs.Requests.{options_of, known_values};
 ghost use Rattle.tdl_run.specs.CommandRuns.{moment_of};
-ghost use Rattle.tdl_run.specs.RanSupport.{CommandRan};
-ghost use Rattle.tdl_run.specs.Works.{FinishesFirst, Leaves, doorway_of, site_of};
+ghost use Rattle.tdl_run.specs.LoadsSupport.{AreKept};
+ghost use Rattle.tdl_run.specs.RanSupport.{CommandRan, UsesDoor};
+ghost use Rattle.tdl_run.specs.Works.{Leaves, doorway_of, site_of};
 
 use crate::check_command::check;
+use crate::class_command::{link_classes, write_classes};
 use crate::dump_command::{show_dumps, write_dumps};
 use crate::loads::Loaded;
 use crate::merge_command::print_merged;
@@ -45,6 +46,7 @@ pub fn run_command<S: Source, K: Sink, D: Door>(
 ) -> Status
     requires none_open { D.is_open door.old ≡ false }
     requires loaded { IsLoaded loaded.now.tables }
+    requires classes { AreKept loaded.now.tables.ais loaded.now.classes }
     requires options { AreInOrder (options_of (known_values values)) }
     ensures ran { Leaves (K.held output.old) (K.held output.new)
         (D.aside door.old).finished (D.aside door.new).finished result
@@ -57,10 +59,8 @@ pub fn run_command<S: Source, K: Sink, D: Door>(
         (S.left input.old) (S.left input.new) None None (K.held output.old) (K.held output.new) }
     ensures unread { reads_input command ≡ false → input.new ≡ input.old }
     ensures unserved { uses_door command ≡ false → door.new ≡ door.old }
-    ensures closed { D.is_open door.new ≡ false }
-    ensures waiting { FinishesFirst (D.aside door.old) (D.aside door.new) }
-    ensures listens { uses_door command ≡ true
-        → OpensAt (known_values values.entry).listen (D.aside door.old) (D.aside door.new) }
+    ensures used { uses_door command ≡ true → UsesDoor (known_values values.entry).listen
+        (D.is_open door.new) (D.aside door.old) (D.aside door.new) }
     ensures door_counts { (D.aside door.old).errors ≤ (D.aside door.new).errors }
 {
     match command {
@@ -79,6 +79,8 @@ pub fn run_command<S: Source, K: Sink, D: Door>(
             output,
         ),
         Command::Gen(lines) => generate(alloc, &loaded.tables, lines, output),
+        Command::ClassCanon => link_classes(alloc, loaded, input, output),
+        Command::ClassUri => write_classes(alloc, values, loaded, input, output),
         Command::DumpRead => show_dumps(alloc, loaded, input, output),
         Command::DumpWrite => write_dumps(alloc, loaded, input, output),
         Command::Merge => print_merged(alloc, loaded, output),

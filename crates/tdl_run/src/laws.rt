@@ -18,7 +18,7 @@ pub fn words_ask_for_one_thing()
 {}
 
 /// Arguments have one outcome, output, finished connections and status, over files, an input and waiting connections that are known,
-/// and no other but for the text that shows an ambiguous level of the tables, and for the errors of connections.
+/// and no other but for the text that shows an ambiguous level of the tables or ambiguous classes, and for the errors of connections.
 pub fn words_have_one_outcome()
     ensures at_most_one { (words : List (List ℕ)) → HasOneOutcome words }
     ensures some { (words : List (List ℕ)) (world : World) → HasSome (DefinedRun words world) }

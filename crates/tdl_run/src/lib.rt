@@ -22,6 +22,8 @@
 
 mod answered_input;
 mod check_command;
+mod class_command;
+mod classes;
 mod commands;
 mod dump_command;
 mod laws;

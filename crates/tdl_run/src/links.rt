@@ -37,7 +37,8 @@ pub struct Judging<'a> {
 
 /// The links of a store, where none of their references is a template that is not in order.
 fn placed(judging: Judging<'_>, store: Store) -> Result<Store, Unloaded>
-    ensures { JudgedAs judging.entry.kind (placed judging.entry.templates judging.entry.ais.now store) result }
+    ensures { JudgedAs judging.entry.kind (placed judging.entry.templates judging.entry.ais.now store)
+        result }
 {
     if !judging.templates {
         return Ok(store);
@@ -70,8 +71,8 @@ pub fn load_store(alloc: Global, judging: Judging<'_>, doc: LinkDoc) -> Result<S
 /// The links that bytes are in JSON.
 fn judge_json(alloc: Global, judging: Judging<'_>, bytes: &[u8]) -> Result<Store, Unloaded>
     requires { is_vocabulary judging.voc.now ≡ true }
-    ensures { JudgedAs judging.entry.kind (links_verdict judging.entry.templates judging.entry.ais.now judging.entry.voc.now
-        (read_answer bytes.now)) result }
+    ensures { JudgedAs judging.entry.kind (links_verdict judging.entry.templates judging.entry.ais.now
+        judging.entry.voc.now (read_answer bytes.now)) result }
 {
     match read(alloc, bytes) {
         Ok(doc) => load_store(alloc, judging, doc),
@@ -101,7 +102,8 @@ fn unread_text(kind: FileKind, error: LinkTextFault) -> Unloaded
 /// The links that bytes are as text.
 fn judge_text(alloc: Global, judging: Judging<'_>, bytes: &[u8]) -> Result<Store, Unloaded>
     requires { is_vocabulary judging.voc.now ≡ true }
-    ensures { JudgedBy judging.entry.kind (JudgesText judging.entry.templates judging.entry.ais.now judging.entry.voc.now bytes.now) result }
+    ensures { JudgedBy judging.entry.kind (JudgesText judging.entry.templates judging.entry.ais.now
+        judging.entry.voc.now bytes.now) result }
 {
     match gs_linktext::read(alloc, bytes) {
         Ok(doc) => load_store(alloc, judging, doc),
@@ -128,8 +130,8 @@ fn judge_named(
     bytes: &[u8],
 ) -> Result<Store, Unloaded>
     requires { is_vocabulary judging.voc.now ≡ true }
-    ensures { JudgedBy judging.entry.kind (JudgesFile judging.entry.templates judging.entry.ais.now judging.entry.voc.now
-        (known_links (Some file.entry)) bytes.now) result }
+    ensures { JudgedBy judging.entry.kind (JudgesFile judging.entry.templates judging.entry.ais.now
+        judging.entry.voc.now (known_links (Some file.entry)) bytes.now) result }
 {
     match file {
         LinksFile::Text(_) => judge_text(alloc, judging, bytes),
@@ -145,8 +147,8 @@ fn judge_file(
     bytes: &[u8],
 ) -> Result<Store, Unloaded>
     requires { is_vocabulary judging.voc.now ≡ true }
-    ensures { JudgedBy judging.entry.kind (JudgesFile judging.entry.templates judging.entry.ais.now judging.entry.voc.now
-        (known_links file.entry) bytes.now) result }
+    ensures { JudgedBy judging.entry.kind (JudgesFile judging.entry.templates judging.entry.ais.now
+        judging.entry.voc.now (known_links file.entry) bytes.now) result }
 {
     match file {
         Some(file) => judge_named(alloc, judging, file, bytes),
@@ -215,7 +217,8 @@ fn judge_other(
     bytes: &[u8],
 ) -> Result<Option<Store>, Unloaded>
     requires { is_vocabulary voc.now ≡ true }
-    ensures { JudgedAs kind (other_verdict (links_verdict false ais.now voc.now (read_answer bytes.now))) result }
+    ensures { JudgedAs kind (other_verdict (links_verdict false ais.now voc.now (read_answer bytes.now)))
+        result }
 {
     let judging = Judging {
         kind,

@@ -4,11 +4,13 @@ ghost use Rattle.tdl_arguments.specs.Requests.{all_named, description_named, kno
 ghost use Rattle.tdl_run.specs.Loads.{FilesGive, SettingsGive, TabledGive};
 ghost use Rattle.tdl_run.specs.LoadsSupport.{Loads, files_known};
 
+use crate::classes::load_classes;
 use crate::linked::load_linked;
 use crate::named_files::read_if_named;
 use crate::prefixes::load_prefixes;
 use crate::tables::load_tables;
 use gs_chars::{Memory, Text};
+use gs_class::ClassSet;
 use gs_http::Settings;
 use gs_links::Store;
 use gs_linkset::LinkDoc;
@@ -50,6 +52,8 @@ pub struct Loaded {
     pub merged: LinkDoc,
     /// How requests are answered: the vocabulary, the description of the resolver, and whether references are templates.
     pub settings: Settings,
+    /// The classes of class URIs.
+    pub classes: ClassSet,
 }
 
 // by hand, so that a function that drops what was loaded calls this one: a derived drop is written out at each of its exits
@@ -61,6 +65,7 @@ impl Drop for Loaded {
             links: _,
             merged: _,
             settings: _,
+            classes: _,
         } = self;
     }
 }
@@ -125,9 +130,9 @@ fn load_settings<F: Files>(
     })
 }
 
-/// Loads the files in their order, tables and company prefix lengths, links, second and third ones, and then the description, up
-/// to the first that is not there, cannot be read or is rejected. What is not named is the built-in tables, and no prefix, no link
-/// and no description.
+/// Loads the files in their order, tables and company prefix lengths, links, second and third ones, the description, and then the
+/// classes, up to the first that is not there, cannot be read or is rejected. What is not named is the built-in tables, no prefix, no
+/// link, no description, and the built-in classes of a command that works on class URIs, else none.
 pub fn load_files<F: Files>(
     alloc: Global,
     request: Request<'_>,
@@ -140,13 +145,15 @@ pub fn load_files<F: Files>(
         (files_known (F.files files.new) (F.opened files.new) (F.errors files.new)) result }
 {
     let Request {
+        command,
         files: named,
         values,
-        ..
     } = request;
     let tabled = load_tabled(alloc, named, files)?;
-    let linked = load_linked(alloc, tabled.tables.ais(), values, named, files)?;
+    let table = tabled.tables.ais();
+    let linked = load_linked(alloc, table, values, named, files)?;
     let settings = load_settings(alloc, values, named, files)?;
+    let classes = load_classes(alloc, table, command, named.classes, files)?;
     let Tabled { tables, prefixes } = tabled;
     let Linked { links, merged } = linked;
     Ok(Loaded {
@@ -155,5 +162,6 @@ pub fn load_files<F: Files>(
         links,
         merged,
         settings,
+        classes,
     })
 }

@@ -1,6 +1,7 @@
 //! Calls of gs_tables. A LEVEL is `binary`, `tag` or `pure`.
 //!
 //! - `load DOC`: the numbers of application identifiers, kinds and options of each level, or the rejection.
+//! - `migrate DOC`: the migrated text of the document, or the rejection.
 //! - `builtin`: the same numbers of the built-in set. `kind I`: the name, key, lead digits and serial of its kind I, and the
 //!   lengths of its further fields.
 //! - `option LEVEL I`: the kind, encoding, prefix length and items of its option I of the level, each item that has a field
@@ -17,13 +18,15 @@ enum Call {
     Builtin,
     Kind,
     Load,
+    Migrate,
     Option,
 }
 
-const CALLS: [(&str, Call); 4] = [
+const CALLS: [(&str, Call); 5] = [
     ("builtin", Call::Builtin),
     ("kind", Call::Kind),
     ("load", Call::Load),
+    ("migrate", Call::Migrate),
     ("option", Call::Option),
 ];
 
@@ -33,6 +36,7 @@ pub fn answer(alloc: Global, line: &mut Line, set: &TableSet, call: &[u8], args:
     match named(&CALLS, call) {
         Some(Call::Builtin) => add_counts(line, set),
         Some(Call::Load) => load(alloc, line, first),
+        Some(Call::Migrate) => migrate(alloc, line, first),
         Some(Call::Kind) => return kind(line, set, first),
         Some(Call::Option) => return option(line, set, first, bytes_at(args, 1)),
         None => return Err(Rejection::NoCase),
@@ -75,6 +79,14 @@ pub fn set_of(alloc: Global, document: &[u8]) -> Result<TableSet, Rejection> {
 fn load(alloc: Global, line: &mut Line, document: &[u8]) {
     match TableSet::load(alloc, document) {
         Ok(set) => add_counts(line, &set),
+        Err(error) => add_error(line, error),
+    }
+}
+
+/// Writes the migrated text of a document, or the rejection.
+fn migrate(alloc: Global, line: &mut Line, document: &[u8]) {
+    match gs_tables::migrate(alloc, document) {
+        Ok(text) => line.bytes(text.as_bytes()),
         Err(error) => add_error(line, error),
     }
 }

@@ -3,7 +3,7 @@ use Rattle.std.proofs.lemmas.Bool.{false≢true}
 use Rattle.tdl_arguments.specs.Requests.{known_values}
 use Rattle.tdl_run.proofs.RanLemmas.{none_more, ran_of_line}
 use Rattle.tdl_run.proofs.GenLemmas.{gen_ran}
-use Rattle.tdl_run.proofs.ServeLemmas.{none_finish, serve_ran, visits_finish}
+use Rattle.tdl_run.proofs.ServeLemmas.{serve_ran, visits_finish}
 use Rattle.tdl_run.proofs.SiteLemmas.{resolve_ran}
 use Rattle.tdl_run.proofs.commands.run_command.Goals as goal
 
@@ -104,60 +104,6 @@ returns-in-Resolve-clause-unread g c = rw c.in-Resolve.is (λ none. absurd (fals
 pub returns-in-Serve-clause-unserved : goal.returns-in-Serve-clause-unserved
 returns-in-Serve-clause-unserved g c = rw c.in-Serve.is (λ none. absurd (false≢true (sym none)))
 
-pub returns-in-Canon-clause-closed : goal.returns-in-Canon-clause-closed
-returns-in-Canon-clause-closed g c = c.requires.none_open
-
-pub returns-in-Canon-clause-waiting : goal.returns-in-Canon-clause-waiting
-returns-in-Canon-clause-waiting g c = none_finish _
-
-pub returns-in-Canon-clause-listens : goal.returns-in-Canon-clause-listens
-returns-in-Canon-clause-listens g c = rw c.in-Canon.is (λ uses. absurd (false≢true uses))
-
-pub returns-in-Translate-clause-closed : goal.returns-in-Translate-clause-closed
-returns-in-Translate-clause-closed g c = c.requires.none_open
-
-pub returns-in-Translate-clause-waiting : goal.returns-in-Translate-clause-waiting
-returns-in-Translate-clause-waiting g c = none_finish _
-
-pub returns-in-Translate-clause-listens : goal.returns-in-Translate-clause-listens
-returns-in-Translate-clause-listens g c = rw c.in-Translate.is (λ uses. absurd (false≢true uses))
-
-pub returns-in-Check-clause-closed : goal.returns-in-Check-clause-closed
-returns-in-Check-clause-closed g c = c.requires.none_open
-
-pub returns-in-Check-clause-waiting : goal.returns-in-Check-clause-waiting
-returns-in-Check-clause-waiting g c = none_finish _
-
-pub returns-in-Check-clause-listens : goal.returns-in-Check-clause-listens
-returns-in-Check-clause-listens g c = rw c.in-Check.is (λ uses. absurd (false≢true uses))
-
-pub returns-in-Resolve-clause-closed : goal.returns-in-Resolve-clause-closed
-returns-in-Resolve-clause-closed g c = c.requires.none_open
-
-pub returns-in-Resolve-clause-waiting : goal.returns-in-Resolve-clause-waiting
-returns-in-Resolve-clause-waiting g c = none_finish _
-
-pub returns-in-Resolve-clause-listens : goal.returns-in-Resolve-clause-listens
-returns-in-Resolve-clause-listens g c = rw c.in-Resolve.is (λ uses. absurd (false≢true uses))
-
-pub returns-in-Gen-clause-closed : goal.returns-in-Gen-clause-closed
-returns-in-Gen-clause-closed g c = c.requires.none_open
-
-pub returns-in-Gen-clause-waiting : goal.returns-in-Gen-clause-waiting
-returns-in-Gen-clause-waiting g c = none_finish _
-
-pub returns-in-Gen-clause-listens : goal.returns-in-Gen-clause-listens
-returns-in-Gen-clause-listens g c = rw c.in-Gen.is (λ uses. absurd (false≢true uses))
-
-pub returns-in-Serve-clause-closed : goal.returns-in-Serve-clause-closed
-returns-in-Serve-clause-closed g c = c.serve.ensures.closed
-
-pub returns-in-Serve-clause-waiting : goal.returns-in-Serve-clause-waiting
-returns-in-Serve-clause-waiting g c = visits_finish _ _ _ _ _ _ c.serve.result c.serve.ensures.ran
-
-pub returns-in-Serve-clause-listens : goal.returns-in-Serve-clause-listens
-returns-in-Serve-clause-listens g c = λ uses. c.serve.ensures.opens
-
 pub returns-in-DumpRead-clause-ran : goal.returns-in-DumpRead-clause-ran
 returns-in-DumpRead-clause-ran g c = rw c.in-DumpRead.is ([], none_more _, c.show_dumps.ensures)
 
@@ -188,23 +134,60 @@ returns-in-DumpWrite-clause-unserved g c = λ none. refl
 pub returns-in-DumpWrite-clause-door_counts : goal.returns-in-DumpWrite-clause-door_counts
 returns-in-DumpWrite-clause-door_counts g c = omega arith
 
-pub returns-in-DumpRead-clause-closed : goal.returns-in-DumpRead-clause-closed
-returns-in-DumpRead-clause-closed g c = c.requires.none_open
+pub returns-in-Canon-clause-used : goal.returns-in-Canon-clause-used
+returns-in-Canon-clause-used g c = rw c.in-Canon.is (λ uses. absurd (false≢true uses))
 
-pub returns-in-DumpRead-clause-waiting : goal.returns-in-DumpRead-clause-waiting
-returns-in-DumpRead-clause-waiting g c = none_finish _
+pub returns-in-Translate-clause-used : goal.returns-in-Translate-clause-used
+returns-in-Translate-clause-used g c = rw c.in-Translate.is (λ uses. absurd (false≢true uses))
 
-pub returns-in-DumpRead-clause-listens : goal.returns-in-DumpRead-clause-listens
-returns-in-DumpRead-clause-listens g c = rw c.in-DumpRead.is (λ uses. absurd (false≢true uses))
+pub returns-in-Check-clause-used : goal.returns-in-Check-clause-used
+returns-in-Check-clause-used g c = rw c.in-Check.is (λ uses. absurd (false≢true uses))
 
-pub returns-in-DumpWrite-clause-closed : goal.returns-in-DumpWrite-clause-closed
-returns-in-DumpWrite-clause-closed g c = c.requires.none_open
+pub returns-in-Resolve-clause-used : goal.returns-in-Resolve-clause-used
+returns-in-Resolve-clause-used g c = rw c.in-Resolve.is (λ uses. absurd (false≢true uses))
 
-pub returns-in-DumpWrite-clause-waiting : goal.returns-in-DumpWrite-clause-waiting
-returns-in-DumpWrite-clause-waiting g c = none_finish _
+pub returns-in-Gen-clause-used : goal.returns-in-Gen-clause-used
+returns-in-Gen-clause-used g c = rw c.in-Gen.is (λ uses. absurd (false≢true uses))
 
-pub returns-in-DumpWrite-clause-listens : goal.returns-in-DumpWrite-clause-listens
-returns-in-DumpWrite-clause-listens g c = rw c.in-DumpWrite.is (λ uses. absurd (false≢true uses))
+pub returns-in-DumpRead-clause-used : goal.returns-in-DumpRead-clause-used
+returns-in-DumpRead-clause-used g c = rw c.in-DumpRead.is (λ uses. absurd (false≢true uses))
+
+pub returns-in-DumpWrite-clause-used : goal.returns-in-DumpWrite-clause-used
+returns-in-DumpWrite-clause-used g c = rw c.in-DumpWrite.is (λ uses. absurd (false≢true uses))
+
+pub returns-in-Serve-clause-used : goal.returns-in-Serve-clause-used
+returns-in-Serve-clause-used g c =
+    λ uses. record { closed = c.serve.ensures.closed; waiting = visits_finish _ _ _ _ _ _ c.serve.result c.serve.ensures.ran; listens = c.serve.ensures.opens }
+
+pub returns-in-ClassCanon-clause-ran : goal.returns-in-ClassCanon-clause-ran
+returns-in-ClassCanon-clause-ran g c = rw c.in-ClassCanon.is ([], none_more _, c.link_classes.ensures)
+
+pub returns-in-ClassCanon-clause-served : goal.returns-in-ClassCanon-clause-served
+returns-in-ClassCanon-clause-served g c = rw c.in-ClassCanon.is (λ heads. absurd (false≢true heads))
+
+pub returns-in-ClassCanon-clause-unread : goal.returns-in-ClassCanon-clause-unread
+returns-in-ClassCanon-clause-unread g c = rw c.in-ClassCanon.is (λ none. absurd (false≢true (sym none)))
+
+pub returns-in-ClassCanon-clause-unserved : goal.returns-in-ClassCanon-clause-unserved
+returns-in-ClassCanon-clause-unserved g c = λ none. refl
+
+pub returns-in-ClassCanon-clause-door_counts : goal.returns-in-ClassCanon-clause-door_counts
+returns-in-ClassCanon-clause-door_counts g c = omega arith
+
+pub returns-in-ClassUri-clause-ran : goal.returns-in-ClassUri-clause-ran
+returns-in-ClassUri-clause-ran g c = rw c.in-ClassUri.is ([], none_more _, c.write_classes.ensures)
+
+pub returns-in-ClassUri-clause-served : goal.returns-in-ClassUri-clause-served
+returns-in-ClassUri-clause-served g c = rw c.in-ClassUri.is (λ heads. absurd (false≢true heads))
+
+pub returns-in-ClassUri-clause-unread : goal.returns-in-ClassUri-clause-unread
+returns-in-ClassUri-clause-unread g c = rw c.in-ClassUri.is (λ none. absurd (false≢true (sym none)))
+
+pub returns-in-ClassUri-clause-unserved : goal.returns-in-ClassUri-clause-unserved
+returns-in-ClassUri-clause-unserved g c = λ none. refl
+
+pub returns-in-ClassUri-clause-door_counts : goal.returns-in-ClassUri-clause-door_counts
+returns-in-ClassUri-clause-door_counts g c = omega arith
 
 pub returns-in-Merge-clause-ran : goal.returns-in-Merge-clause-ran
 returns-in-Merge-clause-ran g c =
@@ -223,11 +206,11 @@ returns-in-Merge-clause-unserved g c = λ none. refl
 pub returns-in-Merge-clause-door_counts : goal.returns-in-Merge-clause-door_counts
 returns-in-Merge-clause-door_counts g c = omega arith
 
-pub returns-in-Merge-clause-closed : goal.returns-in-Merge-clause-closed
-returns-in-Merge-clause-closed g c = c.requires.none_open
+pub returns-in-Merge-clause-used : goal.returns-in-Merge-clause-used
+returns-in-Merge-clause-used g c = rw c.in-Merge.is (λ uses. absurd (false≢true uses))
 
-pub returns-in-Merge-clause-waiting : goal.returns-in-Merge-clause-waiting
-returns-in-Merge-clause-waiting g c = none_finish _
+pub returns-in-ClassCanon-clause-used : goal.returns-in-ClassCanon-clause-used
+returns-in-ClassCanon-clause-used g c = rw c.in-ClassCanon.is (λ uses. absurd (false≢true uses))
 
-pub returns-in-Merge-clause-listens : goal.returns-in-Merge-clause-listens
-returns-in-Merge-clause-listens g c = rw c.in-Merge.is (λ uses. absurd (false≢true uses))
+pub returns-in-ClassUri-clause-used : goal.returns-in-ClassUri-clause-used
+returns-in-ClassUri-clause-used g c = rw c.in-ClassUri.is (λ uses. absurd (false≢true uses))

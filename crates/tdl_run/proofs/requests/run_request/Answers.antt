@@ -4,9 +4,13 @@ use Rattle.tdl_run.specs.Runs.{listens, not_opened, served, unserved}
 use Rattle.tdl_lines.specs.Statuses.{is_answered, is_rejection}
 use Rattle.tdl_lines.proofs.StatusLemmas.{when_always}
 use Rattle.tdl_run.proofs.AskedLemmas.{asked_of_command, asked_of_report, ended_of_command, never_rejected, reports_answered, reports_nothing, reports_unanswered}
+use Rattle.tdl_run.proofs.ClassLoads.{classes_kept}
 use Rattle.tdl_run.proofs.RanLemmas.{none_more}
-use Rattle.tdl_run.proofs.ServeLemmas.{none_finish}
+use Rattle.tdl_run.proofs.ServeLemmas.{door_left, none_finish}
 use Rattle.tdl_run.proofs.requests.run_request.Goals as goal
+
+pub run_command-requires-clause-classes : goal.run_command-requires-clause-classes
+run_command-requires-clause-classes g c = classes_kept (g.F.Files.files c.args.files.now) (known_request c.args.request) c.in-Ok.loaded c.in-Ok.ensures.loaded
 
 pub returns-in-Ok-clause-ran : goal.returns-in-Ok-clause-ran
 returns-in-Ok-clause-ran g c =
@@ -89,13 +93,15 @@ pub returns-in-Ok-clause-untouched : goal.returns-in-Ok-clause-untouched
 returns-in-Ok-clause-untouched g c = inr (c.in-Ok.loaded, c.in-Ok.ensures.loaded)
 
 pub returns-in-Ok-clause-closed : goal.returns-in-Ok-clause-closed
-returns-in-Ok-clause-closed g c = c.run_command.ensures.closed
+returns-in-Ok-clause-closed g c =
+    (door_left g.D.Conn.is_open g.D.Conn.aside _ _ _ _ c.requires.none_open c.run_command.ensures.unserved c.run_command.ensures.used).0
 
 pub returns-in-Ok-clause-waiting : goal.returns-in-Ok-clause-waiting
-returns-in-Ok-clause-waiting g c = c.run_command.ensures.waiting
+returns-in-Ok-clause-waiting g c =
+    (door_left g.D.Conn.is_open g.D.Conn.aside _ _ _ _ c.requires.none_open c.run_command.ensures.unserved c.run_command.ensures.used).1
 
 pub returns-in-Ok-clause-listens : goal.returns-in-Ok-clause-listens
-returns-in-Ok-clause-listens g c = λ uses. listens (c.run_command.ensures.listens uses)
+returns-in-Ok-clause-listens g c = λ uses. let used = c.run_command.ensures.used uses in listens used.listens
 
 pub returns-in-Err-clause-untouched : goal.returns-in-Err-clause-untouched
 returns-in-Err-clause-untouched g c = inl (refl, refl)

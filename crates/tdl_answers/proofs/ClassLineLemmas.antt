@@ -1,0 +1,82 @@
+-- The answer lines of class URIs, and of links by class URIs: each text has one.
+use Rattle.std.proofs.Common.{◌≡◌, ℕ, List, Some, slice_get, subst, ap, refl, sym, ◌∙◌}
+use Rattle.std.specs.Prelude.{◌≢◌, Result, Ok, Err}
+use Rattle.gs_ai.specs.declared.row.AiRow.{AiRow}
+use Rattle.gs_class.specs.declared.error.ClassFault.{ClassFault}
+use Rattle.gs_class.specs.declared.error.ClassFault.TheVariants as reading
+use Rattle.gs_class.specs.Meanings.{ReadsAs, class_identity, said_by}
+use Rattle.gs_class.specs.Sets.{ClassRows, IsClear, IsOfTable}
+use Rattle.gs_class.proofs.OneClass.{one_identity}
+use Rattle.gs_class.proofs.ReadClasses.{class_read, no_class}
+use Rattle.gs_grammar.specs.Counts.{Counted, none_of, one_of, two_of}
+use Rattle.gs_grammar.specs.Levels.{item_lists}
+use Rattle.gs_grammar.proofs.DecidedWords.{each_counted}
+use Rattle.gs_ident.specs.Elements.{Elements}
+use Rattle.gs_ident.specs.Links.{canonical_link}
+use Rattle.gs_membank.proofs.OneDump.{SomeKnown}
+use Rattle.gs_translate.specs.declared.form.Form.TheVariants.{Link}
+use Rattle.gs_translate.specs.declared.reason.Reason.TheVariants.{Long}
+use Rattle.gs_translate.specs.Meanings.{IsRead}
+use Rattle.gs_translate.proofs.AnswerLaws.{one_read, some_read}
+use Rattle.gs_translate.proofs.StepLaws.{then_one, then_some}
+use Rattle.tdl_answers.specs.declared.class_reason.ClassReason.TheVariants.{Common}
+use Rattle.tdl_answers.specs.ClassAnswers.{ClassWriting, IsClassCanonLine, IsClassLink, IsClassOf, IsClassText, IsClassUriLine, IsLinkOf, IsLinkRead, IsOfClass, LinksClass}
+use Rattle.tdl_answers.specs.ClassReasons.{class_text, of_class, of_class_writing}
+use Rattle.tdl_answers.specs.LongTexts.{reworded}
+use Rattle.gs_class.specs.Written.{class_answer}
+use Rattle.tdl_lines.specs.OutputsSupport.{HasAnswers, HasOneAnswer}
+use Rattle.tdl_answers.proofs.LineLemmas.{one_line, some_line}
+use Rattle.tdl_answers.proofs.LongTextLemmas.{one_after_long, one_restated, one_reworded, some_after_long, some_restated, some_reworded}
+
+-- ---- class URIs
+
+one_class : (set : ClassRows) (text : List ℕ) → IsClear set → (one other : Result Elements ClassFault) → one ≢ Err reading.Memory → other ≢ Err reading.Memory → ReadsAs set text one → ReadsAs set text other → one ≡ other
+one_class set text clear (Ok identity) (Ok other) t u a b = ap Ok (one_identity set text identity other clear a b)
+one_class set text clear (Ok identity) (Err reading.NoReading) t u a b = absurd (b identity a)
+one_class set text clear (Err reading.NoReading) (Ok identity) t u a b = absurd (a identity b)
+one_class set text clear (Err reading.NoReading) (Err reading.NoReading) t u a b = refl
+one_class set text clear (Err reading.Memory) other t u a b = absurd (t refl)
+one_class set text clear one (Err reading.Memory) t u a b = absurd (u refl)
+
+module _ (ais : List AiRow) (set : ClassRows) (text : List ℕ) (of : IsOfTable ais set) (clear : IsClear set) where
+  counted_class : Counted (item_lists set.level.options) text → SomeKnown reading.Memory (ReadsAs set text)
+  counted_class (none_of none) = (Err reading.NoReading, (λ e. cc), no_class set text none)
+  counted_class (one_of option values one) =
+      let read = class_read ais set text option values of one in
+      let identity : Elements = class_identity read.class (said_by read.class values) in (
+        Ok identity,
+        (λ e. let f : Ok identity ≡ Err reading.Memory = e in cc),
+        record {
+          derivation = one.derivation;
+          class = read.class;
+          named = subst (λ (o : ℕ). slice_get set.classes o ≡ Some read.class) (sym one.of_option) read.at;
+          is = ap (λ (v : List (List ℕ)). class_identity read.class (said_by read.class v)) (sym one.of_values);
+        },
+      )
+  counted_class (two_of two) = absurd (clear (record { w = text; two = two }))
+
+  some_class : SomeKnown reading.Memory (ReadsAs set text)
+  some_class = counted_class (each_counted (item_lists set.level.options) text)
+
+pub one_class_read : (set : ClassRows) → IsClear set → HasOneAnswer (IsClassCanonLine set)
+one_class_read set clear = one_line class_text (IsClassLink set) (one_after_long (Common Long) (LinksClass set) (λ text few. then_one (IsOfClass set text) IsLinkOf
+    (one_reworded reading.Memory of_class (ReadsAs set text) (one_class set text clear))
+    (λ identity one other a b. a ∙ sym b)))
+
+pub some_class_read : (ais : List AiRow) (set : ClassRows) → IsOfTable ais set → IsClear set → HasAnswers (IsClassCanonLine set)
+some_class_read ais set of clear = some_line class_text (IsClassLink set) (some_after_long (Common Long) (LinksClass set) (λ text few. then_some (IsOfClass set text) IsLinkOf
+    (some_reworded reading.Memory of_class (ReadsAs set text) (some_class ais set text of clear))
+    (λ identity is. (Ok (canonical_link identity), refl))))
+
+-- ---- links
+
+module _ (by : ClassWriting) where
+  pub one_class_written : HasOneAnswer (IsClassUriLine by)
+  one_class_written = one_line class_text (IsClassText by) (λ text. then_one (IsLinkRead by.tables text) (IsClassOf by)
+      (one_restated Common (IsRead by.tables Link text) (one_read by.tables Link text tt))
+      (λ meaning one other a b. a ∙ sym b))
+
+  pub some_class_written : HasAnswers (IsClassUriLine by)
+  some_class_written = some_line class_text (IsClassText by) (λ text. then_some (IsLinkRead by.tables text) (IsClassOf by)
+      (some_restated Common (IsRead by.tables Link text) (some_read by.tables Link text tt))
+      (λ meaning is. (reworded of_class_writing (class_answer by.classes by.prefixes by.gcp meaning.identity), refl)))
