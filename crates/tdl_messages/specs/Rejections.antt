@@ -167,6 +167,7 @@ link_text_text text.Memory = codes "text memory"
 abbrev pub place_text : ℕ → PlaceFault → List ℕ
 place_text i (Brace at) = numbered_twice (codes "brace") i at
 place_text i (Code at) = numbered_twice (codes "place") i at
+
 -- trusted, own: the first pair of classes that shares a text, and a text that shows it
 abbrev pub ambiguous_classes_text : ℕ → ℕ → List ℕ → List ℕ
 ambiguous_classes_text i j text = numbered_twice (codes "ambiguous") i j ++ 32 ∷ text

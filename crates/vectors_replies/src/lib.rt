@@ -89,7 +89,13 @@ fn write_from(
 /// Writes the answer to a call over a site.
 fn write_at(alloc: Global, line: &mut Line, ais: &AiTable, call: SiteCall, args: &[Text]) -> Done {
     let describe = description(call, args);
-    let site = site_of(alloc, ais, bytes_at(args, 0), describe, has_templates(call, args))?;
+    let site = site_of(
+        alloc,
+        ais,
+        bytes_at(args, 0),
+        describe,
+        has_templates(call, args),
+    )?;
     write_from(alloc, line, ais, &site, call, args)
 }
 
