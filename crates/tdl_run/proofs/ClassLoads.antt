@@ -96,10 +96,10 @@ given_kept files ais command (Some name) set gives = file_kept files ais command
 pub classes_kept : (files : Option FilesInMemory) (asked : Asked) (loaded : Loaded) → FilesGive files asked (Ok loaded) → AreKept loaded.tables.ais loaded.classes
 classes_kept files asked loaded (rejects stop gives e) = absurd (let f : Ok loaded ≡ Err stop = e in cc)
 classes_kept files asked loaded (goes_on tabled gives (rejects stop g e)) = absurd (let f : Ok loaded ≡ Err stop = e in cc)
-classes_kept files asked loaded (goes_on tabled gives (goes_on links g (rejects stop h e))) = absurd (let f : Ok loaded ≡ Err stop = e in cc)
-classes_kept files asked loaded (goes_on tabled gives (goes_on links g (goes_on settings h (rejects stop k e)))) = absurd (let f : Ok loaded ≡ Err stop = e in cc)
-classes_kept files asked loaded (goes_on tabled gives (goes_on links g (goes_on settings h (goes_on classes k e)))) =
-    let same : loaded ≡ record { tables = tabled.tables; prefixes = tabled.prefixes; links = links; settings = settings; classes = classes } = cc in
+classes_kept files asked loaded (goes_on tabled gives (goes_on linked g (rejects stop h e))) = absurd (let f : Ok loaded ≡ Err stop = e in cc)
+classes_kept files asked loaded (goes_on tabled gives (goes_on linked g (goes_on settings h (rejects stop k e)))) = absurd (let f : Ok loaded ≡ Err stop = e in cc)
+classes_kept files asked loaded (goes_on tabled gives (goes_on linked g (goes_on settings h (goes_on classes k e)))) =
+    let same : loaded ≡ record { tables = tabled.tables; prefixes = tabled.prefixes; links = linked.links; merged = linked.merged; settings = settings; classes = classes } = cc in
     rw same (given_kept files tabled.tables.ais asked.command asked.files.classes classes k)
 
 -- ---- how classes were loaded

@@ -10,9 +10,11 @@ returns c = λ pairs are.
       c.look_up-3.ensures pairs are,
       c.look_up-4.ensures pairs are,
       c.look_up-5.ensures pairs are,
+      c.look_up-6.ensures pairs are,
       c.word.ensures,
       c.word-2.ensures,
       c.word-3.ensures,
       c.word-4.ensures,
       c.word-5.ensures,
+      c.word-6.ensures,
     ) refl

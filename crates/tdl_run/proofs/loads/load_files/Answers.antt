@@ -36,7 +36,7 @@ returns-in_err-classes g c =
     let asked = known_request c.args.request in
     let p = err_from_is_err_and c.from_residual-in_err-classes.result c.from_residual-in_err-classes.ensures.1 in
     let linked = subst (λ (rows : List AiRow). Loads (λ known. LinkedGive known asked.files asked.values rows) (links_named asked.files) (c.load_linked.new.files ≡ c.load_tabled.new.files) (files_known (g.F.Files.files c.load_tabled.new.files) (g.F.Files.opened c.load_tabled.new.files) (g.F.Files.errors c.load_tabled.new.files)) (files_known (g.F.Files.files c.load_linked.new.files) (g.F.Files.opened c.load_linked.new.files) (g.F.Files.errors c.load_linked.new.files)) (Ok c.in_ok-linked.linked)) c.ais-table.ensures.rows c.in_ok-linked.ensures in
-    let classes = subst (λ (rows : List AiRow). Loads (λ known. ClassesGive known rows asked.command asked.files.classes) (option_to_list asked.files.classes) (c.load_classes.new.files ≡ c.load_settings.new.files) (files_known (g.F.Files.files c.load_settings.new.files) (g.F.Files.opened c.load_settings.new.files) (g.F.Files.errors c.load_settings.new.files)) (files_known (g.F.Files.files c.load_classes.new.files) (g.F.Files.opened c.load_classes.new.files) (g.F.Files.errors c.load_classes.new.files)) (Err c.in_err-classes.field-0.0)) c.ais-table.ensures.rows c.in_err-classes.ensures in
+    let classes = subst (λ (rows : List AiRow). Loads (λ known. ClassesGive known rows asked.command asked.files.classes) (classes_named asked.files) (c.load_classes.new.files ≡ c.load_settings.new.files) (files_known (g.F.Files.files c.load_settings.new.files) (g.F.Files.opened c.load_settings.new.files) (g.F.Files.errors c.load_settings.new.files)) (files_known (g.F.Files.files c.load_classes.new.files) (g.F.Files.opened c.load_classes.new.files) (g.F.Files.errors c.load_classes.new.files)) (Err c.in_err-classes.field-0.0)) c.ais-table.ensures.rows c.in_err-classes.ensures in
     rw (p.1, p.2) (loads_then (λ known. TabledGive known asked.files) (λ known. GivesLinks known asked) (tables_named asked.files) (links_named asked.files ++ (description_named asked.files ++ classes_named asked.files)) _ _ _ _ _ _ c.in_ok-tabled.tabled _ (λ one other. other ∙ one) c.in_ok-tabled.ensures
     (loads_then (λ known. LinkedGive known asked.files asked.values c.in_ok-tabled.tabled.tables.ais) (λ known. GivesSettings known asked c.in_ok-tabled.tabled) (links_named asked.files) (description_named asked.files ++ classes_named asked.files) _ _ _ _ _ _ c.in_ok-linked.linked _ (λ one other. other ∙ one) linked
     (loads_then (λ known. SettingsGive known asked.files asked.values) (λ known. GivesClasses known asked c.in_ok-tabled.tabled c.in_ok-linked.linked) (description_named asked.files) (classes_named asked.files) _ _ _ _ _ _ c.in_ok-settings.settings _ (λ one other. other ∙ one) c.in_ok-settings.ensures
@@ -46,7 +46,7 @@ pub returns : goal.returns
 returns g c =
     let asked = known_request c.args.request in
     let linked = subst (λ (rows : List AiRow). Loads (λ known. LinkedGive known asked.files asked.values rows) (links_named asked.files) (c.load_linked.new.files ≡ c.load_tabled.new.files) (files_known (g.F.Files.files c.load_tabled.new.files) (g.F.Files.opened c.load_tabled.new.files) (g.F.Files.errors c.load_tabled.new.files)) (files_known (g.F.Files.files c.load_linked.new.files) (g.F.Files.opened c.load_linked.new.files) (g.F.Files.errors c.load_linked.new.files)) (Ok c.in_ok-linked.linked)) c.ais-table.ensures.rows c.in_ok-linked.ensures in
-    let classes = subst (λ (rows : List AiRow). Loads (λ known. ClassesGive known rows asked.command asked.files.classes) (option_to_list asked.files.classes) (c.load_classes.new.files ≡ c.load_settings.new.files) (files_known (g.F.Files.files c.load_settings.new.files) (g.F.Files.opened c.load_settings.new.files) (g.F.Files.errors c.load_settings.new.files)) (files_known (g.F.Files.files c.load_classes.new.files) (g.F.Files.opened c.load_classes.new.files) (g.F.Files.errors c.load_classes.new.files)) (Ok c.in_ok-classes.classes)) c.ais-table.ensures.rows c.in_ok-classes.ensures in
+    let classes = subst (λ (rows : List AiRow). Loads (λ known. ClassesGive known rows asked.command asked.files.classes) (classes_named asked.files) (c.load_classes.new.files ≡ c.load_settings.new.files) (files_known (g.F.Files.files c.load_settings.new.files) (g.F.Files.opened c.load_settings.new.files) (g.F.Files.errors c.load_settings.new.files)) (files_known (g.F.Files.files c.load_classes.new.files) (g.F.Files.opened c.load_classes.new.files) (g.F.Files.errors c.load_classes.new.files)) (Ok c.in_ok-classes.classes)) c.ais-table.ensures.rows c.in_ok-classes.ensures in
     loads_then (λ known. TabledGive known asked.files) (λ known. GivesLinks known asked) (tables_named asked.files) (links_named asked.files ++ (description_named asked.files ++ classes_named asked.files)) _ _ _ _ _ _ c.in_ok-tabled.tabled _ (λ one other. other ∙ one) c.in_ok-tabled.ensures
     (loads_then (λ known. LinkedGive known asked.files asked.values c.in_ok-tabled.tabled.tables.ais) (λ known. GivesSettings known asked c.in_ok-tabled.tabled) (links_named asked.files) (description_named asked.files ++ classes_named asked.files) _ _ _ _ _ _ c.in_ok-linked.linked _ (λ one other. other ∙ one) linked
     (loads_then (λ known. SettingsGive known asked.files asked.values) (λ known. GivesClasses known asked c.in_ok-tabled.tabled c.in_ok-linked.linked) (description_named asked.files) (classes_named asked.files) _ _ _ _ _ _ c.in_ok-settings.settings _ (λ one other. other ∙ one) c.in_ok-settings.ensures
