@@ -64,7 +64,7 @@ fn description(call: SiteCall, args: &[Text]) -> &[u8] {
 fn has_templates(call: SiteCall, args: &[Text]) -> bool {
     match call {
         SiteCall::Reply => bytes_at(args, 4) == b"templates".as_slice(),
-        SiteCall::Cuts | SiteCall::Many | SiteCall::Serve => false,
+        SiteCall::Cuts | SiteCall::Many | SiteCall::Resolve | SiteCall::Serve => false,
     }
 }
 
