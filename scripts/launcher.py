@@ -31,6 +31,7 @@ COMMANDS = [
     ("resolve --links FILE", "answers the HTTP requests on standard input by a linkset", True),
     ("serve --links FILE --count N", "answers the requests of N connections by a linkset", False),
     ("gen N", "translates N generated lines, to measure with", False),
+    ("migrate --tables FILE", "writes a table document as one of version 2", False),
     ("class canon", "answers each line, a class URI, by its canonical link", True),
     ("class uri", "answers each line, a link, by its class URI", True),
     ("dump read", "answers each line, a dump of the memory bank of a tag, by the line that shows it", True),

@@ -4,7 +4,7 @@ _tdl() {
     local current=${COMP_WORDS[COMP_CWORD]} previous=${COMP_WORDS[COMP_CWORD - 1]}
     local forms="hex tag pure raw bracketed link" words="" place
     case $COMP_CWORD:${COMP_WORDS[1]} in
-    1:*) words="canon translate check resolve serve gen class dump merge" ;;
+    1:*) words="canon translate check resolve serve gen migrate class dump merge" ;;
     2:canon | 2:translate) words=$forms ;;
     3:translate) words="$forms canon" ;;
     2:gen) return ;;
@@ -23,7 +23,7 @@ _tdl() {
         --voc | --count | --listen | --encoding | --stem) return ;;
         *)
             case ${COMP_WORDS[1]}:${COMP_WORDS[2]} in
-            canon:* | gen:* | dump:*) words="--tables" ;;
+            canon:* | gen:* | migrate:* | dump:*) words="--tables" ;;
             class:canon) words="--tables --classes" ;;
             class:uri) words="--tables --prefixes --classes --gcp" ;;
             translate:*) words="--tables --prefixes --filter --gcp --encoding --keys-only --stem" ;;

@@ -11,12 +11,12 @@ function __tdl_place
 end
 
 complete -c tdl -f
-complete -c tdl -n '__tdl_place 1' -a 'canon translate check resolve serve gen class dump merge'
+complete -c tdl -n '__tdl_place 1' -a 'canon translate check resolve serve gen migrate class dump merge'
 complete -c tdl -n '__tdl_place 2; and __tdl_behind canon translate' -a 'hex tag pure raw bracketed link'
 complete -c tdl -n '__tdl_place 3; and __tdl_behind translate' -a 'hex tag pure raw bracketed link canon'
 complete -c tdl -n '__tdl_place 2; and __tdl_behind class' -a 'canon uri'
 complete -c tdl -n '__tdl_place 2; and __tdl_behind dump' -a 'read write'
-complete -c tdl -n '__tdl_behind canon translate check resolve serve gen class dump merge' -l tables -r -F
+complete -c tdl -n '__tdl_behind canon translate check resolve serve gen migrate class dump merge' -l tables -r -F
 complete -c tdl -n '__tdl_behind translate check uri' -l prefixes -r -F
 complete -c tdl -n '__tdl_behind class' -l classes -r -F
 complete -c tdl -n '__tdl_behind check resolve serve merge' -l links -r -F

@@ -4,7 +4,7 @@
 local -a forms names
 forms=(hex tag pure raw bracketed link)
 case $CURRENT:$words[2] in
-2:*) compadd -- canon translate check resolve serve gen class dump merge ;;
+2:*) compadd -- canon translate check resolve serve gen migrate class dump merge ;;
 3:canon | 3:translate) compadd -- $forms ;;
 4:translate) compadd -- $forms canon ;;
 3:gen) ;;
@@ -19,7 +19,7 @@ case $CURRENT:$words[2] in
     --voc | --count | --listen | --encoding | --stem) ;;
     *)
         case $words[2]:$words[3] in
-        canon:* | gen:* | dump:*) names=(--tables) ;;
+        canon:* | gen:* | migrate:* | dump:*) names=(--tables) ;;
         class:canon) names=(--tables --classes) ;;
         class:uri) names=(--tables --prefixes --classes --gcp) ;;
         translate:*) names=(--tables --prefixes --filter --gcp --encoding --keys-only --stem) ;;

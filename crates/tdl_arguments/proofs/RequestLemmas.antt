@@ -13,7 +13,7 @@ use Rattle.gs_translate.specs.declared.target.Target.{Target}
 use Rattle.gs_translate.specs.declared.target.Target.TheVariants as target
 use Rattle.gs_translate.specs.StepsSupport.{HasOne}
 use Rattle.tdl_arguments.specs.declared.command.Command.{Command}
-use Rattle.tdl_arguments.specs.declared.command.Command.TheVariants.{Canon, Translate, Check, Resolve, Serve, Gen, ClassCanon, ClassUri, DumpRead, DumpWrite, Merge}
+use Rattle.tdl_arguments.specs.declared.command.Command.TheVariants.{Canon, Translate, Check, Resolve, Serve, Gen, Migrate, ClassCanon, ClassUri, DumpRead, DumpWrite, Merge}
 use Rattle.tdl_arguments.specs.CommandReads.{behind_name, canon_of, command_of, gen_of, form_named, forms, known_front, operated_of, or_else, plain_command, plain_commands, plain_of, stands_before, target_named, targets, translation_of}
 use Rattle.tdl_arguments.specs.Commands.{command_name, command_words, form_word, operands_in_range, operands_of, target_word}
 use Rattle.tdl_arguments.specs.Requests.{Asked, Asks, NotInOrder, WordsInOrder, asked_of}
@@ -62,6 +62,7 @@ command_read (Translate from to) behind fits = rw (form_read from, target_read t
 command_read Check behind fits = refl
 command_read Resolve behind fits = refl
 command_read Serve behind fits = refl
+command_read Migrate behind fits = refl
 command_read ClassCanon behind fits = refl
 command_read ClassUri behind fits = refl
 command_read DumpRead behind fits = refl

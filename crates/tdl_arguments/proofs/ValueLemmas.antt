@@ -1,7 +1,7 @@
 -- Values that are named are in range.
-use Rattle.std.proofs.Common.{◌≡◌, ℕ, ◌≤◌, ◌&&◌, Bool, true, false, List, [], ◌∷◌, Option, None, Some, refl, sym, ◌∙◌, ap, inl, inr}
+use Rattle.std.proofs.Common.{◌≡◌, ℕ, ◌≤◌, ◌&&◌, ◌||◌, Bool, true, false, List, [], ◌∷◌, Option, None, Some, refl, sym, ◌∙◌, ap, inl, inr}
 use Rattle.std.specs.List.{list_any}
-use Rattle.std.specs.Prelude.{IfSome, bytes_eq, find, if◌then◌else◌, nat_le, not, option_and_then, option_to_list, unwrap_or}
+use Rattle.std.specs.Prelude.{IfSome, bytes_eq, find, if◌then◌else◌, is_some, nat_le, not, option_and_then, option_to_list, unwrap_or}
 use Rattle.std.proofs.lemmas.Bool.{leb-true}
 use Rattle.gs_chars.proofs.TruthsAndLists.{and_parts, equal_bytes, true_or_false}
 use Rattle.gs_dlink.specs.Stems.{stem_ok}
@@ -12,7 +12,9 @@ use Rattle.gs_translate.specs.Translations.{AreInOrder}
 use Rattle.tdl_arguments.specs.declared.name.Name.{Name}
 use Rattle.tdl_arguments.specs.declared.name.Name.TheVariants.{Tables, Prefixes, Links, Describe, Classes, Voc, Listen, Count, Filter, Gcp, Encoding, KeysOnly, Stem, LinkText, Second, Third, Templates}
 use Rattle.tdl_arguments.specs.declared.name.NameRow.{NameRow}
-use Rattle.tdl_arguments.specs.Names.{AreTaken, in_range, is_given, look_up, name_takes, name_word, none_taken, one_taken, row_takes, takes}
+use Rattle.tdl_arguments.specs.declared.command.Command.TheVariants.{Migrate}
+use Rattle.tdl_arguments.specs.Commands.{names_of}
+use Rattle.tdl_arguments.specs.Names.{AreTaken, has_required, in_range, is_given, look_up, name_takes, name_word, none_taken, one_taken, row_takes, takes}
 use Rattle.tdl_arguments.specs.Ranges.{filter_of, is_numeral, is_vocabulary}
 use Rattle.tdl_arguments.specs.Requests.{Asked, WordsInOrder, default_voc, no_options, options_of}
 
@@ -125,3 +127,18 @@ pub vocabulary_fits : (words : List (List ℕ)) (asked : Asked) → WordsInOrder
 vocabulary_fits words asked o =
     let a = o.asks in
     rw a.is (vocabulary_by (look_up (name_word Voc) a.pairs) (λ value e. named_in_range _ a.pairs Voc value a.of_rows.taken e))
+
+-- ---- the tables that are migrated
+
+-- the one name of the one row that must be there is there
+required_one : (given : Bool) → ((given || false) && true) ≡ true → given ≡ true
+required_one true e = refl
+required_one false e = e
+
+-- arguments that ask for a migration name the tables
+pub tables_fit : (words : List (List ℕ)) (asked : Asked) → WordsInOrder words asked → asked.command ≡ Migrate → is_some asked.files.tables ≡ true
+tables_fit words asked o migrates =
+    let a = o.asks in
+    let command : o.command ≡ Migrate = sym (ap (λ (x : Asked). x.command) a.is) ∙ migrates in
+    let required : has_required (names_of Migrate) a.pairs ≡ true = rw command at a.required in
+    rw a.is (required_one (is_some (look_up (name_word Tables) a.pairs)) required)

@@ -6,7 +6,7 @@ use Rattle.gs_translate.specs.declared.form.Form.TheVariants as form
 use Rattle.gs_translate.specs.declared.target.Target.{Target}
 use Rattle.gs_translate.specs.declared.target.Target.TheVariants as target
 use Rattle.tdl_arguments.specs.declared.command.Command.{Command}
-use Rattle.tdl_arguments.specs.declared.command.Command.TheVariants.{Canon, Translate, Check, Resolve, Serve, Gen, ClassCanon, ClassUri, DumpRead, DumpWrite, Merge}
+use Rattle.tdl_arguments.specs.declared.command.Command.TheVariants.{Canon, Translate, Check, Resolve, Serve, Gen, Migrate, ClassCanon, ClassUri, DumpRead, DumpWrite, Merge}
 use Rattle.tdl_arguments.specs.declared.arguments.Split.{Split}
 use Rattle.tdl_arguments.specs.Commands.{command_name, form_word, target_word}
 use Rattle.tdl_arguments.specs.Ranges.{lines_of}
@@ -65,7 +65,7 @@ stands_before (word ∷ front) (first ∷ words) = bytes_eq first word && stands
 
 -- the commands without operands
 abbrev pub plain_commands : List Command
-plain_commands = Check ∷ Resolve ∷ Serve ∷ ClassCanon ∷ ClassUri ∷ DumpRead ∷ DumpWrite ∷ Merge ∷ []
+plain_commands = Check ∷ Resolve ∷ Serve ∷ Migrate ∷ ClassCanon ∷ ClassUri ∷ DumpRead ∷ DumpWrite ∷ Merge ∷ []
 
 -- the command without operands that arguments begin with
 abbrev pub plain_command : List (List ℕ) → Option Command

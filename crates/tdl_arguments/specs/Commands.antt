@@ -5,7 +5,7 @@ use Rattle.gs_translate.specs.declared.form.Form.TheVariants.{Hex, Tag, Pure, Ra
 use Rattle.tdl_arguments.specs.declared.command.Command.{Command}
 use Rattle.gs_translate.specs.declared.target.Target.{Target}
 use Rattle.gs_translate.specs.declared.target.Target.TheVariants as target
-use Rattle.tdl_arguments.specs.declared.command.Command.TheVariants.{Canon, Translate, Check, Resolve, Serve, Gen, ClassCanon, ClassUri, DumpRead, DumpWrite, Merge}
+use Rattle.tdl_arguments.specs.declared.command.Command.TheVariants.{Canon, Translate, Check, Resolve, Serve, Gen, Migrate, ClassCanon, ClassUri, DumpRead, DumpWrite, Merge}
 use Rattle.tdl_arguments.specs.declared.name.Name.{Name}
 use Rattle.tdl_arguments.specs.declared.name.Name.TheVariants.{Tables, Prefixes, Links, Describe, Classes, Voc, Listen, Count, Filter, Gcp, Encoding, KeysOnly, Stem, LinkText, Second, Third, Templates}
 use Rattle.tdl_arguments.specs.declared.name.NameRow.{NameRow}
@@ -38,6 +38,7 @@ command_name Check = codes "check" ∷ []
 command_name Resolve = codes "resolve" ∷ []
 command_name Serve = codes "serve" ∷ []
 command_name (Gen lines) = codes "gen" ∷ []
+command_name Migrate = codes "migrate" ∷ []
 command_name ClassCanon = codes "class" ∷ codes "canon" ∷ []
 command_name ClassUri = codes "class" ∷ codes "uri" ∷ []
 command_name DumpRead = codes "dump" ∷ codes "read" ∷ []
@@ -86,6 +87,7 @@ names_of Resolve = needed_either Links LinkText ∷ optional Tables ∷ optional
 names_of Serve =
     needed_either Links LinkText ∷ needed Count ∷ optional Tables ∷ optional Voc ∷ optional Templates ∷ optional Describe ∷ optional Listen ∷ []
 names_of (Gen lines) = optional Tables ∷ []
+names_of Migrate = needed Tables ∷ []
 names_of ClassCanon = optional Tables ∷ optional Classes ∷ []
 names_of ClassUri = optional Tables ∷ optional Prefixes ∷ optional Classes ∷ optional Gcp ∷ []
 names_of DumpRead = optional Tables ∷ []
@@ -108,6 +110,7 @@ work_of Check = on_none
 work_of Resolve = on_heads
 work_of Serve = on_door
 work_of (Gen lines) = on_none
+work_of Migrate = on_none
 work_of ClassCanon = on_lines
 work_of ClassUri = on_lines
 work_of DumpRead = on_lines

@@ -219,7 +219,7 @@ NamesNoFile words = (name : List ℕ) → NamesFile words name → ⊥
 -- trusted, own: what is printed where the arguments are not in order
 abbrev pub usage_line : List ℕ
 usage_line =
-    codes "usage: tdl canon FORM | translate FROM TO | check | resolve | serve | gen N | class canon | class uri | dump read | dump write | merge, then --name value pairs" ++ 10 ∷ []
+    codes "usage: tdl canon FORM | translate FROM TO | check | resolve | serve | gen N | migrate | class canon | class uri | dump read | dump write | merge, then --name value pairs" ++ 10 ∷ []
 
 -- trusted, own: the name of a file in a request
 abbrev pub known_name : Option (Bor (List ℕ)) → Option (List ℕ)

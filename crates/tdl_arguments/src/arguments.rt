@@ -170,6 +170,7 @@ fn plain_command(words: &[String]) -> Option<Command>
         Command::Check,
         Command::Resolve,
         Command::Serve,
+        Command::Migrate,
         Command::ClassCanon,
         Command::ClassUri,
         Command::DumpRead,

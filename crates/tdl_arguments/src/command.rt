@@ -20,6 +20,8 @@ pub enum Command {
     Serve,
     /// Translates so many generated lines, and counts the answers.
     Gen(u32),
+    /// Prints the text of a table document as one of version 2.
+    Migrate,
     /// Answers each line of the input, a class URI, by the canonical link of what it names.
     ClassCanon,
     /// Answers each line of the input, a link, by the class URI of what it names.
@@ -37,6 +39,13 @@ const TABLES: NameRow = NameRow {
     name: Name::Tables,
     instead: None,
     required: false,
+};
+
+/// The name of the file of tables, which must be there.
+const TABLES_NEEDED: NameRow = NameRow {
+    name: Name::Tables,
+    instead: None,
+    required: true,
 };
 
 /// The name of the file of company prefix lengths, which may be absent.
@@ -170,6 +179,7 @@ impl Command {
             Command::Resolve => &["resolve"],
             Command::Serve => &["serve"],
             Command::Gen(_) => &["gen"],
+            Command::Migrate => &["migrate"],
             Command::ClassCanon => &["class", "canon"],
             Command::ClassUri => &["class", "uri"],
             Command::DumpRead => &["dump", "read"],
@@ -198,6 +208,7 @@ impl Command {
             ],
             Command::Merge => &[JSON_NEEDED, SECOND_NEEDED, THIRD, TABLES, VOC],
             Command::Gen(_) | Command::DumpRead | Command::DumpWrite => &[TABLES],
+            Command::Migrate => &[TABLES_NEEDED],
             Command::ClassCanon => &[TABLES, CLASSES],
             Command::ClassUri => &[TABLES, PREFIXES, CLASSES, GCP],
         }

@@ -45,7 +45,7 @@ file_word kind.Classes = codes "classes"
 
 -- trusted, own: the most bytes of a kind of file
 abbrev pub file_limit : FileKind → ℕ
-file_limit kind.Tables = 1048576
+file_limit kind.Tables = 2097152
 file_limit kind.Prefixes = 4194304
 file_limit kind.Links = 16777216
 file_limit kind.Second = 16777216

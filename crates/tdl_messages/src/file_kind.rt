@@ -44,7 +44,7 @@ impl FileKind {
         ensures { result ≡ file_limit self }
     {
         match self {
-            FileKind::Tables => 1_048_576,
+            FileKind::Tables => 2_097_152,
             FileKind::Prefixes => 4_194_304,
             FileKind::Links | FileKind::Second | FileKind::Third | FileKind::Merge => 16_777_216,
             FileKind::Describe => 1_048_576,

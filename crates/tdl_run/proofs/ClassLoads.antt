@@ -99,7 +99,7 @@ classes_kept files asked loaded (goes_on tabled gives (rejects stop g e)) = absu
 classes_kept files asked loaded (goes_on tabled gives (goes_on linked g (rejects stop h e))) = absurd (let f : Ok loaded ≡ Err stop = e in cc)
 classes_kept files asked loaded (goes_on tabled gives (goes_on linked g (goes_on settings h (rejects stop k e)))) = absurd (let f : Ok loaded ≡ Err stop = e in cc)
 classes_kept files asked loaded (goes_on tabled gives (goes_on linked g (goes_on settings h (goes_on classes k e)))) =
-    let same : loaded ≡ record { tables = tabled.tables; prefixes = tabled.prefixes; links = linked.links; merged = linked.merged; settings = settings; classes = classes } = cc in
+    let same : loaded ≡ record { tables = tabled.tables; source = tabled.source; prefixes = tabled.prefixes; links = linked.links; merged = linked.merged; settings = settings; classes = classes } = cc in
     rw same (given_kept files tabled.tables.ais asked.command asked.files.classes classes k)
 
 -- ---- how classes were loaded

@@ -4,7 +4,7 @@ use Rattle.tdl_answers.proofs.ClassLineLemmas.{one_class_read, one_class_written
 use Rattle.tdl_answers.proofs.DumpLineLemmas.{one_dump_read, one_dump_written, some_dump_read, some_dump_written}
 use Rattle.tdl_answers.proofs.LineLemmas.{one_translated, some_translated}
 use Rattle.tdl_arguments.specs.declared.command.Command.{Command}
-use Rattle.tdl_arguments.specs.declared.command.Command.TheVariants.{Canon, Translate, Check, Resolve, Serve, Gen, ClassCanon, ClassUri, DumpRead, DumpWrite, Merge}
+use Rattle.tdl_arguments.specs.declared.command.Command.TheVariants.{Canon, Translate, Check, Resolve, Serve, Gen, Migrate, ClassCanon, ClassUri, DumpRead, DumpWrite, Merge}
 use Rattle.tdl_arguments.specs.Commands.{Work, is_on_heads, is_on_lines, on_door, on_heads, on_lines, on_none}
 use Rattle.tdl_arguments.specs.Requests.{Values}
 use Rattle.tdl_gen.proofs.OneCount.{one_generated, some_generated}
@@ -23,7 +23,7 @@ use Rattle.tdl_run.specs.declared.loads.Loaded.{Loaded}
 use Rattle.tdl_run.specs.LoadsSupport.{AreKept}
 use Rattle.tdl_run.specs.RanSupport.{WorkCause}
 use Rattle.tdl_run.specs.Runs.{AreAlike, but_errors, same}
-use Rattle.tdl_run.specs.Works.{Doing, DoingEnded, DoingRun, Doorway, LeavesOutput, LinesAnswered, Outcome, answers, canonizing, counts_line, doing_of, input_limit, outcome_of, prints, resolves, serves, translating, writing_classes, merged_line}
+use Rattle.tdl_run.specs.Works.{Doing, DoingEnded, DoingRun, Doorway, LeavesOutput, LinesAnswered, Outcome, answers, canonizing, counts_line, doing_of, input_limit, outcome_of, prints, resolves, serves, translating, writing_classes, merged_line, migrated_line}
 use Rattle.tdl_run.proofs.RanLemmas.{lines_some}
 use Rattle.tdl_run.proofs.ServeLemmas.{serves_alike, serves_some}
 use Rattle.tdl_run.proofs.SiteLemmas.{one_resolved, some_resolved}
@@ -44,6 +44,7 @@ command_defined Check values loaded keeps classes = ((counts_line loaded, refl),
 command_defined Resolve values loaded keeps classes = tt
 command_defined Serve values loaded keeps classes = tt
 command_defined (Gen lines) values loaded keeps classes = (some_generated loaded.tables keeps lines, one_generated loaded.tables lines)
+command_defined Migrate values loaded keeps classes = ((migrated_line loaded, refl), (λ one other a b. a ∙ sym b))
 command_defined ClassCanon values loaded keeps classes = (some_class_read loaded.tables.ais loaded.classes classes.of_table classes.clear, one_class_read loaded.classes classes.clear)
 command_defined ClassUri values loaded keeps classes = (some_class_written (writing_classes loaded values), one_class_written (writing_classes loaded values))
 command_defined DumpRead values loaded keeps classes = (some_dump_read loaded.tables keeps, one_dump_read loaded.tables)

@@ -35,6 +35,7 @@ use Rattle.gs_http.specs.declared.settings.Settings.{Settings}
 use Rattle.tdl_arguments.specs.declared.command.Command.{Command}
 use Rattle.tdl_arguments.specs.Requests.{Asked, FileNames, LinksName, Values, as_text, in_json, name_of_links}
 use Rattle.tdl_run.specs.declared.loads.Loaded.{Loaded}
+use Rattle.tdl_run.specs.declared.loads.TablesWithSource.{TablesWithSource}
 use Rattle.tdl_run.specs.declared.loads.Tabled.{Tabled}
 use Rattle.tdl_run.specs.Loads.{AreSettings, ClassesGive, DescriptionGives, FileGives, FilesGive, Gives, GivesClasses, GivesLinks, GivesPrefixes, GivesSettings, IsLoadedOf, AreTabled, AreNone, IsNoLink, IsNoPrefix, AreBytes, JudgesLinks, JudgesPrefixes, JudgesClasses, JudgesTables, LinksGive, PrefixesGive, SettingsGive, Stop, TabledGive, TablesGive, UnnamedClasses, classes_verdict, is_of_classes, links_verdict, prefixes_verdict, absent, judged, missing, of_verdict, tables_verdict, too_large, AreLinked, GivesOthers, GivesThird, IsNoOther, JudgesFile, JudgesOther, JudgesText, LinkedGive, OtherGives, linked_with, merging, other_verdict, read_as, store_verdict, unread}
 use Rattle.tdl_run.specs.Runs.{Ambiguity, ambiguous, of_classes, of_tables}
@@ -77,15 +78,17 @@ gives_one : {A : Type 0} (files : List (List ℕ × List ℕ)) (kind : FileKind)
 gives_one files kind Judges Unnamed None one other a b x y = rw (x.is, y.is) (other x.verdict y.verdict x.judged y.judged)
 gives_one files kind Judges Unnamed (Some name) one other a b x y = file_one files kind Judges name one a b x y
 
-abbrev tables_stop : Result TableRows LoadFault → Result TableRows Stop
-tables_stop answer = of_verdict kind.Tables (tables_verdict answer)
+abbrev tables_stop : List ℕ → Result TableRows LoadFault → Result TablesWithSource Stop
+tables_stop source answer = of_verdict kind.Tables (tables_verdict source answer)
 
-alike_answers : (one other : Result TableRows LoadFault) → AreAlike one other → AlikeStops (tables_stop one) (tables_stop other)
-alike_answers one other (same e) = one_stop (ap tables_stop e)
-alike_answers one other (but_text name i j text text' e f) = two_texts (of_tables name i j) text text' (ap tables_stop e) (ap tables_stop f)
+alike_answers : (source : List ℕ) (one other : Result TableRows LoadFault) → AreAlike one other → AlikeStops (tables_stop source one) (tables_stop source other)
+alike_answers source one other (same e) = one_stop (ap (tables_stop source) e)
+alike_answers source one other (but_text name i j text text' e f) =
+    two_texts (of_tables name i j) text text' (ap (tables_stop source) e) (ap (tables_stop source) f)
 
-tables_one : (Ruled : Result TableRows LoadFault → Type 0) → IsRuling Ruled → AlikeVerdicts kind.Tables (JudgesTables (Judged Ruled))
-tables_one Ruled ruling a b x y = rw (x.is, y.is) (alike_answers x.answer y.answer (judged_alike Ruled ruling x.answer y.answer x.is_answer y.is_answer x.enough y.enough))
+tables_one : (source : List ℕ) (Ruled : Result TableRows LoadFault → Type 0) → IsRuling Ruled → AlikeVerdicts kind.Tables (JudgesTables source (Judged Ruled))
+tables_one source Ruled ruling a b x y =
+    rw (x.is, y.is) (alike_answers source x.answer y.answer (judged_alike Ruled ruling x.answer y.answer x.is_answer y.is_answer x.enough y.enough))
 
 -- what is given and a stop are not alike, and two of what is given that are alike are one
 not_alike : {A : Type 0} (stop : Stop) (a : A) → AlikeStops (Ok a) (Err stop) → ⊥
@@ -210,15 +213,15 @@ with_links_one files asked tabled = then_alike (LinkedGive (Some files) asked.fi
     (linked_one files asked.files asked.values tabled.tables.ais)
     (with_settings_one files asked tabled)
 
-with_prefixes_one : (files : List (List ℕ × List ℕ)) (names : FileNames) (set : TableRows) → AreAlikeAll (GivesPrefixes (Some files) names set)
-with_prefixes_one files names set = then_alike (PrefixesGive (Some files) names.prefixes) (AreTabled set)
+with_prefixes_one : (files : List (List ℕ × List ℕ)) (names : FileNames) (given : TablesWithSource) → AreAlikeAll (GivesPrefixes (Some files) names given)
+with_prefixes_one files names given = then_alike (PrefixesGive (Some files) names.prefixes) (AreTabled given)
     (prefixes_one files names.prefixes)
     (λ list x y e f. one_stop (e ∙ sym f))
 
 tabled_one : (files : List (List ℕ × List ℕ)) (names : FileNames) → AreAlikeAll (TabledGive (Some files) names)
 tabled_one files names = then_alike (TablesGive (Some files) names.tables) (GivesPrefixes (Some files) names)
-    (gives_one files kind.Tables (λ bytes. JudgesTables (LoadAnswer bytes)) (JudgesTables BuiltInAnswer) names.tables
-    (λ bytes. tables_one (Shape bytes) (ruling_of_bytes bytes)) (tables_one RuledRows ruling_of_builtin))
+    (gives_one files kind.Tables (λ bytes. JudgesTables bytes (LoadAnswer bytes)) (JudgesTables [] BuiltInAnswer) names.tables
+    (λ bytes. tables_one bytes (Shape bytes) (ruling_of_bytes bytes)) (tables_one [] RuledRows ruling_of_builtin))
     (with_prefixes_one files names)
 
 pub files_one : (files : List (List ℕ × List ℕ)) (asked : Asked) (a b : Result Loaded Stop) → FilesGive (Some files) asked a → FilesGive (Some files) asked b → AlikeStops a b
@@ -247,8 +250,8 @@ gives_some : {A : Type 0} (files : Option (List (List ℕ × List ℕ))) (kind :
 gives_some files kind Judges Unnamed None some other = (of_verdict kind other.0, record { verdict = other.0; judged = other.1; is = refl })
 gives_some files kind Judges Unnamed (Some name) some other = file_some files kind Judges name some
 
-tables_some : (Answer : Result TableRows LoadFault → Type 0) → ((answer : Result TableRows LoadFault) × HasMemory answer × Answer answer) → HasSome (JudgesTables Answer)
-tables_some Answer some = (tables_verdict some.0, record { answer = some.0; enough = some.1; is_answer = some.2; is = refl })
+tables_some : (source : List ℕ) (Answer : Result TableRows LoadFault → Type 0) → ((answer : Result TableRows LoadFault) × HasMemory answer × Answer answer) → HasSome (JudgesTables source Answer)
+tables_some source Answer some = (tables_verdict source some.0, record { answer = some.0; enough = some.1; is_answer = some.2; is = refl })
 
 prefixes_some : (files : Option (List (List ℕ × List ℕ))) (name : Option (List ℕ)) → HasSome (PrefixesGive files name)
 prefixes_some files name = gives_some files kind.Prefixes JudgesPrefixes IsNoPrefix name (λ bytes. (prefixes_verdict (load_answer bytes), refl)) (Ok [], refl)
@@ -303,7 +306,7 @@ classes_some files ais command name = gives_some files kind.Classes (λ bytes. J
 with_classes_some : (files : Option (List (List ℕ × List ℕ))) (asked : Asked) (tabled : Tabled) (linked : Linked) (settings : Settings) → HasSome (GivesClasses files asked tabled linked settings)
 with_classes_some files asked tabled linked settings = then_some (ClassesGive files tabled.tables.ais asked.command asked.files.classes) (IsLoadedOf tabled linked settings)
     (classes_some files tabled.tables.ais asked.command asked.files.classes)
-    (λ classes gives. (Ok (record { tables = tabled.tables; prefixes = tabled.prefixes; links = linked.links; merged = linked.merged; settings = settings; classes = classes }), refl))
+    (λ classes gives. (Ok (record { tables = tabled.tables; source = tabled.source; prefixes = tabled.prefixes; links = linked.links; merged = linked.merged; settings = settings; classes = classes }), refl))
 
 with_settings_some : (files : Option (List (List ℕ × List ℕ))) (asked : Asked) (tabled : Tabled) (linked : Linked) → HasSome (GivesSettings files asked tabled linked)
 with_settings_some files asked tabled linked = then_some (SettingsGive files asked.files asked.values) (GivesClasses files asked tabled linked)
@@ -315,16 +318,16 @@ with_links_some files asked tabled = then_some (LinkedGive files asked.files ask
     (linked_some files asked.files asked.values tabled.tables.ais)
     (λ linked gives. with_settings_some files asked tabled linked)
 
-with_prefixes_some : (files : Option (List (List ℕ × List ℕ))) (names : FileNames) (set : TableRows) → HasSome (GivesPrefixes files names set)
-with_prefixes_some files names set = then_some (PrefixesGive files names.prefixes) (AreTabled set)
+with_prefixes_some : (files : Option (List (List ℕ × List ℕ))) (names : FileNames) (given : TablesWithSource) → HasSome (GivesPrefixes files names given)
+with_prefixes_some files names given = then_some (PrefixesGive files names.prefixes) (AreTabled given)
     (prefixes_some files names.prefixes)
-    (λ list gives. (Ok (record { tables = set; prefixes = list }), refl))
+    (λ list gives. (Ok (record { tables = given.tables; source = given.source; prefixes = list }), refl))
 
 tabled_some : (files : Option (List (List ℕ × List ℕ))) (names : FileNames) → HasSome (TabledGive files names)
 tabled_some files names = then_some (TablesGive files names.tables) (GivesPrefixes files names)
-    (gives_some files kind.Tables (λ bytes. JudgesTables (LoadAnswer bytes)) (JudgesTables BuiltInAnswer) names.tables
-    (λ bytes. tables_some (LoadAnswer bytes) (judged_some (Shape bytes) (ruling_of_bytes bytes))) (tables_some BuiltInAnswer (judged_some RuledRows ruling_of_builtin)))
-    (λ set gives. with_prefixes_some files names set)
+    (gives_some files kind.Tables (λ bytes. JudgesTables bytes (LoadAnswer bytes)) (JudgesTables [] BuiltInAnswer) names.tables
+    (λ bytes. tables_some bytes (LoadAnswer bytes) (judged_some (Shape bytes) (ruling_of_bytes bytes))) (tables_some [] BuiltInAnswer (judged_some RuledRows ruling_of_builtin)))
+    (λ given gives. with_prefixes_some files names given)
 
 pub files_some : (files : Option (List (List ℕ × List ℕ))) (asked : Asked) → HasSome (FilesGive files asked)
 files_some files asked = then_some (TabledGive files asked.files) (GivesLinks files asked)

@@ -39,6 +39,7 @@ use Rattle.tdl_arguments.specs.declared.command.Command.TheVariants.{ClassCanon,
 use Rattle.tdl_arguments.specs.Requests.{Asked, FileNames, LinksName, Values, as_text, in_json, name_of_links}
 use Rattle.tdl_run.specs.declared.loads.Linked.{Linked}
 use Rattle.tdl_run.specs.declared.loads.Loaded.{Loaded}
+use Rattle.tdl_run.specs.declared.loads.TablesWithSource.{TablesWithSource}
 use Rattle.tdl_run.specs.declared.loads.Tabled.{Tabled}
 use Rattle.tdl_run.specs.declared.loads.Unloaded.{Unloaded}
 
@@ -74,21 +75,22 @@ abbrev pub Gives : {A : Type 0} → Option FilesInMemory → FileKind → (List 
 Gives files kind Judges Unnamed None answer = StandsFor kind Unnamed answer
 Gives files kind Judges Unnamed (Some name) answer = FileGives files kind Judges name answer
 
--- trusted, own: the verdict on tables by an answer of their load
-abbrev pub tables_verdict : Result TableRows LoadFault → Result TableRows FileFault
-tables_verdict (Ok set) = Ok set
-tables_verdict (Err error) = Err (Tables error)
+-- trusted, own: the verdict on tables of a document by an answer of their load
+abbrev pub tables_verdict : List ℕ → Result TableRows LoadFault → Result TablesWithSource FileFault
+tables_verdict source (Ok set) = Ok (record { tables = set; source = source })
+tables_verdict source (Err error) = Err (Tables error)
 
--- trusted, own: the verdict on tables by what is an answer of their load
-pub record JudgesTables (Answer : Result TableRows LoadFault → Type 0) (verdict : Result TableRows FileFault) : Type 0 where
+-- trusted, own: the verdict on tables of a document by what is an answer of their load
+pub record JudgesTables (source : List ℕ) (Answer : Result TableRows LoadFault → Type 0) (verdict : Result TablesWithSource FileFault) : Type 0 where
   pub answer : Result TableRows LoadFault
   pub enough : HasMemory answer
   pub is_answer : Answer answer
-  pub is : verdict ≡ tables_verdict answer
+  pub is : verdict ≡ tables_verdict source answer
 
--- trusted, own: the tables of the named file, or the built-in ones where none is named
-abbrev pub TablesGive : Option FilesInMemory → Option (List ℕ) → Result TableRows Stop → Type 0
-TablesGive files name answer = Gives files kind.Tables (λ bytes. JudgesTables (LoadAnswer bytes)) (JudgesTables BuiltInAnswer) name answer
+-- trusted, own: the tables of the named file with its bytes, or the built-in ones, of no document, where none is named
+abbrev pub TablesGive : Option FilesInMemory → Option (List ℕ) → Result TablesWithSource Stop → Type 0
+TablesGive files name answer =
+    Gives files kind.Tables (λ bytes. JudgesTables bytes (LoadAnswer bytes)) (JudgesTables [] BuiltInAnswer) name answer
 
 -- trusted, own: the verdict on a list of company prefix lengths by the answer of its load
 abbrev pub prefixes_verdict : Result (List PrefixEntry) PrefixFault → Result (List PrefixEntry) FileFault
@@ -232,12 +234,12 @@ abbrev pub DescriptionGives : Option FilesInMemory → Option (List ℕ) → Res
 DescriptionGives files name answer = BytesGive files kind.Describe name answer
 
 -- trusted, own: the tables and the company prefix lengths that are loaded are these
-abbrev pub AreTabled : TableRows → List PrefixEntry → Result Tabled Stop → Type 0
-AreTabled set list answer = answer ≡ Ok (record { tables = set; prefixes = list })
+abbrev pub AreTabled : TablesWithSource → List PrefixEntry → Result Tabled Stop → Type 0
+AreTabled given list answer = answer ≡ Ok (record { tables = given.tables; source = given.source; prefixes = list })
 
 -- trusted, own: what the file of company prefix lengths gives behind these tables
-abbrev pub GivesPrefixes : Option FilesInMemory → FileNames → TableRows → Result Tabled Stop → Type 0
-GivesPrefixes files names set answer = Then (PrefixesGive files names.prefixes) (AreTabled set) answer
+abbrev pub GivesPrefixes : Option FilesInMemory → FileNames → TablesWithSource → Result Tabled Stop → Type 0
+GivesPrefixes files names given answer = Then (PrefixesGive files names.prefixes) (AreTabled given) answer
 
 -- trusted, own: what the files of tables and of company prefix lengths give
 abbrev pub TabledGive : Option FilesInMemory → FileNames → Result Tabled Stop → Type 0
@@ -281,7 +283,7 @@ ClassesGive files ais command name answer =
 -- trusted, own: what is loaded of these tables and prefixes, these links, these settings and these classes
 abbrev pub IsLoadedOf : Tabled → Linked → Settings → ClassRows → Result Loaded Stop → Type 0
 IsLoadedOf tabled linked settings classes answer =
-    answer ≡ Ok (record { tables = tabled.tables; prefixes = tabled.prefixes; links = linked.links; merged = linked.merged; settings = settings; classes = classes })
+    answer ≡ Ok (record { tables = tabled.tables; source = tabled.source; prefixes = tabled.prefixes; links = linked.links; merged = linked.merged; settings = settings; classes = classes })
 
 -- trusted, own: what the file of classes gives behind these tables and prefixes, these links and these settings
 abbrev pub GivesClasses : Option FilesInMemory → Asked → Tabled → Linked → Settings → Result Loaded Stop → Type 0

@@ -1,11 +1,15 @@
 -- What proofs and private functions say beside the definitions of Loads.antt.
-use Rattle.std.specs.Prelude.{◌≡◌, ◌⊎◌, ℕ, ◌≤◌, List, [], Option, None, Result, Ok, Err}
+use Rattle.std.specs.Prelude.{◌≡◌, ◌⊎◌, ℕ, ◌≤◌, true, List, [], Option, None, is_some, Result, Ok, Err}
 use Rattle.gs_ai.specs.declared.row.AiRow.{AiRow}
 use Rattle.gs_class.specs.Sets.{ClassRows, IsClear, IsOfTable}
 use Rattle.gs_port.specs.Counts.{Rises}
-use Rattle.gs_tables.specs.Tables.{TableRows}
+use Rattle.gs_tables.specs.MigratedSets.{Loads as LoadsTables}
 use Rattle.tdl_arguments.specs.declared.command.Command.{Command}
+use Rattle.tdl_arguments.specs.declared.command.Command.TheVariants.{Migrate}
+use Rattle.tdl_arguments.specs.Requests.{Asked}
 use Rattle.tdl_messages.specs.declared.file_kind.FileKind.TheVariants.{Classes}
+use Rattle.tdl_run.specs.declared.loads.Loaded.{Loaded}
+use Rattle.tdl_run.specs.declared.loads.TablesWithSource.{TablesWithSource}
 use Rattle.tdl_run.specs.declared.loads.Unloaded.{Unloaded}
 use Rattle.tdl_run.specs.declared.loads.Unloaded.TheVariants.{Refused, ReadFault, Memory}
 use Rattle.tdl_run.specs.Loads.{FilesInMemory, StandsFor, Stop, TablesGive, UnnamedClasses, OpensFirst, Opens, is_of_classes, missing, rejected}
@@ -19,7 +23,7 @@ LoadedBy Give before now (Err ReadFault) = Rises before now ⊎ Give (Err missin
 LoadedBy Give before now (Err Memory) = Unit {0}
 
 -- the answer of a load of tables is that of the built-in ones, whatever the files are
-abbrev pub IsOfBuiltIn : Result TableRows Unloaded → Type 0
+abbrev pub IsOfBuiltIn : Result TablesWithSource Unloaded → Type 0
 IsOfBuiltIn answer = (files : Option FilesInMemory) (before now : ℕ) → LoadedBy (TablesGive files None) before now answer
 
 -- what files tell at a moment: themselves, the names that were opened, and their count of errors
@@ -51,3 +55,11 @@ AreUnnamedClasses ais command answer = (before now : ℕ) → LoadedBy (StandsFo
 pub record AreKept (ais : List AiRow) (set : ClassRows) : Type 0 where
   pub of_table : IsOfTable ais set
   pub clear : IsClear set
+
+-- what is asked names the tables that it migrates
+abbrev pub NamesTables : Asked → Type 0
+NamesTables asked = asked.command ≡ Migrate → is_some asked.files.tables ≡ true
+
+-- the document of tables that a command migrates loads
+abbrev pub HasSource : Command → Loaded → Type 0
+HasSource command loaded = command ≡ Migrate → LoadsTables loaded.source

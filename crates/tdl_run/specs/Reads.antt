@@ -18,6 +18,7 @@ use Rattle.tdl_messages.specs.declared.file_kind.FileKind.TheVariants as kind
 use Rattle.tdl_messages.specs.declared.rejection.FileFault.{FileFault}
 use Rattle.tdl_messages.specs.declared.rejection.FileFault.TheVariants.{LinkText, Over}
 use Rattle.tdl_messages.specs.Rejections.{file_limit}
+use Rattle.tdl_run.specs.declared.loads.TablesWithSource.{TablesWithSource}
 use Rattle.tdl_run.specs.declared.loads.Unloaded.{Unloaded}
 use Rattle.tdl_run.specs.declared.loads.Unloaded.TheVariants.{Refused, ReadFault, Memory}
 use Rattle.tdl_run.specs.Loads.{FilesInMemory, classes_verdict, of_verdict, prefixes_verdict, rejected, tables_verdict}
@@ -29,12 +30,13 @@ ReadBy files kind name before now (Err (Refused rejection)) = (bytes : List ℕ)
 ReadBy files kind name before now (Err ReadFault) = Rises before now ⊎ IsAbsent files name
 ReadBy files kind name before now (Err Memory) = Unit {0}
 
--- the answer of a load of tables, with out of memory as no rejection
-abbrev pub UnloadedAs : Result TableRows LoadFault → Result TableRows Unloaded → Type 0
-UnloadedAs answer (Ok set) = answer ≡ Ok set
-UnloadedAs answer (Err Memory) = Unit {0}
-UnloadedAs answer (Err ReadFault) = ⊥
-UnloadedAs answer (Err (Refused rejection)) = HasMemory answer × (of_verdict kind.Tables (tables_verdict answer) ≡ Err (rejected rejection))
+-- the answer of a load of tables of a document, with out of memory as no rejection
+abbrev pub UnloadedAs : List ℕ → Result TableRows LoadFault → Result TablesWithSource Unloaded → Type 0
+UnloadedAs source answer (Ok given) = tables_verdict source answer ≡ Ok given
+UnloadedAs source answer (Err Memory) = Unit {0}
+UnloadedAs source answer (Err ReadFault) = ⊥
+UnloadedAs source answer (Err (Refused rejection)) =
+    HasMemory answer × (of_verdict kind.Tables (tables_verdict source answer) ≡ Err (rejected rejection))
 
 -- a verdict on a file of a kind, with out of memory in place of any
 abbrev pub JudgedAs : {A : Type 0} → FileKind → Result A FileFault → Result A Unloaded → Type 0

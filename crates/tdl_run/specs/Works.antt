@@ -12,6 +12,7 @@ use Rattle.tdl_serve.specs.Resolutions.{Resolved, Resolves}
 use Rattle.gs_http.specs.Sites.{SiteData}
 use Rattle.gs_linkset.specs.WrittenTrees.{written}
 use Rattle.gs_tables.specs.Tables.{TableRows}
+use Rattle.gs_tables_migration.specs.Migrations.{migrated}
 use Rattle.tdl_serve.specs.Visits.{AreVisits, Visit, entries_of, inputs_of, wants_memory}
 use Rattle.gs_translate.specs.declared.form.Form.{Form}
 use Rattle.gs_translate.specs.declared.target.Target.{Target}
@@ -21,7 +22,7 @@ use Rattle.gs_translate.specs.Meanings.{IsRead}
 use Rattle.gs_translate.specs.Targets.{kept}
 use Rattle.gs_translate.specs.Translations.{Translating, translating_by}
 use Rattle.tdl_arguments.specs.declared.command.Command.{Command}
-use Rattle.tdl_arguments.specs.declared.command.Command.TheVariants.{Canon, Translate, Check, Resolve, Serve, Gen, ClassCanon, ClassUri, DumpRead, DumpWrite, Merge}
+use Rattle.tdl_arguments.specs.declared.command.Command.TheVariants.{Canon, Translate, Check, Resolve, Serve, Gen, Migrate, ClassCanon, ClassUri, DumpRead, DumpWrite, Merge}
 use Rattle.tdl_answers.specs.ClassAnswers.{ClassWriting, IsClassCanonLine, IsClassUriLine, writing_by}
 use Rattle.tdl_answers.specs.DumpAnswers.{IsDumpReadLine, IsDumpWriteLine}
 use Rattle.tdl_answers.specs.TranslatedAnswers.{IsTranslatedLine}
@@ -70,6 +71,10 @@ counts_line loaded =
 -- trusted, own: the document that links were merged to, in JSON, and a line feed
 abbrev pub merged_line : Loaded → List ℕ
 merged_line loaded = written loaded.merged ++ 10 ∷ []
+
+-- trusted, own: the document of the tables as one of version 2, and a line feed
+abbrev pub migrated_line : Loaded → List ℕ
+migrated_line loaded = migrated loaded.source ++ 10 ∷ []
 
 -- trusted, own: a line was written to a sink, or a prefix of it, by the status
 abbrev pub PrintsLine : List ℕ → Status → Option (List ℕ) → Option (List ℕ) → Type 0
@@ -171,6 +176,7 @@ doing_of Check values loaded = prints (λ output. output ≡ counts_line loaded)
 doing_of Resolve values loaded = resolves
 doing_of Serve values loaded = serves values.count
 doing_of (Gen lines) values loaded = prints (Generated loaded.tables lines)
+doing_of Migrate values loaded = prints (λ output. output ≡ migrated_line loaded)
 doing_of ClassCanon values loaded = answers (IsClassCanonLine loaded.classes)
 doing_of ClassUri values loaded = answers (IsClassUriLine (writing_classes loaded values))
 doing_of DumpRead values loaded = answers (IsDumpReadLine loaded.tables)

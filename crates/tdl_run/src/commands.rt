@@ -5,7 +5,7 @@ ghost use Rattle.gs_translate.specs.Translations.{AreInOrder};
 ghost use Rattle.tdl_arguments.specs.Commands.{answers_heads, reads_input, uses_door};
 ghost use Rattle.tdl_arguments.specs.Requests.{options_of, known_values};
 ghost use Rattle.tdl_run.specs.CommandRuns.{moment_of};
-ghost use Rattle.tdl_run.specs.LoadsSupport.{AreKept};
+ghost use Rattle.tdl_run.specs.LoadsSupport.{AreKept, HasSource};
 ghost use Rattle.tdl_run.specs.RanSupport.{CommandRan, UsesDoor};
 ghost use Rattle.tdl_run.specs.Works.{Leaves, doorway_of, site_of};
 
@@ -14,6 +14,7 @@ use crate::class_command::{link_classes, write_classes};
 use crate::dump_command::{show_dumps, write_dumps};
 use crate::loads::Loaded;
 use crate::merge_command::print_merged;
+use crate::migrate_command::print_migrated;
 use crate::translate_command::{canonize, translate_loaded};
 use gs_http::Site;
 use gs_port::{Door, Sink, Source};
@@ -47,6 +48,7 @@ pub fn run_command<S: Source, K: Sink, D: Door>(
     requires none_open { D.is_open door.old ≡ false }
     requires loaded { IsLoaded loaded.now.tables }
     requires classes { AreKept loaded.now.tables.ais loaded.now.classes }
+    requires source { HasSource command loaded.now }
     requires options { AreInOrder (options_of (known_values values)) }
     ensures ran { Leaves (K.held output.old) (K.held output.new)
         (D.aside door.old).finished (D.aside door.new).finished result
@@ -79,6 +81,7 @@ pub fn run_command<S: Source, K: Sink, D: Door>(
             output,
         ),
         Command::Gen(lines) => generate(alloc, &loaded.tables, lines, output),
+        Command::Migrate => print_migrated(alloc, loaded, output),
         Command::ClassCanon => link_classes(alloc, loaded, input, output),
         Command::ClassUri => write_classes(alloc, values, loaded, input, output),
         Command::DumpRead => show_dumps(alloc, loaded, input, output),

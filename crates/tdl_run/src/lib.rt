@@ -31,6 +31,7 @@ mod linked;
 mod links;
 mod loads;
 mod merge_command;
+mod migrate_command;
 mod named_files;
 mod places;
 mod prefixes;

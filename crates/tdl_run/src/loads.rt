@@ -21,11 +21,22 @@ use std::alloc::Global;
 use tdl_arguments::{NamedFiles, NamedValues, Request};
 use tdl_messages::{FileKind, Rejection};
 
+/// Tables, and the document that they are of.
+#[derive(Drop)]
+pub struct TablesWithSource {
+    /// The tables.
+    pub tables: TableSet,
+    /// The bytes of the document; none where the tables are the built-in ones.
+    pub source: Text,
+}
+
 /// The tables and the company prefix lengths that a run has loaded.
 #[derive(Drop)]
 pub struct Tabled {
     /// The tables.
     pub tables: TableSet,
+    /// The bytes of the document that the tables are of; none where they are the built-in ones.
+    pub source: Text,
     /// The company prefix lengths.
     pub prefixes: PrefixList,
 }
@@ -44,6 +55,8 @@ pub struct Linked {
 pub struct Loaded {
     /// The tables.
     pub tables: TableSet,
+    /// The bytes of the document that the tables are of; none where they are the built-in ones.
+    pub source: Text,
     /// The company prefix lengths.
     pub prefixes: PrefixList,
     /// The links.
@@ -61,6 +74,7 @@ impl Drop for Loaded {
     fn drop(self) {
         let Loaded {
             tables: _,
+            source: _,
             prefixes: _,
             links: _,
             merged: _,
@@ -103,9 +117,14 @@ fn load_tabled<F: Files>(
         (files_known (F.files files.old) (F.opened files.old) (F.errors files.old))
         (files_known (F.files files.new) (F.opened files.new) (F.errors files.new)) result }
 {
-    let tables = load_tables(alloc, named.tables, files)?;
+    let given = load_tables(alloc, named.tables, files)?;
     let prefixes = load_prefixes(alloc, named.prefixes, files)?;
-    Ok(Tabled { tables, prefixes })
+    let TablesWithSource { tables, source } = given;
+    Ok(Tabled {
+        tables,
+        source,
+        prefixes,
+    })
 }
 
 /// Loads how requests are answered: by the values, and the description, which is none where it is not named.
@@ -154,10 +173,15 @@ pub fn load_files<F: Files>(
     let linked = load_linked(alloc, table, values, named, files)?;
     let settings = load_settings(alloc, values, named, files)?;
     let classes = load_classes(alloc, table, command, named.classes, files)?;
-    let Tabled { tables, prefixes } = tabled;
+    let Tabled {
+        tables,
+        source,
+        prefixes,
+    } = tabled;
     let Linked { links, merged } = linked;
     Ok(Loaded {
         tables,
+        source,
         prefixes,
         links,
         merged,

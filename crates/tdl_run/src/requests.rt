@@ -8,6 +8,7 @@ ghost use Rattle.tdl_arguments.specs.Ranges.{is_vocabulary};
 ghost use Rattle.tdl_arguments.specs.Requests.{all_named, options_of, known_request};
 ghost use Rattle.tdl_run.specs.Requests.{AskedRan, PrintsRejection, Reports};
 ghost use Rattle.tdl_run.specs.Loads.{OpensFirst};
+ghost use Rattle.tdl_run.specs.LoadsSupport.{NamesTables};
 ghost use Rattle.tdl_run.specs.Runs.{AskedEnded, AskedListens, AskedLoads, AskedServes, OpensAsked, WritesAfterError, counts_of, world_of};
 ghost use Rattle.tdl_run.specs.Works.{FinishesFirst, Leaves};
 
@@ -57,6 +58,7 @@ pub fn run_request<F: Files, S: Source, K: Sink, D: Door>(
 ) -> Status
     requires none_open { D.is_open door.old ≡ false }
     requires vocabulary { is_vocabulary request.values.voc.now ≡ true }
+    requires tables { NamesTables (known_request request) }
     requires options { AreInOrder (options_of (known_request request).values) }
     ensures ran { Leaves (K.held output.old) (K.held output.new)
         (D.aside door.old).finished (D.aside door.new).finished result

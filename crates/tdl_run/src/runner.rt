@@ -14,7 +14,7 @@ use tdl_lines::{Status, print_line};
 
 /// What is printed where the arguments are not in order.
 const USAGE: &[u8] =
-    b"usage: tdl canon FORM | translate FROM TO | check | resolve | serve | gen N | class canon | class uri | dump read | dump write | merge, then --name value pairs\n";
+    b"usage: tdl canon FORM | translate FROM TO | check | resolve | serve | gen N | migrate | class canon | class uri | dump read | dump write | merge, then --name value pairs\n";
 
 /// Runs the program: does what the arguments ask for, over these files, this input, this output and this door, of which no
 /// connection is open, and says how it ended.

@@ -189,6 +189,29 @@ returns-in-ClassUri-clause-unserved g c = λ none. refl
 pub returns-in-ClassUri-clause-door_counts : goal.returns-in-ClassUri-clause-door_counts
 returns-in-ClassUri-clause-door_counts g c = omega arith
 
+pub print_migrated-requires : goal.print_migrated-requires
+print_migrated-requires g c = c.requires.source c.in-Migrate.is
+
+pub returns-in-Migrate-clause-ran : goal.returns-in-Migrate-clause-ran
+returns-in-Migrate-clause-ran g c =
+    let w = c.print_migrated.ensures.written in
+    rw c.in-Migrate.is ([], none_more _, (w.0, w.1, ran_of_line _ _ _ _ _ _ _ w.0 c.print_migrated.result (record { is_output = refl; none_finished = refl; done = refl }) w.2 c.print_migrated.ensures.error refl refl refl c.print_migrated.ensures.counts))
+
+pub returns-in-Migrate-clause-served : goal.returns-in-Migrate-clause-served
+returns-in-Migrate-clause-served g c = rw c.in-Migrate.is (λ heads. absurd (false≢true heads))
+
+pub returns-in-Migrate-clause-unread : goal.returns-in-Migrate-clause-unread
+returns-in-Migrate-clause-unread g c = λ none. refl
+
+pub returns-in-Migrate-clause-unserved : goal.returns-in-Migrate-clause-unserved
+returns-in-Migrate-clause-unserved g c = λ none. refl
+
+pub returns-in-Migrate-clause-door_counts : goal.returns-in-Migrate-clause-door_counts
+returns-in-Migrate-clause-door_counts g c = omega arith
+
+pub returns-in-Migrate-clause-used : goal.returns-in-Migrate-clause-used
+returns-in-Migrate-clause-used g c = rw c.in-Migrate.is (λ uses. absurd (false≢true uses))
+
 pub returns-in-Merge-clause-ran : goal.returns-in-Merge-clause-ran
 returns-in-Merge-clause-ran g c =
     let w = c.print_merged.ensures.written in

@@ -5,21 +5,21 @@ use Rattle.tdl_run.specs.Loads.{AreTabled, GivesPrefixes, PrefixesGive, TablesGi
 use Rattle.tdl_run.proofs.LoadSteps.{gives_last, loads_stop, loads_then, stops_first}
 use Rattle.tdl_run.proofs.loads.load_tabled.Goals as goal
 
-pub returns-in_err-tables : goal.returns-in_err-tables
-returns-in_err-tables g c =
+pub returns-in_err-given : goal.returns-in_err-given
+returns-in_err-given g c =
     let names = known_files c.args.named in
     let p = err_from_is_err_and c.from_residual.result c.from_residual.ensures.1 in
-    rw (p.1, p.2) (loads_stop (λ known. TablesGive known names.tables) (λ known. GivesPrefixes known names) (option_to_list names.tables) (option_to_list names.prefixes) _ _ _ c.in_err-tables.field-0.0 c.in_err-tables.ensures)
+    rw (p.1, p.2) (loads_stop (λ known. TablesGive known names.tables) (λ known. GivesPrefixes known names) (option_to_list names.tables) (option_to_list names.prefixes) _ _ _ c.in_err-given.field-0.0 c.in_err-given.ensures)
 
 pub returns-in_err-prefixes : goal.returns-in_err-prefixes
 returns-in_err-prefixes g c =
     let names = known_files c.args.named in
     let p = err_from_is_err_and c.from_residual-in_err-prefixes.result c.from_residual-in_err-prefixes.ensures.1 in
-    rw (p.1, p.2) (loads_then (λ known. TablesGive known names.tables) (λ known. GivesPrefixes known names) (option_to_list names.tables) (option_to_list names.prefixes) _ _ _ _ _ _ c.in_ok-tables.tables _ (λ one other. other ∙ one) c.in_ok-tables.ensures
-    (stops_first (λ known. PrefixesGive known names.prefixes) (λ known. AreTabled c.in_ok-tables.tables) (option_to_list names.prefixes) _ _ _ c.in_err-prefixes.field-0.0 c.in_err-prefixes.ensures))
+    rw (p.1, p.2) (loads_then (λ known. TablesGive known names.tables) (λ known. GivesPrefixes known names) (option_to_list names.tables) (option_to_list names.prefixes) _ _ _ _ _ _ c.in_ok-given.given _ (λ one other. other ∙ one) c.in_ok-given.ensures
+    (stops_first (λ known. PrefixesGive known names.prefixes) (λ known. AreTabled c.in_ok-given.given) (option_to_list names.prefixes) _ _ _ c.in_err-prefixes.field-0.0 c.in_err-prefixes.ensures))
 
 pub returns : goal.returns
 returns g c =
     let names = known_files c.args.named in
-    loads_then (λ known. TablesGive known names.tables) (λ known. GivesPrefixes known names) (option_to_list names.tables) (option_to_list names.prefixes) _ _ _ _ _ _ c.in_ok-tables.tables _ (λ one other. other ∙ one) c.in_ok-tables.ensures
-    (gives_last (λ known. PrefixesGive known names.prefixes) (λ known. AreTabled c.in_ok-tables.tables) (option_to_list names.prefixes) _ _ _ c.in_ok-prefixes.prefixes _ c.in_ok-prefixes.ensures refl)
+    loads_then (λ known. TablesGive known names.tables) (λ known. GivesPrefixes known names) (option_to_list names.tables) (option_to_list names.prefixes) _ _ _ _ _ _ c.in_ok-given.given _ (λ one other. other ∙ one) c.in_ok-given.ensures
+    (gives_last (λ known. PrefixesGive known names.prefixes) (λ known. AreTabled c.in_ok-given.given) (option_to_list names.prefixes) _ _ _ c.in_ok-prefixes.prefixes _ c.in_ok-prefixes.ensures refl)

@@ -3,7 +3,7 @@ use Rattle.tdl_lines.specs.Statuses.{is_answered, is_rejection, is_usage}
 use Rattle.tdl_lines.proofs.StatusLemmas.{when_always, when_map}
 use Rattle.tdl_arguments.specs.Commands.{reads_input, uses_door}
 use Rattle.tdl_arguments.specs.Requests.{known_request}
-use Rattle.tdl_arguments.proofs.ValueLemmas.{options_fit, vocabulary_fits}
+use Rattle.tdl_arguments.proofs.ValueLemmas.{options_fit, tables_fit, vocabulary_fits}
 use Rattle.tdl_run.specs.Runs.{named}
 use Rattle.tdl_run.proofs.CompleteLemmas.{complete_asked}
 use Rattle.tdl_run.proofs.RunLemmas.{asks_not, begun_of, cut_of, defined_of, few_of, finished_of, listens_of, loads_of, read_error_of, rejected_of, served_of, unopened_of, usage_begun, usage_cut, usage_defined, usage_finished}
@@ -12,6 +12,9 @@ use Rattle.tdl_run.proofs.runner.run.Goals as goal
 
 pub run_request-requires-clause-vocabulary : goal.run_request-requires-clause-vocabulary
 run_request-requires-clause-vocabulary g c = vocabulary_fits (map string_bytes c.args.words.now) (known_request c.in-Some.request) c.in-Some.ensures.request
+
+pub run_request-requires-clause-tables : goal.run_request-requires-clause-tables
+run_request-requires-clause-tables g c = tables_fit (map string_bytes c.args.words.now) (known_request c.in-Some.request) c.in-Some.ensures.request
 
 pub run_request-requires-clause-options : goal.run_request-requires-clause-options
 run_request-requires-clause-options g c = options_fit (map string_bytes c.args.words.now) (known_request c.in-Some.request) c.in-Some.ensures.request

@@ -1,3 +1,4 @@
+use Rattle.std.proofs.Common.{[]}
 use Rattle.gs_tables.specs.Shapes.{BuiltInAnswer, LoadAnswer}
 use Rattle.tdl_messages.specs.declared.file_kind.FileKind.TheVariants as kind
 use Rattle.tdl_arguments.specs.Requests.{known_name}
@@ -14,9 +15,9 @@ returns-in-Ok-Some g c =
     let before = files_known files (g.F.Files.opened c.args.files.now) (g.F.Files.errors c.args.files.now) in
     let now = files_known (g.F.Files.files c.read_if_named.new.files) (g.F.Files.opened c.read_if_named.new.files) (g.F.Files.errors c.read_if_named.new.files) in
     let l = rw c.in-Ok-Some.field-0-is at c.in-Ok-Some.ensures in
-    let n = bytes_named files kind.Tables name c.in-Ok-Some.bytes l.loaded in
+    let n = bytes_named files kind.Tables name c.in-Ok-Some.source l.loaded in
     loads_given (λ known. BytesGive known kind.Tables name) (λ known. TablesGive known name) _ _ before now _ c.tables_of.result l
-    (rw n.is_named (file_loaded files n.file c.in-Ok-Some.bytes _ _ c.load.result c.tables_of.result n.is_file n.few (rw c.as_bytes.ensures at c.load.ensures) c.tables_of.ensures))
+    (rw n.is_named (file_loaded files n.file c.in-Ok-Some.source _ _ c.load.result c.tables_of.result n.is_file n.few (rw c.as_bytes.ensures at c.load.ensures) c.tables_of.ensures))
 
 pub returns-in-Ok-None : goal.returns-in-Ok-None
 returns-in-Ok-None g c =
@@ -35,4 +36,4 @@ returns-in-Err g c =
     let before = files_known files (g.F.Files.opened c.args.files.now) (g.F.Files.errors c.args.files.now) in
     let now = files_known (g.F.Files.files c.read_if_named.new.files) (g.F.Files.opened c.read_if_named.new.files) (g.F.Files.errors c.read_if_named.new.files) in
     loads_failed (λ known. BytesGive known kind.Tables name) (λ known. TablesGive known name) _ _ before now c.in-Err.unloaded c.in-Err.ensures
-    (bytes_unloaded files kind.Tables (λ bytes. JudgesTables (LoadAnswer bytes)) (JudgesTables BuiltInAnswer) name before.errors now.errors c.in-Err.unloaded c.in-Err.ensures.loaded)
+    (bytes_unloaded files kind.Tables (λ bytes. JudgesTables bytes (LoadAnswer bytes)) (JudgesTables [] BuiltInAnswer) name before.errors now.errors c.in-Err.unloaded c.in-Err.ensures.loaded)
