@@ -17,7 +17,7 @@ fn tables_of(
     answer: Result<TableSet, LoadFault>,
     source: Text,
 ) -> Result<TablesWithSource, Unloaded>
-    ensures { UnloadedAs source.entry answer result }
+    ensures { UnloadedAs source answer result }
 {
     match answer {
         Ok(tables) => Ok(TablesWithSource { tables, source }),
