@@ -1,5 +1,5 @@
 -- One turn at a door.
-use Rattle.std.proofs.Common.{◌≡◌, ◌≢◌, ℕ, ◌-◌, List, [], ◌∷◌, ◌++◌, Option, Some, None, refl, sym, ap, ◌∙◌, subst}
+use Rattle.std.proofs.Common.{◌≡◌, ◌≢◌, ℕ, ◌-◌, false, List, [], ◌∷◌, ◌++◌, Option, Some, None, refl, sym, ap, ◌∙◌, subst}
 use Rattle.std.specs.Prelude.{is_some, option_map}
 use Rattle.gs_http.specs.declared.outcomes.Served.{Served}
 use Rattle.gs_http.specs.declared.outcomes.Served.TheVariants as served
@@ -10,7 +10,8 @@ use Rattle.gs_port.specs.Contents.{append_known}
 use Rattle.gs_port.specs.declared.door.AcceptAnswer.TheVariants as accepting
 use Rattle.tdl_serve.specs.declared.visits.Turn.{Turn}
 use Rattle.gs_http.specs.Sites.{SiteData}
-use Rattle.tdl_serve.specs.Turns.{OpenServed, TurnDid, turn_of}
+use Rattle.tdl_serve.specs.Resolutions.{count_if}
+use Rattle.tdl_serve.specs.Turns.{OpenServed, TurnDid, is_failure, turn_of}
 use Rattle.tdl_serve.specs.Visits.{AreVisits, DoorState, IsVisit, Visit, Visited, is_error, is_want, no_visit, one_visit, known_if}
 use Rattle.tdl_serve.proofs.StreamLemmas.{as_answered, front_is_part, replied, known_whole}
 
@@ -72,3 +73,13 @@ accepted site turn before mid now left taken held some whole unread unwritten as
           (subst (λ w. AreVisits site known before.reads before.writes (visit ∷ []) (reads_when x.served before.reads) w) (sym new_writes) alone);
     } in
     subst (λ t. TurnDid t site before now) (sym x.is_turn) (by_served site before now x.served visit refl visited)
+
+never_fails : (served : Served) → is_failure (turn_of served) ≡ false
+never_fails served.Done = refl
+never_fails served.ReadFault = refl
+never_fails served.WriteFault = refl
+never_fails served.Memory = refl
+
+-- a connection that was served counts no error of the door's own
+pub counts_of_turn : (turn : Turn) (served : Served) → turn ≡ turn_of served → (before now : ℕ) → now ≡ before → now ≡ count_if (is_failure turn) before
+counts_of_turn turn served is before now e = rw (is, never_fails served) e

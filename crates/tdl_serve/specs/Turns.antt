@@ -3,7 +3,8 @@ use Rattle.std.specs.Prelude.{◌≡◌, ℕ, ◌≤◌, ◌-◌, Bool, true, fa
 use Rattle.gs_http.specs.declared.outcomes.Served.{Served}
 use Rattle.gs_http.specs.declared.outcomes.Served.TheVariants as served
 use Rattle.gs_http.specs.ServedStreams.{IsServed, reads_when, writes_when}
-use Rattle.gs_port.specs.Connections.{after_finish, finished_now}
+use Rattle.gs_port.specs.Connections.{Aside, after_finish, finished_now}
+use Rattle.tdl_serve.specs.Resolutions.{count_if}
 use Rattle.tdl_serve.specs.declared.sessions.Session.{Session}
 use Rattle.tdl_serve.specs.declared.sessions.Session.TheVariants as session
 use Rattle.tdl_serve.specs.declared.visits.Turn.{Turn}
@@ -77,3 +78,9 @@ abbrev pub is_failed : Session → Bool
 is_failed (session.Over tally) = false
 is_failed session.Failed = true
 is_failed session.Memory = false
+
+-- what turns at a door leave aside: one more error of the door's own where the last of them failed, and the same addresses
+pub record LeavesDoor (failed : Bool) (before now : Aside) : Type 0 where
+  pub own_count : now.errors ≡ count_if failed before.errors
+  pub own_counts : before.errors ≤ now.errors
+  pub same_addresses : now.addresses ≡ before.addresses

@@ -3,8 +3,7 @@ ghost use Rattle.tdl_lines.specs.Outputs.{Appends};
 ghost use Rattle.tdl_lines.specs.Statuses.{OnReadFault, OnWriteFault};
 ghost use Rattle.gs_port.specs.Counts.{Rises};
 ghost use Rattle.tdl_serve.specs.Doors.{CountsErrors, OpensAt, ServeRan};
-ghost use Rattle.tdl_serve.specs.Resolutions.{count_if};
-ghost use Rattle.tdl_serve.specs.Turns.{SessionDid, error_number, is_failed};
+ghost use Rattle.tdl_serve.specs.Turns.{LeavesDoor, SessionDid, error_number, is_failed};
 ghost use Rattle.tdl_serve.specs.Visits.{state_of};
 ghost use Rattle.gs_http.specs.Sites.{room_for};
 
@@ -49,9 +48,7 @@ fn serve_turns<D: Door>(
         (state_of (D.aside door.old) (D.reads door.old) (D.writes door.old))
         (state_of (D.aside door.new) (D.reads door.new) (D.writes door.new)) }
     ensures closed { D.is_open door.new ≡ false }
-    ensures own_count { (D.aside door.new).errors ≡ count_if (is_failed result) (D.aside door.old).errors }
-    ensures own_counts { (D.aside door.old).errors ≤ (D.aside door.new).errors }
-    ensures same_addresses { (D.aside door.new).addresses ≡ (D.aside door.old).addresses }
+    ensures left { LeavesDoor (is_failed result) (D.aside door.old) (D.aside door.new) }
     ensures same_ends { D.ends door.new ≡ D.ends door.old }
 {
     let mut errors = 0;
@@ -77,9 +74,7 @@ fn serve_all<D: Door>(alloc: Global, site: &Site<'_>, count: u32, door: &mut D) 
         (state_of (D.aside door.old) (D.reads door.old) (D.writes door.old))
         (state_of (D.aside door.new) (D.reads door.new) (D.writes door.new)) }
     ensures closed { D.is_open door.new ≡ false }
-    ensures own_count { (D.aside door.new).errors ≡ count_if (is_failed result) (D.aside door.old).errors }
-    ensures own_counts { (D.aside door.old).errors ≤ (D.aside door.new).errors }
-    ensures same_addresses { (D.aside door.new).addresses ≡ (D.aside door.old).addresses }
+    ensures left { LeavesDoor (is_failed result) (D.aside door.old) (D.aside door.new) }
     ensures same_ends { D.ends door.new ≡ D.ends door.old }
 {
     let Ok((resolver, mut room)) = Resolver::with_room(alloc, site) else {

@@ -1,6 +1,5 @@
 ghost use Rattle.std.specs.Prelude.{◌≡◌, ◌≤◌, false, length, true};
-ghost use Rattle.tdl_serve.specs.Resolutions.{count_if};
-ghost use Rattle.tdl_serve.specs.Turns.{OpenServed, TurnDid, is_failure, turn_of};
+ghost use Rattle.tdl_serve.specs.Turns.{LeavesDoor, OpenServed, TurnDid, is_failure, turn_of};
 ghost use Rattle.tdl_serve.specs.Visits.{state_of};
 ghost use Rattle.gs_http.specs.Sites.{room_for};
 
@@ -67,9 +66,7 @@ pub fn visit<D: Door>(
         (state_of (D.aside door.new) (D.reads door.new) (D.writes door.new)) }
     ensures closed { D.is_open door.new ≡ false }
     ensures listens { (D.aside door.new).opened ≡ true }
-    ensures own_count { (D.aside door.new).errors ≡ count_if (is_failure result) (D.aside door.old).errors }
-    ensures own_counts { (D.aside door.old).errors ≤ (D.aside door.new).errors }
-    ensures same_addresses { (D.aside door.new).addresses ≡ (D.aside door.old).addresses }
+    ensures left { LeavesDoor (is_failure result) (D.aside door.old) (D.aside door.new) }
     ensures same_ends { D.ends door.new ≡ D.ends door.old }
 {
     match door.accept() {

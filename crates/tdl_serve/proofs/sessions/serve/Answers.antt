@@ -97,7 +97,7 @@ pub returns-in-Over-clause-closed : goal.returns-in-Over-clause-closed
 returns-in-Over-clause-closed g c = c.in-Over.ensures.closed
 
 pub returns-in-Over-clause-door_counts : goal.returns-in-Over-clause-door_counts
-returns-in-Over-clause-door_counts g c = omega (arith, c.in-Over.ensures.own_counts, c.in-Opened.ensures.counts)
+returns-in-Over-clause-door_counts g c = omega (arith, c.in-Over.ensures.left.own_counts, c.in-Opened.ensures.counts)
 
 pub returns-in-Over-clause-same_ends : goal.returns-in-Over-clause-same_ends
 returns-in-Over-clause-same_ends g c = c.in-Over.ensures.same_ends ∙ c.in-Opened.ensures.same_ends
@@ -112,7 +112,7 @@ pub returns-in-Failed-serve_all-clause-closed : goal.returns-in-Failed-serve_all
 returns-in-Failed-serve_all-clause-closed g c = c.in-Failed-serve_all.ensures.closed
 
 pub returns-in-Failed-serve_all-clause-door_counts : goal.returns-in-Failed-serve_all-clause-door_counts
-returns-in-Failed-serve_all-clause-door_counts g c = omega (arith, c.in-Failed-serve_all.ensures.own_counts, c.in-Opened.ensures.counts)
+returns-in-Failed-serve_all-clause-door_counts g c = omega (arith, c.in-Failed-serve_all.ensures.left.own_counts, c.in-Opened.ensures.counts)
 
 pub returns-in-Failed-serve_all-clause-same_ends : goal.returns-in-Failed-serve_all-clause-same_ends
 returns-in-Failed-serve_all-clause-same_ends g c = c.in-Failed-serve_all.ensures.same_ends ∙ c.in-Opened.ensures.same_ends
@@ -124,13 +124,13 @@ pub returns-in-Failed-serve_all-clause-output_counts : goal.returns-in-Failed-se
 returns-in-Failed-serve_all-clause-output_counts g c = omega arith
 
 pub returns-in-Failed-serve_all-clause-door_count : goal.returns-in-Failed-serve_all-clause-door_count
-returns-in-Failed-serve_all-clause-door_count g c = c.in-Failed-serve_all.ensures.own_count ∙ ap (λ (a : Aside). counted a.errors) c.in-Opened.ensures.aside
+returns-in-Failed-serve_all-clause-door_count g c = c.in-Failed-serve_all.ensures.left.own_count ∙ ap (λ (a : Aside). counted a.errors) c.in-Opened.ensures.aside
 
 pub returns-in-Memory-serve_all-clause-closed : goal.returns-in-Memory-serve_all-clause-closed
 returns-in-Memory-serve_all-clause-closed g c = c.in-Memory-serve_all.ensures.closed
 
 pub returns-in-Memory-serve_all-clause-door_counts : goal.returns-in-Memory-serve_all-clause-door_counts
-returns-in-Memory-serve_all-clause-door_counts g c = omega (arith, c.in-Memory-serve_all.ensures.own_counts, c.in-Opened.ensures.counts)
+returns-in-Memory-serve_all-clause-door_counts g c = omega (arith, c.in-Memory-serve_all.ensures.left.own_counts, c.in-Opened.ensures.counts)
 
 pub returns-in-Memory-serve_all-clause-same_ends : goal.returns-in-Memory-serve_all-clause-same_ends
 returns-in-Memory-serve_all-clause-same_ends g c = c.in-Memory-serve_all.ensures.same_ends ∙ c.in-Opened.ensures.same_ends
@@ -145,7 +145,7 @@ pub returns-in-Memory-serve_all-clause-read_error : goal.returns-in-Memory-serve
 returns-in-Memory-serve_all-clause-read_error g c = tt
 
 pub returns-in-Memory-serve_all-clause-door_count : goal.returns-in-Memory-serve_all-clause-door_count
-returns-in-Memory-serve_all-clause-door_count g c = c.in-Memory-serve_all.ensures.own_count ∙ ap (λ (a : Aside). a.errors) c.in-Opened.ensures.aside
+returns-in-Memory-serve_all-clause-door_count g c = c.in-Memory-serve_all.ensures.left.own_count ∙ ap (λ (a : Aside). a.errors) c.in-Opened.ensures.aside
 
 pub returns-in-Failed-clause-read_error : goal.returns-in-Failed-clause-read_error
 returns-in-Failed-clause-read_error g c = c.in-Failed.ensures.failed
@@ -154,4 +154,4 @@ pub returns-in-Over-clause-read_error : goal.returns-in-Over-clause-read_error
 returns-in-Over-clause-read_error g c = rw (printed_errorless _ c.print_tally.ensures.written.0 c.print_tally.result c.print_tally.ensures.written.2) tt
 
 pub returns-in-Over-clause-door_count : goal.returns-in-Over-clause-door_count
-returns-in-Over-clause-door_count g c = rw (printed_errorless _ c.print_tally.ensures.written.0 c.print_tally.result c.print_tally.ensures.written.2) (c.in-Over.ensures.own_count ∙ ap (λ (a : Aside). a.errors) c.in-Opened.ensures.aside)
+returns-in-Over-clause-door_count g c = rw (printed_errorless _ c.print_tally.ensures.written.0 c.print_tally.result c.print_tally.ensures.written.2) (c.in-Over.ensures.left.own_count ∙ ap (λ (a : Aside). a.errors) c.in-Opened.ensures.aside)

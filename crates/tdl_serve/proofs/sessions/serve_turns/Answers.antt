@@ -32,19 +32,13 @@ loop-finished-preserved g c = record {
   within = let more = c.loop-finished-test.true in omega arith;
   none_open = c.in-Finished.ensures.closed;
   listens = c.in-Finished.ensures.listens;
-  own_count = c.in-Finished.ensures.own_count ∙ c.loop-finished.invariant.own_count;
-  same_addresses = c.in-Finished.ensures.same_addresses ∙ c.loop-finished.invariant.same_addresses;
+  own_count = c.in-Finished.ensures.left.own_count ∙ c.loop-finished.invariant.own_count;
+  same_addresses = c.in-Finished.ensures.left.same_addresses ∙ c.loop-finished.invariant.same_addresses;
   same_ends = c.in-Finished.ensures.same_ends ∙ c.loop-finished.invariant.same_ends;
 }
 
 pub returns-in-Closed-clause-closed : goal.returns-in-Closed-clause-closed
 returns-in-Closed-clause-closed g c = c.in-Closed.ensures.closed
-
-pub returns-in-Closed-clause-own_count : goal.returns-in-Closed-clause-own_count
-returns-in-Closed-clause-own_count g c = c.in-Closed.ensures.own_count ∙ c.loop-finished.invariant.own_count
-
-pub returns-in-Closed-clause-own_counts : goal.returns-in-Closed-clause-own_counts
-returns-in-Closed-clause-own_counts g c = omega (arith, c.loop-finished.invariant.own_count, c.in-Closed.ensures.own_counts)
 
 pub returns-in-Closed-clause-same_ends : goal.returns-in-Closed-clause-same_ends
 returns-in-Closed-clause-same_ends g c = c.in-Closed.ensures.same_ends ∙ c.loop-finished.invariant.same_ends
@@ -52,23 +46,11 @@ returns-in-Closed-clause-same_ends g c = c.in-Closed.ensures.same_ends ∙ c.loo
 pub returns-in-Failed-clause-closed : goal.returns-in-Failed-clause-closed
 returns-in-Failed-clause-closed g c = c.in-Failed.ensures.closed
 
-pub returns-in-Failed-clause-own_count : goal.returns-in-Failed-clause-own_count
-returns-in-Failed-clause-own_count g c = c.in-Failed.ensures.own_count ∙ ap counted c.loop-finished.invariant.own_count
-
-pub returns-in-Failed-clause-own_counts : goal.returns-in-Failed-clause-own_counts
-returns-in-Failed-clause-own_counts g c = omega (arith, c.loop-finished.invariant.own_count, c.in-Failed.ensures.own_counts)
-
 pub returns-in-Failed-clause-same_ends : goal.returns-in-Failed-clause-same_ends
 returns-in-Failed-clause-same_ends g c = c.in-Failed.ensures.same_ends ∙ c.loop-finished.invariant.same_ends
 
 pub returns-in-Memory-clause-closed : goal.returns-in-Memory-clause-closed
 returns-in-Memory-clause-closed g c = c.in-Memory.ensures.closed
-
-pub returns-in-Memory-clause-own_count : goal.returns-in-Memory-clause-own_count
-returns-in-Memory-clause-own_count g c = c.in-Memory.ensures.own_count ∙ c.loop-finished.invariant.own_count
-
-pub returns-in-Memory-clause-own_counts : goal.returns-in-Memory-clause-own_counts
-returns-in-Memory-clause-own_counts g c = omega (arith, c.loop-finished.invariant.own_count, c.in-Memory.ensures.own_counts)
 
 pub returns-in-Memory-clause-same_ends : goal.returns-in-Memory-clause-same_ends
 returns-in-Memory-clause-same_ends g c = c.in-Memory.ensures.same_ends ∙ c.loop-finished.invariant.same_ends
@@ -76,23 +58,33 @@ returns-in-Memory-clause-same_ends g c = c.in-Memory.ensures.same_ends ∙ c.loo
 pub returns-clause-closed : goal.returns-clause-closed
 returns-clause-closed g c = c.loop-finished.invariant.none_open
 
-pub returns-clause-own_count : goal.returns-clause-own_count
-returns-clause-own_count g c = c.loop-finished.invariant.own_count
-
-pub returns-clause-own_counts : goal.returns-clause-own_counts
-returns-clause-own_counts g c = omega (arith, c.loop-finished.invariant.own_count)
-
 pub returns-clause-same_ends : goal.returns-clause-same_ends
 returns-clause-same_ends g c = c.loop-finished.invariant.same_ends
 
-pub returns-in-Closed-clause-same_addresses : goal.returns-in-Closed-clause-same_addresses
-returns-in-Closed-clause-same_addresses g c = c.in-Closed.ensures.same_addresses ∙ c.loop-finished.invariant.same_addresses
+pub returns-in-Closed-clause-left : goal.returns-in-Closed-clause-left
+returns-in-Closed-clause-left g c = record {
+  own_count = c.in-Closed.ensures.left.own_count ∙ c.loop-finished.invariant.own_count;
+  own_counts = omega (arith, c.loop-finished.invariant.own_count, c.in-Closed.ensures.left.own_counts);
+  same_addresses = c.in-Closed.ensures.left.same_addresses ∙ c.loop-finished.invariant.same_addresses;
+}
 
-pub returns-in-Failed-clause-same_addresses : goal.returns-in-Failed-clause-same_addresses
-returns-in-Failed-clause-same_addresses g c = c.in-Failed.ensures.same_addresses ∙ c.loop-finished.invariant.same_addresses
+pub returns-in-Failed-clause-left : goal.returns-in-Failed-clause-left
+returns-in-Failed-clause-left g c = record {
+  own_count = c.in-Failed.ensures.left.own_count ∙ ap counted c.loop-finished.invariant.own_count;
+  own_counts = omega (arith, c.loop-finished.invariant.own_count, c.in-Failed.ensures.left.own_counts);
+  same_addresses = c.in-Failed.ensures.left.same_addresses ∙ c.loop-finished.invariant.same_addresses;
+}
 
-pub returns-in-Memory-clause-same_addresses : goal.returns-in-Memory-clause-same_addresses
-returns-in-Memory-clause-same_addresses g c = c.in-Memory.ensures.same_addresses ∙ c.loop-finished.invariant.same_addresses
+pub returns-in-Memory-clause-left : goal.returns-in-Memory-clause-left
+returns-in-Memory-clause-left g c = record {
+  own_count = c.in-Memory.ensures.left.own_count ∙ c.loop-finished.invariant.own_count;
+  own_counts = omega (arith, c.loop-finished.invariant.own_count, c.in-Memory.ensures.left.own_counts);
+  same_addresses = c.in-Memory.ensures.left.same_addresses ∙ c.loop-finished.invariant.same_addresses;
+}
 
-pub returns-clause-same_addresses : goal.returns-clause-same_addresses
-returns-clause-same_addresses g c = c.loop-finished.invariant.same_addresses
+pub returns-clause-left : goal.returns-clause-left
+returns-clause-left g c = record {
+  own_count = c.loop-finished.invariant.own_count;
+  own_counts = omega (arith, c.loop-finished.invariant.own_count);
+  same_addresses = c.loop-finished.invariant.same_addresses;
+}
