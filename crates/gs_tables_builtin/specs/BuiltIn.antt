@@ -1,6 +1,6 @@
 -- The built-in rows. Kinds, encodings and the partition table are those of TDS 2.0, sections 6.3, 14.2 and 14.6. The choice of rows
 -- is this project's own.
-use Rattle.std.specs.Prelude.{ℕ, ◌-◌, ◌^◌, ◌==◌, if◌then◌else◌, List, [], ◌∷◌, ◌++◌, map, codes, replicate, Option, Some, None, option_map, option_to_list}
+use Rattle.std.specs.Prelude.{ℕ, ◌-◌, ◌^◌, ◌==◌, if◌then◌else◌, Bool, true, false, List, [], ◌∷◌, ◌++◌, map, codes, replicate, Option, Some, None, option_map, option_to_list}
 use Rattle.std.specs.List.{flat_map}
 use Rattle.gs_tables_builtin.specs.BuiltInAis.{builtin_ais}
 use Rattle.gs_bits.specs.Bits.{bits_of}
@@ -193,21 +193,18 @@ row_with kind encoding p items = record { kind = kind; encoding = encoding; gcp 
 abbrev pub option_row : List ℕ → List ℕ → Partition → List FieldItem → OptionRow
 option_row kind encoding p items = row_with kind encoding p (map there items)
 
--- trusted, own: the option of tag bits of an encoding for a length of the prefix
-abbrev pub binary_row : Encoding → Partition → OptionRow
-binary_row e p = option_row e.kind e.name p (binary_items e p)
+-- trusted, own: the items of an option of an encoding for a length of the prefix, of tag bits or of tag URIs
+abbrev pub encoded_items : Bool → Encoding → Partition → List FieldItem
+encoded_items true e p = binary_items e p
+encoded_items false e p = tag_items e p
 
--- trusted, own: the options of tag bits of an encoding
-abbrev pub binary_rows : Encoding → List OptionRow
-binary_rows e = map (binary_row e) partitions
+-- trusted, own: the option of an encoding for a length of the prefix, of tag bits or of tag URIs
+abbrev pub encoded_row : Bool → Encoding → Partition → OptionRow
+encoded_row bits e p = option_row e.kind e.name p (encoded_items bits e p)
 
--- trusted, own: the option of tag URIs of an encoding for a length of the prefix
-abbrev pub tag_row : Encoding → Partition → OptionRow
-tag_row e p = option_row e.kind e.name p (tag_items e p)
-
--- trusted, own: the options of tag URIs of an encoding
-abbrev pub tag_rows : Encoding → List OptionRow
-tag_rows e = map (tag_row e) partitions
+-- trusted, own: the options of an encoding, of tag bits or of tag URIs
+abbrev pub encoded_rows : Bool → Encoding → List OptionRow
+encoded_rows bits e = map (encoded_row bits e) partitions
 
 -- trusted, own: the option of pure identity URIs of a kind for a length of the prefix
 abbrev pub pure_row : Identity → Partition → OptionRow
@@ -219,11 +216,11 @@ pure_rows k = map (pure_row k) partitions
 
 -- trusted, own: the options of tag bits, for each encoding
 unfoldable pub builtin_binary : List OptionRow
-builtin_binary = flat_map binary_rows encodings
+builtin_binary = flat_map (encoded_rows true) encodings
 
 -- trusted, own: the options of tag URIs, for each encoding
 unfoldable pub builtin_tag : List OptionRow
-builtin_tag = flat_map tag_rows encodings
+builtin_tag = flat_map (encoded_rows false) encodings
 
 -- trusted, own: the options of pure identity URIs, for each kind
 unfoldable pub builtin_pure : List OptionRow

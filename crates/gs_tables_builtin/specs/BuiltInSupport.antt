@@ -21,7 +21,7 @@ use Rattle.gs_tables_builtin.specs.declared.encoding_line.SerialLine.{SerialLine
 use Rattle.gs_tables_builtin.specs.declared.encoding_line.SerialLine.TheVariants as serial_line
 use Rattle.gs_tables_document.specs.declared.field.Field.TheVariants.{Filter, Gcp, Serial}
 use Rattle.gs_tables_document.specs.Items.{FieldItem}
-use Rattle.gs_tables_builtin.specs.BuiltIn.{kind, builtin_kinds, partition, partitions, encoding, zeros, encodings, there, of_field, rest_in_bits, pieces_in_bits, pieces_in_text, in_text, behind_prefix, in_text_too, identity, identities, binary_rows, tag_rows, pure_rows}
+use Rattle.gs_tables_builtin.specs.BuiltIn.{kind, builtin_kinds, partition, partitions, encoding, zeros, encodings, there, of_field, rest_in_bits, pieces_in_bits, pieces_in_text, in_text, behind_prefix, in_text_too, identity, identities, encoded_rows, pure_rows}
 
 -- the list, given by the old and the new one, has gained this row at its end
 abbrev pub Gains : {X : Type 0} → List X → List X → X → Type 0
@@ -94,8 +94,8 @@ rests_fit e = list_all (λ (p : Partition). rest_fits e.rest (e.width - p.bits))
 
 -- the options of these encodings and identities: binary, tag, pure
 abbrev pub options_of : List Encoding → List Identity → List OptionRow × List OptionRow × List OptionRow
-options_of these those = (flat_map binary_rows these, flat_map tag_rows these, flat_map pure_rows those)
+options_of these those = (flat_map (encoded_rows true) these, flat_map (encoded_rows false) these, flat_map pure_rows those)
 
 -- the document of the application identifiers, the kinds, and the options of these encodings and identities
 abbrev pub document_of : List Encoding → List Identity → Document
-document_of these those = record { version = 2; ais = builtin_ais; kinds = builtin_kinds; binary = flat_map binary_rows these; tag = flat_map tag_rows these; pure = flat_map pure_rows those }
+document_of these those = record { version = 2; ais = builtin_ais; kinds = builtin_kinds; binary = flat_map (encoded_rows true) these; tag = flat_map (encoded_rows false) these; pure = flat_map pure_rows those }

@@ -1,6 +1,6 @@
 ghost use Rattle.std.specs.Prelude.{◌≡◌, ◌-◌, ◌∷◌, ◌++◌, [], IfOk, IsTrue, OnOk, List, map};
 ghost use Rattle.std.specs.List.{flat_map, list_all};
-ghost use Rattle.gs_tables_builtin.specs.BuiltIn.{binary_row, binary_rows, pure_row, pure_rows, row_with, tag_row, tag_rows};
+ghost use Rattle.gs_tables_builtin.specs.BuiltIn.{encoded_items, encoded_row, encoded_rows, pure_row, pure_rows, row_with, there};
 ghost use Rattle.gs_tables_builtin.specs.BuiltInSupport.{Gains, rest_fits, rests_fit};
 
 use crate::builtin_encodings::PARTITIONS;
@@ -54,52 +54,50 @@ fn push_named(
     )
 }
 
-/// Appends the binary option of an encoding for a length of the prefix.
-fn push_binary(
+/// The items of an option of an encoding for a length of the prefix, of tag bits or of tag URIs.
+fn encoded_items(
     alloc: Global,
-    rows: &mut Vec<OptionRow>,
+    bits: bool,
     encoding: &Encoding,
     partition: Partition,
-) -> Result<(), Memory>
+) -> Result<List<Option<FieldItem>>, Memory>
     requires { IsTrue (rest_fits encoding.now.rest (encoding.now.width - partition.bits)) }
-    ensures { OnOk result (Gains rows.old.items rows.new.items (binary_row encoding.now partition)) }
+    ensures { IfOk result (λ items. items ≡ map there (encoded_items bits encoding.now partition)) }
 {
-    let items = binary_items(alloc, encoding, partition)?;
-    push_named(alloc, rows, encoding, partition, items)
-}
-
-/// Appends the binary options of an encoding.
-fn add_binary(alloc: Global, rows: &mut Vec<OptionRow>, encoding: &Encoding) -> Result<(), Memory>
-    requires { IsTrue (rests_fit encoding.now) }
-    ensures { OnOk result (rows.new.items ≡ rows.old.items ++ binary_rows encoding.now) }
-{
-    for partition in &PARTITIONS {
-        push_binary(alloc, rows, encoding, *partition)?;
+    if bits {
+        binary_items(alloc, encoding, partition)
+    } else {
+        tag_items(alloc, encoding, partition)
     }
-    Ok(())
 }
 
-/// Appends the tag option of an encoding for a length of the prefix.
-fn push_tag(
+/// Appends the option of an encoding for a length of the prefix, of tag bits or of tag URIs.
+fn push_encoded(
     alloc: Global,
+    bits: bool,
     rows: &mut Vec<OptionRow>,
     encoding: &Encoding,
     partition: Partition,
 ) -> Result<(), Memory>
     requires { IsTrue (rest_fits encoding.now.rest (encoding.now.width - partition.bits)) }
-    ensures { OnOk result (Gains rows.old.items rows.new.items (tag_row encoding.now partition)) }
+    ensures { OnOk result (Gains rows.old.items rows.new.items (encoded_row bits encoding.now partition)) }
 {
-    let items = tag_items(alloc, encoding, partition)?;
+    let items = encoded_items(alloc, bits, encoding, partition)?;
     push_named(alloc, rows, encoding, partition, items)
 }
 
-/// Appends the tag options of an encoding.
-fn add_tag(alloc: Global, rows: &mut Vec<OptionRow>, encoding: &Encoding) -> Result<(), Memory>
+/// Appends the options of an encoding, of tag bits or of tag URIs.
+fn add_encoded(
+    alloc: Global,
+    bits: bool,
+    rows: &mut Vec<OptionRow>,
+    encoding: &Encoding,
+) -> Result<(), Memory>
     requires { IsTrue (rests_fit encoding.now) }
-    ensures { OnOk result (rows.new.items ≡ rows.old.items ++ tag_rows encoding.now) }
+    ensures { OnOk result (rows.new.items ≡ rows.old.items ++ encoded_rows bits encoding.now) }
 {
     for partition in &PARTITIONS {
-        push_tag(alloc, rows, encoding, *partition)?;
+        push_encoded(alloc, bits, rows, encoding, *partition)?;
     }
     Ok(())
 }
@@ -127,29 +125,18 @@ fn add_pure(alloc: Global, rows: &mut Vec<OptionRow>, identity: &Identity) -> Re
     Ok(())
 }
 
-/// The binary options of the encodings.
-pub(crate) fn binary_options(
+/// The options of the encodings, of tag bits or of tag URIs.
+pub(crate) fn encoded_options(
     alloc: Global,
+    bits: bool,
     encodings: &[Encoding],
 ) -> Result<List<OptionRow>, Memory>
     requires { IsTrue (list_all rests_fit encodings.now) }
-    ensures { IfOk result (λ rows. rows ≡ flat_map binary_rows encodings.now) }
+    ensures { IfOk result (λ rows. rows ≡ flat_map (encoded_rows bits) encodings.now) }
 {
     let mut rows = Vec::new(alloc);
     for encoding in encodings {
-        add_binary(alloc, &mut rows, encoding)?;
-    }
-    Ok(List::from_vec(rows))
-}
-
-/// The tag options of the encodings.
-pub(crate) fn tag_options(alloc: Global, encodings: &[Encoding]) -> Result<List<OptionRow>, Memory>
-    requires { IsTrue (list_all rests_fit encodings.now) }
-    ensures { IfOk result (λ rows. rows ≡ flat_map tag_rows encodings.now) }
-{
-    let mut rows = Vec::new(alloc);
-    for encoding in encodings {
-        add_tag(alloc, &mut rows, encoding)?;
+        add_encoded(alloc, bits, &mut rows, encoding)?;
     }
     Ok(List::from_vec(rows))
 }

@@ -6,7 +6,7 @@ ghost use Rattle.gs_tables_builtin.specs.BuiltInSupport.{document_of, options_of
 use crate::builtin_codes::builtin_ais;
 use crate::builtin_encodings::{encodings, identities};
 use crate::builtin_kinds::builtin_kinds;
-use crate::builtin_options::{binary_options, pure_options, tag_options};
+use crate::builtin_options::{encoded_options, pure_options};
 use crate::encoding::{Encoding, Identity};
 use gs_chars::{List, Memory};
 use gs_tables_document::{Document, OptionRow};
@@ -21,8 +21,8 @@ fn options_of(
     requires { IsTrue (list_all rests_fit encodings.now) }
     ensures { IfOk result (λ options. options ≡ options_of encodings.now identities.now) }
 {
-    let binary = binary_options(alloc, encodings)?;
-    let tag = tag_options(alloc, encodings)?;
+    let binary = encoded_options(alloc, true, encodings)?;
+    let tag = encoded_options(alloc, false, encodings)?;
     let pure = pure_options(alloc, identities)?;
     Ok((binary, tag, pure))
 }

@@ -1,6 +1,0 @@
-use Rattle.std.proofs.Common.{◌≡◌, ◌++◌, map, take}
-use Rattle.gs_tables_builtin.specs.BuiltIn.{partitions, tag_row}
-use Rattle.gs_tables_builtin.proofs.builtin_options.add_tag.Given as goal
-
-abbrev pub invariant-loop-partition : goal.invariant-loop-partition
-invariant-loop-partition l = (l.partition-items ≡ partitions) × (l.rows.items ≡ l.fn.rows.items ++ map (tag_row l.encoding) (take l.partition-index partitions))

@@ -1,7 +1,0 @@
-use Rattle.std.proofs.Common.{◌≡◌, take}
-use Rattle.std.specs.List.{flat_map}
-use Rattle.gs_tables_builtin.specs.BuiltIn.{binary_rows}
-use Rattle.gs_tables_builtin.proofs.builtin_options.binary_options.Given as goal
-
-abbrev pub invariant-loop-encoding : goal.invariant-loop-encoding
-invariant-loop-encoding l = l.rows.items ≡ flat_map binary_rows (take l.encoding-index l.encodings)
