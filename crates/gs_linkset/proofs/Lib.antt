@@ -8,3 +8,4 @@ pub mod DocumentLemmas
 pub mod WrittenLemmas
 pub mod PlainTrees
 pub mod RoundTrip
+pub mod NameSets

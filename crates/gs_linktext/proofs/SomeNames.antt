@@ -1,80 +1,18 @@
 -- The attributes of parameters: there are some, one for each name that has one, in ascending order.
-use Rattle.std.proofs.Common.{◌≡◌, ◌||◌, ℕ, suc, Bool, true, false, List, [], ◌∷◌, Some, map, slice_get, bytes_eq, Ordering, Less, Equal, Greater, refl, sym, ap, ◌∙◌, subst}
+use Rattle.std.proofs.Common.{◌≡◌, ℕ, suc, Bool, true, false, List, [], ◌∷◌, Some, map, slice_get, bytes_eq, refl, sym, ap, ◌∙◌, subst}
 use Rattle.std.specs.BTreeSet.{insert_key}
-use Rattle.std.specs.Cmp.Lexicographic.{nat_list_cmp_total, slice_cmp}
-use Rattle.std.specs.List.{AllByRecursion, filter_map, list_any}
+use Rattle.std.specs.Cmp.Lexicographic.{slice_cmp}
+use Rattle.std.specs.List.{filter_map}
 use Rattle.std.specs.List.Sorted.{IsStrictlySortedBy}
-use Rattle.std.specs.Ordering.{match_ordering, nat_cmp, ordering_reverse}
-use Rattle.std.proofs.lemmas.Map.Lookups.{exact_bytes}
+use Rattle.std.specs.Ordering.{nat_cmp}
 use Rattle.gs_linkset.specs.declared.link_types.Attr.{Attr}
+use Rattle.gs_linkset.proofs.NameSets.{Ascend, ascend_put, has, has_put}
 use Rattle.gs_linktext.specs.Links.{attr_of, values_of, IsAttributes}
 use Rattle.gs_linktext_grammar.specs.declared.written_link.Param.{Param}
 use Rattle.gs_chars.proofs.TruthsAndLists.{equal_bytes, or_true, same_bytes}
 use Rattle.gs_linktext.proofs.AttrLemmas.{attr_name, given_ascends, given_at, given_from, no_values}
 
 -- ---- names in ascending order, each once
-
--- a name is one of the names
-abbrev has : List ℕ → List (List ℕ) → Bool
-has name names = list_any (bytes_eq name) names
-
--- names ascend
-abbrev Ascend : List (List ℕ) → Type 0
-Ascend names = IsStrictlySortedBy (slice_cmp nat_cmp) names
-
--- a name is below all names
-abbrev IsBelow : List ℕ → List (List ℕ) → Type 0
-IsBelow name names = AllByRecursion (λ n. slice_cmp nat_cmp name n ≡ Less) names
-
-or_left : (a b : Bool) → a ≡ true → (a || b) ≡ true
-or_left a b h = rw h refl
-
-has_put_by : (o : Ordering) (t n m : List ℕ) (names : List (List ℕ)) → slice_cmp nat_cmp n m ≡ o → (has t (n ∷ names) ≡ true → has t (insert_key (slice_cmp nat_cmp) names n) ≡ true) → has t (n ∷ m ∷ names) ≡ true
-    → has t (match_ordering o (n ∷ m ∷ names) (m ∷ names) (m ∷ insert_key (slice_cmp nat_cmp) names n)) ≡ true
-has_put_by Less t n m names is more h = h
-has_put_by Equal t n m names is more h = let e = exact_bytes n m is in by (bytes_eq t m) refl (rw e at h)
-  where
-    by : (b : Bool) → bytes_eq t m ≡ b → has t (m ∷ m ∷ names) ≡ true → has t (m ∷ names) ≡ true
-    by true is here = rw is refl
-    by false not here = rw not (rw not at here)
-has_put_by Greater t n m names is more h = by (bytes_eq t m) refl (bytes_eq t n) refl
-  where
-    by : (b : Bool) → bytes_eq t m ≡ b → (c : Bool) → bytes_eq t n ≡ c → has t (m ∷ insert_key (slice_cmp nat_cmp) names n) ≡ true
-    by true is c e = rw is refl
-    by false not true e = rw not (more (rw e refl))
-    by false not false e = rw not (more (rw e (rw (e, not) at h)))
-
-has_put : (t n : List ℕ) (names : List (List ℕ)) → has t (n ∷ names) ≡ true → has t (insert_key (slice_cmp nat_cmp) names n) ≡ true
-has_put t n [] h = h
-has_put t n (m ∷ names) h = has_put_by (slice_cmp nat_cmp n m) t n m names refl (has_put t n names) h
-
-below_put_by : (o : Ordering) (a n m : List ℕ) (names : List (List ℕ)) → slice_cmp nat_cmp a n ≡ Less → IsBelow a (m ∷ names) → IsBelow a (insert_key (slice_cmp nat_cmp) names n)
-    → IsBelow a (match_ordering o (n ∷ m ∷ names) (m ∷ names) (m ∷ insert_key (slice_cmp nat_cmp) names n))
-below_put_by Less a n m names own all more = (own, all)
-below_put_by Equal a n m names own all more = all
-below_put_by Greater a n m names own all more = (all.0, more)
-
-below_put : (a n : List ℕ) (names : List (List ℕ)) → slice_cmp nat_cmp a n ≡ Less → IsBelow a names → IsBelow a (insert_key (slice_cmp nat_cmp) names n)
-below_put a n [] own all = (own, tt)
-below_put a n (m ∷ names) own all = below_put_by (slice_cmp nat_cmp n m) a n m names own all (below_put a n names own all.1)
-
-below_trans : (a b : List ℕ) (names : List (List ℕ)) → slice_cmp nat_cmp a b ≡ Less → IsBelow b names → IsBelow a names
-below_trans a b [] less all = tt
-below_trans a b (c ∷ names) less all = (nat_list_cmp_total.trans a b c less all.0, below_trans a b names less all.1)
-
-ascend_put_by : (o : Ordering) (n m : List ℕ) (names : List (List ℕ)) → slice_cmp nat_cmp n m ≡ o → Ascend (m ∷ names) → Ascend (insert_key (slice_cmp nat_cmp) names n)
-    → Ascend (match_ordering o (n ∷ m ∷ names) (m ∷ names) (m ∷ insert_key (slice_cmp nat_cmp) names n))
-unfolding IsStrictlySortedBy
-ascend_put_by Less n m names is h more = ((is, below_trans n m names is h.0), h)
-ascend_put_by Equal n m names is h more = h
-ascend_put_by Greater n m names is h more =
-    let below : slice_cmp nat_cmp m n ≡ Less = nat_list_cmp_total.antisymm m n ∙ ap ordering_reverse is in
-    (below_put m n names below h.0, more)
-
-ascend_put : (n : List ℕ) (names : List (List ℕ)) → Ascend names → Ascend (insert_key (slice_cmp nat_cmp) names n)
-unfolding IsStrictlySortedBy
-ascend_put n [] h = (tt, tt)
-ascend_put n (m ∷ names) h = ascend_put_by (slice_cmp nat_cmp n m) n m names refl h (ascend_put n names h.1)
 
 -- the names of parameters, in ascending order
 names_of : List Param → List (List ℕ)
@@ -93,7 +31,7 @@ no_value [] name h = refl
 no_value (param ∷ params) name h = by (no_value params name) (bytes_eq param.name name) refl (has name (names_of params)) refl
   where
     absurd_if : has name (param.name ∷ names_of params) ≡ true → ⊥
-    absurd_if t = let e : true ≡ false = sym (has_put name param.name (names_of params) t) ∙ h in cc
+    absurd_if t = let e : true ≡ false = sym (has_put name param.name (names_of params) ∙ t) ∙ h in cc
 
     by : (has name (names_of params) ≡ false → values_of name params ≡ []) → (b : Bool) → bytes_eq param.name name ≡ b → (c : Bool) → has name (names_of params) ≡ c → values_of name (param ∷ params) ≡ []
     by more true is c e = let same = equal_bytes param.name name is in absurd (absurd_if (rw same (rw (same_bytes name) refl)))

@@ -27,7 +27,8 @@ use Rattle.gs_merge.specs.MergedDocuments.{ascending, contexts_of, relations_of,
 use Rattle.gs_merge.specs.declared.groups.Grouping.{Grouping}
 use Rattle.gs_merge.specs.declared.groups.Grouping.TheVariants.{ByAnchor, ByRelation}
 use Rattle.gs_merge.proofs.DistinctLemmas.{distinct_more, has_some}
-use Rattle.gs_merge.proofs.NameSets.{Ascend, ascending_ascends, at_is_same, below_is_none, has, has_ascending, one_list, same_bytes_sym}
+use Rattle.gs_linkset.proofs.NameSets.{Ascend, has}
+use Rattle.gs_merge.proofs.NameSets.{ascending_ascends, at_is_same, below_is_none, has_ascending, one_list, same_bytes_sym}
 use Rattle.gs_merge.proofs.SameTargets.{same_texts, target_itself, target_one}
 
 -- ---- the links of a store

@@ -16,7 +16,8 @@ use Rattle.gs_merge.specs.MergedDocuments.{anchor_text, ascending, context_with,
 use Rattle.gs_merge.specs.Stores.{has_target, targets_at, targets_in}
 use Rattle.gs_merge.proofs.DistinctLemmas.{any_distinct, distinct_first, distinct_last, distinct_twice, filter_swap, has_some, some_distinct}
 use Rattle.gs_merge.proofs.GroupLemmas.{has_key}
-use Rattle.gs_merge.proofs.NameSets.{ascending_ascends, has, has_ascending, one_list, only_one}
+use Rattle.gs_linkset.proofs.NameSets.{has}
+use Rattle.gs_merge.proofs.NameSets.{ascending_ascends, has_ascending, one_list, only_one}
 use Rattle.gs_merge.proofs.SameTargets.{target_itself, target_one}
 
 -- ---- lists

@@ -15,7 +15,7 @@ use Rattle.tdl_messages.specs.declared.file_kind.FileKind.TheVariants as kind
 use Rattle.tdl_messages.specs.declared.rejection.FileFault.{FileFault}
 use Rattle.tdl_messages.specs.declared.rejection.FileFault.TheVariants.{Over, Tables}
 use Rattle.tdl_messages.specs.Rejections.{file_limit}
-use Rattle.tdl_arguments.specs.Requests.{Asked, FileNames}
+use Rattle.tdl_arguments.specs.Requests.{Asked}
 use Rattle.tdl_run.specs.declared.loads.Loaded.{Loaded}
 use Rattle.tdl_run.specs.declared.loads.TablesWithSource.{TablesWithSource}
 use Rattle.tdl_run.specs.declared.loads.Tabled.{Tabled}

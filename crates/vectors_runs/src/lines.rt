@@ -6,7 +6,7 @@
 ghost use Rattle.std.specs.Prelude.{◌<◌, ◌^◌, IfOk};
 
 use crate::runs::{add_outcome, add_status};
-use gs_chars::{Memory, Text};
+use gs_chars::{LONGEST_TEXT, Memory, Text};
 use gs_port::{MemSink, MemSource};
 use std::alloc::Global;
 use tdl_lines::{Answerer, Status, answer_lines, print_line};
@@ -28,7 +28,7 @@ impl Answerer for Echo {
         text: &[u8],
         out: &mut Vec<u8>,
     ) -> Result<bool, Memory> {
-        if text.len() > 2048 {
+        if text.len() > LONGEST_TEXT {
             out.extend_from_slice(b"no long\n")?;
             return Ok(true);
         }

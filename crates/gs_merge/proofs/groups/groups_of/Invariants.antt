@@ -2,7 +2,7 @@ use Rattle.std.proofs.Common.{take}
 use Rattle.std.specs.Prelude.{option_map}
 use Rattle.std.specs.Map.{keys_of}
 use Rattle.gs_merge.specs.Groups.{AreGroups, found_at}
-use Rattle.gs_merge.proofs.NameSets.{Ascend}
+use Rattle.gs_linkset.proofs.NameSets.{Ascend}
 use Rattle.gs_merge.proofs.groups.groups_of.Given as goal
 
 abbrev pub invariant-loop-i : goal.invariant-loop-i
