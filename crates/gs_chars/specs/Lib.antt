@@ -3,3 +3,4 @@ pub mod Characters
 pub mod CharSets
 pub mod CheckDigits
 pub mod Escapes
+pub mod Limits

@@ -3,7 +3,7 @@
 //! - `CharSet` is the digits, or the 82 characters of GS1 General Specifications, figure 7.11-1; `are_digits` and `are_visible`
 //!   tell whether all bytes of a text are digits, or visible characters; `count_digits` with how many digits it begins.
 //! - `check_digit` gives the check digit of digits; `read_escape` and `write_escape` the escape of a character in a URI.
-//! - `Text` holds bytes, `List` holds values, and `Memory` says that memory ran out.
+//! - `Text` holds bytes, `List` holds values, and `Memory` says that memory ran out; `LONGEST_TEXT` is the most bytes of a text that is read.
 //!
 //! # Example
 //!
@@ -36,4 +36,4 @@ pub use escapes::{
 pub use list::List;
 pub use memory::Memory;
 pub use rows::Rows;
-pub use text::Text;
+pub use text::{LONGEST_TEXT, Text};

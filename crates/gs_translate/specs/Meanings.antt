@@ -1,6 +1,7 @@
 -- What a text of a form means: TDS 2.0, sections 6 and 12 (URIs), 14 (tag bits) and 7 (keys); GS1 General Specifications,
 -- sections 7.8 and 4 (element strings); GS1 Digital Link URI Syntax, section 3 (links).
 use Rattle.std.specs.Prelude.{◌≡◌, ◌≢◌, ℕ, ◌<◌, ◌≤◌, List, [], length, Option, Some, None, Result, Ok, Err, MatchResult}
+use Rattle.gs_chars.specs.Limits.{longest_text}
 use Rattle.gs_ai.specs.declared.errors.ElementFault.{ElementFault}
 use Rattle.gs_ai.specs.declared.pair.Pair.{Pair}
 use Rattle.gs_tables_document.specs.declared.level_name.LevelName.TheVariants as level
@@ -111,10 +112,6 @@ Means set Pure text answer = MeansEpc set (ReadsAs set level.Pure text) answer
 Means set Raw text answer = MeansPairs set (ReadsRaw set text) answer
 Means set Bracketed text answer = MeansPairs set (ReadsBracketed set text) answer
 Means set Link text answer = MeansPairs set (ReadsLink set text) answer
-
--- trusted, own: the most bytes of a text that is read
-abbrev pub longest_text : ℕ
-longest_text = 2048
 
 -- trusted, own: A text of more than 2,048 bytes is rejected as long; of any other it is the meaning, or why it has none.
 pub data IsRead (set : TableRows) (form : Form) (text : List ℕ) (answer : Result Meaning Reason)

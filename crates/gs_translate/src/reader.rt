@@ -8,12 +8,10 @@ use crate::elements::{bracketed_meaning, link_meaning, raw_meaning};
 use crate::form::Form;
 use crate::meaning::Meaning;
 use crate::reason::Reason;
+use gs_chars::LONGEST_TEXT;
 use gs_epc::{Epc, EpcFault, identity_of, read_hex, read_pure, read_tag};
 use gs_tables::TableSet;
 use std::alloc::Global;
-
-/// The most bytes of a text that is read.
-const LONGEST_TEXT: usize = 2048;
 
 /// The meaning of what a tag or an EPC URI says.
 fn meaning_of(alloc: Global, set: &TableSet, read: Result<Epc, EpcFault>) -> Result<Meaning, Reason>

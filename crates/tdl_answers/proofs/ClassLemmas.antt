@@ -21,7 +21,7 @@ use Rattle.tdl_answers.specs.declared.class_reason.ClassReason.TheVariants.{Comm
 use Rattle.tdl_answers.specs.ClassAnswers.{ClassWriting, IsClassLink, IsClassText}
 use Rattle.tdl_answers.specs.ClassReasons.{of_class, of_class_writing}
 use Rattle.tdl_answers.specs.LongTexts.{is_short, reworded}
-use Rattle.tdl_lines.specs.Lines.{longest_text}
+use Rattle.gs_chars.specs.Limits.{longest_text}
 
 -- ---- class URIs
 

@@ -40,7 +40,7 @@ use Rattle.gs_translate.specs.Translations.{IsWritten, write_reason}
 use Rattle.gs_translate.proofs.AnswerLaws.{some_read}
 use Rattle.gs_translate.proofs.OneWriting.{one_written}
 use Rattle.gs_translate.proofs.SomeWriting.{some_written}
-use Rattle.tdl_lines.specs.Lines.{longest_text}
+use Rattle.gs_chars.specs.Limits.{longest_text}
 
 -- ---- what is read of an EPC, by what texts mean
 

@@ -6,7 +6,7 @@ use Rattle.gs_translate.specs.Steps.{Then, goes_on, rejects}
 use Rattle.tdl_answers.specs.declared.dump_reason.DumpReason.{DumpReason}
 use Rattle.tdl_answers.specs.declared.dump_reason.DumpReason.TheVariants.{Common}
 use Rattle.tdl_answers.specs.LongTexts.{AfterLong, Reworded, is_short, reworded}
-use Rattle.tdl_lines.specs.Lines.{longest_text}
+use Rattle.gs_chars.specs.Limits.{longest_text}
 
 -- two steps, whose errors are said in other words
 module _ {A E F : Type 0} (memory : E) (say : E → DumpReason) (memory' : F) (say' : F → DumpReason) (First : List ℕ → Result A E → Type 0) (Next : A → Result (List ℕ) F → Type 0) (text : List ℕ) where

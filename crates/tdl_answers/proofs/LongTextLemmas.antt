@@ -3,7 +3,7 @@ use Rattle.std.proofs.Common.{◌≡◌, ◌≤◌, ℕ, List, length, refl, sym
 use Rattle.std.specs.Prelude.{◌≢◌, Result, Err}
 use Rattle.std.proofs.Math.Nat.{not-le_of_lt}
 use Rattle.std.proofs.lemmas.Bool.Decides.{leb_tells}
-use Rattle.tdl_lines.specs.Lines.{longest_text}
+use Rattle.gs_chars.specs.Limits.{longest_text}
 use Rattle.gs_translate.specs.StepsSupport.{HasOne, HasSome}
 use Rattle.tdl_answers.specs.LongTexts.{AfterLong, Restated, Reworded, is_long, is_short, reworded}
 

@@ -12,7 +12,7 @@ use Rattle.tdl_answers.specs.ClassAnswers.{ClassWriting, IsClassCanonLine, IsCla
 use Rattle.tdl_answers.specs.ClassReasons.{class_text}
 use Rattle.tdl_answers.specs.LongLines.{long_read}
 use Rattle.tdl_answers.specs.LongTextsSupport.{long_lines}
-use Rattle.tdl_lines.specs.Lines.{longest_text}
+use Rattle.gs_chars.specs.Limits.{longest_text}
 use Rattle.tdl_lines.specs.OutputsSupport.{AnswersLongAlike}
 
 pub long_classes_read : (set : ClassRows) → AnswersLongAlike (IsClassCanonLine set)

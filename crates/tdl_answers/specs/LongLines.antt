@@ -6,7 +6,8 @@ use Rattle.gs_tables.specs.Tables.{TableRows}
 use Rattle.gs_translate.specs.declared.form.Form.{Form}
 use Rattle.gs_translate.specs.declared.meaning.Meaning.{Meaning}
 use Rattle.gs_translate.specs.declared.reason.Reason.{Reason}
-use Rattle.gs_translate.specs.Meanings.{IsRead, longest_text, short, too_long}
+use Rattle.gs_chars.specs.Limits.{longest_text}
+use Rattle.gs_translate.specs.Meanings.{IsRead, short, too_long}
 use Rattle.gs_translate.specs.Steps.{Then, goes_on, rejects}
 use Rattle.gs_translate.specs.Targets.{kept}
 use Rattle.gs_translate.specs.Translations.{IsSpelling, Translating}

@@ -1,6 +1,6 @@
 -- Long texts, and answers whose reasons are said in other words.
 use Rattle.std.specs.Prelude.{◌≡◌, ◌≢◌, ◌<◌, ◌≤◌, ℕ, List, length, Result, Ok, Err}
-use Rattle.tdl_lines.specs.Lines.{longest_text}
+use Rattle.gs_chars.specs.Limits.{longest_text}
 
 -- trusted, own: An answer to a text: a text of more than 2,048 bytes is long, and any other is answered so.
 pub data AfterLong {A E : Type 0} (long : E) (Short : List ℕ → Result A E → Type 0) (text : List ℕ) (answer : Result A E) : Type 0 where

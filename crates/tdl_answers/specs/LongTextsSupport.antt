@@ -1,7 +1,7 @@
 -- Long texts are rejected as long, so the lines of all have the same answers.
-use Rattle.std.specs.Prelude.{◌≡◌, ◌<◌, ℕ, List, length, Result, Err}
+use Rattle.std.specs.Prelude.{◌<◌, ℕ, List, length, Result}
 use Rattle.std.proofs.Math.Nat.{not-le_of_lt}
-use Rattle.tdl_lines.specs.Lines.{longest_text}
+use Rattle.gs_chars.specs.Limits.{longest_text}
 use Rattle.tdl_lines.specs.OutputsSupport.{AnswersLongAlike}
 use Rattle.tdl_messages.specs.AnswerLines.{IsLineOf}
 use Rattle.tdl_answers.specs.LongTexts.{AfterLong, is_long, is_short}

@@ -7,7 +7,7 @@ ghost use Rattle.tdl_messages.specs.AnswerLines.{HasMemory};
 
 use crate::class_reason::ClassReason;
 use gs_ai::AiTable;
-use gs_chars::{Memory, Text};
+use gs_chars::{LONGEST_TEXT, Memory, Text};
 use gs_class::{ClassSet, read_class, write_class};
 use gs_ident::canonical;
 use gs_prefix::PrefixList;
@@ -17,9 +17,6 @@ use std::alloc::Global;
 use std::marker::Model;
 use tdl_lines::Answerer;
 use tdl_messages::append_line;
-
-/// The most bytes of a text that is not long.
-const LONGEST_TEXT: usize = 2048;
 
 /// The canonical link of the identity that a text is a class URI of.
 fn link_text(

@@ -5,16 +5,13 @@ ghost use Rattle.tdl_answers.specs.DumpAnswers.{IsDumpShown, IsDumpWritten};
 ghost use Rattle.tdl_messages.specs.AnswerLines.{HasMemory};
 
 use crate::dump_reason::DumpReason;
-use gs_chars::{Memory, Text};
+use gs_chars::{LONGEST_TEXT, Memory, Text};
 use gs_membank::{read_dump, read_shown, show_dump, write_dump};
 use gs_tables::TableSet;
 use gs_translate::Reason;
 use std::alloc::Global;
 use tdl_lines::Answerer;
 use tdl_messages::append_line;
-
-/// The most bytes of a text that is not long.
-const LONGEST_TEXT: usize = 2048;
 
 /// The line that shows the dump that a text is.
 fn shown_text(alloc: Global, set: &TableSet, text: &[u8]) -> Result<Text, DumpReason>

@@ -5,7 +5,8 @@ use Rattle.std.proofs.lemmas.List.{take_all}
 use Rattle.std.specs.Prelude.{slice_index}
 use Rattle.std.proofs.lemmas.List.Folds.{list_any-append}
 use Rattle.gs_chars.proofs.TruthsAndLists.{or_parts, or_true, true_or_false}
-use Rattle.tdl_lines.specs.Lines.{before_first_line, begun_line, ended_lines, lines_of, longest_text, text_of}
+use Rattle.gs_chars.specs.Limits.{longest_text}
+use Rattle.tdl_lines.specs.Lines.{before_first_line, begun_line, ended_lines, lines_of, text_of}
 use Rattle.tdl_lines.specs.Outputs.{LineAnswer}
 use Rattle.tdl_lines.specs.OutputsSupport.{AnswersLongAlike}
 use Rattle.tdl_lines.proofs.LineLemmas.{ended_lines-none, has_feed, has_feed-append, lines_of-ended}

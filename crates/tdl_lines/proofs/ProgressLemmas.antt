@@ -12,7 +12,8 @@ use Rattle.tdl_lines.specs.declared.line_loop.Answering.{Answering}
 use Rattle.tdl_lines.specs.declared.line_loop.Answering.TheVariants as answering
 use Rattle.tdl_lines.specs.declared.status.Status.{Status}
 use Rattle.tdl_lines.specs.declared.status.Status.TheVariants.{Done, SomeRefused, ReadFault, WriteFault, InputLong, Memory}
-use Rattle.tdl_lines.specs.Lines.{begun_line, ended_lines, lines_of, longest_text, most_held}
+use Rattle.gs_chars.specs.Limits.{longest_text}
+use Rattle.tdl_lines.specs.Lines.{begun_line, ended_lines, lines_of, most_held}
 use Rattle.tdl_lines.specs.Inputs.{IsAtEnd, IsKnown, TakesAtMost, TakesMoreThan}
 use Rattle.tdl_lines.specs.Outputs.{no_line, AnswersAll, AnswersInput, Appends, BeginsAnswers, BeginsInput, LineAnswer, WritesAnswers, answered_part, is_rejected, printed_lines}
 use Rattle.tdl_lines.specs.OutputsSupport.{AnswersLongAlike}

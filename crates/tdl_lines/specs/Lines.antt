@@ -1,6 +1,7 @@
 -- The lines of a list of bytes.
 use Rattle.std.specs.Prelude.{ℕ, ◌+◌, ◌-◌, ◌==◌, if◌then◌else◌, List, [], ◌∷◌, length, take, slice_index}
 use Rattle.std.specs.List.{list_any}
+use Rattle.gs_chars.specs.Limits.{longest_text}
 
 -- trusted, own: the byte stands before the first line, as its first byte; where there is no line, as one
 abbrev pub before_first_line : ℕ → List (List ℕ) → List (List ℕ)
@@ -25,10 +26,6 @@ begun_line (b ∷ bytes) = if list_any (λ x. x == 10) (b ∷ bytes) then begun_
 -- trusted, own: a line without one carriage return at its end
 abbrev pub text_of : List ℕ → List ℕ
 text_of line = if slice_index line (length line - 1) == 13 then take (length line - 1) line else line
-
--- trusted, own: the most bytes of a text that is not long
-abbrev pub longest_text : ℕ
-longest_text = 2048
 
 -- trusted, own: The most bytes that are held of a line that has not ended. The text of a line that begins with so many is
 -- long, even where the last of them is a carriage return.

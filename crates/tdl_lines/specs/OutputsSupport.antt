@@ -1,7 +1,8 @@
 -- What proofs and private functions say beside the definitions of Outputs.antt.
 use Rattle.std.specs.Prelude.{◌≡◌, ℕ, ◌<◌, ◌++◌, Bool, List, length}
 use Rattle.std.specs.List.{list_any}
-use Rattle.tdl_lines.specs.Lines.{lines_of, longest_text}
+use Rattle.gs_chars.specs.Limits.{longest_text}
+use Rattle.tdl_lines.specs.Lines.{lines_of}
 use Rattle.tdl_lines.specs.Outputs.{LineAnswer, is_rejected, AnswersEach, printed_lines}
 
 -- each text has an answer, by what is an answer to a text

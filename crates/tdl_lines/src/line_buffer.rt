@@ -5,7 +5,7 @@ ghost use Rattle.tdl_lines.specs.Inputs.{IsAtEnd};
 ghost use Rattle.tdl_lines.specs.Progress.{ReadsMore};
 ghost use Rattle.tdl_lines.specs.Lines.{most_held};
 
-use gs_chars::Memory;
+use gs_chars::{LONGEST_TEXT, Memory};
 use gs_port::{ReadAnswer, Source};
 use std::alloc::Global;
 use std::marker::Model;
@@ -15,7 +15,7 @@ const ROOM: usize = 65_536;
 
 /// The most bytes that are held of a line that has not ended. A line of so many bytes is long, whatever follows, even where
 /// the last of them is a carriage return.
-const MOST_HELD: usize = 2050;
+const MOST_HELD: usize = LONGEST_TEXT + 2;
 
 /// Bytes of lines that are not answered yet: those that are held of a line, and those that were read behind them.
 #[derive(Drop)]
