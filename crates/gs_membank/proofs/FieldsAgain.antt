@@ -27,7 +27,6 @@ use Rattle.gs_epc.specs.Candidates.{is_left_out, left_out, value_for, values_for
 use Rattle.gs_epc.specs.Epcs.{epc_of, value_at, value_of}
 use Rattle.gs_epc.specs.Filters.{IsFilter}
 use Rattle.gs_epc.proofs.FieldRules.{filter_kept}
-use Rattle.gs_membank.specs.WrittenAgain.{AreEmptyBeside}
 use Rattle.gs_membank.proofs.FilterLemmas.{one_in_bits}
 use Rattle.gs_membank.proofs.FullWords.{empty_value, word_at}
 
@@ -143,7 +142,7 @@ digit_again value filter =
     let number : decimal_value value ≡ filter.number = ap decimal_value text ∙ value_decimal filter.number (omega arith) in
     ap decimal number ∙ sym text
 
-module _ (set : TableRows) (items : List Item) (info : OptInfo) (values words : List (List ℕ)) (kept : KeptOption set Binary items info) (each : EachWord items values words) (beside : AreEmptyBeside info.fields items) where
+module _ (set : TableRows) (items : List Item) (info : OptInfo) (values words : List (List ℕ)) (kept : KeptOption set Binary items info) (each : EachWord items values words) where
   field_value : (field : Field) (k : ℕ) (value : List ℕ) → length (items_of_field field kept.parts) ≤ 1 → slice_get info.fields k ≡ Some (Some field) → slice_get values k ≡ Some value → value_at field info.fields values ≡ Some value
   field_value field k value one at read =
       let part = item_at kept.parts k (Some field) (rw kept.fields_are at at) in
@@ -157,7 +156,7 @@ module _ (set : TableRows) (items : List Item) (info : OptInfo) (values words : 
       let part = item_at kept.parts k None (rw kept.fields_are at at) in
       let item : slice_get items k ≡ Some part.0 = rw kept.items_are (alone_at kept.parts k (None, part.0) part.1) in
       let word = word_at items values words each k part.0 value item read in
-      empty_value part.0 value word.0 (beside k part.0 at item) word.1
+      empty_value part.0 value word.0 (kept.beside k part.0 part.1) word.1
   value_again k (Some Filter) value at read =
       let here = field_value Filter k value (one_at_most is_filter (items_of_field Filter kept.parts) (one_in_bits info.encoding kept.parts kept.of_level)) at read in
       let digit = filter_value (value_at Filter info.fields values) value here (filter_kept set Binary items info values words kept each) in

@@ -14,7 +14,7 @@ use Rattle.gs_grammar.specs.WrittenWords.{AreHeld, written}
 use Rattle.gs_grammar.proofs.HoldLemmas.{packed_length, word_held}
 use Rattle.gs_grammar.proofs.Numbers.{value_decimal}
 use Rattle.gs_grammar.proofs.WordLaws.{greatest_small, num_bounds, of_level, word_length}
-use Rattle.gs_membank.specs.WrittenAgain.{has_no_value}
+use Rattle.gs_tables.specs.Rules.{has_no_value}
 
 -- ---- one word
 

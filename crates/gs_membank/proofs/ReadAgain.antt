@@ -1,5 +1,5 @@
 -- A dump that is read is written as its text in upper case.
-use Rattle.std.proofs.Common.{◌≡◌, ◌==◌, ◌&&◌, ◌||◌, ◌%◌, ◌<◌, ℕ, not, true, false, List, [], ◌∷◌, ◌++◌, length, map, All, Some, slice_get, unwrap_or, bytes_eq, refl, sym, ap, ◌∙◌, arith}
+use Rattle.std.proofs.Common.{◌≡◌, ◌==◌, ◌&&◌, ◌||◌, ◌%◌, ◌*◌, ◌<◌, ℕ, not, true, false, List, [], ◌∷◌, ◌++◌, length, map, All, Some, slice_get, unwrap_or, bytes_eq, refl, sym, ap, ◌∙◌, arith}
 use Rattle.std.specs.Char.{to_ascii_uppercase}
 use Rattle.std.specs.List.{AllPass, concat}
 use Rattle.std.proofs.lemmas.Bool.Decides.{nat_tests}
@@ -33,7 +33,6 @@ use Rattle.gs_epc.proofs.Tries.{as_many}
 use Rattle.gs_membank.specs.declared.dump.Dump.{Dump}
 use Rattle.gs_membank.specs.Answers.{IsBank, WrittenDump, word_of}
 use Rattle.gs_membank.specs.Banks.{control_bits}
-use Rattle.gs_membank.specs.WrittenAgain.{AreEmptyBeside, FillsWords}
 use Rattle.gs_membank.proofs.ControlLemmas.{word_length}
 use Rattle.gs_membank.proofs.FieldsAgain.{nothing_left_out, values_again}
 use Rattle.gs_membank.proofs.FullWords.{InBounds, full_words, words_held}
@@ -104,10 +103,10 @@ as_many_values _ _ _ no_item = refl
 as_many_values _ _ _ (one_item item value w items values words word each) = let rest = as_many_values items values words each in omega arith
 
 writes_again : (set : TableRows) (option : ℕ) (items : List Item) (info : OptInfo) (values words : List (List ℕ)) → IsShaped set → slice_get (options_of Binary set) option ≡ Some items → slice_get (level_rows Binary set).info option ≡ Some info
-    → (kept : KeptOption set Binary items info) → EachWord items values words → All InBounds items → AreEmptyBeside info.fields items → Writes set Binary (epc_of info values) (hex_of_bits (written items values))
-writes_again set option items info values words shaped at said kept each all beside =
+    → (kept : KeptOption set Binary items info) → EachWord items values words → All InBounds items → Writes set Binary (epc_of info values) (hex_of_bits (written items values))
+writes_again set option items info values words shaped at said kept each all =
     let count = as_many set Binary items info kept ∙ as_many_values items values words each in
-    let same = values_again set items info values words kept each beside count in
+    let same = values_again set items info values words kept each count in
     let named = encoding_named info.encoding kept.parts kept.of_level in
     record {
       option = option;
@@ -119,19 +118,18 @@ writes_again set option items info values words shaped at said kept each all bes
       text_is = ap (λ v. hex_of_bits (written items v)) (sym same);
     }
 
-pub read_again : (set : TableRows) (text : List ℕ) (dump : Dump) → IsLoaded set → IsHex text → (bank : IsBank set (bits_of_hex text) dump) → FillsWords set (bits_of_hex text) dump bank → WrittenDump set dump (map to_ascii_uppercase text)
-read_again set text dump loaded hex bank fills =
+pub read_again : (set : TableRows) (text : List ℕ) (dump : Dump) → IsLoaded set → IsHex text → (bank : IsBank set (bits_of_hex text) dump) → size_of_all bank.says.read.derivation.items ≡ 16 * bank.words → WrittenDump set dump (map to_ascii_uppercase text)
+read_again set text dump loaded hex bank size =
     let says = bank.says in
     let d = says.read.derivation in
     let at = rw says.read.of_option at d.of_level in
     let kept = options_kept set Binary loaded.shaped says.option d.items says.info at says.said in
     let each = rw says.read.of_values at d.derives.each in
     let all = none_bad true d.items kept.bounds.none_bad in
-    let size = fills.size in
     let said = bank.size in
     let joined : length (concat d.words) ≡ length bank.encoding = ap length d.derives.joined in
     let full : bank.encoding ≡ written d.items says.values = sym d.derives.joined ∙ full_words d.items says.values d.words all each (omega arith) in
-    let made = writes_again set says.option d.items says.info says.values d.words loaded.shaped at says.said kept each all fills.beside in
+    let made = writes_again set says.option d.items says.info says.values d.words loaded.shaped at says.said kept each all in
     let written : Writes set Binary dump.epc (hex_of_bits bank.encoding) = rw (says.fields, full) made in
     let bits : AreBits bank.encoding = rw full (written_bits d.items says.values kept.bounds.none_bad) in
     let digits = hex_digits bank.encoding bits (omega arith) in

@@ -2,4 +2,3 @@ pub mod Answers
 pub mod AnswersSupport
 pub mod Banks
 pub mod ShownLines
-pub mod WrittenAgain

@@ -1,6 +1,7 @@
-ghost use Rattle.std.specs.Prelude.{◌≡◌, ◌<◌, ℕ, Bool, List, map, Err, Ok};
+ghost use Rattle.std.specs.Prelude.{◌≡◌, ◌<◌, ◌*◌, ℕ, Bool, List, map, Err, Ok};
 ghost use Rattle.std.specs.Char.{to_ascii_uppercase};
 ghost use Rattle.gs_bits.specs.HexText.{bits_of_hex};
+ghost use Rattle.gs_grammar.specs.Items.{size_of_all};
 ghost use Rattle.gs_tables.specs.Judgements.{IsLoaded};
 ghost use Rattle.gs_tables.specs.Tables.{TableRows};
 ghost use Rattle.gs_epc.specs.Candidates.{HasFilter};
@@ -11,7 +12,6 @@ ghost use Rattle.gs_membank.specs.declared.error.DumpFault.{DumpFault};
 ghost use Rattle.gs_membank.specs.declared.error.DumpFault.TheVariants.{Memory};
 ghost use Rattle.gs_membank.specs.Answers.{IsBank, ReadsDump, ReadsShown, ShowsDump, WritesDump};
 ghost use Rattle.gs_membank.specs.ShownLines.{IsShownStart};
-ghost use Rattle.gs_membank.specs.WrittenAgain.{FillsWords};
 
 /// Bits are one dump at most, whatever the tables.
 pub fn bits_are_one_dump()
@@ -35,11 +35,11 @@ pub fn dump_written_is_read()
 {}
 
 /// A dump that is read is written as its text in upper case, by tables that are loaded, where the items of its option have as many
-/// bits as its control word says, and those that stand for no field are literals and fills. A table document writes no other items
-/// without a field.
+/// bits as its control word says.
 pub fn dump_read_is_written()
     ensures { (set : TableRows) (text : List ℕ) (dump : Dump) → IsLoaded set → IsHex text
-        → (bank : IsBank set (bits_of_hex text) dump) → FillsWords set (bits_of_hex text) dump bank
+        → (bank : IsBank set (bits_of_hex text) dump)
+        → size_of_all bank.says.read.derivation.items ≡ 16 * bank.words
         → WritesDump set dump (Ok (map to_ascii_uppercase text)) }
 {}
 

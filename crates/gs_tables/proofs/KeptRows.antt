@@ -1,16 +1,17 @@
 -- What holds of rows that no rule rejects.
-use Rattle.std.proofs.Common.{◌≡◌, ℕ, ◌+◌, ◌-◌, ◌<◌, ◌≤◌, ◌&&◌, nat_le, nat_lt, not, Bool, true, false, List, [], ◌∷◌, ◌++◌, length, take, map, position, Option, Some, None, slice_get, get_or, refl, sym, ◌∙◌, arith, option_map}
+use Rattle.std.proofs.Common.{◌≡◌, ℕ, zero, suc, ◌+◌, ◌-◌, ◌<◌, ◌≤◌, ◌&&◌, nat_le, nat_lt, not, Bool, true, false, List, [], ◌∷◌, ◌++◌, length, take, map, position, Option, Some, None, slice_get, get_or, refl, sym, ◌∙◌, arith, option_map}
 use Rattle.std.specs.Prelude.{option_to_list, IsSome, All}
 use Rattle.std.specs.List.{flat_map, find, list_any}
 use Rattle.std.specs.Option.{option_map_or}
 use Rattle.std.proofs.lemmas.Bool.Decides.{nat_tests}
 use Rattle.std.proofs.lemmas.List.Elements.{All-map}
-use Rattle.gs_chars.proofs.TruthsAndLists.{and_parts, nil_parts, read_at, some_passes}
+use Rattle.gs_chars.proofs.TruthsAndLists.{and_parts, nil_parts, or_parts, read_at, some_passes, true_from_not}
 use Rattle.gs_ai.specs.declared.row.AiRow.{AiRow}
 use Rattle.gs_ai.specs.Tables.{is_key}
 use Rattle.gs_ai.specs.Values.{has_code}
 use Rattle.gs_ai.proofs.RuleLemmas.{none_at}
 use Rattle.gs_ai.proofs.Searches.{cons_none, find_at_place, find_none, position-cons, position_some}
+use Rattle.gs_grammar.specs.declared.item.Item.{Item}
 use Rattle.gs_grammar.specs.Items.{is_bad, is_between, size_of_all}
 use Rattle.gs_grammar.specs.Levels.{KeepBounds, OptionForm}
 use Rattle.gs_grammar.specs.Limits.{most_symbols}
@@ -29,7 +30,7 @@ use Rattle.gs_tables.specs.Forms.{form_at, further_at, further_of, key_form, ser
 use Rattle.gs_tables.specs.KeptRules.{KeptKind}
 use Rattle.gs_chars.specs.Characters.{are_visible}
 use Rattle.gs_chars.specs.Answers.{error_if}
-use Rattle.gs_tables.specs.Rules.{are_fields_of, fits_form, fits_key, fits_kind, has_key, has_name, is_digits, is_gcp, is_kind, is_lead, is_new_name, is_one, is_serial_of, items_of_field, keeps_form, keeps_further, keeps_gcp, keeps_level, keeps_rest, keeps_serial}
+use Rattle.gs_tables.specs.Rules.{are_fields_of, fits_form, fits_key, fits_kind, has_key, has_name, has_no_value, is_digits, is_gcp, is_kind, is_lead, is_new_name, is_one, is_serial_of, items_of_field, keeps_form, keeps_further, keeps_gcp, keeps_level, keeps_rest, keeps_serial, lacks_field}
 use Rattle.gs_tables.specs.Tables.{fits, is_bad_item, is_same, items_alone, items_there, kind_of, kind_rejections, kinds_rejections, level_rejections, option_form, option_rejections}
 
 -- ---- parts of rejections
@@ -120,6 +121,7 @@ pub record KeptRow (ais : List AiRow) (kinds : List KindRow) (level : LevelName)
   pub kind : KindRow
   pub named : find (has_name row.kind) kinds ≡ Some kind
   pub bounds : KeepBounds (is_bits level) (items_alone row)
+  pub beside : (k : ℕ) (item : Item) → slice_get (items_there row) k ≡ Some (None, item) → has_no_value item ≡ true
   pub visible : are_visible row.encoding ≡ true
   pub of_level : keeps_level level row.encoding (items_there row) ≡ true
   pub form : KeyForm
@@ -134,7 +136,18 @@ none_bad bits [] h = refl
 none_bad bits (None ∷ xs) h = let g = cons_none (is_bad_item bits) None xs h in absurd (let k : true ≡ false = g.0 in cc)
 none_bad bits (Some x ∷ xs) h =
     let g = cons_none (is_bad_item bits) (Some x) xs h in
-    none_first (is_bad bits) x.1 (map (λ (i : FieldItem). i.1) (flat_map option_to_list xs)) g.0 (none_bad bits xs g.1)
+    let good = or_parts (is_bad bits x.1) (lacks_field x) g.0 in
+    none_first (is_bad bits) x.1 (map (λ (i : FieldItem). i.1) (flat_map option_to_list xs)) good.0 (none_bad bits xs g.1)
+
+none_lacks : (bits : Bool) (xs : List (Option FieldItem)) → position (is_bad_item bits) xs ≡ None → (k : ℕ) (item : Item) → slice_get (flat_map option_to_list xs) k ≡ Some (None, item) → has_no_value item ≡ true
+none_lacks bits [] h k item at = absurd (let e : None ≡ Some (None, item) = at in cc)
+none_lacks bits (None ∷ xs) h k item at = none_lacks bits xs (cons_none (is_bad_item bits) None xs h).1 k item at
+none_lacks bits (Some x ∷ xs) h zero item at =
+    let good = or_parts (is_bad bits x.1) (lacks_field x) (cons_none (is_bad_item bits) (Some x) xs h).0 in
+    let same : x ≡ (None, item) = cc in
+    let kept : lacks_field (None, item) ≡ false = rw same at good.1 in
+    true_from_not (has_no_value item) kept
+none_lacks bits (Some x ∷ xs) h (suc k) item at = none_lacks bits xs (cons_none (is_bad_item bits) (Some x) xs h).1 k item at
 
 -- what the rules of an option's kind ask
 record KeptOfKind (ais : List AiRow) (kind : KindRow) (level : LevelName) (encoding : List ℕ) (n : ℕ) (items : List FieldItem) : Type 0 where
@@ -162,15 +175,17 @@ row_kept ais kinds level rows i row h =
     let first = nil_parts (bad ++ long ++ misfit) again h in
     let second = nil_parts (bad ++ long) misfit first.0 in
     let third = nil_parts bad long second.0 in
+    let good = none_listed (λ k. BadItem level i k) (position (is_bad_item (is_bits level)) row.items) third.0 in
     let kind = some_passes (λ kind. fits_kind ais kind level row.encoding row.gcp (items_there row)) (find (has_name row.kind) kinds) (not_rejected (fits ais kinds level row) (Mismatch level i) second.1) in
     let kept = of_kind_kept ais kind.0 level row.encoding row.gcp (items_there row) kind.2 in
     record {
       kind = kind.0;
       named = kind.1;
       bounds = record {
-        none_bad = none_bad (is_bits level) row.items (none_listed (λ k. BadItem level i k) (position (is_bad_item (is_bits level)) row.items) third.0);
+        none_bad = none_bad (is_bits level) row.items good;
         small = within_limit (size_of_all (items_alone row)) most_symbols (Limit Size) third.1;
       };
+      beside = none_lacks (is_bits level) row.items good;
       visible = kept.visible;
       of_level = kept.of_level;
       form = kept.form;

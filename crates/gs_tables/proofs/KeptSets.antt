@@ -87,6 +87,7 @@ of_row document level i items info row none at items_are info_is =
       parts = items_there row;
       items_are = refl;
       fields_are = refl;
+      beside = kept.beside;
       visible = kept.visible;
       of_level = kept.of_level;
       gcp = kept.fields.gcp;

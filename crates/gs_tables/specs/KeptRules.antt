@@ -1,5 +1,5 @@
 -- What the rules keep of a table set: the keys of its kinds, and the options of its levels. After TDT 2.0, sections 3 and 4.
-use Rattle.std.specs.Prelude.{◌≡◌, ℕ, true, List, Some, slice_get}
+use Rattle.std.specs.Prelude.{◌≡◌, ℕ, true, List, Some, None, slice_get}
 use Rattle.std.specs.List.{find}
 use Rattle.gs_ai.specs.declared.row.AiRow.{AiRow}
 use Rattle.gs_ai.specs.Tables.{is_key}
@@ -15,7 +15,7 @@ use Rattle.gs_grammar.specs.Levels.{KeepBounds, item_lists}
 use Rattle.gs_tables.specs.declared.form.KeyForm.{KeyForm}
 use Rattle.gs_tables.specs.Forms.{further_of, key_form, serial_room}
 use Rattle.gs_chars.specs.Characters.{are_visible}
-use Rattle.gs_tables.specs.Rules.{is_lead, is_serial_of, items_of_field, keeps_further, keeps_gcp, keeps_level, keeps_rest, keeps_serial}
+use Rattle.gs_tables.specs.Rules.{has_no_value, is_lead, is_serial_of, items_of_field, keeps_further, keeps_gcp, keeps_level, keeps_rest, keeps_serial}
 use Rattle.gs_tables.specs.Tables.{TableRows, level_rows}
 
 -- trusted, TDS 2.0, section 6.3; own rules: the key of a kind is a key row of the table, of a form that the kind's lead
@@ -31,8 +31,8 @@ pub record KeptKind (ais : List AiRow) (kind : Kind) : Type 0 where
   pub further : kind.further ≡ further_of form
 
 -- trusted, TDT 2.0, sections 3 and 4; own rules: An option of these items, of which this is said, keeps the rules: its kind
--- is one of the set, its items keep their bounds, and with the fields that they stand for they fit the level and the key of
--- the kind.
+-- is one of the set, its items keep their bounds, those that stand for no field have no value, and with the fields that they
+-- stand for they fit the level and the key of the kind.
 pub record KeptOption (set : TableRows) (level : LevelName) (items : List Item) (info : OptInfo) : Type 0 where
   pub kind : Kind
   pub named : slice_get set.kinds info.kind ≡ Some kind
@@ -41,6 +41,7 @@ pub record KeptOption (set : TableRows) (level : LevelName) (items : List Item) 
   pub parts : List FieldItem
   pub items_are : items ≡ alone parts
   pub fields_are : info.fields ≡ fields_of parts
+  pub beside : (k : ℕ) (item : Item) → slice_get parts k ≡ Some (None, item) → has_no_value item ≡ true
   pub visible : are_visible info.encoding ≡ true
   pub of_level : keeps_level level info.encoding parts ≡ true
   pub gcp : keeps_gcp of_kind.form kind.lead info.gcp (items_of_field Gcp parts) ≡ true

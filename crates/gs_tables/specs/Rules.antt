@@ -94,6 +94,17 @@ is_field Total (Some Total) = true
 is_field Serial (Some Serial) = true
 is_field _ _ = false
 
+-- trusted, own: an item of which each word has the empty value: a literal or a fill
+abbrev pub has_no_value : Item → Bool
+has_no_value (Lit _) = true
+has_no_value (Fill _ _) = true
+has_no_value _ = false
+
+-- trusted, own: an item stands for no field, though it has values other than the empty one
+abbrev pub lacks_field : FieldItem → Bool
+lacks_field (None, item) = not (has_no_value item)
+lacks_field (Some _, item) = false
+
 -- trusted, own: the items whose value stands for a field
 abbrev pub items_of_field : Field → List FieldItem → List Item
 items_of_field field items = map (λ i. i.1) (filter (λ (i : FieldItem). is_field field i.0) items)

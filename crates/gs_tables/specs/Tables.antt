@@ -26,7 +26,7 @@ use Rattle.gs_tables.specs.Forms.{further_at, serial_at}
 use Rattle.gs_tables_document.specs.Documents.{is_bits}
 use Rattle.gs_tables_document.specs.Limits.{most_items, most_kinds, most_rows}
 use Rattle.gs_tables_document.specs.Items.{FieldItem, alone, fields_of, present}
-use Rattle.gs_tables.specs.Rules.{is_kind, fits_kind, has_name}
+use Rattle.gs_tables.specs.Rules.{is_kind, fits_kind, has_name, lacks_field}
 
 -- ---- table sets
 
@@ -86,10 +86,10 @@ limit_rejections document =
 abbrev pub kind_rejections : List AiRow → List KindRow → ℕ × KindRow → List LoadFault
 kind_rejections ais kinds row = error_if (not (is_kind ais (take row.0 kinds) row.1)) (BadKind row.0)
 
--- trusted, own: an item is not there, or breaks a bound of the level
+-- trusted, own: an item is not there, breaks a bound of the level, or lacks a field for its values
 abbrev pub is_bad_item : Bool → Option FieldItem → Bool
 is_bad_item bits None = true
-is_bad_item bits (Some item) = is_bad bits item.1
+is_bad_item bits (Some item) = is_bad bits item.1 || lacks_field item
 
 -- trusted, own: an option's kind is one of the kinds, and the option fits it
 unfoldable pub fits : List AiRow → List KindRow → LevelName → OptionRow → Bool

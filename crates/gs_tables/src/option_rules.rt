@@ -3,7 +3,7 @@ ghost use Rattle.gs_grammar.specs.Items.{size_of_all};
 ghost use Rattle.std.specs.List.{find};
 ghost use Rattle.std.specs.Option.{option_copied};
 ghost use Rattle.gs_tables.specs.Forms.{serial_at, serial_room};
-ghost use Rattle.gs_tables.specs.Rules.{fits_kind, has_name, items_of_field, keeps_form, keeps_further, keeps_serial};
+ghost use Rattle.gs_tables.specs.Rules.{fits_kind, has_name, items_of_field, keeps_form, keeps_further, keeps_serial, lacks_field};
 ghost use Rattle.gs_tables.specs.Tables.{fits, is_bad_item, is_same, items_alone, items_there, option_rejections};
 ghost use Rattle.gs_tables.specs.TablesSupport.{IsFirst};
 ghost use Rattle.gs_tables.specs.Founds.{same_rejections};
@@ -15,14 +15,25 @@ use crate::form::KeyForm;
 use crate::forms::{form_at, serial_room};
 use gs_ai::AiTable;
 use gs_chars::are_visible;
+use gs_grammar::Item;
 use gs_tables_document::{Field, FieldItem, KindRow, LevelName, LimitName, LoadFault, OptionRow};
 
-/// The index of the first item that is not there or breaks a bound of the level.
+/// Whether the item stands for no field, though it has values other than the empty one.
+fn lacks_field(item: &FieldItem) -> bool
+    ensures { result ≡ lacks_field item.now }
+{
+    match item {
+        (None, Item::Lit(_) | Item::Fill { .. }) | (Some(_), _) => false,
+        (None, _) => true,
+    }
+}
+
+/// The index of the first item that is not there, breaks a bound of the level, or lacks a field for its values.
 fn first_bad(bits: bool, items: &[Option<FieldItem>]) -> Option<usize>
     ensures { result ≡ position (is_bad_item bits) items.now }
 {
     items.iter().position(|item| match item {
-        Some((_, item)) => !item.is_in_bounds(bits),
+        Some(item) => !item.1.is_in_bounds(bits) || lacks_field(item),
         None => true,
     })
 }
