@@ -2,8 +2,8 @@
 //!
 //! - `append_line` appends the line of an answer, `ok TEXT` or `no REASON`, whatever the reasons are (`Reasoned`); `append_accepted`
 //!   and `append_rejected` append either.
-//! - `rejected_line` is the line that is printed of a rejected file. What it says of each error is a text of docs/FORMATS.md, 'The
-//!   command line'. The texts of the reasons of translations stand in gs_translate.
+//! - `rejected_line` is the line that is printed of a rejected file. What it says of each error is a text of docs/FORMATS.md,
+//!   'Why tables are rejected' and its kin. The texts of the reasons of translations stand in gs_translate.
 //! - `FileKind` has the word of each kind of file, and the most bytes that such a file may have.
 //!
 //! # Example
