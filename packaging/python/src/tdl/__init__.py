@@ -11,6 +11,6 @@ from .errors import FilesRejected, ProgramError, Rejected
 from .tables import Counts, Tables
 from .translator import Translator, canon
 
-VERSION = "0.1.0"
+VERSION = "1.0.0"
 
 __all__ = ["Counts", "FilesRejected", "ProgramError", "Rejected", "Tables", "Translator", "canon"]
