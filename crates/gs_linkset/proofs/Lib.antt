@@ -6,5 +6,6 @@ pub mod ReadLemmas
 pub mod Trees
 pub mod DocumentLemmas
 pub mod WrittenLemmas
+pub mod TokenLemmas
 pub mod PlainTrees
 pub mod RoundTrip
