@@ -1,62 +1,26 @@
 -- The document of chosen links, and its shape.
 use Rattle.std.proofs.Common.{◌≡◌, ◌<◌, ℕ, zero, suc, ◌+◌, ◌&&◌, not, Bool, true, false, All, if◌then◌else◌, List, [], ◌∷◌, ◌++◌, length, take, map, filter, get_or, codes, Option, Some, None, slice_get, Ordering, Less, Equal, Greater, refl, sym, ap, ◌∙◌, arith}
-use Rattle.std.specs.Prelude.{Result, Ok, Err, fold}
-use Rattle.std.specs.BTreeMap.{insert_entry}
+use Rattle.std.specs.Prelude.{fold}
 use Rattle.std.specs.Cmp.Lexicographic.{slice_cmp}
 use Rattle.std.specs.List.{cons_option, list_all}
-use Rattle.std.specs.Map.{keys_of}
 use Rattle.std.specs.Ordering.{is_lt, match_ordering, nat_cmp, ordering_reverse}
 use Rattle.std.specs.Str.{bytes_eq, is_utf8}
 use Rattle.std.proofs.lemmas.Cmp.{nat_list_cmp_total}
-use Rattle.std.proofs.lemmas.List.{append-nil, map-append}
-use Rattle.std.proofs.lemmas.Bool.{eq-eqb}
-use Rattle.std.proofs.lemmas.List.Elements.{All-cons, All-head, All-tail, filter-append, filter_map-append}
+use Rattle.std.proofs.lemmas.List.Elements.{All-cons, All-head, All-tail, filter_map-append}
 use Rattle.std.specs.Option.{option_map_or}
-use Rattle.gs_chars.proofs.TruthsAndLists.{and_first, and_second, and_true, equal_bytes, within}
+use Rattle.gs_chars.proofs.TruthsAndLists.{and_first, and_second, and_true, within}
 use Rattle.gs_ident.specs.Elements.{Elements, first_qualifiers}
 use Rattle.gs_ident.specs.Links.{canonical_link}
-use Rattle.gs_linkset.specs.LinkShapes.{ascend, is_below, is_below_first, is_context, is_relation, is_target, new_answer}
-use Rattle.gs_linkset.specs.declared.doc.DocFault.{DocFault}
+use Rattle.gs_linkset.specs.LinkShapes.{ascend, is_below, is_below_first, is_context, is_relation, is_target}
 use Rattle.gs_linkset.specs.declared.link_types.Context.{Context}
 use Rattle.gs_linkset.specs.declared.link_types.Relation.{Relation}
-use Rattle.gs_linkset.specs.declared.link_types.Target.{Target}
 use Rattle.gs_links.specs.Choices.{IsAmong, chosen, chosen_depth, is_chosen, passing}
 use Rattle.gs_links.specs.Documents.{document_of, linked, names_of, put_name, relation_of, relations_of, targets_of, with_name}
-use Rattle.gs_links.specs.Index.{IsRelationIndex, has_name_number, hash_with, listed}
 use Rattle.gs_links.specs.Languages.{matches, narrowed, some_or}
 use Rattle.gs_links.specs.Shapes.{is_link}
-use Rattle.gs_links.specs.declared.index.Index.{Index}
 use Rattle.gs_links.specs.declared.link.Link.{Link}
 use Rattle.gs_links.specs.declared.link.Want.{Want}
 use Rattle.gs_links.proofs.ChoiceLemmas.{chosen_anchor, found, get_at, take_next}
-
--- ---- names
-
-pub keys_put : (es : List (List ℕ × Unit {0})) (k : List ℕ) → keys_of (insert_entry (slice_cmp nat_cmp) es k tt) ≡ put_name k (keys_of es)
-keys_put [] k = refl
-keys_put (e ∷ es) k = by (slice_cmp nat_cmp k e.0) (keys_put es k)
-  where
-    by : (o : Ordering) → keys_of (insert_entry (slice_cmp nat_cmp) es k tt) ≡ put_name k (keys_of es) → keys_of (match_ordering o ((k, tt) ∷ e ∷ es) ((e.0, tt) ∷ es) (e ∷ insert_entry (slice_cmp nat_cmp) es k tt)) ≡ match_ordering o (k ∷ keys_of (e ∷ es)) (keys_of (e ∷ es)) (e.0 ∷ put_name k (keys_of es))
-    by Less h = refl
-    by Equal h = refl
-    by Greater h = ap (λ names. e.0 ∷ names) h
-
-fold_more : {S X : Type 0} (f : S → X → S) (s : S) (xs : List X) (x : X) → fold f s (xs ++ x ∷ []) ≡ f (fold f s xs) x
-fold_more f s [] x = refl
-fold_more f s (y ∷ xs) x = fold_more f (f s y) xs x
-
-pub names_more : (links more : List Link) (link : Link) (names new : List (List ℕ)) → more ≡ links ++ link ∷ [] → names ≡ names_of links → new ≡ with_name names link → new ≡ names_of more
-names_more links more link names new e so_far own = rw (own, so_far, e) (sym (fold_more with_name [] links link))
-
--- ---- targets
-
-pub targets_kept : (links more : List Link) (link : Link) (name : List ℕ) (targets new : List Target) (target : Target) → more ≡ links ++ link ∷ [] → bytes_eq link.relation name ≡ true → targets ≡ targets_of links name → target ≡ link.target → new ≡ targets ++ target ∷ [] → new ≡ targets_of more name
-targets_kept links more link name targets new target e same so_far own added =
-    rw (added, so_far, own, e, filter-append (λ (l : Link). bytes_eq l.relation name) links (link ∷ []), same) (sym (map-append (λ (l : Link). l.target) (filter (λ (l : Link). bytes_eq l.relation name) links) (link ∷ [])))
-
-pub targets_passed : (links more : List Link) (link : Link) (name : List ℕ) (targets : List Target) → more ≡ links ++ link ∷ [] → bytes_eq link.relation name ≡ false → targets ≡ targets_of links name → targets ≡ targets_of more name
-targets_passed links more link name targets e other so_far =
-    rw (so_far, e, filter-append (λ (l : Link). bytes_eq l.relation name) links (link ∷ []), other, append-nil (filter (λ (l : Link). bytes_eq l.relation name) links)) refl
 
 -- ---- the links of numbers
 
@@ -124,27 +88,6 @@ passing_filter links test (n ∷ numbers) = by (slice_get links n) refl (passing
     by None at rest = rw at rest
     by (Some link) at rest = rw at (kept link (test link) refl at rest)
 
-filter_both : (t u : Link → Bool) → ((link : Link) → u link ≡ true → t link ≡ true) → (links : List Link) → filter u (filter t links) ≡ filter u links
-filter_both t u each [] = refl
-filter_both t u each (link ∷ links) = by (t link) (u link) (each link) refl (filter_both t u each links)
-  where
-    by : (b c : Bool) → (c ≡ true → b ≡ true) → u link ≡ c → filter u (filter t links) ≡ filter u links → filter u (if b then link ∷ filter t links else filter t links) ≡ (if c then link ∷ filter u links else filter u links)
-    by true true h e rest = rw e (ap (λ ls. link ∷ ls) rest)
-    by true false h e rest = rw e rest
-    by false true h e rest = absurd (let g : false ≡ true = h refl in cc)
-    by false false h e rest = rest
-
--- the targets of a name are those of the links with the name's number
-pub relation_by_index : (index : Index) (links : List Link) (numbers own name : List ℕ) (n : ℕ) → IsRelationIndex index links numbers → n ≡ hash_with 14695981039346656037 name → own ≡ listed index n → relation_of (linked links own) name ≡ relation_of (linked links numbers) name
-relation_by_index index links numbers own name n indexed is at =
-    rw (at, indexed n, passing_filter links (has_name_number n) numbers, filter_both (has_name_number n) (λ link. bytes_eq link.relation name) named (linked links numbers)) refl
-  where
-    named : (link : Link) → bytes_eq link.relation name ≡ true → has_name_number n link ≡ true
-    named link h = eq-eqb (hash_with 14695981039346656037 link.relation) n (ap (hash_with 14695981039346656037) (equal_bytes link.relation name h) ∙ sym is)
-
-pub indexed_within : (index : Index) (links : List Link) (numbers own : List ℕ) (n : ℕ) → IsRelationIndex index links numbers → All (λ i. i < length links) numbers → own ≡ listed index n → All (λ i. i < length links) own
-indexed_within index links numbers own n indexed each at = rw (at, indexed n) (passing_within links (has_name_number n) (length links) numbers each)
-
 linked_shaped : (links : List Link) (numbers : List ℕ) → list_all is_link links ≡ true → list_all is_link (linked links numbers) ≡ true
 linked_shaped links [] h = refl
 linked_shaped links (i ∷ numbers) h = by (slice_get links i) refl (linked_shaped links numbers h)
@@ -176,7 +119,7 @@ put_by Greater n m names is h rest =
     let below : slice_cmp nat_cmp m n ≡ Less = nat_list_cmp_total.antisymm m n ∙ ap ordering_reverse is in
     and_true (is_below_first m (put_name n names)) (ascend (put_name n names)) (below_put m n names (ap is_lt below) (and_first (is_below_first m names) (ascend names) h)) rest
 
-put_ascends : (n : List ℕ) (names : List (List ℕ)) → ascend names ≡ true → ascend (put_name n names) ≡ true
+pub put_ascends : (n : List ℕ) (names : List (List ℕ)) → ascend names ≡ true → ascend (put_name n names) ≡ true
 put_ascends n [] h = refl
 put_ascends n (m ∷ names) h = put_by (slice_cmp nat_cmp n m) n m names refl h (put_ascends n names (and_second (is_below_first m names) (ascend names) h))
 
@@ -217,11 +160,6 @@ fold_named [] names all h = h
 fold_named (link ∷ links) names all h =
     fold_named links (with_name names link) (and_second (is_link link) (list_all is_link links) all) (with_named names link (and_first (is_link link) (list_all is_link links) all) h)
 
--- ---- what each name gives
-
-pub named_more : {E N R : Type 0} (f : N → R) (name : E → N) (xs : List E) (x : E) (old new : List R) (r : R) → old ≡ map f (map name xs) → r ≡ f (name x) → new ≡ old ++ r ∷ [] → new ≡ map f (map name (xs ++ x ∷ []))
-named_more f name xs x old new r h own e = rw (e, h, own, map-append, map-append) refl
-
 -- ---- the shape of the document
 
 targets_shaped : (links : List Link) (name : List ℕ) → list_all is_link links ≡ true → list_all is_target (targets_of links name) ≡ true
@@ -246,7 +184,7 @@ relations_shaped links [] all h = refl
 relations_shaped links (n ∷ names) all h =
     and_true (is_relation (relation_of links n)) _ (relation_shaped links n all (and_first (is_name n) (list_all is_name names) h)) (relations_shaped links names all (and_second (is_name n) (list_all is_name names) h))
 
-own_names : (links : List Link) (names : List (List ℕ)) → map (λ relation. relation.name) (map (relation_of links) names) ≡ names
+pub own_names : (links : List Link) (names : List (List ℕ)) → map (λ relation. relation.name) (map (relation_of links) names) ≡ names
 own_names links [] = refl
 own_names links (n ∷ names) = ap (λ ns. n ∷ ns) (own_names links names)
 
@@ -258,9 +196,8 @@ context_shaped link rest h =
     let up : ascend (map (λ relation. relation.name) (relations_of (link ∷ rest))) ≡ true = rw (own_names (link ∷ rest) (names_of (link ∷ rest))) named.0 in
     and_true (is_utf8 (canonical_link link.anchor)) _ anchor (and_true (ascend (map (λ relation. relation.name) (relations_of (link ∷ rest)))) _ up (relations_shaped (link ∷ rest) (names_of (link ∷ rest)) h named.1))
 
-pub document_made : (links : List Link) (numbers : List ℕ) (link : Link) (rest : List Link) → list_all is_link links ≡ true → linked links numbers ≡ link ∷ rest → new_answer (document_of (linked links numbers)) ≡ Ok (document_of (linked links numbers))
-unfolding new_answer
-document_made links numbers link rest h e =
+pub document_shaped : (links : List Link) (numbers : List ℕ) (link : Link) (rest : List Link) → list_all is_link links ≡ true → linked links numbers ≡ link ∷ rest → list_all is_context (document_of (linked links numbers)) ≡ true
+document_shaped links numbers link rest h e =
     let all = rw e at (linked_shaped links numbers h) in
     rw (e, context_shaped link rest all) refl
 
@@ -269,18 +206,6 @@ pub document_is : (links : List Link) (numbers : List ℕ) (link : Link) (rest :
 document_is links numbers link rest anchor relations contexts e a r made =
     let own = rw e at r in
     rw (made, a, own, e) refl
-
-pub never : (contexts document : List Context) (r : Result (List Context) DocFault) (error : DocFault) → contexts ≡ document → new_answer document ≡ Ok document → r ≡ new_answer contexts → r ≡ Err error → ⊥
-never contexts document r error same good made bad =
-    let g = rw (made, same, good) at bad in
-    let w : Ok document ≡ Err error = g in
-    cc
-
-pub given : (contexts document doc : List Context) (r : Result (List Context) DocFault) → contexts ≡ document → new_answer document ≡ Ok document → r ≡ new_answer contexts → r ≡ Ok doc → doc ≡ document
-given contexts document doc r same good made is =
-    let g = rw (made, same, good) at is in
-    let w : Ok document ≡ Ok doc = g in
-    cc
 
 -- the chosen links have one anchor: the identity's key with its first qualifiers
 pub one_anchor : (links : List Link) (identity : Elements) (want : Want) (i : ℕ) (link : Link) → IsAmong (chosen links identity want) i → slice_get links i ≡ Some link → link.anchor ≡ first_qualifiers (chosen_depth links identity want) identity

@@ -9,7 +9,7 @@ use Rattle.std.proofs.lemmas.List.Elements.{filter-append}
 use Rattle.gs_chars.proofs.TruthsAndLists.{and_first, and_second, and_true, within}
 use Rattle.gs_ident.specs.Elements.{Elements, first_qualifiers}
 use Rattle.gs_links.specs.Choices.{IsAmong, chosen_depth, depth_of, is_candidate, is_chosen, numbers_from, passing}
-use Rattle.gs_links.specs.Index.{IsIndexOf, IsRelationIndex, anchor_number, has_name_number, has_number, hash_with, listed, with_last}
+use Rattle.gs_links.specs.Index.{IsIndexOf, anchor_number, has_number, listed, with_last}
 use Rattle.gs_links.specs.declared.index.Index.{Index}
 use Rattle.gs_links.specs.declared.link.Link.{Link}
 use Rattle.gs_links.specs.declared.link.Want.{Want}
@@ -156,14 +156,3 @@ index_more old new links i link m at e so_far own n =
     by : (b : Bool) (xs : List ℕ) → (if b then xs ++ i ∷ [] else xs) ≡ xs ++ (if b then (0 + i) ∷ [] else [])
     by true xs = let here : 0 + i ≡ i = omega arith in rw here refl
     by false xs = sym (append-nil xs)
-
--- an index of relations of more links
-pub relation_more : (old new : Index) (links : List Link) (numbers : List ℕ) (k i : ℕ) (link : Link) (m : ℕ) → slice_get numbers k ≡ Some i → slice_get links i ≡ Some link → m ≡ hash_with 14695981039346656037 link.relation → IsRelationIndex old links (take k numbers) → ((n : ℕ) → listed new n ≡ with_last (listed old n) m i n) → IsRelationIndex new links (take (k + 1) numbers)
-relation_more old new links numbers k i link m at there e so_far own n = rw (own n, so_far n) (by (m == n) refl)
-  where
-    same : has_name_number n link ≡ (m == n)
-    same = ap (λ h. h == n) (sym e)
-
-    by : (b : Bool) → (m == n) ≡ b → (if b then passing links (has_name_number n) (take k numbers) ++ i ∷ [] else passing links (has_name_number n) (take k numbers)) ≡ passing links (has_name_number n) (take (k + 1) numbers)
-    by true h = sym (passing_more links (has_name_number n) numbers k i link at there (same ∙ h))
-    by false h = sym (passing_less links (has_name_number n) numbers k i link at there (same ∙ h))

@@ -1,5 +1,6 @@
 pub mod ChoiceLemmas
 pub mod DocumentLemmas
+pub mod RunLemmas
 pub mod IndexLemmas
 pub mod LanguageLemmas
 pub mod VocabularyLemmas

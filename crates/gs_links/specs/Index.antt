@@ -41,11 +41,3 @@ with_last numbers m i n = if m == n then numbers ++ i ∷ [] else numbers
 -- of numbers those of candidates with so many qualifiers
 abbrev pub chosen_among : List Link → Elements → Want → ℕ → List ℕ → List ℕ
 chosen_among links identity want depth numbers = passing links (is_chosen identity want depth) numbers
-
--- the link's relation has the number: the hash of its name's bytes
-abbrev pub has_name_number : ℕ → Link → Bool
-has_name_number n link = hash_with 14695981039346656037 link.relation == n
-
--- the index has at each number those of the numbers whose links have relations with it, in their order, and no others
-abbrev pub IsRelationIndex : Index → List Link → List ℕ → Type 0
-IsRelationIndex index links numbers = (n : ℕ) → listed index n ≡ passing links (has_name_number n) numbers

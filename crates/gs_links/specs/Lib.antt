@@ -4,6 +4,7 @@ pub mod LoadingSupport
 pub mod Shapes
 pub mod ShapesSupport
 pub mod Documents
+pub mod Runs
 pub mod Index
 pub mod Languages
 pub mod Marks

@@ -1,5 +1,5 @@
-ghost use Rattle.std.specs.Prelude.{◌≡◌, ◌≤◌, ◌<◌, ◌^◌, [], All, IfOk, ℕ, length};
-ghost use Rattle.gs_links.specs.Index.{IsIndexOf, IsRelationIndex, anchor_number, hash_with, listed, number_with, with_last};
+ghost use Rattle.std.specs.Prelude.{◌≡◌, ◌≤◌, ◌^◌, [], IfOk, ℕ, length};
+ghost use Rattle.gs_links.specs.Index.{IsIndexOf, anchor_number, hash_with, listed, number_with, with_last};
 
 use crate::link::Link;
 use gs_ai::Pair;
@@ -102,30 +102,6 @@ pub(crate) fn index_of(alloc: Global, links: &[Link]) -> Result<Index, Memory>
     let mut index = Index::new(alloc);
     for i in 0..links.len() {
         index.push(alloc, number_of(&links[i].anchor), i as u32)?;
-    }
-    Ok(index)
-}
-
-/// The number of a relation's name.
-pub(crate) fn name_number(name: &[u8]) -> u64
-    ensures { result ≡ hash_with 14695981039346656037 name.now }
-{
-    hash_with(OFFSET, name)
-}
-
-/// The index of the links of numbers, by the numbers of their relations' names.
-pub(crate) fn relation_index(
-    alloc: Global,
-    links: &[Link],
-    numbers: &[u32],
-) -> Result<Index, Memory>
-    requires { All (λ i. i < length links.now) numbers.now }
-    ensures { IfOk result (λ index. IsRelationIndex index links.now numbers.now) }
-{
-    let mut index = Index::new(alloc);
-    for k in 0..numbers.len() {
-        let link = &links[numbers[k] as usize];
-        index.push(alloc, name_number(link.relation.as_bytes()), numbers[k])?;
     }
     Ok(index)
 }

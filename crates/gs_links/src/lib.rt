@@ -40,6 +40,7 @@ mod link;
 mod loader;
 mod marks;
 mod narrower;
+mod relations;
 mod store;
 mod vocabulary;
 

@@ -6,6 +6,7 @@ pub mod ReadLemmas
 pub mod Trees
 pub mod DocumentLemmas
 pub mod WrittenLemmas
+pub mod TokenLemmas
 pub mod PlainTrees
 pub mod RoundTrip
 pub mod NameSets

@@ -6,3 +6,4 @@ pub mod AnswersSupport
 pub mod LinkShapes
 pub mod Names
 pub mod WrittenTrees
+pub mod WrittenTokens

@@ -1,35 +1,37 @@
-ghost use Rattle.std.specs.Prelude.{◌≡◌, IfOk, map, true};
+ghost use Rattle.std.specs.Prelude.{◌≡◌, ◌≤◌, ◌∷◌, [], IfOk, OnOk, length, map, true};
 ghost use Rattle.std.specs.List.{list_all};
 ghost use Rattle.std.specs.Str.{is_utf8};
-ghost use Rattle.serde_json.specs.Data.{put, string};
-ghost use Rattle.serde_json.specs.View.{members_view, view};
-ghost use Rattle.gs_linkset.specs.LinkShapes.{ascend, is_context, is_target};
-ghost use Rattle.gs_linkset.specs.WrittenTrees.{array_by, members_by, target_text, tree_of, value_tree};
-ghost use Rattle.gs_linkset.specs.WrittenTrees.{with_language, written};
+ghost use Rattle.json.specs.Print.{IsPrintable};
+ghost use Rattle.json.specs.Reads.{token_of};
+ghost use Rattle.serde_json.specs.Data.{object, put as put_member, string};
+ghost use Rattle.gs_linkset.specs.LinkShapes.{is_below, is_context, is_target};
+ghost use Rattle.gs_linkset.specs.WrittenTrees.{array_by, members_by, target_text, tree_of, value_tree, written};
+ghost use Rattle.gs_linkset.specs.WrittenTokens.{Adds, count_below, is_other, item_tokens, language_tokens};
+ghost use Rattle.gs_linkset.specs.WrittenTokens.{member_tokens, members_tokens, text_tokens, tokens_of};
 
 use crate::doc::LinkDoc;
 use crate::link_shapes::Shaped;
 use crate::link_types::{Attr, AttrValue, Context, Relation, Target};
 use gs_chars::{Memory, Text};
-use serde_json::{Map, Value};
+use json::{Token, Writer};
 use std::alloc::Global;
 use std::str;
 
 /// What is written as a value.
-trait ToValue: Shaped {
+trait ToJson: Shaped {
     ghost use Rattle.serde_json.specs.Data.{Data};
 
     /// What it is written as.
     ghost tree: { Self → Data };
 
-    /// What it is written as.
-    fn to_value(&self, alloc: Global) -> Result<Value, Memory>
+    /// Appends what it is written as.
+    fn append(&self, out: &mut Writer) -> Result<(), Memory>
         requires { Self.shape self.now ≡ true }
-        ensures { IfOk result (λ value. view value ≡ tree self.now) };
+        ensures { OnOk result (Adds out.old out.new (tokens_of (tree self.now))) };
 }
 
 /// What is written as a member of an object.
-trait Member: ToValue {
+trait Member: ToJson {
     ghost use Rattle.std.specs.Prelude.{List, ℕ};
 
     /// The name of the member.
@@ -41,58 +43,106 @@ trait Member: ToValue {
         ensures { result.now ≡ key_of self.now };
 }
 
-/// Things as an array.
-fn array_of<T: ToValue>(alloc: Global, things: &[T]) -> Result<Value, Memory>
-    requires { list_all T.shape things.now ≡ true }
-    ensures { IfOk result (λ value. view value ≡ array_by T.tree things.now) }
+/// Appends a token. It is inlined, so that a bracket costs no look at the kind of token.
+#[inline(always)]
+fn put(out: &mut Writer, token: Token<'_>) -> Result<(), Memory>
+    requires { IsPrintable (token_of token) }
+    ensures { OnOk result (Adds out.old out.new (token_of token.entry ∷ [])) }
 {
-    let mut values = Vec::new(alloc);
-    for thing in things {
-        values.push(thing.to_value(alloc)?)?;
-    }
-    Ok(Value::Array(values))
+    Ok(out.token(token)?)
 }
 
-/// Adds a member to an object.
-fn put(
-    alloc: Global,
-    members: &mut Map<String, Value>,
-    name: &str,
-    value: Value,
-) -> Result<(), Memory>
-    ensures { IfOk result (λ _.
-        members_view members.new.entries ≡ put name.now (view value) (members_view members.old.entries)) }
+/// Appends a member that is a text.
+fn put_text(out: &mut Writer, name: &str, text: &Text) -> Result<(), Memory>
+    requires { is_utf8 text.now ≡ true }
+    ensures { OnOk result (Adds out.old out.new (text_tokens name.now text.now)) }
 {
-    serde_json::put(members, alloc, name, value)?;
+    put(out, Token::Key(name))?;
+    text.append(out)
+}
+
+/// Appends things one after another.
+fn put_items<T: ToJson>(out: &mut Writer, things: &[T]) -> Result<(), Memory>
+    requires { list_all T.shape things.now ≡ true }
+    ensures { OnOk result (Adds out.old out.new (item_tokens T.tree things.now)) }
+{
+    for thing in things {
+        thing.append(out)?;
+    }
     Ok(())
 }
 
-/// Things as members, by their names.
-fn members_of<T: Member>(alloc: Global, things: &[T]) -> Result<Map<String, Value>, Memory>
-    requires shape { list_all T.shape things.now ≡ true }
-    requires ascending { ascend (map T.key_of things.now) ≡ true }
-    ensures { IfOk result (λ members. members_view members.entries ≡ members_by T.key_of T.tree things.now) }
+/// Appends things as an array.
+fn put_array<T: ToJson>(out: &mut Writer, things: &[T]) -> Result<(), Memory>
+    requires { list_all T.shape things.now ≡ true }
+    ensures { OnOk result (Adds out.old out.new (tokens_of (array_by T.tree things.now))) }
 {
-    let mut members = Map::new(alloc);
-    for thing in things {
-        let value = thing.to_value(alloc)?;
-        put(alloc, &mut members, thing.key(), value)?;
-    }
-    Ok(members)
+    put(out, Token::BeginArray)?;
+    put_items(out, things)?;
+    put(out, Token::EndArray)
 }
 
-/// Members with one more.
-fn with_member(
-    alloc: Global,
-    mut members: Map<String, Value>,
-    name: &str,
-    value: Value,
-) -> Result<Map<String, Value>, Memory>
-    ensures { IfOk result (λ all.
-        members_view all.entries ≡ put name.now (view value) (members_view members.entries)) }
+/// Appends a member.
+fn put_member<T: Member>(out: &mut Writer, thing: &T) -> Result<(), Memory>
+    requires { T.shape thing.now ≡ true }
+    ensures { OnOk result (Adds out.old out.new (member_tokens T.key_of T.tree thing.now)) }
 {
-    put(alloc, &mut members, name, value)?;
-    Ok(members)
+    put(out, Token::Key(thing.key()))?;
+    thing.append(out)
+}
+
+/// Appends things as members one after another.
+fn put_members<T: Member>(out: &mut Writer, things: &[T]) -> Result<(), Memory>
+    requires { list_all T.shape things.now ≡ true }
+    ensures { OnOk result (Adds out.old out.new (members_tokens T.key_of T.tree things.now)) }
+{
+    for thing in things {
+        put_member(out, thing)?;
+    }
+    Ok(())
+}
+
+/// Whether a name is below another by its bytes.
+fn is_below(a: &str, b: &str) -> bool
+    ensures { result ≡ is_below a.now b.now }
+{
+    a.as_bytes().cmp(b.as_bytes()).is_lt()
+}
+
+/// How many of the first things have names below this one.
+fn count_below<T: Member>(things: &[T], name: &str) -> usize
+    requires { list_all T.shape things.now ≡ true }
+    ensures count { result ≡ count_below name.now (map T.key_of things.now) }
+    ensures bound { result ≤ length things.now }
+{
+    for i in 0..things.len() {
+        if is_below(things[i].key(), name) {
+            continue;
+        }
+        return i;
+    }
+    things.len()
+}
+
+/// Appends an object of things, whose names ascend, and of one text more, at its place among them. None of the things has its name.
+fn put_object<T: Member>(
+    out: &mut Writer,
+    things: &[T],
+    name: &str,
+    text: &Text,
+) -> Result<(), Memory>
+    requires shape { list_all T.shape things.now ≡ true }
+    requires others { list_all (is_other name.now) (map T.key_of things.now) ≡ true }
+    requires text { is_utf8 text.now ≡ true }
+    ensures { OnOk result (Adds out.old out.new
+        (tokens_of (object (put_member name.now (string text.now) (members_by T.key_of T.tree things.now))))) }
+{
+    let (below, above) = things.split_at(count_below(things, name));
+    put(out, Token::BeginObject)?;
+    put_members(out, below)?;
+    put_text(out, name, text)?;
+    put_members(out, above)?;
+    put(out, Token::EndObject)
 }
 
 /// The characters of a text.
@@ -103,51 +153,46 @@ fn characters(text: &Text) -> &str
     str::from_utf8(text.as_bytes()).unwrap()
 }
 
-impl ToValue for Text {
+impl ToJson for Text {
     ghost tree = { string };
 
-    fn to_value(&self, alloc: Global) -> Result<Value, Memory> {
-        Ok(Value::try_from_str(alloc, characters(self))?)
+    fn append(&self, out: &mut Writer) -> Result<(), Memory> {
+        put(out, Token::String(characters(self)))
     }
 }
 
-/// Members with the language, where there is one.
-fn with_language(
-    alloc: Global,
-    members: Map<String, Value>,
-    language: &Text,
-) -> Result<Map<String, Value>, Memory>
+/// Appends the language, where there is one.
+fn put_language(out: &mut Writer, language: &Text) -> Result<(), Memory>
     requires { is_utf8 language.now ≡ true }
-    ensures { IfOk result (λ all.
-        members_view all.entries ≡ with_language language.now (members_view members.entries)) }
+    ensures { OnOk result (Adds out.old out.new (language_tokens language.now)) }
 {
     if language.as_bytes().is_empty() {
-        return Ok(members);
+        return Ok(());
     }
-    let value = language.to_value(alloc)?;
-    with_member(alloc, members, "language", value)
+    put_text(out, "language", language)
 }
 
-impl ToValue for (Text, Text) {
+impl ToJson for (Text, Text) {
     ghost use Rattle.gs_linkset.specs.WrittenTrees.{tagged_tree};
 
     ghost tree = { tagged_tree };
 
-    fn to_value(&self, alloc: Global) -> Result<Value, Memory> {
-        let text = self.0.to_value(alloc)?;
-        let members = with_member(alloc, Map::new(alloc), "value", text)?;
-        Ok(Value::Object(with_language(alloc, members, &self.1)?))
+    fn append(&self, out: &mut Writer) -> Result<(), Memory> {
+        put(out, Token::BeginObject)?;
+        put_language(out, &self.1)?;
+        put_text(out, "value", &self.0)?;
+        put(out, Token::EndObject)
     }
 }
 
-impl ToValue for Attr {
+impl ToJson for Attr {
     ghost tree = { λ attr. value_tree attr.value };
 
-    fn to_value(&self, alloc: Global) -> Result<Value, Memory> {
+    fn append(&self, out: &mut Writer) -> Result<(), Memory> {
         match &self.value {
-            AttrValue::One(text) => text.to_value(alloc),
-            AttrValue::Many(texts) => array_of(alloc, texts.items()),
-            AttrValue::Tagged(pairs) => array_of(alloc, pairs.items()),
+            AttrValue::One(text) => text.append(out),
+            AttrValue::Many(texts) => put_array(out, texts.items()),
+            AttrValue::Tagged(pairs) => put_array(out, pairs.items()),
         }
     }
 }
@@ -160,15 +205,13 @@ impl Member for Attr {
     }
 }
 
-impl ToValue for Target {
+impl ToJson for Target {
     ghost use Rattle.gs_linkset.specs.WrittenTrees.{target_tree};
 
     ghost tree = { target_tree };
 
-    fn to_value(&self, alloc: Global) -> Result<Value, Memory> {
-        let members = members_of(alloc, self.attrs.items())?;
-        let href = self.href.to_value(alloc)?;
-        Ok(Value::Object(with_member(alloc, members, "href", href)?))
+    fn append(&self, out: &mut Writer) -> Result<(), Memory> {
+        put_object(out, self.attrs.items(), "href", &self.href)
     }
 }
 
@@ -181,18 +224,19 @@ impl Target {
         requires { is_target self.now ≡ true }
         ensures { IfOk result (λ text. text ≡ target_text self.now) }
     {
-        let value = self.to_value(alloc)?;
-        Ok(Text::from_vec(value.to_vec(alloc)?))
+        let mut out = Writer::new(Vec::new(alloc));
+        self.append(&mut out)?;
+        Ok(Text::from_vec(out.into_inner()))
     }
 }
 
-impl ToValue for Relation {
+impl ToJson for Relation {
     ghost use Rattle.gs_linkset.specs.WrittenTrees.{target_tree};
 
     ghost tree = { λ relation. array_by target_tree relation.targets };
 
-    fn to_value(&self, alloc: Global) -> Result<Value, Memory> {
-        array_of(alloc, self.targets.items())
+    fn append(&self, out: &mut Writer) -> Result<(), Memory> {
+        put_array(out, self.targets.items())
     }
 }
 
@@ -204,25 +248,25 @@ impl Member for Relation {
     }
 }
 
-impl ToValue for Context {
+impl ToJson for Context {
     ghost use Rattle.gs_linkset.specs.WrittenTrees.{context_tree};
 
     ghost tree = { context_tree };
 
-    fn to_value(&self, alloc: Global) -> Result<Value, Memory> {
-        let members = members_of(alloc, self.relations.items())?;
-        let anchor = self.anchor.to_value(alloc)?;
-        Ok(Value::Object(with_member(alloc, members, "anchor", anchor)?))
+    fn append(&self, out: &mut Writer) -> Result<(), Memory> {
+        put_object(out, self.relations.items(), "anchor", &self.anchor)
     }
 }
 
-/// A document as a value.
-fn document_value(alloc: Global, contexts: &[Context]) -> Result<Value, Memory>
+/// Appends a document.
+fn put_document(out: &mut Writer, contexts: &[Context]) -> Result<(), Memory>
     requires { list_all is_context contexts.now ≡ true }
-    ensures { IfOk result (λ value. view value ≡ tree_of contexts.now) }
+    ensures { OnOk result (Adds out.old out.new (tokens_of (tree_of contexts.now))) }
 {
-    let contexts = array_of(alloc, contexts)?;
-    Ok(Value::Object(with_member(alloc, Map::new(alloc), "linkset", contexts)?))
+    put(out, Token::BeginObject)?;
+    put(out, Token::Key("linkset"))?;
+    put_array(out, contexts)?;
+    put(out, Token::EndObject)
 }
 
 /// The text of a linkset in JSON (RFC 9264, section 4.2): no space, the members of each object in ascending order of
@@ -230,6 +274,7 @@ fn document_value(alloc: Global, contexts: &[Context]) -> Result<Value, Memory>
 pub fn write(alloc: Global, doc: &LinkDoc) -> Result<Text, Memory>
     ensures { IfOk result (λ text. text ≡ written doc.now) }
 {
-    let document = document_value(alloc, doc.contexts())?;
-    Ok(Text::from_vec(document.to_vec(alloc)?))
+    let mut out = Writer::new(Vec::new(alloc));
+    put_document(&mut out, doc.contexts())?;
+    Ok(Text::from_vec(out.into_inner()))
 }

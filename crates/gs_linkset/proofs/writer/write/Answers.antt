@@ -1,11 +1,10 @@
-use Rattle.std.proofs.Common.{ap, ◌∙◌}
-use Rattle.serde_json.specs.Written.{compact_text, has_float}
-use Rattle.gs_linkset.specs.WrittenTrees.{written}
-use Rattle.gs_linkset.proofs.WrittenLemmas.{whole_tree}
+use Rattle.std.proofs.Common.{◌∙◌}
+use Rattle.gs_linkset.specs.WrittenTrees.{tree_of, written}
+use Rattle.gs_linkset.proofs.TokenLemmas.{printed}
 use Rattle.gs_linkset.proofs.writer.write.Goals as goal
 
 pub returns : goal.returns
 unfolding written
 returns c =
-    let tree = rw c.contexts.ensures.value at c.in_ok-document.ensures in
-    c.from_vec.ensures ∙ c.in_ok-to_vec.ensures.text (ap has_float tree ∙ whole_tree c.args.doc.now) ∙ ap compact_text tree
+    let added = rw c.contexts.ensures.value at c.in_ok-put_document.ensures in
+    c.from_vec.ensures ∙ printed _ _ (tree_of c.args.doc.now) c.into_inner.result.items (c.new-out.ensures.before ∙ c.new.ensures.items) c.new-out.ensures.tokens added c.into_inner.ensures.items

@@ -1,11 +1,9 @@
-use Rattle.std.proofs.Common.{ap, ◌∙◌}
-use Rattle.serde_json.specs.Written.{compact_text, has_float}
-use Rattle.gs_linkset.specs.WrittenTrees.{target_text}
-use Rattle.gs_linkset.proofs.WrittenLemmas.{whole_target}
+use Rattle.std.proofs.Common.{◌∙◌}
+use Rattle.gs_linkset.specs.WrittenTrees.{target_text, target_tree}
+use Rattle.gs_linkset.proofs.TokenLemmas.{printed}
 use Rattle.gs_linkset.proofs.link_types.Target.text.Goals as goal
 
 pub returns : goal.returns
 unfolding target_text
 returns c =
-    let tree = c.in_ok-value.ensures in
-    c.from_vec.ensures ∙ c.in_ok-to_vec.ensures.text (ap has_float tree ∙ whole_target c.args.self.now) ∙ ap compact_text tree
+    c.from_vec.ensures ∙ printed _ _ (target_tree c.args.self.now) c.into_inner.result.items (c.new-out.ensures.before ∙ c.new.ensures.items) c.new-out.ensures.tokens c.in_ok-append.ensures c.into_inner.ensures.items
