@@ -38,4 +38,4 @@ pub use error::LinkFault;
 pub use laws::{one_key_path, written_link_is_read};
 pub use one_answer::one_answer_each;
 pub use read::{read_link, read_target};
-pub use stem::{stem_ok, write_link};
+pub use stem::{append_link, stem_ok, write_link};

@@ -1,4 +1,4 @@
-ghost use Rattle.std.specs.Prelude.{◌≡◌, true, IfOk, option_map, IsTrue};
+ghost use Rattle.std.specs.Prelude.{◌≡◌, ◌++◌, true, IfOk, option_map, IsTrue};
 ghost use Rattle.gs_ident.specs.Links.{spelled};
 ghost use Rattle.gs_dlink.specs.Stems.{are_stem_bytes, begins_authority, ends_in_slash, stem_ok};
 
@@ -48,4 +48,13 @@ pub fn write_link(alloc: Global, stem: &[u8], identity: &Identity) -> Result<Tex
     ensures { IfOk result (λ text. text ≡ spelled stem.now identity.now) }
 {
     spell(alloc, stem, identity)
+}
+
+/// Appends the link of the identity under the stem, as `write_link` gives it. The one error is out of memory; `out` may then have
+/// a part of the link more. The stem is one that `stem_ok` allows.
+pub fn append_link(out: &mut Vec<u8>, stem: &[u8], identity: &Identity) -> Result<(), Memory>
+    requires { stem_ok stem.now ≡ true }
+    ensures { IfOk result (λ _. out.new.items ≡ out.old.items ++ spelled stem.now identity.now) }
+{
+    gs_ident::append_link(out, stem, identity)
 }

@@ -79,17 +79,18 @@ raw_text_is pair (next ∷ pairs) =
     ap (λ (x : List ℕ). pair.code ++ (pair.value ++ (x ++ raw_text (next ∷ pairs)))) (separator_is (predefined_length pair.code))
     ∙ ap (λ (x : List ℕ). pair.code ++ (pair.value ++ (separator_of (is_none (predefined_length pair.code)) ++ x))) (raw_text_is next pairs)
 
-pub all_written : (identity : Elements) (coded valued some all : List ℕ) (u v : Bool) → coded ≡ identity.key.code → valued ≡ coded ++ identity.key.value → u ≡ is_none (predefined_length identity.key.code) → some ≡ valued ++ raw_behind u identity.qualifiers → v ≡ last_open u identity.qualifiers → all ≡ some ++ raw_behind v identity.attributes → all ≡ raw_text (pairs_of identity)
-all_written identity coded valued some all u v e f g h j k =
+pub all_written : (identity : Elements) (old coded valued some all : List ℕ) (u v : Bool) → coded ≡ old ++ identity.key.code → valued ≡ coded ++ identity.key.value → u ≡ is_none (predefined_length identity.key.code) → some ≡ valued ++ raw_behind u identity.qualifiers → v ≡ last_open u identity.qualifiers → all ≡ some ++ raw_behind v identity.attributes → all ≡ old ++ raw_text (pairs_of identity)
+all_written identity old coded valued some all u v e f g h j k =
     let key = identity.key in
     let w = is_none (predefined_length key.code) in
     let q = raw_behind w identity.qualifiers in
     let a = raw_behind (last_open w identity.qualifiers) identity.attributes in
     let last : raw_behind v identity.attributes ≡ a = ap (λ (x : Bool). raw_behind x identity.attributes) (j ∙ ap (λ (x : Bool). last_open x identity.qualifiers) g) in
-    let first : some ≡ (key.code ++ key.value) ++ q = h ∙ ap (λ (x : List ℕ). x ++ raw_behind u identity.qualifiers) (f ∙ ap (λ (x : List ℕ). x ++ key.value) e) ∙ ap (λ (x : Bool). (key.code ++ key.value) ++ raw_behind x identity.qualifiers) g in
-    let whole : all ≡ ((key.code ++ key.value) ++ q) ++ a = k ∙ ap (λ (x : List ℕ). some ++ x) last ∙ ap (λ (x : List ℕ). x ++ a) first in
+    let first : some ≡ ((old ++ key.code) ++ key.value) ++ q = h ∙ ap (λ (x : List ℕ). x ++ raw_behind u identity.qualifiers) (f ∙ ap (λ (x : List ℕ). x ++ key.value) e) ∙ ap (λ (x : Bool). ((old ++ key.code) ++ key.value) ++ raw_behind x identity.qualifiers) g in
+    let whole : all ≡ (((old ++ key.code) ++ key.value) ++ q) ++ a = k ∙ ap (λ (x : List ℕ). some ++ x) last ∙ ap (λ (x : List ℕ). x ++ a) first in
     let both : raw_behind w (identity.qualifiers ++ identity.attributes) ≡ q ++ a = raw_behind-append w identity.qualifiers identity.attributes in
-    whole ∙ append_assoc (key.code ++ key.value) q a ∙ append_assoc key.code key.value (q ++ a) ∙ ap (λ (x : List ℕ). key.code ++ (key.value ++ x)) (sym both) ∙ sym (raw_text_is key (identity.qualifiers ++ identity.attributes))
+    let text : raw_text (pairs_of identity) ≡ key.code ++ (key.value ++ (q ++ a)) = raw_text_is key (identity.qualifiers ++ identity.attributes) ∙ ap (λ (x : List ℕ). key.code ++ (key.value ++ x)) both in
+    whole ∙ append_assoc ((old ++ key.code) ++ key.value) q a ∙ append_assoc (old ++ key.code) key.value (q ++ a) ∙ append_assoc old key.code (key.value ++ (q ++ a)) ∙ ap (λ (x : List ℕ). old ++ x) (sym text)
 
 -- ---- the parts of an identity that was made with a table
 

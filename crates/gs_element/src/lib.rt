@@ -33,4 +33,4 @@ pub use bracketed_text::read_bracketed;
 pub use errors::ElementsFault;
 pub use laws::{one_error_each, one_list_each, some_answer, written_is_read};
 pub use raw::read_raw;
-pub use writer::{write_bracketed, write_raw};
+pub use writer::{append_bracketed, append_raw, write_bracketed, write_raw};

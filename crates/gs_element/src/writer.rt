@@ -56,6 +56,21 @@ fn write_elements(
     Ok(last)
 }
 
+/// Appends the element string of the identity, as `write_raw` gives it. The one error is out of memory; `out` may then have a part
+/// of it more. The identity is one that `make` of gs_ident gave by this table.
+pub fn append_raw(out: &mut Vec<u8>, table: &AiTable, identity: &Identity) -> Result<(), Memory>
+    requires { IsMadeWith table.now identity.now }
+    ensures { IfOk result (λ _. out.new.items ≡ out.old.items ++ raw_text (pairs_of identity.now)) }
+{
+    let key = identity.key();
+    out.extend_from_slice(key.code.as_bytes())?;
+    out.extend_from_slice(key.value.as_bytes())?;
+    let unclosed = is_open(table, key);
+    let unclosed = write_elements(table, out, unclosed, identity.qualifiers())?;
+    write_elements(table, out, unclosed, identity.attributes())?;
+    Ok(())
+}
+
 /// The element string of the identity, in the order of its pairs: code and value of each, and an FNC1 (the byte 29) behind one
 /// that has no predefined length and is not the last (GS1 General Specifications, section 7.8). Nothing stands at the start. The
 /// one error is out of memory. The identity is one that `make` of gs_ident gave by this table.
@@ -64,12 +79,7 @@ pub fn write_raw(alloc: Global, table: &AiTable, identity: &Identity) -> Result<
     ensures { IfOk result (λ text. text ≡ raw_text (pairs_of identity.now)) }
 {
     let mut out = Vec::with_capacity(alloc, identity.room())?;
-    let key = identity.key();
-    out.extend_from_slice(key.code.as_bytes())?;
-    out.extend_from_slice(key.value.as_bytes())?;
-    let unclosed = is_open(table, key);
-    let unclosed = write_elements(table, &mut out, unclosed, identity.qualifiers())?;
-    write_elements(table, &mut out, unclosed, identity.attributes())?;
+    append_raw(&mut out, table, identity)?;
     Ok(Text::from_vec(out))
 }
 
@@ -117,14 +127,22 @@ fn write_pairs(out: &mut Vec<u8>, pairs: &[Pair]) -> Result<(), Memory>
     Ok(())
 }
 
+/// Appends the element string of the identity in the printed form, as `write_bracketed` gives it. The one error is out of memory;
+/// `out` may then have a part of it more.
+pub fn append_bracketed(out: &mut Vec<u8>, identity: &Identity) -> Result<(), Memory>
+    ensures { IfOk result (λ _. out.new.items ≡ out.old.items ++ bracketed_text (pairs_of identity.now)) }
+{
+    write_pair(out, identity.key())?;
+    write_pairs(out, identity.qualifiers())?;
+    write_pairs(out, identity.attributes())
+}
+
 /// The element string of the identity in the printed form, in the order of its pairs: each code in brackets, and its value
 /// with `\(` for an opening bracket. The one error is out of memory.
 pub fn write_bracketed(alloc: Global, identity: &Identity) -> Result<Text, Memory>
     ensures { IfOk result (λ text. text ≡ bracketed_text (pairs_of identity.now)) }
 {
     let mut out = Vec::with_capacity(alloc, identity.room())?;
-    write_pair(&mut out, identity.key())?;
-    write_pairs(&mut out, identity.qualifiers())?;
-    write_pairs(&mut out, identity.attributes())?;
+    append_bracketed(&mut out, identity)?;
     Ok(Text::from_vec(out))
 }

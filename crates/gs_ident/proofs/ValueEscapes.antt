@@ -1,6 +1,7 @@
 -- The escapes of `percent_encoding` at the set of this crate are those of a link.
 use Rattle.std.proofs.Common.{◌≡◌, ℕ, ◌<◌, ◌/◌, ◌%◌, not, Bool, true, false, List, [], ◌∷◌, All, refl, arith, if◌then◌else◌}
-use Rattle.std.proofs.lemmas.Bool.{agree_below, agree_below_at}
+use Rattle.std.specs.List.{list_all}
+use Rattle.std.proofs.lemmas.Bool.{agree_below, agree_below_at, and_parts}
 use Rattle.std.proofs.lemmas.List.Elements.{All-head, All-tail}
 use Rattle.percent_encoding.specs.AsciiSet.{should_percent_encode}
 use Rattle.percent_encoding.specs.Percent.{percent_encode, percent_encode_byte, encode_byte}
@@ -24,6 +25,14 @@ same_choice e p false = refl
 
 same_byte : (c : ℕ) → c < 256 → encode_byte ESCAPED c ≡ escaped_byte c
 same_byte c h = rw (chosen c h, same_escape c h) (same_choice (percent_escape c) (c ∷ []) (is_unescaped c))
+
+-- a value of which each byte stands for itself
+pub plain_text : (value : List ℕ) → list_all is_unescaped value ≡ true → percent_encoded value ≡ value
+unfolding percent_encoded
+plain_text [] h = refl
+plain_text (c ∷ cs) h =
+    let both = and_parts (is_unescaped c) (list_all is_unescaped cs) h in
+    rw (both.0, plain_text cs both.1) refl
 
 abbrev pub IsByte : ℕ → Type 0
 IsByte c = c < 256

@@ -33,4 +33,6 @@ pub use errors::IdentFault;
 pub use gs_ai::Pair;
 pub use identity::{Identity, is_coded};
 pub use maker::make;
-pub use spelling::{CANONICAL_STEM, append_escaped, canonical, one_link_each, spell};
+pub use spelling::{
+    CANONICAL_STEM, append_canonical, append_escaped, append_link, canonical, one_link_each, spell,
+};

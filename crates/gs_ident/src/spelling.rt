@@ -1,8 +1,8 @@
 ghost use Rattle.std.specs.Prelude.{◌≡◌, ◌↔◌, ◌++◌, ◌∷◌, IfOk};
-ghost use Rattle.std.specs.List.{flat_map};
+ghost use Rattle.std.specs.List.{flat_map, list_all};
 ghost use Rattle.gs_ident.specs.Elements.{Elements};
 ghost use Rattle.gs_ident.specs.Identities.{IsMadeWith};
-ghost use Rattle.gs_ident.specs.Links.{percent_encoded, query_of, spelled, canonical_link};
+ghost use Rattle.gs_ident.specs.Links.{canonical_link, is_unescaped, percent_encoded, query_of, spelled};
 
 use crate::identity::Identity;
 use gs_ai::{AiTable, Pair};
@@ -15,15 +15,41 @@ const ESCAPED: AsciiSet = percent_encoding::ascii_set!(
     NON_ALPHANUMERIC.remove(b'-').remove(b'.').remove(b'_')
 );
 
-/// Appends the value as it is written in a link: letters, digits, `-`, `.` and `_` as they are, any other byte as `%` and two
-/// upper-case hexadecimal digits (RFC 3986, section 2.1). The one error is out of memory.
-pub fn append_escaped(out: &mut Vec<u8>, value: &[u8]) -> Result<(), Memory>
+/// Whether the byte stands for itself in a value: letters, digits, `-`, `.` and `_`.
+#[tactic(auto, unfolding(crate::specs::Links::is_unescaped))]
+fn is_unescaped(c: u8) -> bool
+    ensures { result ≡ is_unescaped c }
+{
+    c.is_ascii_digit() || c.is_ascii_alphabetic() || c == b'-' || c == b'.' || c == b'_'
+}
+
+/// Whether no byte of the value is escaped.
+fn is_plain(value: &[u8]) -> bool
+    ensures { result ≡ list_all is_unescaped value.now }
+{
+    value.iter().all(|c| is_unescaped(*c))
+}
+
+/// Appends the value, whichever of its bytes are escaped.
+fn append_pieces(out: &mut Vec<u8>, value: &[u8]) -> Result<(), Memory>
     ensures { IfOk result (λ _. out.new.items ≡ out.old.items ++ percent_encoded value.now) }
 {
     for piece in percent_encode(value, ESCAPED) {
         out.extend_from_slice(piece.as_bytes())?;
     }
     Ok(())
+}
+
+/// Appends the value as it is written in a link: letters, digits, `-`, `.` and `_` as they are, any other byte as `%` and two
+/// upper-case hexadecimal digits (RFC 3986, section 2.1). The one error is out of memory.
+pub fn append_escaped(out: &mut Vec<u8>, value: &[u8]) -> Result<(), Memory>
+    ensures { IfOk result (λ _. out.new.items ≡ out.old.items ++ percent_encoded value.now) }
+{
+    // most values have no byte to escape, and are copied whole
+    if is_plain(value) {
+        return Ok(out.extend_from_slice(value)?);
+    }
+    append_pieces(out, value)
 }
 
 /// Appends the byte `before`, the pair's code, the byte `between` and the value with its escapes.
@@ -65,21 +91,37 @@ fn room_for(stem: &[u8], identity: &Identity) -> usize {
     stem.len().saturating_add(identity.room())
 }
 
+/// Appends the link of the identity under the stem, as `spell` gives it. The one error is out of memory; `out` may then have a
+/// part of the link more.
+pub fn append_link(out: &mut Vec<u8>, stem: &[u8], identity: &Identity) -> Result<(), Memory>
+    ensures { IfOk result (λ _. out.new.items ≡ out.old.items ++ spelled stem.now identity.now) }
+{
+    out.extend_from_slice(stem)?;
+    write_pair(out, b'/', identity.key(), b'/')?;
+    write_pairs(out, b'/', identity.qualifiers(), b'/')?;
+    write_query(out, identity.attributes())
+}
+
 /// The link of the identity under the stem: the key's pair and those of the qualifiers as the path, the attributes as the
 /// query (GS1 Digital Link URI Syntax, section 4). The one error is out of memory.
 pub fn spell(alloc: Global, stem: &[u8], identity: &Identity) -> Result<Text, Memory>
     ensures { IfOk result (λ text. text ≡ spelled stem.now identity.now) }
 {
     let mut out = Vec::with_capacity(alloc, room_for(stem, identity))?;
-    out.extend_from_slice(stem)?;
-    write_pair(&mut out, b'/', identity.key(), b'/')?;
-    write_pairs(&mut out, b'/', identity.qualifiers(), b'/')?;
-    write_query(&mut out, identity.attributes())?;
+    append_link(&mut out, stem, identity)?;
     Ok(Text::from_vec(out))
 }
 
 /// The stem of GS1's own resolver, which canonical links have (GS1 Digital Link URI Syntax, section 5).
 pub const CANONICAL_STEM: &str = "https://id.gs1.org";
+
+/// Appends the canonical link of the identity, as `canonical` gives it. The one error is out of memory; `out` may then have a part
+/// of the link more.
+pub fn append_canonical(out: &mut Vec<u8>, identity: &Identity) -> Result<(), Memory>
+    ensures { IfOk result (λ _. out.new.items ≡ out.old.items ++ canonical_link identity.now) }
+{
+    append_link(out, CANONICAL_STEM.as_bytes(), identity)
+}
 
 /// The canonical link of the identity, which has the stem `CANONICAL_STEM` (GS1 Digital Link URI Syntax, section 5).
 /// The one error is out of memory.

@@ -1,9 +1,9 @@
 -- Answers that are found in steps have one answer where each step has one.
-use Rattle.std.proofs.Common.{◌≡◌, refl}
+use Rattle.std.proofs.Common.{◌≡◌, ℕ, List, [], ◌++◌, refl}
 use Rattle.std.specs.Prelude.{Result, Ok, Err}
 use Rattle.gs_translate.specs.declared.reason.Reason.{Reason}
 use Rattle.gs_translate.specs.declared.reason.Reason.TheVariants.{CannotHold, Element, Epc, Extra, Ident, Long, Memory, Missing, NoKeyPath, NoKind, NoOption, NotHttp}
-use Rattle.gs_translate.specs.Steps.{Then, UnlessMemory, goes_on, rejects}
+use Rattle.gs_translate.specs.Steps.{AppendsText, Then, UnlessMemory, goes_on, rejects}
 use Rattle.gs_translate.specs.StepsSupport.{HasOne, HasSome}
 
 pub then_one : {A B E : Type 0} (First : Result A E → Type 0) (Next : A → Result B E → Type 0) → HasOne First → ((a : A) → HasOne (Next a)) → HasOne (Then First Next)
@@ -74,3 +74,18 @@ unless_rejected X Y (Missing name) f a = f a
 unless_rejected X Y NoOption f a = f a
 unless_rejected X Y (CannotHold field why) f a = f a
 unless_rejected X Y Memory f a = tt
+
+-- ---- texts that are appended
+
+appends_map : {Done : Type 0} (Answer Other : Result (List ℕ) Reason → Type 0) (before now : List ℕ) (result : Result Done Reason) → ((answer : Result (List ℕ) Reason) → Answer answer → Other answer) → AppendsText Answer before now result → AppendsText Other before now result
+appends_map Answer Other before now (Ok done) f a = (a.0, a.1, f (Ok a.0) a.2)
+appends_map Answer Other before now (Err reason) f a = (a.0, f (Err reason) a.1)
+
+-- what a later step appends is appended by the steps together
+pub then_appended : {A Done : Type 0} (First : Result A Reason → Type 0) (Next : A → Result (List ℕ) Reason → Type 0) (a : A) (before now : List ℕ) (result : Result Done Reason) → First (Ok a) → UnlessMemory result (AppendsText (Next a) before now result) → UnlessMemory result (AppendsText (Then First Next) before now result)
+then_appended First Next a before now result first next =
+    unless_map result (appends_map (Next a) (Then First Next) before now result (λ answer is. goes_on a first is)) next
+
+-- what was appended to nothing is the text that answers
+pub appended_alone : (Answer : Result (List ℕ) Reason → Type 0) (before now text whole : List ℕ) → before ≡ [] → now ≡ before ++ text → whole ≡ now → Answer (Ok text) → Answer (Ok whole)
+appended_alone Answer before now text whole none appended is answer = rw (is, appended, none) answer

@@ -1,7 +1,7 @@
 ghost use Rattle.std.specs.Prelude.{◌≡◌};
 ghost use Rattle.gs_epc.specs.Candidates.{HasFilterOn};
 ghost use Rattle.gs_ident.specs.Identities.{IsMadeWith};
-ghost use Rattle.gs_translate.specs.Steps.{UnlessMemory};
+ghost use Rattle.gs_translate.specs.Steps.{AppendsText, UnlessMemory};
 ghost use Rattle.gs_translate.specs.Targets.{FitsFilter};
 ghost use Rattle.gs_translate.specs.Translations.{AreInOrder, IsOfLevel, IsSpelling, IsWritten};
 
@@ -10,11 +10,12 @@ use crate::options::Options;
 use crate::reason::Reason;
 use crate::tag_fields::epc_for;
 use crate::target::Target;
+use crate::words::append_word;
 use gs_chars::Text;
-use gs_dlink::write_link;
-use gs_element::{write_bracketed, write_raw};
+use gs_dlink::append_link;
+use gs_element::{append_bracketed, append_raw};
 use gs_epc::{Epc, write_level};
-use gs_ident::canonical;
+use gs_ident::append_canonical;
 use gs_prefix::PrefixList;
 use gs_tables::{LevelName, TableSet};
 use std::alloc::Global;
@@ -44,29 +45,51 @@ fn write_meaning(
     write_epc(alloc, set, level, &epc)
 }
 
-/// The one spelling of a meaning in the form that is asked for, or the first reason why there is none. To a link or an element
-/// string no fields are taken apart.
-pub(crate) fn spell(
+/// Appends the text of a level of what a text means, or gives the first reason why there is none.
+fn append_meaning(
+    alloc: Global,
+    set: &TableSet,
+    prefixes: &PrefixList,
+    options: &Options,
+    level: LevelName,
+    meaning: &Meaning,
+    out: &mut Vec<u8>,
+) -> Result<(), Reason>
+    requires options { FitsFilter options.now.filter }
+    requires meaning { FitsFilter meaning.now.filter }
+    ensures { UnlessMemory result (AppendsText
+        (IsOfLevel set.now prefixes.now options.now level meaning.now) out.old.items out.new.items result) }
+{
+    let text = write_meaning(alloc, set, prefixes, options, level, meaning)?;
+    Ok(append_word(out, text.as_bytes())?)
+}
+
+/// Appends the one spelling of a meaning in the form that is asked for, or gives the first reason why there is none. To a link or
+/// an element string no fields are taken apart.
+pub(crate) fn append_spelling(
     alloc: Global,
     set: &TableSet,
     prefixes: &PrefixList,
     options: &Options,
     to: Target,
     meaning: &Meaning,
-) -> Result<Text, Reason>
+    out: &mut Vec<u8>,
+) -> Result<(), Reason>
     requires options { AreInOrder options.now }
     requires filter { FitsFilter meaning.now.filter }
     requires with_table { IsMadeWith set.now.ais meaning.now.identity }
-    ensures { UnlessMemory result (IsSpelling set.now prefixes.now options.now to meaning.now result) }
+    ensures { UnlessMemory result (AppendsText
+        (IsSpelling set.now prefixes.now options.now to meaning.now) out.old.items out.new.items result) }
 {
     let identity = &meaning.identity;
-    match to {
-        Target::Hex => write_meaning(alloc, set, prefixes, options, LevelName::Binary, meaning),
-        Target::Tag => write_meaning(alloc, set, prefixes, options, LevelName::Tag, meaning),
-        Target::Pure => write_meaning(alloc, set, prefixes, options, LevelName::Pure, meaning),
-        Target::Raw => Ok(write_raw(alloc, set.ais(), identity)?),
-        Target::Bracketed => Ok(write_bracketed(alloc, identity)?),
-        Target::Link => Ok(write_link(alloc, options.stem.as_bytes(), identity)?),
-        Target::Canon => Ok(canonical(alloc, identity)?),
-    }
+    let level = match to {
+        Target::Hex => LevelName::Binary,
+        Target::Tag => LevelName::Tag,
+        Target::Pure => LevelName::Pure,
+        Target::Raw => return Ok(append_raw(out, set.ais(), identity)?),
+        Target::Bracketed => return Ok(append_bracketed(out, identity)?),
+        Target::Link => return Ok(append_link(out, options.stem.as_bytes(), identity)?),
+        Target::Canon => return Ok(append_canonical(out, identity)?),
+    };
+    append_meaning(alloc, set, prefixes, options, level, meaning, out)
 }

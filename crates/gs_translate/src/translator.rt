@@ -1,13 +1,14 @@
-ghost use Rattle.gs_translate.specs.Steps.{UnlessMemory};
+ghost use Rattle.std.specs.Prelude.{◌≡◌, [], IfOk};
+ghost use Rattle.gs_translate.specs.Steps.{AppendsText, UnlessMemory};
 ghost use Rattle.gs_translate.specs.Translations.{IsTranslated};
 
 use crate::form::Form;
 use crate::options::Options;
 use crate::reader::read;
 use crate::reason::Reason;
-use crate::spelling::spell;
+use crate::spelling::append_spelling;
 use crate::target::Target;
-use gs_chars::Text;
+use gs_chars::{Memory, Text};
 use gs_prefix::PrefixList;
 use gs_tables::TableSet;
 use std::alloc::Global;
@@ -45,32 +46,52 @@ impl<'a> Model for Translator<'a> {
     ghost invariant = { λ t. AreInOrder t.options.now };
 }
 
+/// A place for a text, with the memory that most texts take.
+fn new_text(alloc: Global) -> Result<Vec<u8>, Memory>
+    ensures { IfOk result (λ text. text.items ≡ []) }
+{
+    Ok(Vec::with_capacity(alloc, 128)?)
+}
+
 impl Translator<'_> {
-    /// The translation of a text, or why it is rejected, as `translate` says.
-    pub fn translate(&self, alloc: Global, text: &[u8]) -> Result<Text, Reason>
-        ensures { UnlessMemory result (IsTranslated self.now text.now result) }
+    /// Appends the translation of a text, or gives why it is rejected, as `translate` says. After a rejection `out` is as it was;
+    /// after out of memory it may have a part of the translation more.
+    pub fn append(&self, alloc: Global, text: &[u8], out: &mut Vec<u8>) -> Result<(), Reason>
+        ensures { UnlessMemory result (AppendsText
+            (IsTranslated self.now text.now) out.old.items out.new.items result) }
     {
         // the proof alone reads it: the rows keep the rules of tables
         let _ = self.set.ais();
         let meaning = read(alloc, self.set, self.from, text)?;
         if !self.options.keys_only {
-            return spell(
+            return append_spelling(
                 alloc,
                 self.set,
                 self.prefixes,
                 self.options,
                 self.to,
                 &meaning,
+                out,
             );
         }
         let meaning = meaning.narrow(self.set);
-        spell(
+        append_spelling(
             alloc,
             self.set,
             self.prefixes,
             self.options,
             self.to,
             &meaning,
+            out,
         )
+    }
+
+    /// The translation of a text, or why it is rejected, as `translate` says.
+    pub fn translate(&self, alloc: Global, text: &[u8]) -> Result<Text, Reason>
+        ensures { UnlessMemory result (IsTranslated self.now text.now result) }
+    {
+        let mut out = new_text(alloc)?;
+        self.append(alloc, text, &mut out)?;
+        Ok(Text::from_vec(out))
     }
 }

@@ -1,14 +1,15 @@
 -- The answer lines of texts.
-use Rattle.std.proofs.Common.{◌≡◌, ℕ, Bool, List, refl, sym, ◌∙◌, ap}
-use Rattle.std.specs.Prelude.{Result, Ok, Err, IfOk}
+use Rattle.std.proofs.Common.{◌≡◌, ℕ, Bool, true, false, List, [], ◌∷◌, ◌++◌, length, take, append_assoc, refl, sym, ◌∙◌, ap}
+use Rattle.std.proofs.Math.Seq.{take-append_seam}
+use Rattle.std.specs.Prelude.{Result, Ok, Err, IfOk, codes}
 use Rattle.tdl_messages.specs.AnswerLines.{AddsLine, HasMemory, IsLineOf, line_of}
-use Rattle.tdl_lines.specs.Outputs.{AddsAnswer}
+use Rattle.tdl_lines.specs.Outputs.{AddsAnswer, accepted, printed, rejected}
 use Rattle.tdl_lines.specs.OutputsSupport.{HasAnswers, HasOneAnswer}
 use Rattle.gs_tables.specs.Judgements.{IsLoaded}
 use Rattle.gs_translate.specs.declared.reason.Reason.{Reason}
 use Rattle.gs_translate.specs.declared.reason.Reason.TheVariants.{Memory}
 use Rattle.gs_translate.specs.Reasons.{reason_text}
-use Rattle.gs_translate.specs.Steps.{UnlessMemory}
+use Rattle.gs_translate.specs.Steps.{AppendsText, UnlessMemory}
 use Rattle.gs_translate.specs.StepsSupport.{HasOne, HasSome}
 use Rattle.gs_translate.specs.Translations.{IsTranslated, Translating}
 use Rattle.gs_translate.proofs.AnswerLaws.{suits_one, suits_some}
@@ -40,15 +41,29 @@ module _ {R : Type 0} (show : R → List ℕ) (Answer : List ℕ → Result (Lis
 
 -- ---- translated lines
 
--- an answer that is known and is no want of memory
-not_memory : (answer : Result (List ℕ) Reason) → HasMemory (λ reason. reason ≡ Memory) answer → answer ≡ Err Memory → ⊥
-not_memory (Ok text) enough e = let none : Result (List ℕ) Reason = Err Memory in let f : Ok text ≡ none = e in cc
-not_memory (Err reason) enough e = enough (let f : Err reason ≡ Err Memory = e in cc)
+-- the translation stands behind `ok `, and a line feed behind it
+pub adds_accepted : (t : Translating) (text before marked appended written now : List ℕ) → marked ≡ before ++ codes "ok " → written ≡ marked ++ appended → IsTranslated t text (Ok appended) → now ≡ written ++ 10 ∷ [] → AddsAnswer (IsTranslatedLine t) text before now false
+adds_accepted t text before marked appended written now mark append is feed = record {
+  answer = accepted appended;
+  is = record { answer = Ok appended; is_answer = is; is = refl };
+  written = rw (feed, append, mark) (simp append_assoc);
+  known = refl;
+}
 
-pub adds_translated : {E : Type 0} (t : Translating) (text before now : List ℕ) (answer : Result (List ℕ) Reason) (result : Result Bool E) → UnlessMemory answer (IsTranslated t text answer) → IfOk result (λ _. HasMemory (λ reason. reason ≡ Memory) answer) → IfOk result (λ any. AddsLine reason_text answer before now any) → IfOk result (λ any. AddsAnswer (IsTranslatedLine t) text before now any)
-adds_translated t text before now answer (Ok any) is enough adds =
-    adds_line reason_text (IsTranslated t) text before now answer any (known_answer answer (IsTranslated t text answer) (not_memory answer enough) is) adds
-adds_translated t text before now answer (Err e) is enough adds = tt
+same_reason : (reason : Reason) (given none : Result (Unit {0}) Reason) → given ≡ Err reason → none ≡ Err Memory → given ≡ none → reason ≡ Memory
+same_reason reason given none e f g = cc
+
+-- the translation appended nothing, `ok ` was taken back, and the reason is no want of memory
+pub adds_rejected : (t : Translating) (text before marked written cut now : List ℕ) (size : ℕ) (reason : Reason) → size ≡ length before → marked ≡ before ++ codes "ok " → UnlessMemory {X = Unit {0}} (Err reason) (AppendsText {Done = Unit {0}} (IsTranslated t text) marked written (Err reason)) → cut ≡ take size written → (reason ≡ Memory → ⊥) → now ≡ cut ++ printed (rejected (reason_text reason)) → AddsAnswer (IsTranslatedLine t) text before now true
+adds_rejected t text before marked written cut now size reason len mark given back enough line =
+    let known = known_answer {X = Unit {0}} (Err reason) (AppendsText {Done = Unit {0}} (IsTranslated t text) marked written (Err reason)) (λ e. enough (same_reason reason _ _ refl refl e)) given in
+    let whole : cut ≡ before = back ∙ ap (take size) (known.0 ∙ mark) ∙ rw len (take-append_seam before (codes "ok ")) in
+    record {
+      answer = rejected (reason_text reason);
+      is = record { answer = Err reason; is_answer = known.1; is = refl };
+      written = line ∙ ap (λ (b : List ℕ). b ++ printed (rejected (reason_text reason))) whole;
+      known = refl;
+    }
 
 pub one_translated : (t : Translating) → IsLoaded t.set → HasOneAnswer (IsTranslatedLine t)
 one_translated t loaded = one_line reason_text (IsTranslated t) (λ text. one_translation t.set t.prefixes t.options t.from t.to text (suits_one t.set t.from loaded))

@@ -14,7 +14,7 @@ use gs_tables::TableSet;
 use gs_translate::{Form, Options, Target, Translator};
 use std::alloc::Global;
 use tdl_lines::{Answerer, Status};
-use tdl_messages::append_line;
+use tdl_messages::append_rejected;
 
 /// Answers the texts of lines by their translations.
 #[derive(Drop)]
@@ -29,7 +29,20 @@ impl Answerer for TranslatedLines<'_> {
     ghost is_answer = { λ s. IsTranslatedLine s.translator };
 
     fn append_answer(&self, alloc: Global, text: &[u8], out: &mut Vec<u8>) -> Result<bool, Memory> {
-        append_line(alloc, out, self.translator.translate(alloc, text))
+        // the text is appended where it stands in its line, and `ok ` is taken back where there is none
+        let before = out.len();
+        out.extend_from_slice(b"ok ")?;
+        match self.translator.append(alloc, text, out) {
+            Ok(()) => {
+                out.push(b'\n')?;
+                Ok(false)
+            }
+            Err(reason) => {
+                out.truncate(before);
+                append_rejected(alloc, out, &reason)?;
+                Ok(true)
+            }
+        }
     }
 
     ghost long_alike = { λ s. long_translated s.translator };

@@ -1,6 +1,6 @@
 use Rattle.std.proofs.Common.{◌≡◌, ◌++◌}
 use Rattle.percent_encoding.specs.Iter.{encoded_text}
-use Rattle.gs_ident.proofs.spelling.append_escaped.Given as goal
+use Rattle.gs_ident.proofs.spelling.append_pieces.Given as goal
 
 -- what is written and what is left to write
 abbrev pub invariant-loop-piece : goal.invariant-loop-piece

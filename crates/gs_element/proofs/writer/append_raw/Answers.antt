@@ -1,6 +1,5 @@
-use Rattle.std.proofs.Common.{◌∙◌}
 use Rattle.gs_element.proofs.WritingLemmas.{all_written, attributes_in_order, qualifiers_in_order}
-use Rattle.gs_element.proofs.writer.write_raw.Goals as goal
+use Rattle.gs_element.proofs.writer.append_raw.Goals as goal
 
 pub write_elements-requires : goal.write_elements-requires
 write_elements-requires c = rw c.qualifiers.ensures (qualifiers_in_order c.args.table.now c.args.identity.now c.requires)
@@ -10,10 +9,10 @@ write_elements-requires-2 c = rw c.attributes.ensures (attributes_in_order c.arg
 
 pub returns : goal.returns
 returns c =
-    let coded = rw (c.in_ok-out.ensures.items, c.as_bytes.ensures, c.key-key.ensures) at c.in_ok-extend_from_slice.ensures.items in
+    let coded = rw (c.as_bytes.ensures, c.key-key.ensures) at c.in_ok-extend_from_slice.ensures.items in
     let valued = rw (c.as_bytes-2.ensures, c.key-key.ensures) at c.in_ok-extend_from_slice-2.ensures.items in
     let unclosed = rw c.key-key.ensures at c.is_open-unclosed.ensures in
     let some = rw c.qualifiers.ensures at c.in_ok-unclosed.ensures.written in
     let last = rw c.qualifiers.ensures at c.in_ok-unclosed.ensures.last in
     let all = rw c.attributes.ensures at c.in_ok-write_elements.ensures.written in
-    c.from_vec.ensures ∙ all_written c.args.identity.now _ _ _ _ _ _ coded valued unclosed some last all
+    all_written c.args.identity.now c.args.out.now.items _ _ _ _ _ _ coded valued unclosed some last all
