@@ -36,13 +36,23 @@ fn tail_of_key<'a>(at: &SerialAt, serial: &'a [u8]) -> &'a [u8]
     }
 }
 
+/// Appends digits, of which there is at most one as a rule: one takes fewer steps so than as a slice.
+fn push_few(value: &mut Text, digits: &[u8]) -> Result<(), Memory>
+    ensures { IfOk result (λ _. value.new ≡ value.old ++ digits.now) }
+{
+    for digit in digits {
+        value.push(*digit)?;
+    }
+    Ok(())
+}
+
 /// Appends the digits of the key: the lead digits of the rest, the prefix, and the other digits of the rest.
 fn push_digits(value: &mut Text, lead: u8, prefix: &[u8], rest: &[u8]) -> Result<(), Memory>
     requires { lead ≤ length rest.now }
     ensures { IfOk result (λ _. value.new ≡ value.old ++ key_digits lead prefix.now rest.now) }
 {
     let (first, others) = rest.split_at(usize::from(lead));
-    value.extend_from_slice(first)?;
+    push_few(value, first)?;
     value.extend_from_slice(prefix)?;
     value.extend_from_slice(others)?;
     Ok(())
@@ -94,7 +104,7 @@ fn digits_value(
         ++ behind_check kind.now texts.now) }
 {
     let mut value = Text::new(alloc);
-    push_some(&mut value, zero_in_front(parts))?;
+    push_few(&mut value, zero_in_front(parts))?;
     push_checked(&mut value, kind.lead, texts.prefix, texts.rest)?;
     push_behind(&mut value, kind, texts)?;
     Ok(value)
