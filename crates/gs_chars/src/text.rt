@@ -48,6 +48,10 @@ impl Text {
     pub fn from_bytes(alloc: Global, bytes: &[u8]) -> Result<Text, Memory>
         ensures { IfOk result (λ text. text ≡ bytes.now) }
     {
+        // many texts are empty, and then nothing is to be copied
+        if bytes.is_empty() {
+            return Ok(Text::new(alloc));
+        }
         let bytes = SmallVec::from_slice(alloc, bytes)?;
         Ok(Text { bytes })
     }

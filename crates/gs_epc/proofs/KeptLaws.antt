@@ -53,3 +53,10 @@ kind_read set epc kinds kind same shaped of_set read =
     let equal : Some fit.0 ≡ Some kind = sym fit.1 ∙ here in
     let one : fit.0 ≡ kind = cc in
     (here, rw one at fit.2)
+
+-- the kind that is read at the place that the EPC names
+pub kind_at_place : (set : TableRows) (epc : Epc) (kinds : List Kind) (kind : Kind) (index : ℕ) → epc.kind ≡ index → kinds ≡ set.kinds → IsShaped set → IsOfSet set epc → kind ≡ get_or kinds index kind → (slice_get set.kinds index ≡ Some kind) × FitKind set.ais kind (fields_in epc)
+kind_at_place set epc kinds kind index here same shaped of_set read =
+    let there : kind ≡ get_or kinds epc.kind kind = rw here read in
+    let both = kind_read set epc kinds kind same shaped of_set there in
+    (rw here at both.0, both.1)

@@ -1,5 +1,6 @@
 pub mod FieldPlaces
 pub mod FieldRules
+pub mod TextsOfItems
 pub mod KeptFields
 pub mod KeptItems
 pub mod KeptLaws
@@ -8,6 +9,7 @@ pub mod LayoutLaws
 pub mod LayoutParts
 pub mod LayoutValues
 pub mod ReadingFacts
+pub mod NamingFacts
 pub mod TakenKeys
 pub mod TakenSets
 pub mod WrittenSizes

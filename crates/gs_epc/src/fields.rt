@@ -4,9 +4,11 @@ ghost use Rattle.gs_tables_document.specs.declared.field.Field.{Field};
 ghost use Rattle.gs_tables.specs.Rules.{is_field};
 ghost use Rattle.gs_epc.specs.Epcs.{epc_of, filter_of, value_at, value_of};
 ghost use Rattle.gs_epc.specs.EpcsSupport.{KeepsOthers};
+ghost use Rattle.gs_epc.specs.FieldTexts.{texts_of, with_text};
 ghost use Rattle.gs_epc.specs.Filters.{IsFilter};
 
 use crate::epc::Epc;
+use crate::key_texts::KeyTexts;
 use gs_chars::{List, Memory, Text};
 use gs_tables::{Field, OptInfo};
 use std::alloc::Global;
@@ -28,7 +30,7 @@ fn filter_number(value: &Text) -> u8
 }
 
 /// The number of the filter value, where an item stands for it.
-fn filter_of(fields: &[Option<Field>], values: &[Text]) -> Option<u8>
+pub(crate) fn filter_of(fields: &[Option<Field>], values: &[Text]) -> Option<u8>
     requires { IfSome (value_at Field.Filter fields.now values.now) IsFilter }
     ensures { result ≡ filter_of fields.now values.now }
 {
@@ -76,4 +78,37 @@ pub(crate) fn epc_of(alloc: Global, info: &OptInfo, values: List<Text>) -> Resul
     let mut values = values.into_vec();
     let encoding = info.encoding.copy(alloc)?;
     Ok(taken(alloc, info, encoding, &mut values))
+}
+
+/// Puts the value of an item in the place of its field.
+fn put_text<'a>(texts: &mut KeyTexts<'a>, field: Option<Field>, text: &'a [u8])
+    ensures { texts.new ≡ with_text field text.now texts.old }
+{
+    match field {
+        Some(Field::Gcp) => texts.prefix = text,
+        Some(Field::Rest) => texts.rest = text,
+        Some(Field::Piece) => texts.piece = text,
+        Some(Field::Total) => texts.total = text,
+        Some(Field::Serial) => texts.serial = text,
+        Some(Field::Filter) | None => {}
+    }
+}
+
+/// What the values of items say of the key. The first item of a field counts, so the last is taken first.
+pub(crate) fn texts_of<'a>(fields: &[Option<Field>], values: &'a [Text]) -> KeyTexts<'a>
+    ensures { result ≡ texts_of fields.now values.now }
+{
+    let mut texts = KeyTexts {
+        prefix: &[],
+        rest: &[],
+        piece: &[],
+        total: &[],
+        serial: &[],
+    };
+    let mut place = fields.len().min(values.len());
+    while place > 0 {
+        place -= 1;
+        put_text(&mut texts, fields[place], values[place].as_bytes());
+    }
+    texts
 }

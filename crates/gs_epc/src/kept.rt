@@ -1,4 +1,5 @@
 ghost use Rattle.std.specs.Prelude.{◌≡◌, Some, slice_get};
+ghost use Rattle.gs_epc.specs.declared.epc.Epc.{Epc};
 ghost use Rattle.gs_epc.specs.Epcs.{IsOfSet};
 ghost use Rattle.gs_epc.specs.KeptFields.{FitKind};
 ghost use Rattle.gs_epc.specs.Layout.{fields_in};
@@ -13,4 +14,14 @@ pub(crate) fn kind_of<'a>(set: &'a TableSet, epc: &Epc) -> &'a Kind
     ensures fit { FitKind set.now.ais result.now (fields_in epc.now) }
 {
     &set.kinds()[epc.kind]
+}
+
+/// The kind with this index, which is that of an EPC of the set. What the EPC says fits it.
+pub(crate) fn kind_at(set: &TableSet, index: usize) -> &Kind
+    requires { (epc : Epc) × IsOfSet set.now epc × (epc.kind ≡ index) }
+    ensures named { slice_get set.now.kinds index ≡ Some result.now }
+    ensures fit { (epc : Epc) → IsOfSet set.now epc → epc.kind ≡ index
+        → FitKind set.now.ais result.now (fields_in epc) }
+{
+    &set.kinds()[index]
 }

@@ -3,12 +3,13 @@ ghost use Rattle.gs_ident.specs.Identities.{IsMadeWith};
 ghost use Rattle.gs_ident.specs.QualifiedKeys.{pairs_in};
 ghost use Rattle.gs_epc.specs.Epcs.{IsOfSet};
 ghost use Rattle.gs_epc.specs.KeptFields.{FitKind};
-ghost use Rattle.gs_epc.specs.Layout.{AreKeyDigits, IsLaidOut, behind_check, fields_in, key_digits, key_value, lay, parts_at, tail_of_key, with_check, zero_in_front};
+ghost use Rattle.gs_epc.specs.Layout.{AreKeyDigits, IsLaidOut, behind_check, key_digits, key_value, lay, parts_at, tail_of_key, with_check, zero_in_front};
 ghost use Rattle.gs_epc.specs.LayoutSupport.{serial_pairs};
 
 use crate::epc::Epc;
 use crate::kept::kind_of;
 use crate::key_parts::joined;
+use crate::key_texts::{KeyTexts, texts_in};
 use gs_ai::{AiTable, Pair, Part};
 use gs_chars::{Memory, Text, check_digit};
 use gs_ident::Identity;
@@ -26,13 +27,23 @@ fn zero_in_front(parts: &[Part]) -> &'static [u8]
 }
 
 /// The serial, where it stands in the key's own value.
-fn tail_of_key<'a>(at: &SerialAt, serial: &'a Text) -> &'a [u8]
+fn tail_of_key<'a>(at: &SerialAt, serial: &'a [u8]) -> &'a [u8]
     ensures { result.now ≡ tail_of_key at.now serial.now }
 {
     match at {
-        SerialAt::Tail => serial.as_bytes(),
+        SerialAt::Tail => serial,
         SerialAt::Nowhere | SerialAt::Ai(_) => &[],
     }
+}
+
+/// Appends digits, of which there is at most one as a rule: one takes fewer steps so than as a slice.
+fn push_few(value: &mut Text, digits: &[u8]) -> Result<(), Memory>
+    ensures { IfOk result (λ _. value.new ≡ value.old ++ digits.now) }
+{
+    for digit in digits {
+        value.push(*digit)?;
+    }
+    Ok(())
 }
 
 /// Appends the digits of the key: the lead digits of the rest, the prefix, and the other digits of the rest.
@@ -41,7 +52,7 @@ fn push_digits(value: &mut Text, lead: u8, prefix: &[u8], rest: &[u8]) -> Result
     ensures { IfOk result (λ _. value.new ≡ value.old ++ key_digits lead prefix.now rest.now) }
 {
     let (first, others) = rest.split_at(usize::from(lead));
-    value.extend_from_slice(first)?;
+    push_few(value, first)?;
     value.extend_from_slice(prefix)?;
     value.extend_from_slice(others)?;
     Ok(())
@@ -60,58 +71,69 @@ pub fn push_checked(value: &mut Text, lead: u8, prefix: &[u8], rest: &[u8]) -> R
     Ok(())
 }
 
-/// Appends what stands behind the check digit: the piece and the total, and the serial where it is the tail.
-fn push_behind(value: &mut Text, kind: &Kind, epc: &Epc) -> Result<(), Memory>
-    ensures { IfOk result (λ _. value.new ≡ value.old ++ behind_check kind.now (fields_in epc.now)) }
+/// Appends a text that is empty as a rule.
+fn push_some(value: &mut Text, text: &[u8]) -> Result<(), Memory>
+    ensures { IfOk result (λ _. value.new ≡ value.old ++ text.now) }
 {
-    value.extend_from_slice(epc.piece.as_bytes())?;
-    value.extend_from_slice(epc.total.as_bytes())?;
-    value.extend_from_slice(tail_of_key(&kind.serial, &epc.serial))?;
+    if text.is_empty() {
+        return Ok(());
+    }
+    value.extend_from_slice(text)
+}
+
+/// Appends what stands behind the check digit: the piece and the total, and the serial where it is the tail.
+fn push_behind(value: &mut Text, kind: &Kind, texts: &KeyTexts) -> Result<(), Memory>
+    ensures { IfOk result (λ _. value.new ≡ value.old ++ behind_check kind.now texts.now) }
+{
+    push_some(value, texts.piece)?;
+    push_some(value, texts.total)?;
+    push_some(value, tail_of_key(&kind.serial, texts.serial))?;
     Ok(())
 }
 
 /// The value of a key of digits: a leading zero, the digits with their check digit, and what stands behind it.
-fn digits_value(alloc: Global, parts: &[Part], kind: &Kind, epc: &Epc) -> Result<Text, Memory>
-    requires { AreKeyDigits kind.now.lead epc.now.prefix epc.now.rest }
+fn digits_value(
+    alloc: Global,
+    parts: &[Part],
+    kind: &Kind,
+    texts: &KeyTexts,
+) -> Result<Text, Memory>
+    requires { AreKeyDigits kind.now.lead texts.now.prefix texts.now.rest }
     ensures { IfOk result (λ value. value ≡ zero_in_front parts.now
-        ++ with_check (key_digits kind.now.lead epc.now.prefix epc.now.rest)
-        ++ behind_check kind.now (fields_in epc.now)) }
+        ++ with_check (key_digits kind.now.lead texts.now.prefix texts.now.rest)
+        ++ behind_check kind.now texts.now) }
 {
-    let mut value = Text::from_bytes(alloc, zero_in_front(parts))?;
-    push_checked(
-        &mut value,
-        kind.lead,
-        epc.prefix.as_bytes(),
-        epc.rest.as_bytes(),
-    )?;
-    push_behind(&mut value, kind, epc)?;
+    let mut value = Text::new(alloc);
+    push_few(&mut value, zero_in_front(parts))?;
+    push_checked(&mut value, kind.lead, texts.prefix, texts.rest)?;
+    push_behind(&mut value, kind, texts)?;
     Ok(value)
 }
 
 /// The value of the key, by the parts of its row.
-fn key_value(alloc: Global, ais: &AiTable, kind: &Kind, epc: &Epc) -> Result<Text, Memory>
-    requires { FitKind ais.now kind.now (fields_in epc.now) }
-    ensures { IfOk result (λ value. value ≡ key_value (parts_at ais.now kind.now.key) kind.now
-        (fields_in epc.now)) }
+fn key_value(alloc: Global, ais: &AiTable, kind: &Kind, texts: &KeyTexts) -> Result<Text, Memory>
+    requires { FitKind ais.now kind.now texts.now }
+    ensures { IfOk result (λ value. value
+        ≡ key_value (parts_at ais.now kind.now.key) kind.now texts.now) }
 {
     let Some(row) = ais.row_with(kind.key.as_bytes()) else {
         unreachable!()
     };
     let parts = row.parts.items();
     if are_characters(parts) {
-        return joined(alloc, epc.prefix.as_bytes(), epc.rest.as_bytes());
+        return joined(alloc, texts.prefix, texts.rest);
     }
-    digits_value(alloc, parts, kind, epc)
+    digits_value(alloc, parts, kind, texts)
 }
 
 /// The pair of a serial that has an element of its own.
-fn serial_pair(alloc: Global, at: &SerialAt, serial: &Text) -> Result<Option<Pair>, Memory>
+fn serial_pair(alloc: Global, at: &SerialAt, serial: &[u8]) -> Result<Option<Pair>, Memory>
     ensures { IfOk result (λ pair. pairs_in pair ≡ serial_pairs at.now serial.now) }
 {
     match at {
         SerialAt::Ai(code) => Ok(Some(Pair {
             code: code.copy(alloc)?,
-            value: serial.copy(alloc)?,
+            value: Text::from_bytes(alloc, serial)?,
         })),
         SerialAt::Nowhere | SerialAt::Tail => Ok(None),
     }
@@ -122,19 +144,19 @@ pub(crate) fn lay_out(
     alloc: Global,
     ais: &AiTable,
     kind: &Kind,
-    epc: &Epc,
+    texts: &KeyTexts,
 ) -> Result<Identity, Memory>
-    requires fit { FitKind ais.now kind.now (fields_in epc.now) }
-    ensures laid { IfOk result (λ identity. identity ≡ lay ais.now kind.now (fields_in epc.now)) }
+    requires fit { FitKind ais.now kind.now texts.now }
+    ensures laid { IfOk result (λ identity. identity ≡ lay ais.now kind.now texts.now) }
     ensures with_table { IfOk result (IsMadeWith ais.now) }
 {
     // the proof alone reads it: the rows keep the rules of application identifiers
     let _ = ais.rows();
     let key = Pair {
         code: kind.key.copy(alloc)?,
-        value: key_value(alloc, ais, kind, epc)?,
+        value: key_value(alloc, ais, kind, texts)?,
     };
-    let serial = serial_pair(alloc, &kind.serial, &epc.serial)?;
+    let serial = serial_pair(alloc, &kind.serial, texts.serial)?;
     Identity::of_key(alloc, ais, key, serial)
 }
 
@@ -145,5 +167,5 @@ pub fn identity_of(alloc: Global, set: &TableSet, epc: &Epc) -> Result<Identity,
     ensures laid { IfOk result (IsLaidOut set.now epc.now) }
     ensures with_table { IfOk result (IsMadeWith set.now.ais) }
 {
-    lay_out(alloc, set.ais(), kind_of(set, epc), epc)
+    lay_out(alloc, set.ais(), kind_of(set, epc), &texts_in(epc))
 }

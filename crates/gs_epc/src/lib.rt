@@ -28,8 +28,11 @@ mod error;
 mod fields;
 mod kept;
 mod key_parts;
+mod key_texts;
 mod laws;
 mod layout;
+mod named;
+mod naming;
 mod read;
 mod write_error;
 mod writer;
@@ -41,6 +44,8 @@ pub use laws::{
     laying_out_undoes_taking_apart, taking_apart_undoes_laying_out, what_is_written_is_read,
 };
 pub use layout::{identity_of, push_checked};
+pub use named::Named;
+pub use naming::{name_hex, name_pure, name_tag};
 pub use read::{read_hex, read_pure, read_tag};
 pub use write_error::{EpcWriteFault, FieldsFault};
 pub use writer::{write_hex, write_level, write_pure, write_tag};

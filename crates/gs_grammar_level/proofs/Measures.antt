@@ -1,7 +1,9 @@
 -- Readings by the widths of items.
-use Rattle.std.proofs.Common.{◌≡◌, ℕ, ◌<◌, ◌≤◌, List, [], ◌∷◌, ◌++◌, length, take, drop, refl, ◌∙◌, ap, arith}
+use Rattle.std.proofs.Common.{◌≡◌, ℕ, ◌<◌, ◌≤◌, Bool, true, false, not, bytes_eq, List, [], ◌∷◌, ◌++◌, length, take, drop, refl, ◌∙◌, ap, arith}
 use Rattle.std.proofs.lemmas.List.{take_at, drop_at, length-append, append_assoc, append-nil, nil_from_length, take-append-drop}
+use Rattle.gs_chars.proofs.TruthsAndLists.{equal_bytes, same_bytes}
 use Rattle.gs_grammar.specs.declared.item.Item.{Item}
+use Rattle.gs_grammar.specs.declared.item.Item.TheVariants.{Lit}
 use Rattle.gs_grammar.specs.Items.{IsItem, size_of, shortest_of}
 use Rattle.gs_grammar.specs.Words.{Word, IsWord}
 use Rattle.gs_grammar.specs.Derivations.{Derives, IsDerived, no_item}
@@ -92,3 +94,21 @@ fixed_others left item (next ∷ others) e h = let here : CutsAreFixed (item ∷
 pub several_widths : (left : List Item) (item : Item) (others : List Item) → left ≡ item ∷ others → HasSeveralWidths item others → CutsAreFixed left → ⊥
 several_widths left item [] e s h = s.0 refl
 several_widths left item (next ∷ others) e s h = let here : CutsAreFixed (item ∷ next ∷ others) = rw e at h in s.1 here.0
+
+-- ---- a literal
+
+-- other symbols than those of the literal are no word
+pub no_literal : (item : Item) (literal seen word : List ℕ) (other : Bool) → item ≡ Lit literal → seen ≡ literal → other ≡ not (bytes_eq seen word) → other ≡ true → IsWord item word → ⊥
+no_literal item literal seen word other is same e h word_of =
+    let of : IsWord (Lit literal) word = rw is at word_of in
+    let equal : bytes_eq seen word ≡ true = rw (of.1.1, same) (same_bytes literal) in
+    let f : other ≡ false = rw equal at e in
+    cc
+
+-- the symbols of the literal are a word, whose value is empty
+pub literal_word : (item : Item) (literal seen word value : List ℕ) (other : Bool) → item ≡ Lit literal → seen ≡ literal → other ≡ not (bytes_eq seen word) → other ≡ false → value ≡ [] → Word item value word
+literal_word item literal seen word value other is same e h none = rw is (none, by (bytes_eq seen word) refl)
+  where
+    by : (b : Bool) → bytes_eq seen word ≡ b → word ≡ literal
+    by true t = let equal = equal_bytes seen word t in cc
+    by false f = absurd (let g : other ≡ true = rw f at e in cc)

@@ -3,7 +3,7 @@ ghost use Rattle.gs_grammar.specs.Items.{IsItem, shortest_of, size_of};
 ghost use Rattle.gs_grammar_level.specs.Widths.{HasSeveralWidths, HasWidth, IsMeasured};
 
 use crate::word_measures::Measured;
-use gs_chars::{List, Memory};
+use gs_chars::{List, Memory, Text};
 use gs_grammar::{Item, read_word};
 use std::alloc::Global;
 
@@ -59,6 +59,16 @@ pub fn measure(alloc: Global, items: &[Item], symbols: &[u8]) -> Result<Measured
             return Ok(Measured::Rejected);
         }
         let (word, behind) = rest.split_at(width);
+        // every second item is a literal, and its value needs no call
+        if let Item::Lit(literal) = item {
+            if literal.as_bytes() != word {
+                return Ok(Measured::Rejected);
+            }
+            values.push(Text::new(alloc))?;
+            left = others;
+            rest = behind;
+            continue;
+        }
         let Some(value) = read_word(alloc, item, word)? else {
             return Ok(Measured::Rejected);
         };

@@ -1,4 +1,5 @@
 pub mod StepLaws
+pub mod NamingLaws
 pub mod PairLaws
 pub mod AnswerLaws
 pub mod NarrowedLaws

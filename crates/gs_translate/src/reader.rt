@@ -1,7 +1,11 @@
-ghost use Rattle.std.specs.Prelude.{IfOk};
-ghost use Rattle.gs_epc.specs.Epcs.{IsOfSet};
+ghost use Rattle.std.specs.Prelude.{◌≡◌, IfOk};
+ghost use Rattle.gs_epc.specs.declared.epc.Epc.{Epc};
+ghost use Rattle.gs_epc.specs.Namings.{IsNamed};
+ghost use Rattle.gs_epc.specs.Readings.{ReadsAs, ReadsHex};
 ghost use Rattle.gs_ident.specs.Identities.{IsMadeWith};
-ghost use Rattle.gs_translate.specs.Meanings.{IsRead, MeaningOf};
+ghost use Rattle.gs_tables.specs.Tables.{TableRows};
+ghost use Rattle.gs_tables_document.specs.declared.level_name.LevelName.{LevelName};
+ghost use Rattle.gs_translate.specs.Meanings.{IsMeaning, IsRead, MeansEpc};
 ghost use Rattle.gs_translate.specs.Steps.{UnlessMemory};
 
 use crate::elements::{bracketed_meaning, link_meaning, raw_meaning};
@@ -9,40 +13,56 @@ use crate::form::Form;
 use crate::meaning::Meaning;
 use crate::reason::Reason;
 use gs_chars::LONGEST_TEXT;
-use gs_epc::{Epc, EpcFault, identity_of, read_hex, read_pure, read_tag};
+use gs_epc::{Named, name_hex, name_pure, name_tag};
 use gs_tables::TableSet;
 use std::alloc::Global;
 
-/// The meaning of what a tag or an EPC URI says.
-fn meaning_of(alloc: Global, set: &TableSet, read: Result<Epc, EpcFault>) -> Result<Meaning, Reason>
-    requires { IfOk read (IsOfSet set.now) }
-    ensures meaning { UnlessMemory result (MeaningOf set.now read result) }
+/// The meaning of what a tag or an EPC URI names.
+fn meaning_of(named: Named) -> Meaning
+    ensures meaning { (set : TableRows) → (epc : Epc) → IsNamed set epc named → IsMeaning set epc result }
+    ensures identity { result.identity ≡ named.identity }
+{
+    let Named {
+        identity,
+        gcp,
+        filter,
+        encoding,
+    } = named;
+    Meaning {
+        identity,
+        gcp: Some(gcp),
+        filter,
+        encoding,
+    }
+}
+
+/// The meaning of the bits of a tag.
+fn hex_meaning(alloc: Global, set: &TableSet, text: &[u8]) -> Result<Meaning, Reason>
+    ensures meaning { UnlessMemory result (MeansEpc set.now (ReadsHex set.now text.now) result) }
     ensures with_table { IfOk result (λ meaning. IsMadeWith set.now.ais meaning.identity) }
 {
-    match read {
-        Ok(epc) => {
-            let identity = identity_of(alloc, set, &epc)?;
-            let Epc {
-                kind: _,
-                encoding,
-                filter,
-                gcp,
-                prefix: _,
-                rest: _,
-                piece: _,
-                total: _,
-                serial: _,
-            } = epc;
-            Ok(Meaning {
-                identity,
-                gcp: Some(gcp),
-                filter,
-                encoding,
-            })
-        }
-        Err(EpcFault::Memory) => Err(Reason::Memory),
-        Err(error) => Err(Reason::Epc(error)),
-    }
+    let named = name_hex(alloc, set, text)?;
+    Ok(meaning_of(named))
+}
+
+/// The meaning of an EPC tag URI.
+fn tag_meaning(alloc: Global, set: &TableSet, text: &[u8]) -> Result<Meaning, Reason>
+    ensures meaning { UnlessMemory result
+        (MeansEpc set.now (ReadsAs set.now LevelName.Tag text.now) result) }
+    ensures with_table { IfOk result (λ meaning. IsMadeWith set.now.ais meaning.identity) }
+{
+    let named = name_tag(alloc, set, text)?;
+    Ok(meaning_of(named))
+}
+
+/// The meaning of an EPC pure identity URI.
+fn pure_meaning(alloc: Global, set: &TableSet, text: &[u8]) -> Result<Meaning, Reason>
+    ensures meaning { UnlessMemory result
+        (MeansEpc set.now (ReadsAs set.now LevelName.Pure text.now) result) }
+    ensures with_table { IfOk result (λ meaning. IsMadeWith set.now.ais meaning.identity) }
+{
+    let named = name_pure(alloc, set, text)?;
+    Ok(meaning_of(named))
 }
 
 /// What a text of a form means, or why it is rejected. `Long` comes exactly where the text has more than 2,048 bytes, and
@@ -58,9 +78,9 @@ pub fn read(alloc: Global, set: &TableSet, form: Form, text: &[u8]) -> Result<Me
         return Err(Reason::Long);
     }
     match form {
-        Form::Hex => meaning_of(alloc, set, read_hex(alloc, set, text)),
-        Form::Tag => meaning_of(alloc, set, read_tag(alloc, set, text)),
-        Form::Pure => meaning_of(alloc, set, read_pure(alloc, set, text)),
+        Form::Hex => hex_meaning(alloc, set, text),
+        Form::Tag => tag_meaning(alloc, set, text),
+        Form::Pure => pure_meaning(alloc, set, text),
         Form::Raw => raw_meaning(alloc, set, text),
         Form::Bracketed => bracketed_meaning(alloc, set, text),
         Form::Link => link_meaning(alloc, set, text),

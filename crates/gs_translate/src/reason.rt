@@ -48,6 +48,20 @@ impl From<Memory> for Reason {
     }
 }
 
+impl From<EpcFault> for Reason {
+    ghost use Rattle.std.specs.Prelude.{◌≡◌};
+    ghost use Rattle.gs_translate.specs.MeaningsSupport.{epc_reason};
+
+    ghost from_gives = { λ error reason. reason ≡ epc_reason error };
+
+    fn from(error: EpcFault) -> Reason {
+        match error {
+            EpcFault::Memory => Reason::Memory,
+            error => Reason::Epc(error),
+        }
+    }
+}
+
 impl From<ElementsFault> for Reason {
     ghost use Rattle.std.specs.Prelude.{◌≡◌};
     ghost use Rattle.gs_translate.specs.MeaningsSupport.{elements_reason};

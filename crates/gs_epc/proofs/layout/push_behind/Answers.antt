@@ -6,7 +6,5 @@ behind_written value piece total tail one two three a b d = rw (d, b, a) (simp a
 
 pub returns : goal.returns
 returns c =
-    let piece = rw c.as_bytes.ensures at c.in_ok-extend_from_slice.ensures.appended in
-    let total = rw c.as_bytes-2.ensures at c.in_ok-extend_from_slice-2.ensures.appended in
-    let tail = rw c.tail_of_key.ensures at c.in_ok-extend_from_slice-3.ensures.appended in
-    behind_written c.args.value.now _ _ _ c.extend_from_slice.new.self c.extend_from_slice-2.new.self c.extend_from_slice-3.new.self piece total tail
+    let tail = rw c.tail_of_key.ensures at c.in_ok-push_some-3.ensures in
+    rw (← c.texts.view_is) (behind_written c.args.value.now _ _ _ c.push_some.new.value c.push_some-2.new.value c.push_some-3.new.value c.in_ok-push_some.ensures c.in_ok-push_some-2.ensures tail)

@@ -10,5 +10,5 @@ pub returns : goal.returns
 returns c =
     let front = rw c.from.ensures at c.split_at.ensures.front in
     let back = rw c.from.ensures at c.split_at.ensures.back in
-    key_written c.args.lead c.args.value.now c.args.prefix.now c.args.rest.now c.split_at.result.0.now c.split_at.result.1.now c.extend_from_slice.new.self c.extend_from_slice-2.new.self c.extend_from_slice-3.new.self
-    front back c.in_ok-extend_from_slice.ensures.appended c.in_ok-extend_from_slice-2.ensures.appended c.in_ok-extend_from_slice-3.ensures.appended
+    key_written c.args.lead c.args.value.now c.args.prefix.now c.args.rest.now c.split_at.result.0.now c.split_at.result.1.now c.push_few.new.value c.extend_from_slice.new.self c.extend_from_slice-2.new.self
+    front back c.in_ok-push_few.ensures c.in_ok-extend_from_slice.ensures.appended c.in_ok-extend_from_slice-2.ensures.appended

@@ -1,5 +1,5 @@
-use Rattle.std.proofs.Common.{refl, rules}
+use Rattle.std.proofs.Common.{refl}
 use Rattle.gs_translate.proofs.reader.meaning_of.Goals as goal
 
-pub returns-in-Err-clause-meaning : goal.returns-in-Err-clause-meaning
-returns-in-Err-clause-meaning c = rw c.in-Err.is (refl, search rules)
+pub returns-clause-meaning : goal.returns-clause-meaning
+returns-clause-meaning c = λ set epc is. record { elements = c.args.named.identity; laid = is.laid; is = rw (is.gcp, is.filter, is.encoding) refl }

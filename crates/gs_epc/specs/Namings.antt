@@ -1,0 +1,27 @@
+-- What tags and EPC URIs name: the identity of the EPC that they say, and what they say beside it. TDS 2.0, sections 6, 7 and 14.
+use Rattle.std.specs.Prelude.{◌≡◌, Result, Ok, Err}
+use Rattle.gs_tables.specs.Tables.{TableRows}
+use Rattle.gs_epc.specs.declared.epc.Epc.{Epc}
+use Rattle.gs_epc.specs.declared.error.EpcFault.{EpcFault}
+use Rattle.gs_epc.specs.declared.named.Named.{Named}
+use Rattle.gs_epc.specs.Layout.{IsLaidOut}
+
+-- trusted, TDS 2.0, section 7: what an EPC names: the identity by which its key is laid out, and what it says beside its key
+pub record IsNamed (set : TableRows) (epc : Epc) (named : Named) : Type 0 where
+  pub laid : IsLaidOut set epc named.identity
+  pub gcp : named.gcp ≡ epc.gcp
+  pub filter : named.filter ≡ epc.filter
+  pub encoding : named.encoding ≡ epc.encoding
+
+-- trusted, own: what is named where a text says this EPC, or none for this reason
+abbrev pub NamesSaid : TableRows → Result Epc EpcFault → Result Named EpcFault → Type 0
+NamesSaid set (Ok epc) (Ok named) = IsNamed set epc named
+NamesSaid set (Err error) (Err reason) = reason ≡ error
+NamesSaid set _ _ = ⊥
+
+-- trusted, own: what a text names by the EPC that it says, or why it says none
+pub record Names (set : TableRows) (Reads : Result Epc EpcFault → Type 0) (answer : Result Named EpcFault)
+    : Type 0 where
+  pub said : Result Epc EpcFault
+  pub read : Reads said
+  pub names : NamesSaid set said answer
