@@ -3,4 +3,5 @@ pub mod Sets
 pub mod SpelledSets
 pub mod Spellings
 pub mod TruthsAndLists
+pub mod WeightedSums
 pub mod ErrorAnswers

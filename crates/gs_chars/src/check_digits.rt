@@ -10,12 +10,15 @@ pub fn check_digit(digits: &[u8]) -> u8
     requires all_digits { IsTrue (are_digits digits.now) }
     ensures { result ≡ check_digit_of digits.now }
 {
-    let mut sum: u32 = 0;
-    for (i, digit) in digits.iter().enumerate() {
-        let behind = digits.len() - 1 - i;
-        let weight = if behind % 2 == 0 { 3 } else { 1 };
-        sum += weight * u32::from(digit - b'0');
+    // the sums of the digits that have the weights 3 and 1 where no more digits follow: with each digit more they change places
+    let mut thrice: u32 = 0;
+    let mut once: u32 = 0;
+    for digit in digits {
+        let before = thrice;
+        thrice = once + u32::from(digit - b'0');
+        once = before;
     }
+    let sum = 3 * thrice + once;
     b'0' + ((10 - sum % 10) % 10) as u8
 }
 

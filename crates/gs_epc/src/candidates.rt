@@ -95,7 +95,8 @@ fn has_item(field: Field, fields: &[Option<Field>]) -> bool
 fn is_left_out(field: Field, fields: &[Option<Field>], text: &Text) -> bool
     ensures { result ≡ is_left_out field fields.now text.now }
 {
-    !has_item(field, fields) && !text.as_bytes().is_empty()
+    // an empty text is never left out, and then the items need no look
+    !text.as_bytes().is_empty() && !has_item(field, fields)
 }
 
 /// The first of the rest, the piece, the total and the serial that an option leaves out.

@@ -1,6 +1,7 @@
 //! EPCs: what tag bits and EPC URIs say by the tables, the identities that they name, and what is written of an identity.
 //!
 //! - `read_hex`, `read_tag` and `read_pure` give the fields of an EPC; `write_hex`, `write_tag` and `write_pure` its text.
+//! - `name_hex`, `name_tag` and `name_pure` give at once the identity that a text names, its filter value and its encoding.
 //! - `identity_of` lays the fields out as a key and its serial number; `fields_of` takes an identity apart. `push_checked` writes
 //!   the digits of a key, for gs_class too.
 //!
