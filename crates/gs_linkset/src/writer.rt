@@ -17,6 +17,9 @@ use json::{Token, Writer};
 use std::alloc::Global;
 use std::str;
 
+/// The bytes that a text has room for from the start, so that a short one is not moved as it grows.
+const ROOM: usize = 128;
+
 /// What is written as a value.
 trait ToJson: Shaped {
     ghost use Rattle.serde_json.specs.Data.{Data};
@@ -224,7 +227,7 @@ impl Target {
         requires { is_target self.now ≡ true }
         ensures { IfOk result (λ text. text ≡ target_text self.now) }
     {
-        let mut out = Writer::new(Vec::new(alloc));
+        let mut out = Writer::new(Vec::with_capacity(alloc, ROOM)?);
         self.append(&mut out)?;
         Ok(Text::from_vec(out.into_inner()))
     }
@@ -274,7 +277,7 @@ fn put_document(out: &mut Writer, contexts: &[Context]) -> Result<(), Memory>
 pub fn write(alloc: Global, doc: &LinkDoc) -> Result<Text, Memory>
     ensures { IfOk result (λ text. text ≡ written doc.now) }
 {
-    let mut out = Writer::new(Vec::new(alloc));
+    let mut out = Writer::new(Vec::with_capacity(alloc, ROOM)?);
     put_document(&mut out, doc.contexts())?;
     Ok(Text::from_vec(out.into_inner()))
 }

@@ -1,8 +1,7 @@
 use Rattle.std.proofs.Common.{◌≡◌, ◌∙◌, ap, map, rules}
 use Rattle.std.proofs.lemmas.Map.Iter.{iter_end}
-use Rattle.gs_links.proofs.DocumentLemmas.{named_more}
 use Rattle.gs_merge.specs.Groups.{entry_seen}
-use Rattle.gs_merge.proofs.GroupLemmas.{all_yielded, made_relation, relations_made}
+use Rattle.gs_merge.proofs.GroupLemmas.{all_yielded, made_relation, named_more, relations_made}
 use Rattle.gs_merge.proofs.contexts.relations_of.Goals as goal
 
 pub loop-entry-preserved : goal.loop-entry-preserved
