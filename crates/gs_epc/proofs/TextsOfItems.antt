@@ -1,7 +1,6 @@
 -- The texts of the fields, item by item from the last to the first.
 use Rattle.std.proofs.Common.{◌≡◌, ◌<◌, ◌≤◌, ◌+◌, ℕ, suc, List, [], ◌∷◌, length, Option, Some, None, get_or, drop, drop-cons, drop_of_length-le, add-one, min, refl, sym, ap, ◌∙◌, arith, inl, inr}
 use Rattle.std.proofs.lemmas.Bool.Decides.{leb_tells}
-use Rattle.std.specs.Prelude.{zip}
 use Rattle.gs_tables_document.specs.declared.field.Field.{Field}
 use Rattle.gs_tables_document.specs.declared.field.Field.TheVariants.{Filter, Gcp, Rest, Piece, Total, Serial}
 use Rattle.gs_epc.specs.FieldTexts.{texts_of, with_text}

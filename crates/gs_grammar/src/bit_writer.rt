@@ -5,6 +5,7 @@ ghost use Rattle.gs_grammar.specs.Items.{is_in_bounds, size_of, size_of_all};
 ghost use Rattle.gs_grammar.specs.Words.{written_word, decimal_value};
 ghost use Rattle.gs_grammar.specs.WrittenWords.{why_not, written, AreHeld, IsHoldError};
 
+use crate::bit_words::number_in_bits;
 use crate::error::WriteFault;
 use crate::item::Item;
 use crate::numerals::{decimal_number, decimal_number_behind};
@@ -31,6 +32,23 @@ fn push_symbols<const N: usize>(symbols: &[u8], out: &mut BitBuf<N>)
 {
     for symbol in symbols {
         push_number(u64::from(*symbol), 1, out);
+    }
+}
+
+/// Appends symbols, each 0 or 1: up to 64 as one number, which takes fewer steps.
+fn push_literal<const N: usize>(symbols: &[u8], out: &mut BitBuf<N>)
+    requires bits { AreBits symbols.now }
+    requires room { length out.old + length symbols.now ≤ 8 * N }
+    ensures { out.new ≡ out.old ++ symbols.now }
+{
+    let count = symbols.len();
+    if count > 64 {
+        push_symbols(symbols, out);
+        return;
+    }
+    match number_in_bits(symbols, count) {
+        Some(number) => push_number(number, count as u32, out),
+        None => push_symbols(symbols, out),
     }
 }
 
@@ -89,7 +107,7 @@ fn push_bit_word<const N: usize>(item: &Item, value: &[u8], out: &mut BitBuf<N>)
     ensures { out.new ≡ out.old ++ written_word item.now value.now }
 {
     match item {
-        Item::Lit(literal) => push_symbols(literal.as_bytes(), out),
+        Item::Lit(literal) => push_literal(literal.as_bytes(), out),
         Item::NumPad { bits, .. } | Item::Num { bits, .. } => push_decimal(value, *bits, out),
         Item::NumStr { bits, .. } => push_behind_one(value, *bits, out),
         Item::Ascii7 { bits, .. } => {

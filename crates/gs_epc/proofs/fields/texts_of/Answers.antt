@@ -1,6 +1,6 @@
-use Rattle.std.proofs.Common.{◌≡◌, ◌≤◌, ◌-◌, ◌+◌, ◌<◌, ℕ, length, min, drop, subst, arith}
+use Rattle.std.proofs.Common.{◌≡◌, ℕ, drop, subst, arith}
 use Rattle.gs_epc.specs.FieldTexts.{texts_of}
-use Rattle.gs_epc.proofs.TextsOfItems.{texts_past, texts_step}
+use Rattle.gs_epc.proofs.TextsOfItems.{texts_past}
 use Rattle.gs_epc.proofs.fields.texts_of.Goals as goal
 
 pub loop-place-init : goal.loop-place-init

@@ -36,11 +36,11 @@ pub returns-in-Ascii7 : goal.returns-in-Ascii7
 returns-in-Ascii7 g c = ascii_written c.args.value.now _ _ _ c.in-Ascii7.is c.from.ensures c.push_characters.ensures c.push_zeros.ensures
 
 pub returns-in-Lit : goal.returns-in-Lit
-returns-in-Lit g c = rw c.in-Lit.is (rw c.as_bytes.ensures at c.push_symbols.ensures)
+returns-in-Lit g c = rw c.in-Lit.is (rw c.as_bytes.ensures at c.push_literal.ensures)
 
 pub push_zeros-requires-in-Fill : goal.push_zeros-requires-in-Fill
 push_zeros-requires-in-Fill g c = (search rules, rw c.from-in-Fill.ensures (rw c.in-Fill.is at c.requires.room))
 
-pub push_symbols-requires : goal.push_symbols-requires
-push_symbols-requires g c =
+pub push_literal-requires : goal.push_literal-requires
+push_literal-requires g c =
     (search rules, (rw c.as_bytes.ensures (lit_bits c.args.item.now c.in-Lit.literal c.in-Lit.is c.requires.item), rw c.as_bytes.ensures (rw c.in-Lit.is at c.requires.room)))
