@@ -1,12 +1,14 @@
 -- The escapes of `percent_encoding` at the set of this crate are those of a link.
 use Rattle.std.proofs.Common.{◌≡◌, ℕ, ◌<◌, ◌/◌, ◌%◌, not, Bool, true, false, List, [], ◌∷◌, All, refl, arith, if◌then◌else◌}
-use Rattle.std.specs.List.{list_all}
-use Rattle.std.proofs.lemmas.Bool.{agree_below, agree_below_at, and_parts}
+use Rattle.std.specs.Prelude.{◌==◌, ◌||◌, codes}
+use Rattle.std.specs.List.{list_all, list_any}
+use Rattle.gs_chars.specs.Characters.{are_digits, is_digit}
+use Rattle.std.proofs.lemmas.Bool.{agree_below, agree_below_at, and_from, and_parts}
 use Rattle.std.proofs.lemmas.List.Elements.{All-head, All-tail}
 use Rattle.percent_encoding.specs.AsciiSet.{should_percent_encode}
 use Rattle.percent_encoding.specs.Percent.{percent_encode, percent_encode_byte, encode_byte}
 use Rattle.gs_ident.specs.declared.spelling.TheConstants.{ESCAPED}
-use Rattle.gs_ident.specs.Links.{is_unescaped, escaped_byte, percent_escape, percent_encoded}
+use Rattle.gs_ident.specs.Links.{is_letter, is_unescaped, escaped_byte, percent_escape, percent_encoded}
 
 table : agree_below (should_percent_encode ESCAPED) (λ c. not (is_unescaped c)) 256 ≡ true
 unfolding should_percent_encode is_unescaped
@@ -25,6 +27,20 @@ same_choice e p false = refl
 
 same_byte : (c : ℕ) → c < 256 → encode_byte ESCAPED c ≡ escaped_byte c
 same_byte c h = rw (chosen c h, same_escape c h) (same_choice (percent_escape c) (c ∷ []) (is_unescaped c))
+
+or_second : (a b d : Bool) → b ≡ true → (a || b || d) ≡ true
+or_second true b d h = refl
+or_second false b d h = rw h refl
+
+digit_unescaped : (c : ℕ) → is_digit c ≡ true → is_unescaped c ≡ true
+unfolding is_unescaped
+digit_unescaped c h = or_second (is_letter c) (is_digit c) (list_any (λ x. x == c) (codes "-._")) h
+
+pub digits_unescaped : (value : List ℕ) → are_digits value ≡ true → list_all is_unescaped value ≡ true
+digits_unescaped [] h = refl
+digits_unescaped (c ∷ cs) h =
+    let both = and_parts (is_digit c) (list_all is_digit cs) h in
+    and_from (is_unescaped c) (list_all is_unescaped cs) (digit_unescaped c both.0) (digits_unescaped cs both.1)
 
 -- a value of which each byte stands for itself
 pub plain_text : (value : List ℕ) → list_all is_unescaped value ≡ true → percent_encoded value ≡ value

@@ -6,7 +6,7 @@ ghost use Rattle.gs_ident.specs.Links.{canonical_link, is_unescaped, percent_enc
 
 use crate::identity::Identity;
 use gs_ai::{AiTable, Pair};
-use gs_chars::{Memory, Text};
+use gs_chars::{Memory, Text, are_digits};
 use percent_encoding::{AsciiSet, NON_ALPHANUMERIC, percent_encode};
 use std::alloc::Global;
 
@@ -27,6 +27,10 @@ fn is_unescaped(c: u8) -> bool
 fn is_plain(value: &[u8]) -> bool
     ensures { result ≡ list_all is_unescaped value.now }
 {
+    // most values are digits alone, which one comparison a byte tells
+    if are_digits(value) {
+        return true;
+    }
     value.iter().all(|c| is_unescaped(*c))
 }
 
