@@ -1,5 +1,5 @@
 -- What a text means by what it names.
-use Rattle.std.proofs.Common.{◌≡◌, refl}
+use Rattle.std.proofs.Common.{◌≡◌}
 use Rattle.std.specs.Prelude.{◌≢◌, Result, Ok, Err}
 use Rattle.gs_tables.specs.Tables.{TableRows}
 use Rattle.gs_epc.specs.declared.epc.Epc.{Epc}
