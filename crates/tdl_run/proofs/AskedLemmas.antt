@@ -15,21 +15,21 @@ use Rattle.tdl_messages.specs.declared.rejection.Rejection.{Rejection}
 use Rattle.tdl_messages.specs.Rejections.{rejected_line}
 use Rattle.tdl_arguments.specs.Commands.{reads_input, work_of}
 use Rattle.tdl_arguments.specs.Requests.{Asked}
-use Rattle.tdl_run.specs.declared.loads.Loaded.{Loaded}
-use Rattle.tdl_run.specs.declared.loads.Unloaded.{Unloaded}
-use Rattle.tdl_run.specs.declared.loads.Unloaded.TheVariants as unloaded
+use Rattle.tdl_loads.specs.declared.loads.Loaded.{Loaded}
+use Rattle.tdl_loads.specs.declared.loads.Unloaded.{Unloaded}
+use Rattle.tdl_loads.specs.declared.loads.Unloaded.TheVariants as unloaded
 use Rattle.tdl_run.specs.Requests.{AskedRan, Reports}
-use Rattle.tdl_run.specs.Loads.{FilesGive, Stop, missing, rejected}
-use Rattle.tdl_run.specs.LoadsSupport.{LoadedBy}
+use Rattle.tdl_loads.specs.Loads.{FilesGive, Stop, missing, rejected}
+use Rattle.tdl_loads.specs.LoadsSupport.{LoadedBy}
 use Rattle.tdl_run.specs.CommandRuns.{BeginsOne, CutShort, Moment}
 use Rattle.tdl_run.specs.RanSupport.{CommandRan}
 use Rattle.tdl_run.specs.Runs.{AskedEnded, AskedRun, Counts, World, WritesAfterError, none_finished, ran, some_finished, stopped, stops}
 use Rattle.tdl_run.specs.Works.{CommandEnded, CommandRun, Doorway, Leaves, Outcome, doing_of, input_limit, outcome_of, site_of}
 use Rattle.tdl_run.proofs.DoingLemmas.{command_defined, doing_some, either_cause, ended_by}
-use Rattle.tdl_run.proofs.LoadLemmas.{files_some}
+use Rattle.tdl_loads.proofs.LoadLemmas.{files_some}
 use Rattle.tdl_run.proofs.RanLemmas.{PrintedCase, error, no_memory, printed_case, same_count, takes_nothing, whole}
-use Rattle.tdl_run.proofs.ClassLoads.{classes_kept}
-use Rattle.tdl_run.proofs.ReadLemmas.{loaded_of}
+use Rattle.tdl_loads.proofs.ClassLoads.{classes_kept}
+use Rattle.tdl_loads.proofs.ReadLemmas.{loaded_of}
 
 -- ---- what is asked has an outcome
 

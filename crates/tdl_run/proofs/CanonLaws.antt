@@ -21,7 +21,7 @@ use Rattle.gs_translate.proofs.PairLaws.{ais_kept}
 use Rattle.gs_translate.proofs.ReadAgain.{kept_made}
 use Rattle.gs_translate.proofs.SameLinks.{canonical_translation, equal_links, same_meaning}
 use Rattle.tdl_arguments.specs.Requests.{Values, no_options, options_of}
-use Rattle.tdl_run.specs.declared.loads.Loaded.{Loaded}
+use Rattle.tdl_loads.specs.declared.loads.Loaded.{Loaded}
 use Rattle.tdl_answers.specs.TranslatedAnswers.{IsCanonLine, IsTranslatedLine}
 use Rattle.tdl_messages.specs.AnswerLines.{line_of}
 use Rattle.tdl_run.specs.Works.{KeepOne, canonizing, translating}

@@ -14,7 +14,7 @@ use Rattle.tdl_arguments.specs.Commands.{Work, answers_lines, is_on_lines}
 use Rattle.tdl_arguments.specs.Requests.{Asked, WordsInOrder}
 use Rattle.tdl_arguments.proofs.RequestLemmas.{one_request}
 use Rattle.tdl_run.specs.Requests.{AskedRan}
-use Rattle.tdl_run.specs.Loads.{FilesGive, Stop, missing}
+use Rattle.tdl_loads.specs.Loads.{FilesGive, Stop, missing}
 use Rattle.tdl_run.specs.Runs.{AskedRun, Counts, DefinedRun, InputFits, IsDoneOrMemory, IsMissing, IsWithin, LoadsAll, NoneRises, World, by_request, by_usage, ran, stops}
 use Rattle.tdl_run.specs.Works.{Doing, DoingRun, Doorway, Leaves, Outcome, answers, doing_of, input_limit, prints, resolves, serves, site_of}
 use Rattle.tdl_run.proofs.RunLemmas.{defined_of, read_error_of}

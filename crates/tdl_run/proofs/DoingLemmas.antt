@@ -19,8 +19,8 @@ use Rattle.gs_http.specs.Sites.{SiteData}
 use Rattle.gs_port.specs.Connections.{Finished}
 use Rattle.gs_tables.specs.Judgements.{IsLoaded}
 use Rattle.gs_translate.specs.StepsSupport.{HasOne, HasSome}
-use Rattle.tdl_run.specs.declared.loads.Loaded.{Loaded}
-use Rattle.tdl_run.specs.LoadsSupport.{AreKept}
+use Rattle.tdl_loads.specs.declared.loads.Loaded.{Loaded}
+use Rattle.tdl_loads.specs.LoadsSupport.{AreKept}
 use Rattle.tdl_run.specs.RanSupport.{WorkCause}
 use Rattle.tdl_run.specs.Runs.{AreAlike, but_errors, same}
 use Rattle.tdl_run.specs.Works.{Doing, DoingEnded, DoingRun, Doorway, LeavesOutput, LinesAnswered, Outcome, answers, canonizing, counts_line, doing_of, input_limit, outcome_of, prints, resolves, serves, translating, writing_classes, merged_line, migrated_line}

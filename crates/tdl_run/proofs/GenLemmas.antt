@@ -6,7 +6,7 @@ use Rattle.tdl_lines.specs.Statuses.{OnWriteFault}
 use Rattle.gs_port.specs.Counts.{Rises}
 use Rattle.tdl_arguments.specs.declared.command.Command.TheVariants.{Gen}
 use Rattle.tdl_arguments.specs.Requests.{Values}
-use Rattle.tdl_run.specs.declared.loads.Loaded.{Loaded}
+use Rattle.tdl_loads.specs.declared.loads.Loaded.{Loaded}
 use Rattle.tdl_run.specs.CommandRuns.{Moment}
 use Rattle.tdl_run.specs.RanSupport.{CommandRan}
 use Rattle.tdl_run.specs.Works.{Doorway, outcome_of}

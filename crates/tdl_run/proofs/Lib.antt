@@ -1,10 +1,3 @@
-pub mod FileLoads
-pub mod OpenedNames
-pub mod PrefixLoads
-pub mod LinkLoads
-pub mod LoadSteps
-pub mod LoadLemmas
-pub mod ReadLemmas
 pub mod RanLemmas
 pub mod SiteLemmas
 pub mod ServeLemmas
@@ -15,4 +8,3 @@ pub mod AskedLemmas
 pub mod RunLemmas
 pub mod CompleteLemmas
 pub mod RunLaws
-pub mod ClassLoads

@@ -6,15 +6,16 @@ use Rattle.gs_translate.specs.StepsSupport.{HasSome}
 use Rattle.tdl_arguments.specs.Requests.{Asked, WordsInOrder, usage_line}
 use Rattle.tdl_arguments.proofs.DecidedWords.{Decided, order_or_not}
 use Rattle.tdl_arguments.proofs.RequestLemmas.{one_request}
-use Rattle.tdl_run.specs.declared.loads.Loaded.{Loaded}
-use Rattle.tdl_run.specs.Loads.{Stop}
-use Rattle.tdl_run.specs.Runs.{AreAlike, AskedRun, DefinedRun, World, ambiguous, but_text, by_request, by_usage, ran, same, stopped, stops, known_world}
+use Rattle.tdl_loads.specs.declared.loads.Loaded.{Loaded}
+use Rattle.tdl_loads.specs.Loads.{Stop}
+use Rattle.tdl_loads.specs.Loads.{ambiguous}
+use Rattle.tdl_run.specs.Runs.{AreAlike, AskedRun, DefinedRun, World, but_text, by_request, by_usage, ran, same, stopped, stops, known_world}
 use Rattle.tdl_run.specs.Works.{CommandRun, Outcome, doing_of, outcome_of, site_of}
 use Rattle.tdl_run.proofs.AskedLemmas.{asked_some}
 use Rattle.tdl_run.proofs.DoingLemmas.{command_defined, doing_one}
-use Rattle.tdl_run.proofs.LoadLemmas.{AlikeStops, files_one, one_stop, two_texts}
-use Rattle.tdl_run.proofs.ClassLoads.{classes_kept}
-use Rattle.tdl_run.proofs.ReadLemmas.{loaded_of}
+use Rattle.tdl_loads.proofs.LoadLemmas.{AlikeStops, files_one, one_stop, two_texts}
+use Rattle.tdl_loads.proofs.ClassLoads.{classes_kept}
+use Rattle.tdl_loads.proofs.ReadLemmas.{loaded_of}
 
 -- stops that are alike leave outcomes that are alike
 stops_alike : (stop stop' : Stop) (one other : Outcome) → one ≡ stopped stop → other ≡ stopped stop' → AlikeStops {A = Loaded} (Err stop) (Err stop') → AreAlike one other

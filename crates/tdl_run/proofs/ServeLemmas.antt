@@ -19,7 +19,7 @@ use Rattle.tdl_serve.proofs.DoneVisits.{done_visit, is_done_visit}
 use Rattle.gs_translate.specs.StepsSupport.{HasSome}
 use Rattle.tdl_arguments.specs.declared.command.Command.TheVariants.{Serve}
 use Rattle.tdl_arguments.specs.Requests.{Values}
-use Rattle.tdl_run.specs.declared.loads.Loaded.{Loaded}
+use Rattle.tdl_loads.specs.declared.loads.Loaded.{Loaded}
 use Rattle.tdl_run.specs.CommandRuns.{BeginsOne, CutShort, Moment}
 use Rattle.tdl_run.specs.RanSupport.{CommandRan, UsesDoor}
 use Rattle.tdl_run.specs.Runs.{AlikeServed, AlikeVisits, more_visits, no_visits}

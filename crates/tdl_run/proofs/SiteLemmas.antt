@@ -13,7 +13,7 @@ use Rattle.tdl_serve.specs.Sites.{AreSiteReplies}
 use Rattle.gs_translate.specs.StepsSupport.{HasOne, HasSome}
 use Rattle.tdl_arguments.specs.declared.command.Command.TheVariants.{Resolve}
 use Rattle.tdl_arguments.specs.Requests.{Values}
-use Rattle.tdl_run.specs.declared.loads.Loaded.{Loaded}
+use Rattle.tdl_loads.specs.declared.loads.Loaded.{Loaded}
 use Rattle.tdl_run.specs.CommandRuns.{BeginsOne, CutShort, Moment}
 use Rattle.tdl_run.specs.RanSupport.{CommandRan}
 use Rattle.tdl_run.specs.Works.{Doorway, LeavesOutput, outcome_of, site_of}

@@ -1,6 +1,3 @@
-pub mod Loads
-pub mod LoadsSupport
-pub mod Reads
 pub mod Works
 pub mod CommandRuns
 pub mod RanSupport

@@ -6,7 +6,7 @@ use Rattle.tdl_serve.specs.Doors.{OpensAt}
 use Rattle.tdl_arguments.specs.declared.command.Command.{Command}
 use Rattle.tdl_arguments.specs.Commands.{Work, answers_lines, on_door, work_of}
 use Rattle.tdl_arguments.specs.Requests.{Values}
-use Rattle.tdl_run.specs.declared.loads.Loaded.{Loaded}
+use Rattle.tdl_loads.specs.declared.loads.Loaded.{Loaded}
 use Rattle.tdl_run.specs.Works.{CommandEnded, CommandFinished, CommandRun, Doorway, FinishesFirst, Outcome}
 use Rattle.tdl_run.specs.CommandRuns.{Moment, Ran}
 

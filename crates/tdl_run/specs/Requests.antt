@@ -12,10 +12,10 @@ use Rattle.tdl_messages.specs.declared.rejection.Rejection.{Rejection}
 use Rattle.tdl_messages.specs.Rejections.{rejected_line}
 use Rattle.tdl_arguments.specs.Commands.{answers_lines}
 use Rattle.tdl_arguments.specs.Requests.{Asked}
-use Rattle.tdl_run.specs.declared.loads.Unloaded.{Unloaded}
-use Rattle.tdl_run.specs.declared.loads.Unloaded.TheVariants as unloaded
-use Rattle.tdl_run.specs.declared.loads.Unloaded.TheVariants.{Refused}
-use Rattle.tdl_run.specs.Loads.{FilesGive, missing, rejected}
+use Rattle.tdl_loads.specs.declared.loads.Unloaded.{Unloaded}
+use Rattle.tdl_loads.specs.declared.loads.Unloaded.TheVariants as unloaded
+use Rattle.tdl_loads.specs.declared.loads.Unloaded.TheVariants.{Refused}
+use Rattle.tdl_loads.specs.Loads.{FilesGive, missing, rejected}
 use Rattle.tdl_run.specs.CommandRuns.{BeginsOne, CutShort}
 use Rattle.tdl_run.specs.Runs.{AskedFinished, AskedRun, Counts, World}
 use Rattle.tdl_run.specs.Works.{Outcome, input_limit}

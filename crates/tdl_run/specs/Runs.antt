@@ -19,8 +19,8 @@ use Rattle.tdl_messages.specs.declared.rejection.Rejection.{Rejection}
 use Rattle.tdl_messages.specs.Rejections.{rejected_line}
 use Rattle.tdl_arguments.specs.declared.request.Request.{Request}
 use Rattle.tdl_arguments.specs.Requests.{Asked, AsksForLines, NotInOrder, WordsInOrder, all_named, names_in_order, usage_line}
-use Rattle.tdl_run.specs.declared.loads.Loaded.{Loaded}
-use Rattle.tdl_run.specs.Loads.{FilesGive, FilesInMemory, OpensFirst, Stop, missing, rejected}
+use Rattle.tdl_loads.specs.declared.loads.Loaded.{Loaded}
+use Rattle.tdl_loads.specs.Loads.{Ambiguity, FilesGive, FilesInMemory, OpensFirst, Stop, ambiguous, missing, rejected}
 use Rattle.tdl_run.specs.CommandRuns.{BeginsOne, CutShort}
 use Rattle.tdl_run.specs.Works.{CommandEnded, CommandFinished, CommandRun, Doorway, Outcome, doorway_of, input_limit, outcome_of, served_outcome, site_of}
 
@@ -67,17 +67,6 @@ pub data AskedRun (asked : Asked) (world : World) (outcome : Outcome) : Type 0 w
 pub data DefinedRun (words : List (List ℕ)) (world : World) (outcome : Outcome) : Type 0 where
   by_request : (asked : Asked) → WordsInOrder words asked → AskedRun asked world outcome → DefinedRun words world outcome
   by_usage : NotInOrder words → outcome ≡ outcome_of usage_line status.Usage → DefinedRun words world outcome
-
--- trusted, own: where two derivations of one text were found: at a level of the tables, by a pair of its options, or by a pair of
--- classes
-pub data Ambiguity : Type 0 where
-  of_tables : LevelName → ℕ → ℕ → Ambiguity
-  of_classes : ℕ → ℕ → Ambiguity
-
--- trusted, own: what a run stops at where two derivations of this text were found
-abbrev pub ambiguous : Ambiguity → List ℕ → Stop
-ambiguous (of_tables name i j) text = rejected (record { kind = Tables; error = Errored (Ambiguous name i j text) })
-ambiguous (of_classes i j) text = rejected (record { kind = Classes; error = ErroredClasses (AmbiguousClasses i j text) })
 
 -- trusted, own: the same connections were served twice: those at which serving was done both times were written the same
 pub data AlikeVisits : List Visit → List Visit → Type 0 where

@@ -28,7 +28,7 @@ use Rattle.tdl_answers.specs.DumpAnswers.{IsDumpReadLine, IsDumpWriteLine}
 use Rattle.tdl_answers.specs.TranslatedAnswers.{IsTranslatedLine}
 use Rattle.tdl_arguments.specs.Commands.{Work, on_door, on_heads, on_lines, on_none, work_of}
 use Rattle.tdl_arguments.specs.Requests.{Values, no_options, options_of}
-use Rattle.tdl_run.specs.declared.loads.Loaded.{Loaded}
+use Rattle.tdl_loads.specs.declared.loads.Loaded.{Loaded}
 
 -- trusted, own: what a run leaves: what it wrote, the connections that it finished, and its status
 pub record Outcome : Type 0 where

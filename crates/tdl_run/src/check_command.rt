@@ -3,12 +3,12 @@ ghost use Rattle.tdl_lines.specs.Statuses.{OnWriteFault};
 ghost use Rattle.gs_port.specs.Counts.{Rises};
 ghost use Rattle.tdl_run.specs.Works.{PrintsCounts, counts_line};
 
-use crate::loads::Loaded;
 use gs_chars::Memory;
 use gs_port::Sink;
 use gs_tables::LevelName;
 use std::alloc::Global;
 use tdl_lines::{Status, print_line};
+use tdl_loads::Loaded;
 
 /// Appends a word and a number.
 fn append_count(alloc: Global, line: &mut Vec<u8>, word: &[u8], count: usize) -> Result<(), Memory>

@@ -1,16 +1,16 @@
 ghost use Rattle.tdl_answers.specs.ClassAnswers.{IsClassCanonLine, IsClassUriLine};
 ghost use Rattle.tdl_arguments.specs.Requests.{known_values};
 ghost use Rattle.tdl_run.specs.CommandRuns.{AnswersLines, moment_of};
-ghost use Rattle.tdl_run.specs.LoadsSupport.{AreKept};
+ghost use Rattle.tdl_loads.specs.LoadsSupport.{AreKept};
 ghost use Rattle.tdl_run.specs.Works.{writing_classes};
 
 use crate::answered_input::answer_input;
-use crate::loads::Loaded;
 use gs_port::{Sink, Source};
 use std::alloc::Global;
 use tdl_answers::{ClassCanonLines, ClassUriLines};
 use tdl_arguments::NamedValues;
 use tdl_lines::Status;
+use tdl_loads::Loaded;
 
 /// Answers the lines of the input, class URIs, by the canonical links of what they name.
 pub fn link_classes<S: Source, K: Sink>(

@@ -5,14 +5,13 @@ ghost use Rattle.gs_translate.specs.Translations.{AreInOrder};
 ghost use Rattle.tdl_arguments.specs.Commands.{answers_heads, reads_input, uses_door};
 ghost use Rattle.tdl_arguments.specs.Requests.{options_of, known_values};
 ghost use Rattle.tdl_run.specs.CommandRuns.{moment_of};
-ghost use Rattle.tdl_run.specs.LoadsSupport.{AreKept, HasSource};
+ghost use Rattle.tdl_loads.specs.LoadsSupport.{AreKept, HasSource};
 ghost use Rattle.tdl_run.specs.RanSupport.{CommandRan, UsesDoor};
 ghost use Rattle.tdl_run.specs.Works.{Leaves, doorway_of, site_of};
 
 use crate::check_command::check;
 use crate::class_command::{link_classes, write_classes};
 use crate::dump_command::{show_dumps, write_dumps};
-use crate::loads::Loaded;
 use crate::merge_command::print_merged;
 use crate::migrate_command::print_migrated;
 use crate::translate_command::{canonize, translate_loaded};
@@ -22,6 +21,7 @@ use std::alloc::Global;
 use tdl_arguments::{Command, NamedValues};
 use tdl_gen::generate;
 use tdl_lines::Status;
+use tdl_loads::Loaded;
 use tdl_serve::{resolve, serve};
 
 /// What requests are answered from.

@@ -3,11 +3,11 @@ ghost use Rattle.tdl_answers.specs.DumpAnswers.{IsDumpReadLine, IsDumpWriteLine}
 ghost use Rattle.tdl_run.specs.CommandRuns.{AnswersLines, moment_of};
 
 use crate::answered_input::answer_input;
-use crate::loads::Loaded;
 use gs_port::{Sink, Source};
 use std::alloc::Global;
 use tdl_answers::{DumpReadLines, DumpWriteLines};
 use tdl_lines::Status;
+use tdl_loads::Loaded;
 
 /// Answers the lines of the input, dumps of the EPC memory bank, by the lines that show them.
 pub fn show_dumps<S: Source, K: Sink>(

@@ -7,7 +7,7 @@ ghost use Rattle.gs_translate.specs.StepsSupport.{HasOne, HasSome};
 ghost use Rattle.gs_translate.specs.Translations.{NameOne};
 ghost use Rattle.gs_translate.specs.declared.target.Target.{Target};
 ghost use Rattle.tdl_arguments.specs.Requests.{Values, WordsInOrder};
-ghost use Rattle.tdl_run.specs.declared.loads.Loaded.{Loaded};
+ghost use Rattle.tdl_loads.specs.declared.loads.Loaded.{Loaded};
 ghost use Rattle.tdl_answers.specs.TranslatedAnswers.{IsCanonLine, IsTranslatedLine};
 ghost use Rattle.tdl_run.specs.Runs.{DefinedRun, HasOneOutcome, InputFits, LoadsAll, World};
 ghost use Rattle.tdl_run.specs.Works.{KeepOne, Outcome, canonizing, translating};

@@ -23,21 +23,13 @@
 mod answered_input;
 mod check_command;
 mod class_command;
-mod classes;
 mod commands;
 mod dump_command;
 mod laws;
-mod linked;
-mod links;
-mod loads;
 mod merge_command;
 mod migrate_command;
-mod named_files;
-mod places;
-mod prefixes;
 mod requests;
 mod runner;
-mod tables;
 mod translate_command;
 
 pub use laws::{

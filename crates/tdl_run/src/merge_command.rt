@@ -3,12 +3,12 @@ ghost use Rattle.tdl_lines.specs.Statuses.{OnWriteFault};
 ghost use Rattle.gs_port.specs.Counts.{Rises};
 ghost use Rattle.tdl_run.specs.Works.{PrintsLine, merged_line};
 
-use crate::loads::Loaded;
 use gs_chars::{Memory, Text};
 use gs_linkset::write;
 use gs_port::Sink;
 use std::alloc::Global;
 use tdl_lines::{Status, print_line};
+use tdl_loads::Loaded;
 
 /// The document that links were merged to, in JSON, and a line feed.
 fn merged_line(alloc: Global, loaded: &Loaded) -> Result<Text, Memory>

@@ -4,12 +4,12 @@ ghost use Rattle.gs_tables.specs.MigratedSets.{Loads};
 ghost use Rattle.tdl_lines.specs.Statuses.{OnWriteFault};
 ghost use Rattle.tdl_run.specs.Works.{PrintsLine, migrated_line};
 
-use crate::loads::Loaded;
 use gs_chars::{Memory, Text};
 use gs_port::Sink;
 use gs_tables::migrated_text;
 use std::alloc::Global;
 use tdl_lines::{Status, print_line};
+use tdl_loads::Loaded;
 
 /// The document of the tables as one of version 2, and a line feed.
 fn migrated_line(alloc: Global, loaded: &Loaded) -> Result<Text, Memory>

@@ -7,18 +7,18 @@ ghost use Rattle.tdl_arguments.specs.Commands.{answers_heads, reads_input, uses_
 ghost use Rattle.tdl_arguments.specs.Ranges.{is_vocabulary};
 ghost use Rattle.tdl_arguments.specs.Requests.{all_named, options_of, known_request};
 ghost use Rattle.tdl_run.specs.Requests.{AskedRan, PrintsRejection, Reports};
-ghost use Rattle.tdl_run.specs.Loads.{OpensFirst};
-ghost use Rattle.tdl_run.specs.LoadsSupport.{NamesTables};
+ghost use Rattle.tdl_loads.specs.Loads.{OpensFirst};
+ghost use Rattle.tdl_loads.specs.LoadsSupport.{NamesTables};
 ghost use Rattle.tdl_run.specs.Runs.{AskedEnded, AskedListens, AskedLoads, AskedServes, OpensAsked, WritesAfterError, counts_of, world_of};
 ghost use Rattle.tdl_run.specs.Works.{FinishesFirst, Leaves};
 
 use crate::commands::run_command;
-use crate::loads::{Unloaded, load_files};
 use gs_chars::Memory;
 use gs_port::{Door, Files, Sink, Source};
 use std::alloc::Global;
 use tdl_arguments::Request;
 use tdl_lines::{Status, print_line};
+use tdl_loads::{Unloaded, load_files};
 use tdl_messages::{Rejection, rejected_line};
 
 /// Writes the line of a rejected file.

@@ -7,7 +7,6 @@ ghost use Rattle.tdl_run.specs.CommandRuns.{AnswersLines, moment_of};
 ghost use Rattle.tdl_run.specs.Works.{canonizing, translating};
 
 use crate::answered_input::answer_input;
-use crate::loads::Loaded;
 use gs_chars::{Memory, Text};
 use gs_port::{Sink, Source};
 use gs_translate::{Form, Options, Target, Translator};
@@ -15,6 +14,7 @@ use std::alloc::Global;
 use tdl_answers::TranslatedLines;
 use tdl_arguments::NamedValues;
 use tdl_lines::Status;
+use tdl_loads::Loaded;
 
 /// What the values say of translations.
 fn options_of(alloc: Global, values: NamedValues<'_>) -> Result<Options, Memory>

@@ -4,9 +4,9 @@ use Rattle.tdl_run.specs.Runs.{listens, not_opened, served, unserved}
 use Rattle.tdl_lines.specs.Statuses.{is_answered, is_rejection}
 use Rattle.tdl_lines.proofs.StatusLemmas.{when_always}
 use Rattle.tdl_run.proofs.AskedLemmas.{asked_of_command, asked_of_report, ended_of_command, never_rejected, reports_answered, reports_nothing, reports_unanswered}
-use Rattle.tdl_run.proofs.ClassLoads.{classes_kept}
+use Rattle.tdl_loads.proofs.ClassLoads.{classes_kept}
 use Rattle.tdl_run.proofs.RanLemmas.{none_more}
-use Rattle.tdl_run.proofs.ReadLemmas.{source_of}
+use Rattle.tdl_loads.proofs.ReadLemmas.{source_of}
 use Rattle.tdl_run.proofs.ServeLemmas.{door_left, none_finish}
 use Rattle.tdl_run.proofs.requests.run_request.Goals as goal
 

@@ -1,0 +1,104 @@
+ghost use Rattle.std.specs.Prelude.{◌≡◌, true};
+ghost use Rattle.gs_merge.specs.MergedDocuments.{merge_answer};
+ghost use Rattle.tdl_messages.specs.declared.file_kind.FileKind.TheVariants.{Merge as OfMerge};
+ghost use Rattle.tdl_arguments.specs.Ranges.{is_vocabulary};
+ghost use Rattle.tdl_arguments.specs.Requests.{known_files, known_values, links_named};
+ghost use Rattle.tdl_loads.specs.Loads.{LinkedGive, merge_verdict, merged_with, merging};
+ghost use Rattle.tdl_loads.specs.LoadsSupport.{Loads, files_known};
+ghost use Rattle.tdl_loads.specs.Reads.{JudgedAs};
+ghost use Rattle.std.specs.Prelude.{Ok};
+
+use crate::links::{Judging, load_links, load_other, load_store, no_context};
+use crate::loads::{Linked, Unloaded};
+use gs_ai::AiTable;
+use gs_links::{Store, StoreFault};
+use gs_linkset::LinkDoc;
+use gs_merge::{MergeFault, merge};
+use gs_port::Files;
+use std::alloc::Global;
+use tdl_arguments::{NamedFiles, NamedValues};
+use tdl_messages::{FileFault, FileKind, Rejection};
+
+/// The document that two stores are merged to.
+fn merge_two(alloc: Global, first: &Store, second: &Store) -> Result<LinkDoc, Unloaded>
+    ensures { JudgedAs OfMerge (merge_verdict (merge_answer first.now second.now)) result }
+{
+    match merge(alloc, first, second) {
+        Ok(doc) => Ok(doc),
+        Err(MergeFault::Memory) => Err(Unloaded::Memory),
+        Err(MergeFault::TooMany) => Err(Unloaded::Refused(Rejection {
+            kind: FileKind::Merge,
+            error: FileFault::Store(StoreFault::TooMany),
+        })),
+    }
+}
+
+/// The document that a merged one and third links are merged to; the merged one where there are none.
+fn merge_third(
+    alloc: Global,
+    ais: &AiTable,
+    voc: &str,
+    merged: LinkDoc,
+    third: Option<Store>,
+) -> Result<LinkDoc, Unloaded>
+    requires { is_vocabulary voc.now ≡ true }
+    ensures { JudgedAs OfMerge (merged_with ais.now voc.now (Ok merged) third) result }
+{
+    let Some(third) = third else {
+        return Ok(merged);
+    };
+    let judging = Judging {
+        kind: FileKind::Merge,
+        ais,
+        voc,
+        templates: false,
+    };
+    match load_store(alloc, judging, merged) {
+        Ok(store) => merge_two(alloc, &store, &third),
+        Err(unloaded) => Err(unloaded),
+    }
+}
+
+/// The document that links, and second and third ones, are merged to; that of no context without second ones.
+fn merge_all(
+    alloc: Global,
+    ais: &AiTable,
+    voc: &str,
+    links: &Store,
+    second: Option<Store>,
+    third: Option<Store>,
+) -> Result<LinkDoc, Unloaded>
+    requires { is_vocabulary voc.now ≡ true }
+    ensures { JudgedAs OfMerge (merging ais.now voc.now links.now second third) result }
+{
+    let Some(second) = second else {
+        return Ok(no_context(alloc));
+    };
+    match merge_two(alloc, links, &second) {
+        Ok(merged) => merge_third(alloc, ais, voc, merged, third),
+        Err(unloaded) => Err(unloaded),
+    }
+}
+
+/// Loads the links, and second and third ones, and merges these to one document, where there are second ones.
+pub fn load_linked<F: Files>(
+    alloc: Global,
+    ais: &AiTable,
+    values: NamedValues<'_>,
+    named: NamedFiles<'_>,
+    files: &mut F,
+) -> Result<Linked, Unloaded>
+    requires { is_vocabulary values.voc.now ≡ true }
+    ensures { Loads (λ known. LinkedGive known (known_files named.entry) (known_values values.entry) ais.now)
+        (links_named (known_files named.entry))
+        (files.new ≡ files.old)
+        (files_known (F.files files.old) (F.opened files.old) (F.errors files.old))
+        (files_known (F.files files.new) (F.opened files.new) (F.errors files.new)) result }
+{
+    let voc = values.voc;
+    let links = load_links(alloc, ais, voc, values.templates, named.links, files)?;
+    let second = load_other(alloc, FileKind::Second, ais, voc, named.second, files)?;
+    let third = load_other(alloc, FileKind::Third, ais, voc, named.third, files)?;
+    let merged = merge_all(alloc, ais, voc, &links, second, third)?;
+    Ok(Linked { links, merged })
+}
