@@ -5,16 +5,11 @@ use Rattle.tdl_lines.specs.declared.status.Status.TheVariants as status
 use Rattle.tdl_lines.specs.Inputs.{IsAtEnd, TakesAtMost}
 use Rattle.tdl_lines.specs.Outputs.{Appends}
 use Rattle.tdl_lines.specs.Statuses.{OnAnswered, is_answered}
-use Rattle.gs_class.specs.declared.error.ClassLoadFault.TheVariants.{Ambiguous as AmbiguousClasses}
-use Rattle.gs_tables_document.specs.declared.error.LoadFault.TheVariants.{Ambiguous}
-use Rattle.gs_tables_document.specs.declared.level_name.LevelName.{LevelName}
-use Rattle.tdl_messages.specs.declared.file_kind.FileKind.TheVariants.{Tables, Classes}
 use Rattle.gs_port.specs.Connections.{Aside}
 use Rattle.gs_port.specs.Counts.{Rises}
 use Rattle.gs_port.specs.Files.{AddsNames}
 use Rattle.tdl_serve.specs.Resolutions.{StreamServed}
 use Rattle.tdl_serve.specs.Visits.{Visit, is_done}
-use Rattle.tdl_messages.specs.declared.rejection.FileFault.TheVariants.{Tables as Errored, Classes as ErroredClasses}
 use Rattle.tdl_messages.specs.declared.rejection.Rejection.{Rejection}
 use Rattle.tdl_messages.specs.Rejections.{rejected_line}
 use Rattle.tdl_arguments.specs.declared.request.Request.{Request}
