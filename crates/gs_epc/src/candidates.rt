@@ -4,7 +4,7 @@ ghost use Rattle.std.specs.Option.{option_map_or};
 ghost use Rattle.gs_tables.specs.Rules.{is_field};
 ghost use Rattle.gs_epc.specs.Candidates.{HasFilter, HasFilterOn, filter_text, is_asked, is_left_out, left_out, value_for};
 
-use crate::key_parts::joined;
+use crate::layout::push_few;
 use crate::lent_epc::LentEpc;
 use gs_chars::{Memory, Text};
 use gs_tables::{Field, LevelName};
@@ -46,6 +46,24 @@ fn filter_text(level: LevelName, filter: Option<u8>) -> &'static [u8]
     }
 }
 
+/// A copy of a text that is one byte as a rule, which takes fewer steps so.
+fn few(alloc: Global, bytes: &[u8]) -> Result<Text, Memory>
+    ensures { IfOk result (λ text. text ≡ bytes.now) }
+{
+    let mut text = Text::new(alloc);
+    push_few(&mut text, bytes)?;
+    Ok(text)
+}
+
+/// The rest, joined: its lead digits are one as a rule.
+fn rest_of(alloc: Global, epc: &LentEpc<'_>) -> Result<Text, Memory>
+    ensures { IfOk result (λ text. text ≡ epc.now.rest) }
+{
+    let mut text = few(alloc, epc.lead)?;
+    text.extend_from_slice(epc.behind)?;
+    Ok(text)
+}
+
 /// A copy of the value of the items that stand for a field.
 fn value_for(
     alloc: Global,
@@ -58,9 +76,9 @@ fn value_for(
 {
     match field {
         None => Ok(Text::new(alloc)),
-        Some(Field::Filter) => Text::from_bytes(alloc, filter),
+        Some(Field::Filter) => few(alloc, filter),
         Some(Field::Gcp) => Text::from_bytes(alloc, epc.prefix),
-        Some(Field::Rest) => joined(alloc, epc.lead, epc.behind),
+        Some(Field::Rest) => rest_of(alloc, epc),
         Some(Field::Piece) => Text::from_bytes(alloc, epc.piece),
         Some(Field::Total) => Text::from_bytes(alloc, epc.total),
         Some(Field::Serial) => Text::from_bytes(alloc, epc.serial),

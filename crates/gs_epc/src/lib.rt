@@ -4,6 +4,7 @@
 //! - `name_hex`, `name_tag` and `name_pure` give at once the identity that a text names, its filter value and its encoding.
 //! - `identity_of` lays the fields out as a key and its serial number; `fields_of` takes an identity apart. `push_checked` writes
 //!   the digits of a key, for gs_class too.
+//! - `lent_fields_of` and `write_lent` are `fields_of` and `write_level` over texts that are lent, of which none is copied.
 //!
 //! # Example
 //!
