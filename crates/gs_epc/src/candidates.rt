@@ -4,7 +4,8 @@ ghost use Rattle.std.specs.Option.{option_map_or};
 ghost use Rattle.gs_tables.specs.Rules.{is_field};
 ghost use Rattle.gs_epc.specs.Candidates.{HasFilter, HasFilterOn, filter_text, is_asked, is_left_out, left_out, value_for};
 
-use crate::epc::Epc;
+use crate::layout::push_few;
+use crate::lent_epc::LentEpc;
 use gs_chars::{Memory, Text};
 use gs_tables::{Field, LevelName};
 use std::alloc::Global;
@@ -13,12 +14,12 @@ use std::alloc::Global;
 const DIGITS: &[u8] = b"01234567";
 
 /// Whether the name of an encoding is the one that is asked for.
-pub(crate) fn is_asked(level: LevelName, asked: &Text, name: &Text) -> bool
+pub(crate) fn is_asked(level: LevelName, asked: &[u8], name: &[u8]) -> bool
     ensures { result ≡ is_asked level asked.now name.now }
 {
     match level {
         LevelName::Pure => true,
-        LevelName::Binary | LevelName::Tag => asked.as_bytes().is_empty() || asked == name,
+        LevelName::Binary | LevelName::Tag => asked.is_empty() || asked == name,
     }
 }
 
@@ -45,19 +46,42 @@ fn filter_text(level: LevelName, filter: Option<u8>) -> &'static [u8]
     }
 }
 
-/// The value of the items that stand for a field.
-fn value_for<'a>(epc: &'a Epc, filter: &'a [u8], field: Option<Field>) -> &'a [u8]
+/// A copy of a text that is one byte as a rule, which takes fewer steps so.
+fn few(alloc: Global, bytes: &[u8]) -> Result<Text, Memory>
+    ensures { IfOk result (λ text. text ≡ bytes.now) }
+{
+    let mut text = Text::new(alloc);
+    push_few(&mut text, bytes)?;
+    Ok(text)
+}
+
+/// The rest, joined: its lead digits are one as a rule.
+fn rest_of(alloc: Global, epc: &LentEpc<'_>) -> Result<Text, Memory>
+    ensures { IfOk result (λ text. text ≡ epc.now.rest) }
+{
+    let mut text = few(alloc, epc.lead)?;
+    text.extend_from_slice(epc.behind)?;
+    Ok(text)
+}
+
+/// A copy of the value of the items that stand for a field.
+fn value_for(
+    alloc: Global,
+    epc: &LentEpc<'_>,
+    filter: &[u8],
+    field: Option<Field>,
+) -> Result<Text, Memory>
     ensures { (level : LevelName) → filter.now ≡ filter_text level epc.now.filter
-        → result.now ≡ value_for level epc.now field }
+        → IfOk result (λ value. value ≡ value_for level epc.now field) }
 {
     match field {
-        None => &[],
-        Some(Field::Filter) => filter,
-        Some(Field::Gcp) => epc.prefix.as_bytes(),
-        Some(Field::Rest) => epc.rest.as_bytes(),
-        Some(Field::Piece) => epc.piece.as_bytes(),
-        Some(Field::Total) => epc.total.as_bytes(),
-        Some(Field::Serial) => epc.serial.as_bytes(),
+        None => Ok(Text::new(alloc)),
+        Some(Field::Filter) => few(alloc, filter),
+        Some(Field::Gcp) => Text::from_bytes(alloc, epc.prefix),
+        Some(Field::Rest) => rest_of(alloc, epc),
+        Some(Field::Piece) => Text::from_bytes(alloc, epc.piece),
+        Some(Field::Total) => Text::from_bytes(alloc, epc.total),
+        Some(Field::Serial) => Text::from_bytes(alloc, epc.serial),
     }
 }
 
@@ -65,7 +89,7 @@ fn value_for<'a>(epc: &'a Epc, filter: &'a [u8], field: Option<Field>) -> &'a [u
 pub(crate) fn values_for(
     alloc: Global,
     level: LevelName,
-    epc: &Epc,
+    epc: &LentEpc<'_>,
     fields: &[Option<Field>],
 ) -> Result<Vec<Text>, Memory>
     requires { HasFilterOn level epc.now.filter }
@@ -74,7 +98,7 @@ pub(crate) fn values_for(
     let filter = filter_text(level, epc.filter);
     let mut values = Vec::with_capacity(alloc, fields.len())?;
     for field in fields {
-        values.push(Text::from_bytes(alloc, value_for(epc, filter, *field))?)?;
+        values.push(value_for(alloc, epc, filter, *field)?)?;
     }
     Ok(values)
 }
@@ -92,27 +116,37 @@ fn has_item(field: Field, fields: &[Option<Field>]) -> bool
 }
 
 /// Whether a text is not empty, and no item stands for its field.
-fn is_left_out(field: Field, fields: &[Option<Field>], text: &Text) -> bool
+fn is_left_out(field: Field, fields: &[Option<Field>], text: &[u8]) -> bool
     ensures { result ≡ is_left_out field fields.now text.now }
 {
     // an empty text is never left out, and then the items need no look
-    !text.as_bytes().is_empty() && !has_item(field, fields)
+    !text.is_empty() && !has_item(field, fields)
+}
+
+/// Whether the rest is not empty, and no item stands for it.
+fn leaves_rest(fields: &[Option<Field>], epc: &LentEpc<'_>) -> bool
+    ensures { result ≡ is_left_out Field.Rest fields.now epc.now.rest }
+{
+    if epc.lead.is_empty() {
+        return is_left_out(Field::Rest, fields, epc.behind);
+    }
+    is_left_out(Field::Rest, fields, epc.lead)
 }
 
 /// The first of the rest, the piece, the total and the serial that an option leaves out.
-pub(crate) fn left_out(fields: &[Option<Field>], epc: &Epc) -> Option<Field>
+pub(crate) fn left_out(fields: &[Option<Field>], epc: &LentEpc<'_>) -> Option<Field>
     ensures { result ≡ left_out fields.now epc.now }
 {
-    if is_left_out(Field::Rest, fields, &epc.rest) {
+    if leaves_rest(fields, epc) {
         return Some(Field::Rest);
     }
-    if is_left_out(Field::Piece, fields, &epc.piece) {
+    if is_left_out(Field::Piece, fields, epc.piece) {
         return Some(Field::Piece);
     }
-    if is_left_out(Field::Total, fields, &epc.total) {
+    if is_left_out(Field::Total, fields, epc.total) {
         return Some(Field::Total);
     }
-    if is_left_out(Field::Serial, fields, &epc.serial) {
+    if is_left_out(Field::Serial, fields, epc.serial) {
         Some(Field::Serial)
     } else {
         None

@@ -5,6 +5,7 @@ ghost use Rattle.gs_epc.specs.Layout.{parts_at};
 ghost use Rattle.gs_epc.specs.KeyParts.{IsTakenApart, behind_zero, checked_count, digits_in, none_text, piece_in, piece_length, prefix_in, rest_in, serial_in, tail_in, total_in, total_length, unless_empty, value_from_prefix};
 
 use crate::epc::Epc;
+use crate::lent_epc::LentEpc;
 use crate::write_error::FieldsFault;
 use gs_ai::{AiTable, Pair, Part};
 use gs_chars::{Memory, Text};
@@ -123,21 +124,17 @@ pub(crate) fn joined(alloc: Global, first: &[u8], others: &[u8]) -> Result<Text,
     Ok(text)
 }
 
-/// What follows the company prefix, with the lead digits at the start.
-fn rest_in(alloc: Global, parts: &[Part], lead: u8, gcp: u8, value: &[u8]) -> Result<Text, Memory>
-    ensures { IfOk result (λ rest. rest ≡ rest_in parts.now lead gcp value.now) }
+/// What follows the company prefix: the lead digits, and what is behind them.
+fn rest_in<'a>(parts: &[Part], lead: u8, gcp: u8, value: &'a [u8]) -> (&'a [u8], &'a [u8])
+    ensures { result.0.now ++ result.1.now ≡ rest_in parts.now lead gcp value.now }
 {
     let gcp = usize::from(gcp);
     if are_characters(parts) {
-        return Text::from_bytes(alloc, behind(value, gcp));
+        return (&[], behind(value, gcp));
     }
     let lead = usize::from(lead);
     let digits = digits_in(parts, value);
-    joined(
-        alloc,
-        front(digits, lead),
-        behind(behind(digits, lead), gcp),
-    )
+    (front(digits, lead), behind(behind(digits, lead), gcp))
 }
 
 /// The parts of the key of a code.
@@ -204,17 +201,33 @@ pub fn value_from_prefix<'a>(set: &TableSet, kind: usize, value: &'a [u8]) -> &'
     behind(behind_zero(parts, value), usize::from(row.lead))
 }
 
+/// The EPC with a copy of each text.
+fn copied(alloc: Global, lent: &LentEpc<'_>) -> Result<Epc, Memory>
+    ensures { IfOk result (λ epc. epc ≡ lent.now) }
+{
+    Ok(Epc {
+        kind: lent.kind,
+        encoding: Text::from_bytes(alloc, lent.encoding)?,
+        filter: lent.filter,
+        gcp: lent.gcp,
+        prefix: Text::from_bytes(alloc, lent.prefix)?,
+        rest: joined(alloc, lent.lead, lent.behind)?,
+        piece: Text::from_bytes(alloc, lent.piece)?,
+        total: Text::from_bytes(alloc, lent.total)?,
+        serial: Text::from_bytes(alloc, lent.serial)?,
+    })
+}
+
 /// What an identity says by a kind of the set, named by its index, and the length of the company prefix (TDS 2.0, section
 /// 7): prefix, rest, piece, total and serial, with an empty encoding and no filter. Where the value of the key is too short, so are
 /// they. `MissingSerial` comes exactly where the kind has a serial, the identity lacks it, and no text stands for its
 /// absence.
-pub fn fields_of(
-    alloc: Global,
-    set: &TableSet,
+pub fn lent_fields_of<'a>(
+    set: &'a TableSet,
     kind: usize,
-    identity: &Identity,
+    identity: &'a Identity,
     gcp: u8,
-) -> Result<Epc, FieldsFault>
+) -> Result<LentEpc<'a>, FieldsFault>
     requires { kind < length set.now.kinds }
     ensures { IsTakenApart set.now kind identity.now gcp result }
 {
@@ -225,15 +238,32 @@ pub fn fields_of(
     };
     let value = identity.key().value.as_bytes();
     let further = row.further.items();
-    Ok(Epc {
+    let (lead, behind) = rest_in(parts, row.lead, gcp, value);
+    Ok(LentEpc {
         kind,
+        encoding: &[],
         filter: None,
         gcp,
-        prefix: Text::from_bytes(alloc, prefix_in(parts, row.lead, gcp, value))?,
-        rest: rest_in(alloc, parts, row.lead, gcp, value)?,
-        piece: Text::from_bytes(alloc, piece_in(parts, further, value))?,
-        total: Text::from_bytes(alloc, total_in(parts, further, value))?,
-        serial: Text::from_bytes(alloc, serial)?,
-        encoding: Text::new(alloc),
+        prefix: prefix_in(parts, row.lead, gcp, value),
+        lead,
+        behind,
+        piece: piece_in(parts, further, value),
+        total: total_in(parts, further, value),
+        serial,
     })
+}
+
+/// What an identity says by a kind of the set and the length of the company prefix, as by `lent_fields_of`, in texts of its own.
+pub fn fields_of(
+    alloc: Global,
+    set: &TableSet,
+    kind: usize,
+    identity: &Identity,
+    gcp: u8,
+) -> Result<Epc, FieldsFault>
+    requires { kind < length set.now.kinds }
+    ensures { IsTakenApart set.now kind identity.now gcp result }
+{
+    let lent = lent_fields_of(set, kind, identity, gcp)?;
+    Ok(copied(alloc, &lent)?)
 }

@@ -37,7 +37,7 @@ fn tail_of_key<'a>(at: &SerialAt, serial: &'a [u8]) -> &'a [u8]
 }
 
 /// Appends digits, of which there is at most one as a rule: one takes fewer steps so than as a slice.
-fn push_few(value: &mut Text, digits: &[u8]) -> Result<(), Memory>
+pub(crate) fn push_few(value: &mut Text, digits: &[u8]) -> Result<(), Memory>
     ensures { IfOk result (λ _. value.new ≡ value.old ++ digits.now) }
 {
     for digit in digits {

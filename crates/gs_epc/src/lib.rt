@@ -4,6 +4,7 @@
 //! - `name_hex`, `name_tag` and `name_pure` give at once the identity that a text names, its filter value and its encoding.
 //! - `identity_of` lays the fields out as a key and its serial number; `fields_of` takes an identity apart. `push_checked` writes
 //!   the digits of a key, for gs_class too.
+//! - `lent_fields_of` and `write_lent` are `fields_of` and `write_level` over texts that are lent, of which none is copied.
 //!
 //! # Example
 //!
@@ -32,6 +33,7 @@ mod key_parts;
 mod key_texts;
 mod laws;
 mod layout;
+mod lent_epc;
 mod named;
 mod naming;
 mod read;
@@ -40,13 +42,14 @@ mod writer;
 
 pub use epc::Epc;
 pub use error::EpcFault;
-pub use key_parts::{fields_of, value_from_prefix};
+pub use key_parts::{fields_of, lent_fields_of, value_from_prefix};
 pub use laws::{
     laying_out_undoes_taking_apart, taking_apart_undoes_laying_out, what_is_written_is_read,
 };
 pub use layout::{identity_of, push_checked};
+pub use lent_epc::LentEpc;
 pub use named::Named;
 pub use naming::{name_hex, name_pure, name_tag};
 pub use read::{read_hex, read_pure, read_tag};
 pub use write_error::{EpcWriteFault, FieldsFault};
-pub use writer::{write_hex, write_level, write_pure, write_tag};
+pub use writer::{write_hex, write_lent, write_level, write_pure, write_tag};

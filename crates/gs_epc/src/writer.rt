@@ -8,6 +8,7 @@ ghost use Rattle.gs_epc.specs.Writes.{IsTried, WritesAs, field_at, text_on};
 
 use crate::candidates::{is_asked, left_out, values_for};
 use crate::epc::Epc;
+use crate::lent_epc::{LentEpc, lent};
 use crate::write_error::EpcWriteFault;
 use gs_bits::BitBuf;
 use gs_chars::Text;
@@ -72,7 +73,7 @@ fn try_candidate(
     alloc: Global,
     set: &TableSet,
     level: LevelName,
-    epc: &Epc,
+    epc: &LentEpc<'_>,
     i: usize,
 ) -> Result<Text, EpcWriteFault>
     requires filter { HasFilterOn level epc.now.filter }
@@ -97,11 +98,11 @@ fn try_candidate(
 /// What an EPC is written as by the options of a level: of bits the hexadecimal digits that `write_hex` writes, else the URI that
 /// `write_tag` or `write_pure` writes, with the same errors. The EPC has a filter value, which is at most 7, where the level is
 /// not that of pure identities.
-pub fn write_level(
+pub fn write_lent(
     alloc: Global,
     set: &TableSet,
     level: LevelName,
-    epc: &Epc,
+    epc: &LentEpc<'_>,
 ) -> Result<Text, EpcWriteFault>
     requires { HasFilterOn level epc.now.filter }
     ensures { WritesAs set.now level epc.now result }
@@ -111,7 +112,7 @@ pub fn write_level(
     let mut rejection = EpcWriteFault::NoOption;
     for number in numbers {
         let i = *number;
-        if !is_asked(level, &epc.encoding, &info[i].encoding) {
+        if !is_asked(level, epc.encoding, info[i].encoding.as_bytes()) {
             continue;
         }
         match try_candidate(alloc, set, level, epc, i) {
@@ -124,6 +125,19 @@ pub fn write_level(
         }
     }
     Err(rejection)
+}
+
+/// What an EPC is written as by the options of a level, as by `write_lent`.
+pub fn write_level(
+    alloc: Global,
+    set: &TableSet,
+    level: LevelName,
+    epc: &Epc,
+) -> Result<Text, EpcWriteFault>
+    requires { HasFilterOn level epc.now.filter }
+    ensures { WritesAs set.now level epc.now result }
+{
+    write_lent(alloc, set, level, &lent(epc))
 }
 
 /// The bits of an EPC in upper-case hexadecimal digits (TDS 2.0, section 14). The candidates are the options of bits of the

@@ -1,5 +1,4 @@
 -- What proofs and private functions say beside the definitions of Targets.antt.
-use Rattle.std.specs.Prelude.{not}
 use Rattle.gs_epc.specs.declared.write_error.FieldsFault.{FieldsFault}
 use Rattle.gs_epc.specs.declared.write_error.FieldsFault.TheVariants.{MissingSerial, Memory as NoMemory}
 use Rattle.gs_translate.specs.declared.field_name.FieldName.TheVariants.{Serial}

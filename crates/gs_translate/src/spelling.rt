@@ -14,18 +14,23 @@ use crate::words::append_word;
 use gs_chars::Text;
 use gs_dlink::append_link;
 use gs_element::{append_bracketed, append_raw};
-use gs_epc::{Epc, write_level};
+use gs_epc::{LentEpc, write_lent};
 use gs_ident::append_canonical;
 use gs_prefix::PrefixList;
 use gs_tables::{LevelName, TableSet};
 use std::alloc::Global;
 
 /// The text of an EPC in a level, or why there is none.
-fn write_epc(alloc: Global, set: &TableSet, level: LevelName, epc: &Epc) -> Result<Text, Reason>
+fn write_epc(
+    alloc: Global,
+    set: &TableSet,
+    level: LevelName,
+    epc: &LentEpc<'_>,
+) -> Result<Text, Reason>
     requires { HasFilterOn level epc.now.filter }
     ensures { UnlessMemory result (IsWritten set.now level epc.now result) }
 {
-    Ok(write_level(alloc, set, level, epc)?)
+    Ok(write_lent(alloc, set, level, epc)?)
 }
 
 /// The text of a level of what a text means, or the first reason why there is none.

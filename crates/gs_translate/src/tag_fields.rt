@@ -10,8 +10,8 @@ use crate::meaning::Meaning;
 use crate::options::Options;
 use crate::reason::Reason;
 use gs_ai::Pair;
-use gs_chars::{Memory, Text, count_digits};
-use gs_epc::{Epc, fields_of, value_from_prefix};
+use gs_chars::count_digits;
+use gs_epc::{LentEpc, lent_fields_of, value_from_prefix};
 use gs_ident::Identity;
 use gs_prefix::PrefixList;
 use gs_tables::{LevelName, OptInfo, SerialAt, TableSet};
@@ -149,27 +149,27 @@ fn lacks_filter(level: LevelName, filter: Option<u8>) -> bool
 }
 
 /// The encoding of the options, else that of the text.
-fn encoding_for(alloc: Global, options: &Options, meaning: &Meaning) -> Result<Text, Memory>
-    ensures { IfOk result (λ encoding. encoding ≡ encoding_for options.now meaning.now) }
+fn encoding_for<'a>(options: &'a Options, meaning: &'a Meaning) -> &'a [u8]
+    ensures { result.now ≡ encoding_for options.now meaning.now }
 {
-    if options.encoding.as_bytes().is_empty() {
-        meaning.encoding.copy(alloc)
+    let encoding = options.encoding.as_bytes();
+    if encoding.is_empty() {
+        meaning.encoding.as_bytes()
     } else {
-        options.encoding.copy(alloc)
+        encoding
     }
 }
 
 /// The EPC with the encoding and the filter value of a tag.
-fn with_tag(
-    alloc: Global,
-    options: &Options,
+fn with_tag<'a>(
+    options: &'a Options,
     level: LevelName,
-    meaning: &Meaning,
-    epc: Epc,
-) -> Result<Epc, Reason>
+    meaning: &'a Meaning,
+    epc: LentEpc<'a>,
+) -> Result<LentEpc<'a>, Reason>
     requires options { FitsFilter options.now.filter }
     requires meaning { FitsFilter meaning.now.filter }
-    ensures tagged { UnlessMemory result (result ≡ with_tag options.now level meaning.now epc) }
+    ensures tagged { UnlessMemory result (result ≡ with_tag options.now level meaning.now epc.entry) }
     ensures filter { IfOk result (λ epc. HasFilterOn level epc.filter) }
 {
     let filter = filter_for(options, meaning);
@@ -177,20 +177,20 @@ fn with_tag(
         return Err(Reason::Missing(FieldName::Filter));
     }
     let mut epc = epc;
-    epc.encoding = encoding_for(alloc, options, meaning)?;
+    epc.encoding = encoding_for(options, meaning);
     epc.filter = filter;
     Ok(epc)
 }
 
 /// What is written of a meaning as a tag or an EPC URI, or the first reason why it is not.
-pub(crate) fn epc_for(
+pub(crate) fn epc_for<'a>(
     alloc: Global,
-    set: &TableSet,
+    set: &'a TableSet,
     prefixes: &PrefixList,
-    options: &Options,
+    options: &'a Options,
     level: LevelName,
-    meaning: &Meaning,
-) -> Result<Epc, Reason>
+    meaning: &'a Meaning,
+) -> Result<LentEpc<'a>, Reason>
     requires options { FitsFilter options.now.filter }
     requires meaning { FitsFilter meaning.now.filter }
     ensures epc { UnlessMemory result (result ≡ epc_for set.now prefixes.now options.now level meaning.now) }
@@ -198,6 +198,6 @@ pub(crate) fn epc_for(
 {
     let kind = kind_for(alloc, set, &meaning.identity)?;
     let gcp = length_for(set, prefixes, options, meaning, kind)?;
-    let epc = fields_of(alloc, set, kind, &meaning.identity, gcp)?;
-    with_tag(alloc, options, level, meaning, epc)
+    let epc = lent_fields_of(set, kind, &meaning.identity, gcp)?;
+    with_tag(options, level, meaning, epc)
 }

@@ -1,6 +1,7 @@
 use Rattle.std.proofs.Common.{◌≡◌, ℕ, ◌+◌, ◌<◌, ◌≤◌, List, [], ◌∷◌, ◌++◌, length, get_or, drop, map, append_assoc, append-nil, sym, ap, ◌∙◌}
 use Rattle.std.proofs.lemmas.List.{at_drop_more, at_drop_all}
-use Rattle.gs_epc.specs.Candidates.{value_for}
+use Rattle.gs_epc.specs.Candidates.{filter_text, value_for}
+use Rattle.gs_epc.specs.declared.epc.Epc.{Epc}
 use Rattle.gs_epc.proofs.candidates.values_for.Goals as goal
 
 one_more : {X Y : Type 0} (f : X → Y) (xs : List X) (i : ℕ) (d : X) (made new all : List Y) (y : Y) → i < length xs → made ++ map f (drop i xs) ≡ all →
@@ -14,8 +15,8 @@ all_made f xs i made all h so_far = sym (append-nil made) ∙ ap (λ rest. made 
 
 pub loop-field-preserved : goal.loop-field-preserved
 loop-field-preserved c =
-    let value = c.in_ok-from_bytes.ensures ∙ c.value_for.ensures c.args.level c.filter_text-filter.ensures in
-    one_more (value_for c.args.level c.args.epc.now) c.args.fields.now c.loop-field.field-index _ c.loop-field.values.items c.push.new.self.items _ c.in_ok-from_bytes.field-0 c.loop-field-test.true c.loop-field.invariant value c.in_ok-push.ensures.items
+    let value = c.in_ok-value_for.ensures c.args.level (c.filter_text-filter.ensures ∙ ap (λ (e : Epc). filter_text c.args.level e.filter) c.epc.view_is) in
+    one_more (value_for c.args.level c.args.epc.now) c.args.fields.now c.loop-field.field-index _ c.loop-field.values.items c.push.new.self.items _ c.in_ok-value_for.field-0 c.loop-field-test.true c.loop-field.invariant value c.in_ok-push.ensures.items
 
 pub returns : goal.returns
 returns c = all_made (value_for c.args.level c.args.epc.now) c.args.fields.now c.loop-field.field-index c.loop-field.values.items _ c.loop-field-test.false c.loop-field.invariant

@@ -1,0 +1,67 @@
+ghost use Rattle.std.specs.Prelude.{◌≡◌};
+
+use crate::epc::Epc;
+use std::marker::Model;
+
+/// What a tag or an EPC URI says, each text lent: the fields of `Epc`. The rest is in two parts, so that none is copied to join
+/// them.
+#[derive(Drop)]
+pub struct LentEpc<'a> {
+    /// The index of the kind.
+    pub kind: usize,
+    /// The name of the encoding, empty for a pure identity.
+    pub encoding: &'a [u8],
+    /// The filter value, none for a pure identity.
+    pub filter: Option<u8>,
+    /// How many digits the GS1 Company Prefix has, 1 to 12.
+    pub gcp: u8,
+    /// The GS1 Company Prefix.
+    pub prefix: &'a [u8],
+    /// The lead digits of the rest.
+    pub lead: &'a [u8],
+    /// What follows them in the rest.
+    pub behind: &'a [u8],
+    /// The number of the piece, empty for a kind without pieces.
+    pub piece: &'a [u8],
+    /// How many pieces there are, empty for a kind without pieces.
+    pub total: &'a [u8],
+    /// The serial, empty for a kind without one.
+    pub serial: &'a [u8],
+}
+
+impl<'a> Model for LentEpc<'a> {
+    ghost use Rattle.std.specs.Prelude.{◌++◌};
+    ghost use Rattle.gs_epc.specs.declared.epc.Epc.{Epc};
+
+    ghost Value = { Epc };
+
+    ghost view = { λ t. record {
+      kind = t.kind;
+      encoding = t.encoding.now;
+      filter = t.filter;
+      gcp = t.gcp;
+      prefix = t.prefix.now;
+      rest = t.lead.now ++ t.behind.now;
+      piece = t.piece.now;
+      total = t.total.now;
+      serial = t.serial.now;
+    } };
+}
+
+/// An EPC, lent.
+pub(crate) fn lent(epc: &Epc) -> LentEpc<'_>
+    ensures { result ≡ epc.now }
+{
+    LentEpc {
+        kind: epc.kind,
+        encoding: epc.encoding.as_bytes(),
+        filter: epc.filter,
+        gcp: epc.gcp,
+        prefix: epc.prefix.as_bytes(),
+        lead: &[],
+        behind: epc.rest.as_bytes(),
+        piece: epc.piece.as_bytes(),
+        total: epc.total.as_bytes(),
+        serial: epc.serial.as_bytes(),
+    }
+}
