@@ -1,8 +1,8 @@
 ghost use Rattle.std.specs.Prelude.{◌≡◌, false, true};
 
 use gs_port::{
-    AcceptAnswer, Door, FileFault, Files, OpenAnswer, ReadAnswer, Sink, Source, Whole, WriteAnswer,
-    read_file, write_whole,
+    AcceptAnswer, Conn, Door, FileFault, Files, OpenAnswer, ReadAnswer, Sink, Source, Whole,
+    WriteAnswer, read_file, write_whole,
 };
 use gs_port_system::{HostFiles, ScriptedAnswer, ScriptedCalls, StdinSource, StdoutSink, TcpDoor};
 use std::alloc::Global;
@@ -89,7 +89,7 @@ fn a_door_answers_a_client(rt: HostRuntime) -> Result<(), Fail> {
     Ok(())
 }
 
-/// A script of these first answers, which then fails for ever.
+/// Returns a script of these first answers, which then fails for ever.
 fn script(first: ScriptedAnswer, second: ScriptedAnswer, third: ScriptedAnswer) -> ScriptedCalls {
     let failing = ScriptedAnswer::Fails(ErrorKind::Other);
     ScriptedCalls::new([
@@ -131,6 +131,124 @@ fn first_accept(calls: ScriptedCalls) -> AcceptAnswer {
         OpenAnswer::Opened => echo_once(&mut door),
         _ => AcceptAnswer::Closed,
     }
+}
+
+/// Reads so often, until a read gives nothing, and returns how often one gave bytes.
+fn reads_given<C: Conn>(conn: &mut C, most: usize) -> usize
+    requires { C.is_open conn.old ≡ true }
+    ensures { C.is_open conn.new ≡ true }
+{
+    if most == 0 {
+        return 0;
+    }
+    let mut block = [0; 16];
+    match conn.read(&mut block) {
+        ReadAnswer::Got(moved) if moved > 0 => reads_given(conn, most - 1).saturating_add(1),
+        _ => 0,
+    }
+}
+
+/// Writes so often, until a write fails, and returns how often one took bytes.
+fn writes_taken<C: Conn>(conn: &mut C, most: usize) -> usize
+    requires { C.is_open conn.old ≡ true }
+    ensures { C.is_open conn.new ≡ true }
+{
+    if most == 0 {
+        return 0;
+    }
+    match conn.write(b"ten") {
+        WriteAnswer::Took(_) => writes_taken(conn, most - 1).saturating_add(1),
+        _ => 0,
+    }
+}
+
+/// Accepts a connection, reads and writes it so often, and finishes it: how often that moved bytes.
+fn moves_of<D: Door>(door: &mut D, reads: usize, writes: usize) -> (usize, usize)
+    requires none_open { D.is_open door.old ≡ false }
+    requires listening { (D.aside door.old).opened ≡ true }
+{
+    match door.accept() {
+        AcceptAnswer::Accepted => {}
+        _ => return (0, 0),
+    }
+    let given = reads_given(door, reads);
+    let taken = writes_taken(door, writes);
+    door.finish();
+    (given, taken)
+}
+
+/// How often the first connection of a scripted door moves bytes.
+fn first_moves(calls: ScriptedCalls, reads: usize, writes: usize) -> (usize, usize) {
+    let mut door = TcpDoor::new(calls);
+    match door.open("here") {
+        OpenAnswer::Opened => moves_of(&mut door, reads, writes),
+        _ => (0, 0),
+    }
+}
+
+#[test]
+fn interrupted_calls_of_a_connection_are_made_again(rt: HostRuntime) {
+    let reading = [
+        GIVES,
+        GIVES,
+        INTERRUPTED,
+        INTERRUPTED,
+        GIVES,
+        INTERRUPTED,
+        GIVES,
+        GIVES,
+    ];
+    assert_eq!(rt; first_moves(ScriptedCalls::new(reading), 2, 1), (2, 1));
+    // (the clock ends what is interrupted for ever)
+    let forever = ScriptedCalls::new([
+        GIVES,
+        GIVES,
+        GIVES,
+        INTERRUPTED,
+        INTERRUPTED,
+        INTERRUPTED,
+        INTERRUPTED,
+        INTERRUPTED,
+    ]);
+    assert_eq!(rt; first_moves(forever.with_step(1_000), 2, 0), (1, 0));
+}
+
+#[test]
+fn a_connection_has_a_budget_of_time(rt: HostRuntime) {
+    let giving = ScriptedCalls::new([GIVES; 8]);
+    assert_eq!(rt; first_moves(giving, 9, 9), (9, 9));
+    // (a head that comes by a read each four seconds has four of them, and a reply of less than a MiB three writes)
+    assert_eq!(rt; first_moves(giving.with_step(4_000), 9, 0), (4, 0));
+    assert_eq!(rt; first_moves(giving.with_step(4_000), 1, 9), (1, 3));
+    assert_eq!(rt; first_moves(giving.with_step(11_000), 1, 1), (1, 1));
+}
+
+#[test]
+fn an_accept_waits_for_what_the_system_lacks(rt: HostRuntime) {
+    let lack = ScriptedAnswer::FailsBy(24);
+    let again = script(GIVES, lack, GIVES);
+    assert!(rt; matches!(first_accept(again), AcceptAnswer::Accepted));
+    let for_ever = ScriptedCalls::new([GIVES, lack, lack, lack, lack, lack, lack, lack]);
+    assert!(rt; matches!(first_accept(for_ever), AcceptAnswer::Failed));
+}
+
+#[test]
+fn a_reply_is_whole_where_input_is_left(rt: HostRuntime) -> Result<(), Fail> {
+    let alloc = rt.alloc();
+    let mut door = TcpDoor::new(rt);
+    let OpenAnswer::Opened = door.open("127.0.0.1:0") else {
+        return Err(Fail::new("no port can be listened at"));
+    };
+    let port = door.port().unwrap_or(0);
+    let mut client = TcpStream::connect(&rt, (Ipv4Addr::LOCALHOST, port))?;
+    let long = vec![in alloc; b'x'; 50_000]?;
+    client.write_all(long.as_slice())?;
+    client.shutdown(Shutdown::Write)?;
+    assert!(rt; matches!(echo_once(&mut door), AcceptAnswer::Accepted));
+    let mut reply = Vec::new(alloc);
+    client.read_to_end(&mut reply)?;
+    assert_eq!(rt; reply.as_slice(), &long[..16]);
+    Ok(())
 }
 
 #[test]

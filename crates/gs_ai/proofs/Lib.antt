@@ -1,3 +1,4 @@
+pub mod FitLemmas
 pub mod PartLemmas
 pub mod PartTexts
 pub mod PlaceLemmas

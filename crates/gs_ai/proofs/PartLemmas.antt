@@ -1,4 +1,4 @@
--- What the parts say of the start of a value.
+-- The facts that the parts give about the start of a value.
 use Rattle.std.proofs.Common.{◌≡◌, ℕ, ◌+◌, not, List, [], ◌∷◌, length, take, drop, map, position, Option, Some, None, refl, option_map}
 use Rattle.std.specs.Option.{option_or}
 use Rattle.gs_ai.specs.declared.part.Part.{Part}
@@ -30,3 +30,11 @@ wrong_later p ps value piece rest i e f h k = let h' = rw e at h in let k' = rw 
 
 pub wrong_nowhere : (p : Part) (ps : List Part) (value piece rest : List ℕ) → piece ≡ take (greatest_length p) value → rest ≡ drop (greatest_length p) value → wrong_in p piece ≡ None → wrong_character ps rest ≡ None → wrong_character (p ∷ ps) value ≡ None
 wrong_nowhere p ps value piece rest e f h k = let h' = rw e at h in let k' = rw f at k in rw (wrong-cons p ps value, h', k')
+
+pub neither : (a b : Option ℕ) → option_or a b ≡ None → (a ≡ None) × (b ≡ None)
+neither None b e = (refl, e)
+neither (Some i) b e = absurd (let f : Some i ≡ None = e in cc)
+
+pub not_mapped : (f : ℕ → ℕ) (a : Option ℕ) → option_map f a ≡ None → a ≡ None
+not_mapped f None e = refl
+not_mapped f (Some i) e = absurd (let g : Some (f i) ≡ None = e in cc)

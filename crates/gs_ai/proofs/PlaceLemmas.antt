@@ -177,7 +177,7 @@ module _ (rows : List AiRow) (rules : KeepsRules rows) (code : List ℕ) where
         let same : row ≡ some.0 = cc in
         rw same some.2
 
-    -- the row's code is the code where both are equally long
+    -- the row's code is the code if both are equally long
     pub code_by_length : length row.code ≡ length code → true ≡ bytes_eq row.code code
     code_by_length e =
         let whole : take (length row.code) code ≡ code = take_all (length row.code) code (omega (arith, e)) in

@@ -97,7 +97,7 @@ pub row_in_order : (i : ℕ) (earlier : List AiRow) (row : AiRow) → is_row row
 unfolding row_errors
 row_in_order i earlier row h p k = rw (h, clash_none (λ other. clash other.code row.code) (λ j. CodePrefix j i) 0 earlier p, k) refl
 
--- ---- a table without errors keeps the rules
+-- ---- a table without errors satisfies the rules
 
 error_if_nil : (b : Bool) (error : AiFault) → error_if b error ≡ [] → b ≡ false
 error_if_nil true error e = absurd (let f : error ∷ [] ≡ [] = e in cc)

@@ -70,7 +70,7 @@ cons_some p y ys i e = some_cases (p y) (position p ys) i (sym (position-cons p 
 pub cons_none : {X : Type 0} (p : X → Bool) (y : X) (ys : List X) → position p (y ∷ ys) ≡ None → (p y ≡ false) × (position p ys ≡ None)
 cons_none p y ys e = none_cases (p y) (position p ys) (sym (position-cons p y ys) ∙ e)
 
--- what `position` says of an element
+-- the fact that `position` gives about an element
 pub position_some : {X : Type 0} (p : X → Bool) (xs : List X) (i : ℕ) → position p xs ≡ Some i → (x : X) × (slice_get xs i ≡ Some x) × (p x ≡ true)
 position_some p [] i e = absurd (let f : None ≡ Some i = e in cc)
 position_some p (y ∷ ys) i e = elim (cons_some p y ys i e) [

@@ -1,4 +1,4 @@
--- What the rules of a table say of its codes.
+-- The facts that the rules of a table give about its codes.
 use Rattle.std.proofs.Common.{Bool, ◌≡◌, ℕ, ◌<◌, ◌≤◌, true, false, List, length, take, Some, None, find, ◌&&◌, slice_get, get_or, refl, sym, ap, ◌∙◌, arith, zero, suc, [], ◌∷◌, ◌⊎◌, inl, inr}
 use Rattle.std.specs.List.{list_any}
 use Rattle.std.specs.Option.{option_and_then}
@@ -76,7 +76,7 @@ not_any p q (x ∷ xs) e = elim (true_or_false (p x)) [
   | inr t ↦ let f = rw t at e in rw t (not_any p q xs f)
 ]
 
--- where no row after the first with the code has it too
+-- if no row after the first with the code has it too
 only_any : {X : Type 0} (p q : X → Bool) (xs : List X) (x : X) → find p xs ≡ Some x → ((i j : ℕ) (a b : X) → slice_get xs i ≡ Some a → slice_get xs j ≡ Some b → p a ≡ true → p b ≡ true → i ≡ j) → list_any (λ y. p y && q y) xs ≡ q x
 only_any p q [] x e one = absurd (let f : None ≡ Some x = e in cc)
 only_any p q (y ∷ ys) x e one = elim (true_or_false (p y)) [

@@ -1,4 +1,4 @@
--- What is known of a value that is one of its code's in a table that keeps the rules.
+-- The facts about a value that is valid for its code, by a table that satisfies the rules.
 use Rattle.std.proofs.Common.{◌≡◌, ℕ, zero, suc, ◌+◌, ◌≤◌, ◌==◌, ◌&&◌, nat_le, not, Bool, true, false, if◌then◌else◌, List, [], ◌∷◌, ◌++◌, length, take, drop, find, Option, Some, None, slice_get, refl, sym, ap, subst, ◌∙◌, arith, option_map, inl, inr}
 use Rattle.std.specs.List.{list_all}
 use Rattle.std.specs.Option.{option_or, option_map_or}
@@ -16,7 +16,7 @@ use Rattle.gs_ai.specs.Parts.{greatest_length, is_of_part}
 use Rattle.gs_ai.specs.PredefinedLengths.{predefined_length}
 use Rattle.gs_ai.specs.Tables.{is_code, keeps_predefined, KeepsRules}
 use Rattle.gs_ai.specs.Values.{greatest_of, least_of, has_code, has_length_of, keeps_check, keeps_date, parts_error, pieces, value_error, wrong_character}
-use Rattle.gs_ai.proofs.PartLemmas.{wrong-cons, wrong_in}
+use Rattle.gs_ai.proofs.PartLemmas.{neither, not_mapped, wrong-cons, wrong_in}
 use Rattle.gs_ai.proofs.RowLemmas.{row_code}
 use Rattle.gs_ai.proofs.Searches.{passes_none}
 
@@ -94,14 +94,6 @@ all_passed p piece e = by piece (λ j c at. passes_none (λ c. not (is_of_part p
 in_set82_append : (a b : List ℕ) → are_in_set82 a ≡ true → are_in_set82 b ≡ true → are_in_set82 (a ++ b) ≡ true
 in_set82_append [] b f g = g
 in_set82_append (c ∷ a) b f g = and_true (is_in_set82 c) (are_in_set82 (a ++ b)) (and_first _ _ f) (in_set82_append a b (and_second _ _ f) g)
-
-neither : (a b : Option ℕ) → option_or a b ≡ None → (a ≡ None) × (b ≡ None)
-neither None b e = (refl, e)
-neither (Some i) b e = absurd (let f : Some i ≡ None = e in cc)
-
-not_mapped : (f : ℕ → ℕ) (a : Option ℕ) → option_map f a ≡ None → a ≡ None
-not_mapped f None e = refl
-not_mapped f (Some i) e = absurd (let g : Some (f i) ≡ None = e in cc)
 
 plain : (parts : List Part) (value : List ℕ) → length value ≤ greatest_of parts → wrong_character parts value ≡ None → are_in_set82 value ≡ true
 plain [] [] fits e = refl

@@ -3,3 +3,4 @@ pub mod PredefinedLengths
 pub mod Tables
 pub mod TablesSupport
 pub mod Values
+pub mod ValuesSupport

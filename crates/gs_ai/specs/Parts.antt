@@ -67,7 +67,7 @@ greatest_length (SetOpt k) = k
 greatest_length Date = 6
 greatest_length Other = 0
 
--- trusted, GS1 General Specifications, section 3.2: a character may stand in a part
+-- trusted, GS1 General Specifications, section 3.2: a character may be in a part
 abbrev pub is_of_part : Part → ℕ → Bool
 is_of_part Zero c = c == 48
 is_of_part (Num _) c = is_digit c

@@ -21,18 +21,18 @@ use Rattle.gs_ai.specs.Values.{least_of, greatest_of, parts_error, has_code}
 abbrev pub is_code : List ℕ → Bool
 is_code code = are_digits code && nat_le 2 (length code) && nat_le (length code) 4
 
--- trusted, own: one to three parts of the list, and none but the last is written with `..`
+-- trusted, own: holds if there are one to three parts of the list, and only the last is written with `..`
 abbrev pub are_parts : List Part → Bool
 are_parts parts =
     nat_le 1 (length parts) && nat_le (length parts) 3 && list_all is_part parts
     && list_all (λ p. not (is_open p)) (take (length parts - 1) parts)
 
--- trusted, own: no code stands twice
+-- trusted, own: holds if no code occurs twice
 abbrev pub are_distinct : List (List ℕ) → Bool
 are_distinct [] = true
 are_distinct (code ∷ codes) = not (list_any (bytes_eq code) codes) && are_distinct codes
 
--- trusted, own: 14 digits of which the last is the check digit: the part `n14c` alone
+-- trusted, own: holds if the parts are only `n14c`: 14 digits, of which the last is the check digit
 abbrev pub is_gtin : List Part → Bool
 is_gtin (NumCheck k ∷ []) = k == 14
 is_gtin _ = false
@@ -53,22 +53,22 @@ keeps_role_of Other _ = false
 abbrev pub keeps_role : AiRow → Bool
 keeps_role row = keeps_role_of row.role row
 
--- trusted, own, after GS1 General Specifications section 3.2: the row by itself is in order
+-- trusted, own, after GS1 General Specifications section 3.2: the row by itself is valid
 unfoldable pub is_row : AiRow → Bool
 is_row row =
     is_code row.code && are_parts row.parts && keeps_role row && are_distinct row.qualifiers
     && (not row.short || is_gtin row.parts)
     && (is_empty row.none || is_none (parts_error row.parts row.none))
 
--- trusted, own, after GS1 General Specifications section 3.2: code and value have one length together, the predefined one,
--- where the code's start is listed
+-- trusted, own, after GS1 General Specifications section 3.2: holds if AI and value together have only the predefined length, if
+-- the AI's start is listed
 unfoldable pub keeps_predefined : AiRow → Bool
 keeps_predefined row =
     option_map_or (λ n. (least_of row.parts == greatest_of row.parts) && (length row.code + greatest_of row.parts == n)) (predefined_length row.code) true
 
 -- ---- a row among the others
 
--- trusted, own: the first text stands at the start of the second
+-- trusted, own: the first text is at the start of the second
 abbrev pub begins : List ℕ → List ℕ → Bool
 begins front text = starts_with nat_eq text front
 
@@ -94,12 +94,11 @@ is_key_of rows code = list_any (λ row. has_code code row && is_key row.role) ro
 abbrev pub is_qualifier_of : List AiRow → List ℕ → Bool
 is_qualifier_of rows code = list_any (λ row. has_code code row && is_qualifier row.role) rows
 
--- trusted, own: the error alone where the test holds, else none
+-- trusted, own: the list of `error` if the test is true, otherwise the empty list
 abbrev pub error_if : Bool → AiFault → List AiFault
 error_if test error = if test then error ∷ [] else []
 
--- trusted, own: the errors of row i by itself and beside the rows before it: its form, a code that clashes with an earlier
--- one, its length
+-- trusted, own: the errors of row i, given the rows before it: its form, a code that clashes with an earlier one, its length
 unfoldable pub row_errors : ℕ → List AiRow → AiRow → List AiFault
 row_errors i earlier row =
     error_if (not (is_row row)) (BadAi i)
@@ -123,7 +122,7 @@ table_errors rows =
 
 -- trusted, own: What holds of the rows of every table.
 pub record KeepsRules (rows : List AiRow) : Type 0 where
-  -- each row by itself is in order
+  -- each row by itself is valid
   pub rows_in_order : (i : ℕ) (row : AiRow) → slice_get rows i ≡ Some row → (is_row row ≡ true) × (keeps_predefined row ≡ true)
   -- no code begins another
   pub codes_apart : (i j : ℕ) (a b : AiRow) → slice_get rows i ≡ Some a → slice_get rows j ≡ Some b → begins a.code b.code ≡ true → i ≡ j

@@ -1,4 +1,4 @@
--- What proofs and private functions say beside the definitions of Tables.antt.
+-- Definitions for proofs and private functions, in addition to Tables.antt.
 use Rattle.std.specs.Prelude.{◌≡◌, ℕ, ◌+◌, ◌-◌, ◌*◌, ◌<◌, Bool, false, ◌==◌, ◌&&◌, if◌then◌else◌, List, [], ◌∷◌, map, filter, Option, Some, None, slice_get, Result, MatchResult}
 use Rattle.std.specs.List.{enumerate_from}
 use Rattle.std.specs.Option.{option_map_or}
@@ -9,17 +9,17 @@ use Rattle.gs_ai.specs.declared.errors.AiFault.{AiFault}
 use Rattle.gs_ai.specs.declared.row.AiRow.{AiRow}
 use Rattle.gs_ai.specs.Tables.{is_key, is_qualifier}
 
--- the role is the one that is asked for, key or qualifier
+-- the role is the requested one, key or qualifier
 abbrev pub is_asked : Role → Role → Bool
 is_asked Key role = is_key role
 is_asked Qualifier role = is_qualifier role
 is_asked _ _ = false
 
--- the first of the errors, or Ok where there is none
+-- the first of the errors, or Ok if there are none
 abbrev pub IsFirstError : List AiFault → Result (Unit {0}) AiFault → Type 0
 IsFirstError errors answer = MatchResult answer (λ _. errors ≡ []) (λ error. slice_get errors 0 ≡ Some error)
 
--- the number of the two digits at the start, where two digits are there
+-- the number of the first two digits, if there are two digits
 abbrev pub two_digits : List ℕ → Option ℕ
 two_digits (a ∷ b ∷ _) = if is_digit a && is_digit b then Some (10 * (a - 48) + (b - 48)) else None
 two_digits _ = None

@@ -4,7 +4,7 @@ ghost use Rattle.gs_ai.specs.declared.errors.AiFault.TheVariants.{Memory as memo
 use gs_chars::Memory;
 use std::alloc::{AllocError, AllocFailed};
 
-/// Why rows are no table. Rows are counted from 0.
+/// Why rows are not table. Rows are counted from 0.
 #[derive(Clone, Copy, Debug)]
 pub enum AiFault {
     /// The row by itself is out of form, or lists a code that is not that of a qualifier.
@@ -19,14 +19,14 @@ pub enum AiFault {
     Memory,
 }
 
-/// Why a value is none of its application identifier.
+/// Why a value is invalid for its application identifier.
 #[derive(Clone, Copy, Debug)]
 pub enum ValueFault {
     /// No row has the code.
     Unknown,
     /// The value is too short or too long.
     Length,
-    /// The character at this place is the first that may not stand there.
+    /// The character at this index is the first that is not allowed.
     Char(usize),
     /// The check digit is wrong.
     Check,
@@ -34,22 +34,22 @@ pub enum ValueFault {
     Date,
 }
 
-/// What is wrong at a place of an element string or of a link.
+/// The error at a place of an element string or of a link.
 #[derive(Clone, Copy, Debug)]
 pub enum ElementWhy {
-    /// The value is none of its application identifier.
+    /// The value is invalid for its application identifier.
     Value(ValueFault),
     /// A percent sign without two hexadecimal digits.
     Escape,
-    /// No bracket with a code where one has to stand, or one without its end.
+    /// A bracket with a code is missing, or has no end.
     Bracket,
 }
 
-/// The place of the element that is not in order, as a number of bytes before it, and what is wrong there.
+/// The number of bytes before the first invalid element, and its error.
 #[derive(Clone, Copy, Debug)]
 pub struct ElementFault {
     /// The number of bytes before the place.
     pub at: usize,
-    /// What is wrong there.
+    /// The error.
     pub why: ElementWhy,
 }

@@ -10,21 +10,21 @@ use crate::row::AiRow;
 use crate::value::{greatest_length_of, least_length_of, parts_ok};
 use gs_chars::{Text, are_digits};
 
-/// Whether the code is 2 to 4 digits.
+/// Returns whether the code is 2 to 4 digits.
 fn is_code(code: &[u8]) -> bool
     ensures { result ≡ is_code code.now }
 {
     are_digits(code) && 2 <= code.len() && code.len() <= 4
 }
 
-/// Whether each part is one of the list, and none is written with `..`.
+/// Returns whether each part is one of the list, and none is written with `..`.
 fn are_closed(parts: &[Part]) -> bool
     ensures { result ≡ list_all (λ p. is_part p && not (is_open p)) parts.now }
 {
     parts.iter().all(|part| part.is_listed() && !part.is_open())
 }
 
-/// Whether these are 1 to 3 parts of the list, of which none but the last is written with `..`.
+/// Returns whether these are 1 to 3 parts of the list, and only the last is written with `..`.
 fn are_parts(parts: &[Part]) -> bool
     ensures { result ≡ are_parts parts.now }
 {
@@ -37,7 +37,7 @@ fn are_parts(parts: &[Part]) -> bool
     last.is_listed() && are_closed(others)
 }
 
-/// Whether no code stands twice.
+/// Returns whether no code occurs twice.
 fn are_distinct(codes: &[Text]) -> bool
     ensures { result ≡ are_distinct codes.now }
 {
@@ -47,7 +47,7 @@ fn are_distinct(codes: &[Text]) -> bool
     !others.contains(code) && are_distinct(others)
 }
 
-/// Whether a key has no `none` text, and another row no qualifiers.
+/// Returns whether a key has no `none` text, and another row no qualifiers.
 fn keeps_role(row: &AiRow) -> bool
     ensures { result ≡ keeps_role row.now }
 {
@@ -58,7 +58,7 @@ fn keeps_role(row: &AiRow) -> bool
     }
 }
 
-/// Whether the parts are 14 digits with a check digit.
+/// Returns whether the parts are 14 digits with a check digit.
 fn is_gtin(parts: &[Part]) -> bool
     ensures { result ≡ is_gtin parts.now }
 {
@@ -68,7 +68,7 @@ fn is_gtin(parts: &[Part]) -> bool
     }
 }
 
-/// Whether the row by itself is in order.
+/// Returns whether the row by itself is valid.
 #[tactic(auto, unfolding(crate::specs::Tables::is_row))]
 pub fn is_row(row: &AiRow) -> bool
     ensures { result ≡ is_row row.now }
@@ -83,8 +83,8 @@ pub fn is_row(row: &AiRow) -> bool
         && (none.is_empty() || parts_ok(parts, none).is_ok())
 }
 
-/// Whether code and value have the predefined length together, where the code's start has one. The row has the form that the
-/// table asks for.
+/// Returns whether AI and value together have only the predefined length, if the AI's start has one. The row has the form that
+/// the table requires.
 #[tactic(auto, unfolding(crate::specs::Tables::is_row, crate::specs::Tables::keeps_predefined))]
 pub fn keeps_predefined(predefined: &Predefined, row: &AiRow) -> bool
     requires { is_row row.now ≡ true }

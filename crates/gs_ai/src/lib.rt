@@ -1,8 +1,8 @@
 //! Application identifiers: the table of their rows, and the values that a row allows.
 //!
-//! - `AiTable` holds the rows, of which no code begins another; `find` gives the row of a code, `begins` the one that a text
-//!   begins with.
-//! - `value_ok` says whether a value is one of the row of a code, or what is the first thing wrong with it.
+//! - `AiTable` holds the rows; no code begins another. `find` returns the row of a code, `begins` the row whose code begins a
+//!   text.
+//! - `value_ok` checks a value by the row of its code, and returns its first error.
 //!
 //! # Example
 //!
@@ -14,10 +14,10 @@
 //! Check
 //! ```
 //!
-//! # Where it differs from the standard
+//! # Differences from the standard
 //!
-//! - Of the GS1 General Specifications it has the form of a value, its check digits and its dates. It does not know which codes
-//!   must stand together, and no list of values, as of countries or currencies.
+//! - It checks the form of a value of the GS1 General Specifications, its check digits and its dates. It does not know which
+//!   elements require each other, and has no lists of values such as countries or currencies.
 #![tactic(auto)]
 
 mod errors;

@@ -8,12 +8,12 @@ use std::alloc::Global;
 pub struct Pair {
     /// The digits of the application identifier.
     pub code: Text,
-    /// The value, as it stands in an element string.
+    /// The value as in an element string.
     pub value: Text,
 }
 
 impl Pair {
-    /// A pair of the same code and value. The one error is out of memory.
+    /// Returns a pair of the same code and value. Fails only with `Memory`.
     pub fn copy(&self, alloc: Global) -> Result<Pair, Memory>
         ensures { IfOk result (λ pair. pair ≡ self.now) }
     {

@@ -10,21 +10,21 @@ use gs_chars::CharSet;
 pub enum Part {
     /// The digit 0.
     Zero,
-    /// So many digits, from 1 to 18.
+    /// That many digits, from 1 to 18.
     Num(u8),
-    /// So many digits, from 2 to 18, of which the last is the check digit of the others.
+    /// That many digits, from 2 to 18; the last is the check digit of the others.
     NumCheck(u8),
-    /// 1 to so many digits, at most 18.
+    /// 1 to that many digits, at most 18.
     NumUpTo(u8),
-    /// 0 to so many digits, at most 18.
+    /// 0 to that many digits, at most 18.
     NumOpt(u8),
-    /// 1 to so many characters of the set of 82, at most 90.
+    /// 1 to that many characters of the set of 82, at most 90.
     Set(u8),
-    /// 0 to so many characters of the set of 82, at most 90.
+    /// 0 to that many characters of the set of 82, at most 90.
     SetOpt(u8),
     /// A date of 6 digits, YYMMDD, in which the day may be 00.
     Date,
-    /// What is none of the list.
+    /// A text that is not in the list.
     Other,
 }
 
@@ -33,15 +33,15 @@ pub enum Part {
 pub enum Role {
     /// It names a thing.
     Key,
-    /// It tells apart what one key names.
+    /// It separates the things of one key.
     Qualifier,
     /// It says something about the thing.
     Attribute,
-    /// What is none of these.
+    /// A text that is none of these.
     Other,
 }
 
-/// The number from 1 to 99 that the text is in decimal, without leading zeros.
+/// Returns the number from 1 to 99 that the text is in decimal, without leading zeros.
 fn read_number(text: &[u8]) -> Option<u8>
     ensures read { IfSome result (λ k. (0 < k) × (k < 100) × (number_text k ≡ text.now)) }
     ensures none { IfNone result ((k : ℕ) → 0 < k → k < 100 → number_text k ≡ text.now → ⊥) }
@@ -53,7 +53,7 @@ fn read_number(text: &[u8]) -> Option<u8>
     }
 }
 
-/// The number from `least` to `greatest` that stands between the two texts.
+/// Returns the number from `least` to `greatest` between the two texts.
 fn read_between(text: &[u8], before: &[u8], after: &[u8], least: u8, greatest: u8) -> Option<u8>
     requires from_one { 0 < least }
     requires to_99 { greatest < 100 }
@@ -72,7 +72,7 @@ fn read_between(text: &[u8], before: &[u8], after: &[u8], least: u8, greatest: u
 }
 
 impl Part {
-    /// The part that is written so, and `Other` exactly where no part of the list is.
+    /// Returns the part that is written so, and `Other` if and only if no part of the list is.
     pub fn read(text: &[u8]) -> Part
         ensures read { result ≢ Part.Other
             → (is_part result ≡ true) × (part_text result ≡ text.now) }
@@ -106,7 +106,7 @@ impl Part {
         }
     }
 
-    /// Whether the part is one of the list, with a count that is allowed.
+    /// Returns whether the part is one of the list, with a count that is allowed.
     pub(crate) fn is_listed(self) -> bool
         ensures { result ≡ is_part self }
     {
@@ -119,7 +119,7 @@ impl Part {
         }
     }
 
-    /// Whether the part is written with `..`.
+    /// Returns whether the part is written with `..`.
     pub(crate) fn is_open(self) -> bool
         ensures { result ≡ is_open self }
     {
@@ -129,7 +129,7 @@ impl Part {
         )
     }
 
-    /// The fewest characters of the part.
+    /// Returns the fewest characters of the part.
     pub(crate) fn least(self) -> usize
         ensures value { result ≡ least_length self }
         ensures small { result < 256 }
@@ -142,7 +142,7 @@ impl Part {
         }
     }
 
-    /// The most characters of the part.
+    /// Returns the most characters of the part.
     pub(crate) fn greatest(self) -> usize
         ensures value { result ≡ greatest_length self }
         ensures small { result < 256 }
@@ -156,7 +156,7 @@ impl Part {
         }
     }
 
-    /// Whether the character may stand in the part.
+    /// Returns whether the character may be in the part.
     pub(crate) fn holds(self, c: u8) -> bool
         ensures { result ≡ is_of_part self c }
     {
@@ -172,7 +172,7 @@ impl Part {
 }
 
 impl Role {
-    /// The role that is written so, and `Other` exactly where none is.
+    /// Returns the role that is written so, and `Other` if and only if none is.
     pub fn read(text: &[u8]) -> Role
         ensures read { result ≢ Role.Other → role_text result ≡ text.now }
         ensures other { result ≡ Role.Other → WritesNoRole text.now }
@@ -188,14 +188,14 @@ impl Role {
         }
     }
 
-    /// Whether the role is that of a key.
+    /// Returns whether the role is that of a key.
     pub(crate) fn is_key(self) -> bool
         ensures { result ≡ is_key self }
     {
         matches!(self, Role::Key)
     }
 
-    /// Whether the role is the one that is asked for, that of a key or of a qualifier.
+    /// Returns whether the role is the requested one, that of a key or of a qualifier.
     pub(crate) fn is_asked(self, asked: Role) -> bool
         ensures { result ≡ is_asked asked self }
     {

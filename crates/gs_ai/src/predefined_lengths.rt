@@ -33,7 +33,7 @@ impl Model for Predefined {
 }
 
 impl Predefined {
-    /// The rows of the list.
+    /// Returns the rows of the list.
     pub fn new() -> Predefined {
         match Rows::new(STARTS) {
             Some(starts) => Predefined { starts },
@@ -41,8 +41,8 @@ impl Predefined {
         }
     }
 
-    /// The length of code and value together, where the code's first two digits are in the list. The code is two digits or
-    /// more. `None` comes exactly where they are not in the list.
+    /// Returns the length of AI and value together, if the AI's first two digits are in the list, and `None` if and only if they
+    /// are not. The AI has at least two digits.
     pub fn length_of(&self, code: &[u8]) -> Option<usize>
         requires long { 2 ≤ length code.now }
         requires digits { IsTrue (are_digits code.now) }

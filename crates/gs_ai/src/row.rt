@@ -9,11 +9,11 @@ pub struct AiRow {
     pub parts: List<Part>,
     /// Its role in an identity.
     pub role: Role,
-    /// The codes of the qualifiers of a key, in the order in which they stand in a link.
+    /// The codes of the qualifiers of a key, in the order in which they are in a link.
     pub qualifiers: List<Text>,
-    /// Whether a link may have the value with 8, 12 or 13 digits in place of 14.
+    /// Whether a link may have the value with 8, 12 or 13 digits instead of 14.
     pub short: bool,
-    /// The value that stands for none, or the empty text where there is no such value.
+    /// The value that means none, or the empty text if there is no such value.
     pub none: Text,
 }
 

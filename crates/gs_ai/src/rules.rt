@@ -11,7 +11,7 @@ use crate::predefined_lengths::Predefined;
 use crate::row::AiRow;
 use gs_chars::Text;
 
-/// Whether one of the two codes begins the other.
+/// Returns whether one of the two codes begins the other.
 #[tactic(auto, unfolding(crate::specs::Tables::clash))]
 fn clash(a: &[u8], b: &[u8]) -> bool
     ensures { result ≡ clash a.now b.now }
@@ -19,14 +19,14 @@ fn clash(a: &[u8], b: &[u8]) -> bool
     b.starts_with(a) || a.starts_with(b)
 }
 
-/// Whether a row of the role has the code. The role is that of a key or of a qualifier.
+/// Returns whether a row of the role has the code. The role is that of a key or of a qualifier.
 fn has_row(rows: &[AiRow], code: &[u8], role: Role) -> bool
     ensures { result ≡ list_any (λ row. has_code code.now row && is_asked role row.role) rows.now }
 {
     rows.iter().any(|row| code == row.code.as_bytes() && row.role.is_asked(role))
 }
 
-/// The index of the first row whose code clashes with this one.
+/// Returns the index of the first row whose code clashes with this one.
 fn find_clash(earlier: &[AiRow], code: &[u8]) -> Option<usize>
     ensures { result ≡ position (λ other. clash other.code code.now) earlier.now }
 {
@@ -35,7 +35,7 @@ fn find_clash(earlier: &[AiRow], code: &[u8]) -> Option<usize>
         .position(|other| clash(other.code.as_bytes(), code))
 }
 
-/// Whether one of the codes is that of a key.
+/// Returns whether one of the codes is that of a key.
 fn lists_key(rows: &[AiRow], codes: &[Text]) -> bool
     ensures { result ≡ list_any (is_key_of rows.now) codes.now }
 {
@@ -44,7 +44,7 @@ fn lists_key(rows: &[AiRow], codes: &[Text]) -> bool
         .any(|code| has_row(rows, code.as_bytes(), Role::Key))
 }
 
-/// Whether all codes are those of qualifiers.
+/// Returns whether all codes are those of qualifiers.
 fn lists_qualifiers(rows: &[AiRow], codes: &[Text]) -> bool
     ensures { result ≡ list_all (is_qualifier_of rows.now) codes.now }
 {
@@ -53,7 +53,7 @@ fn lists_qualifiers(rows: &[AiRow], codes: &[Text]) -> bool
         .all(|code| has_row(rows, code.as_bytes(), Role::Qualifier))
 }
 
-/// The first error of row `i` by itself and beside the earlier rows.
+/// Finds the first error of row `i`, given the earlier rows.
 fn check_row(
     predefined: &Predefined,
     i: usize,
@@ -74,7 +74,7 @@ fn check_row(
     Ok(())
 }
 
-/// The first error of the codes that row `i` lists.
+/// Finds the first error of the codes that row `i` lists.
 #[tactic(auto, unfolding(crate::specs::Tables::list_errors))]
 fn check_list(rows: &[AiRow], i: usize, row: &AiRow) -> Result<(), AiFault>
     ensures { IsFirstError (list_errors rows.now i row.now) result }
@@ -89,7 +89,7 @@ fn check_list(rows: &[AiRow], i: usize, row: &AiRow) -> Result<(), AiFault>
     Ok(())
 }
 
-/// The first error of a row by itself and beside those before it.
+/// Finds the first error of a row, given the rows before it.
 fn check_each_row(predefined: &Predefined, rows: &[AiRow]) -> Result<(), AiFault>
     ensures { IsFirstError (flat_map (λ row. row_errors row.0 (take row.0 rows.now) row.1)
         (enumerate_from 0 rows.now)) result }
@@ -100,7 +100,7 @@ fn check_each_row(predefined: &Predefined, rows: &[AiRow]) -> Result<(), AiFault
     Ok(())
 }
 
-/// The first error of a list of qualifiers.
+/// Finds the first error of a list of qualifiers.
 fn check_each_list(rows: &[AiRow]) -> Result<(), AiFault>
     ensures { IsFirstError (flat_map (λ row. list_errors rows.now row.0 row.1)
         (enumerate_from 0 rows.now)) result }
@@ -111,7 +111,7 @@ fn check_each_list(rows: &[AiRow]) -> Result<(), AiFault>
     Ok(())
 }
 
-/// The first error of the rows.
+/// Finds the first error of the rows.
 pub fn check_rows(predefined: &Predefined, rows: &[AiRow]) -> Result<(), AiFault>
     ensures { IsFirstError (table_errors rows.now) result }
 {

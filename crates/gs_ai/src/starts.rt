@@ -6,7 +6,7 @@ use crate::row::AiRow;
 use gs_chars::{List, Memory};
 use std::alloc::Global;
 
-/// The number of the two digits at the start of the text, where two digits are there.
+/// Returns the number of the first two digits of the text, if there are two digits.
 pub fn two_digits(text: &[u8]) -> Option<usize>
     ensures number { result ≡ two_digits text.now }
     ensures small { IfSome result (λ n. n < 100) }
@@ -19,7 +19,7 @@ pub fn two_digits(text: &[u8]) -> Option<usize>
     }
 }
 
-/// Whether the row's code begins with the two digits of the number.
+/// Returns whether the row's code begins with the two digits of the number.
 fn starts_at(start: usize, row: &AiRow) -> bool
     ensures { result ≡ starts_at start row.now }
 {
@@ -29,7 +29,7 @@ fn starts_at(start: usize, row: &AiRow) -> bool
     }
 }
 
-/// The indexes of the rows whose codes begin with the two digits of the number.
+/// Returns the indexes of the rows whose codes begin with the two digits of the number.
 fn places_at(alloc: Global, start: usize, rows: &[AiRow]) -> Result<Vec<usize>, Memory>
     ensures { IfOk result (λ places. places.items ≡ places_at start rows.now) }
 {

@@ -14,7 +14,7 @@ use gs_chars::List;
 use std::alloc::Global;
 use std::marker::Model;
 
-/// A table of application identifiers, which contracts see as the list of its rows. Its rows keep the rules that
+/// A table of application identifiers, which contracts see as the list of its rows. Its rows satisfy the rules that
 /// `AiTable::new` asks for.
 pub struct AiTable {
     rows: List<AiRow>,
@@ -47,9 +47,9 @@ impl Model for AiTable {
 }
 
 impl AiTable {
-    /// The table of the rows, in their order. A rejection is the first of the errors of the rows: row by row `BadAi`,
-    /// `CodePrefix`, `PredefinedLength`, then row by row `KeyIsQualifier` and `BadAi` of the qualifiers that it lists.
-    /// `Memory` is out of memory, and may come in place of any answer.
+    /// Returns the table of the rows, in their order. A rejection is the first of the errors of the rows: row by row `BadAi`,
+    /// `CodePrefix`, `PredefinedLength`, then row by row `KeyIsQualifier` and `BadAi` of the qualifiers that it lists. `Memory`
+    /// is out of memory, and may come instead of any answer.
     pub fn new(alloc: Global, rows: Vec<AiRow>) -> Result<AiTable, AiFault>
         ensures made { IfOk result (λ table. (table ≡ rows.items) × (table_errors rows.items ≡ [])) }
         ensures rejected { IfErr result (λ error. error ≢ AiFault.Memory
@@ -67,7 +67,7 @@ impl AiTable {
         })
     }
 
-    /// The rows, in their order.
+    /// Returns the rows, in their order.
     pub fn rows(&self) -> &[AiRow]
         ensures rows { result.now ≡ self.now }
         ensures kept { KeepsRules self.now }
@@ -75,7 +75,7 @@ impl AiTable {
         self.rows.items()
     }
 
-    /// The index of the row with this code. `None` comes exactly where no row has it.
+    /// Returns the index of the row with this code. `None` is returned if and only if no row has it.
     pub fn find(&self, code: &[u8]) -> Option<usize>
         ensures row { result ≡ position (has_code code.now) self.now }
         ensures within { IfSome result (λ row. row < length self.now) }
@@ -83,7 +83,7 @@ impl AiTable {
     {
         let rows = self.rows.items();
         let row = self.begins(code)?;
-        // The row's code begins the text, so it is the text where both are equally long.
+        // The row's code begins the text, so it equals the text if both are equally long.
         if rows[row].code.as_bytes().len() == code.len() {
             Some(row)
         } else {
@@ -91,7 +91,7 @@ impl AiTable {
         }
     }
 
-    /// The row with this code. `None` comes exactly where no row has it.
+    /// Returns the row with this code. `None` is returned if and only if no row has it.
     pub fn row_with(&self, code: &[u8]) -> Option<&AiRow>
         ensures row { option_copied result ≡ find (has_code code.now) self.now }
         ensures kept { IfSome result (λ row. is_row row.now ≡ true) }
@@ -100,11 +100,11 @@ impl AiTable {
         Some(&self.rows.items()[row])
     }
 
-    /// Whether the code is that of a key.
+    /// Returns whether the code is that of a key.
     pub fn is_key(&self, code: &[u8]) -> bool
         ensures { result ≡ is_key_of self.now code.now }
     {
-        // For the proof alone: the rows keep the rules.
+        // Only for the proof: the rows satisfy the rules.
         let _ = &self.rows;
         match self.find(code) {
             Some(row) => self.is_key_row(row),
@@ -112,19 +112,19 @@ impl AiTable {
         }
     }
 
-    /// Whether the row is that of a key. The row is one of the table.
+    /// Returns whether the row is that of a key. The row is one of the table.
     pub fn is_key_row(&self, row: usize) -> bool
         requires { row < length self.now }
         ensures { (code : List ℕ) → position (has_code code) self.now ≡ Some row
             → result ≡ is_key_of self.now code }
     {
-        // For the proof alone: the rows keep the rules.
+        // Only for the proof: the rows satisfy the rules.
         let _ = &self.rows;
         self.rows.items()[row].role.is_key()
     }
 
-    /// The index of the row whose code begins the text. At most one row's code does. `None` comes exactly where no row's code
-    /// does.
+    /// Returns the index of the row whose code begins the text. At most one row's code does. `None` is returned if and only if no
+    /// row's code does.
     pub fn begins(&self, text: &[u8]) -> Option<usize>
         ensures row { result ≡ row_at self.now text.now }
         ensures within { IfSome result (λ row. row < length self.now) }
@@ -140,9 +140,8 @@ impl AiTable {
         None
     }
 
-    /// The length of code and value together, where the first two digits of the row's code are in the list of predefined
-    /// lengths (GS1 General Specifications, figure 7.8.5-2). The row is one of the table. `None` comes exactly where they are
-    /// not in the list.
+    /// Returns the length of AI and value together, if the first two digits of the row's code are in the list of predefined
+    /// lengths (GS1 General Specifications, figure 7.8.5-2), and `None` if and only if they are not. The row is one of the table.
     pub fn predefined(&self, row: usize) -> Option<usize>
         requires { row < length self.now }
         ensures { result ≡ option_and_then (λ r. predefined_length r.code) (slice_get self.now row) }
@@ -151,8 +150,8 @@ impl AiTable {
             .length_of(self.rows.items()[row].code.as_bytes())
     }
 
-    /// Whether the value is one of the row's application identifier, and the first error if it is not: `Length`, `Char`,
-    /// `Check`, `Date`, in this order. The row is one of the table.
+    /// Checks a value of the row's application identifier. Returns its first error: `Length`, `Char`, `Check`, `Date`, in this
+    /// order. The row is one of the table.
     pub fn row_value_ok(&self, row: usize, value: &[u8]) -> Result<(), ValueFault>
         requires { row < length self.now }
         ensures ok { OnOk result (row_error self.now row value.now ≡ None) }
@@ -162,8 +161,8 @@ impl AiTable {
         parts_ok(row.parts.items(), value)
     }
 
-    /// Whether the value is one of the application identifier with this code, and the first error if it is not: `Unknown`,
-    /// `Length`, `Char`, `Check`, `Date`, in this order.
+    /// Checks a value of the application identifier with this code. Returns its first error: `Unknown`, `Length`, `Char`,
+    /// `Check`, `Date`, in this order.
     pub fn value_ok(&self, code: &[u8], value: &[u8]) -> Result<(), ValueFault>
         ensures ok { OnOk result (value_error self.now code.now value.now ≡ None) }
         ensures error { IfErr result (λ e. value_error self.now code.now value.now ≡ Some e) }
@@ -175,12 +174,12 @@ impl AiTable {
     }
 }
 
-/// At most one row of a table has a code that begins a text.
+/// States that at most one row of a table has a code that begins a text.
 pub fn one_code_begins(table: &AiTable)
     ensures { (text : List ℕ) (i j : ℕ) → (a b : AiRow)
         → slice_get table.now i ≡ Some a → slice_get table.now j ≡ Some b
         → begins a.code text ≡ true → begins b.code text ≡ true → i ≡ j }
 {
-    // For the proof alone: the rows keep the rules.
+    // Only for the proof: the rows satisfy the rules.
     let _ = &table.rows;
 }

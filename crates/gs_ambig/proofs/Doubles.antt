@@ -57,7 +57,7 @@ none_of_one machines i j m l e same single symbols s =
     } in
     single symbols (rw a at whole)
 
--- the machines behind one
+-- the machines after one
 
 pub none_before : (machines : List AutoForm) (i : ℕ) → SharesNone machines i i
 none_before machines i j symbols a b = absurd (omega arith)

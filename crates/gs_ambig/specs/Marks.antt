@@ -11,10 +11,10 @@ IsSet bits number = bit_at (slice_index bits (number / 64)) (number % 64) ≡ 1
 pub record AreMarked (bits numbers : List ℕ) : Type 0 where
   pub marked : (number : ℕ) → IsSet bits number ↔ Contains numbers number
 
--- Two states of one set of bits, the old and the new. The bit of each other number is as it was.
+-- Two states of one set of bits, the old and the new. The bit of each other number is unchanged.
 abbrev pub SameBesides : ℕ → List ℕ → List ℕ → Type 0
 SameBesides number old new = (other : ℕ) → other ≢ number → (IsSet new other ↔ IsSet old other)
 
--- a bit that is set was set, and stands in another word than that of the number
+-- a bit that is set was set, and is in another word than that of the number
 abbrev pub WordIsCleared : ℕ → List ℕ → List ℕ → Type 0
 WordIsCleared number old new = (other : ℕ) → IsSet new other → (IsSet old other × (other / 64 ≢ number / 64))

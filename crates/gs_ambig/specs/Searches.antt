@@ -6,11 +6,11 @@ use Rattle.gs_grammar_machine.specs.Walks.{Fits, edges_at, Walk}
 use Rattle.gs_grammar_machine.specs.Machines.{AutoForm, states_of, accept_of}
 use Rattle.gs_grammar_machine.specs.MachinesSupport.{start_of}
 
--- the search has found something, and it is so of that
+-- trusted, own: the search has found something, and it is so of that
 abbrev pub IfFound : {X E : Type 0} → Result (Option X) E → (X → Type 0) → Type 0
 IfFound answer is_so = IfOk answer (λ found. IfSome found is_so)
 
--- the search has found nothing, and this is so
+-- trusted, own: the search has found nothing, and this is so
 abbrev pub IfNotFound : {X E : Type 0} → Result (Option X) E → Type 0 → Type 0
 IfNotFound answer is_so = IfOk answer (λ found. IfNone found is_so)
 
@@ -22,22 +22,22 @@ BothHave edge other symbol = (edge.lo ≤ symbol) × (symbol ≤ edge.hi) × (ot
 abbrev pub HaveNoneInCommon : Edge → Edge → Type 0
 HaveNoneInCommon edge other = (symbol : ℕ) → edge.lo ≤ symbol → symbol ≤ edge.hi → other.lo ≤ symbol → symbol ≤ other.hi → ⊥
 
--- the list of symbols leads both machines from these states to their accepting states
+-- trusted, own: the list of symbols leads both machines from these states to their accepting states
 pub record Leads (m n : AutoForm) (p q : ℕ) (symbols : List ℕ) : Type 0 where
   pub run : List ℕ
   pub other_run : List ℕ
   pub walk : Walk m.table p run symbols (accept_of m)
   pub other_walk : Walk n.table q other_run symbols (accept_of n)
 
--- no list of symbols does so
+-- trusted, own: no list of symbols does so
 abbrev pub IsDead : AutoForm → AutoForm → ℕ → ℕ → Type 0
 IsDead m n p q = (symbols : List ℕ) → Leads m n p q symbols → ⊥
 
--- the list of symbols leads both machines from their starts to their accepting states
+-- trusted, own: the list of symbols leads both machines from their starts to their accepting states
 abbrev pub BothAccept : AutoForm → AutoForm → List ℕ → Type 0
 BothAccept m n symbols = Leads m n (start_of m) (start_of n) symbols
 
--- no list of symbols does so
+-- trusted, own: no list of symbols does so
 abbrev pub NoneInCommon : AutoForm → AutoForm → Type 0
 NoneInCommon m n = IsDead m n (start_of m) (start_of n)
 
@@ -62,7 +62,7 @@ IsDeadBehind m n edge edges least = (symbol next : ℕ) → edge.lo ≤ symbol �
 abbrev pub MarksDead : AutoForm → AutoForm → List ℕ → Type 0
 MarksDead m n marks = (number : ℕ) → Contains marks number → IsDead m n (number / states_of n) (number % states_of n)
 
--- the list of symbols has two different walks from the state to the accepting one
+-- trusted, own: the list of symbols has two different walks from the state to the accepting one
 pub record Parts (m : AutoForm) (p : ℕ) (symbols : List ℕ) : Type 0 where
   pub run : List ℕ
   pub other_run : List ℕ
@@ -70,7 +70,7 @@ pub record Parts (m : AutoForm) (p : ℕ) (symbols : List ℕ) : Type 0 where
   pub other_walk : Walk m.table p other_run symbols (accept_of m)
   pub differ : run ≡ other_run → ⊥
 
--- no list of symbols has
+-- trusted, own: no list of symbols has
 abbrev pub IsSingle : AutoForm → ℕ → Type 0
 IsSingle m p = (symbols : List ℕ) → Parts m p symbols → ⊥
 

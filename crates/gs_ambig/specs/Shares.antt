@@ -5,8 +5,8 @@ use Rattle.gs_grammar_machine.specs.MachinesSupport.{Accepts}
 use Rattle.gs_ambig.specs.declared.verdict.Verdict.{Verdict}
 use Rattle.gs_ambig.specs.declared.verdict.Verdict.TheVariants.{Clear, Double}
 
--- Machine i and machine j share the list of symbols: it has an accepting run of i and a different one of j. Runs of two
--- machines are different.
+-- trusted, own: Machine i and machine j share the list of symbols: it has an accepting run of i and a different one of j. Runs
+-- of two machines are different.
 pub record Share (machines : List AutoForm) (i j : ℕ) (symbols : List ℕ) : Type 0 where
   pub one : AutoForm
   pub other : AutoForm
@@ -22,22 +22,23 @@ pub record Share (machines : List AutoForm) (i j : ℕ) (symbols : List ℕ) : T
 abbrev pub ShareNothing : List AutoForm → ℕ → ℕ → Type 0
 ShareNothing machines i j = (symbols : List ℕ) → Share machines i j symbols → ⊥
 
--- the pair k, l stands before the pair i, j
+-- trusted, own: the pair k, l is before the pair i, j
 abbrev pub IsBefore : ℕ → ℕ → ℕ → ℕ → Type 0
 IsBefore k l i j = (k < i) ⊎ ((k ≡ i) × (l < j))
 
--- i, j is the first pair, i at most j, that shares a list, and it shares this word
+-- trusted, own: i, j is the first pair, i at most j, that shares a list, and it shares this word
 pub record IsFirstDouble (machines : List AutoForm) (i j : ℕ) (word : List ℕ) : Type 0 where
   pub order : i ≤ j
   pub share : Share machines i j word
   pub first : (k l : ℕ) (symbols : List ℕ) → k ≤ l → IsBefore k l i j → Share machines k l symbols → ⊥
 
--- the answer for the machines: no list of symbols has two different accepting runs, or the first pair that shares one
+-- trusted, own: the answer for the machines: no list of symbols has two different accepting runs, or the first pair that shares
+-- one
 abbrev pub IsVerdict : List AutoForm → Verdict → Type 0
 IsVerdict machines Clear = (i j : ℕ) (symbols : List ℕ) → Share machines i j symbols → ⊥
 IsVerdict machines (Double i j word) = IsFirstDouble machines i j word
 
--- machine i shares no list of symbols with itself, or with a machine behind it and before this one
+-- machine i shares no list of symbols with itself, or with a machine after it and before this one
 abbrev pub SharesNone : List AutoForm → ℕ → ℕ → Type 0
 SharesNone machines i before = (j : ℕ) (symbols : List ℕ) → i ≤ j → j < before → Share machines i j symbols → ⊥
 

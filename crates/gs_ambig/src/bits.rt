@@ -4,7 +4,7 @@ ghost use Rattle.gs_ambig.specs.Marks.{IsSet, SameBesides, WordIsCleared};
 
 use gs_chars::Memory;
 
-/// Whether a bit is set.
+/// Returns whether a bit is set.
 pub fn is_set(bits: &[u64], number: usize) -> bool
     ensures { IsTrue result ↔ IsSet bits.now number }
 {

@@ -8,8 +8,8 @@ use gs_chars::Memory;
 use gs_grammar_machine::Auto;
 use std::alloc::Global;
 
-/// A list of symbols with two walks from this state to the accepting one that part at once. `None` comes exactly where no two
-/// edges that part lead on to one list.
+/// Returns a list of symbols with two walks from this state to the accepting one that part at once. `None` is returned if and
+/// only if no two edges that part lead on to one list.
 fn search_fork(
     alloc: Global,
     m: &Auto,
@@ -32,8 +32,8 @@ fn search_fork(
     Ok(None)
 }
 
-/// A list of symbols with two different walks from this state to the accepting one. `None` comes exactly where there is none.
-/// States from which there is none are marked, and are not gone to again.
+/// Returns a list of symbols with two different walks from this state to the accepting one. `None` is returned if and only if
+/// there is none. States from which there is none are marked, and are not gone to again.
 pub fn search_forks(
     alloc: Global,
     m: &Auto,

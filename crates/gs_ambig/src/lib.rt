@@ -1,6 +1,6 @@
 //! The search for a list of symbols with two different accepting runs, in one machine or in two.
 //!
-//! - `check` answers `Clear` exactly where no list of symbols has two different accepting runs, and else the first pair of
+//! - `check` answers `Clear` if and only if no list of symbols has two different accepting runs, and else the first pair of
 //!   machines with such a list, and the list.
 //! - `PairSearch` searches one machine or two, for a caller that goes through the pairs itself.
 //!
@@ -14,7 +14,7 @@
 //! 0 1 ab
 //! ```
 //!
-//! # Where it differs from the standards
+//! # Differences from the standards
 //!
 //! - No standard has this search. It stands for the care of whoever writes tables for GS1 EPC Tag Data Translation.
 #![tactic(auto)]

@@ -26,7 +26,7 @@ impl Model for Marks {
 }
 
 impl Marks {
-    /// The set of no number.
+    /// Returns the set of no number.
     pub fn new(alloc: Global) -> Marks
         ensures { result ≡ [] }
     {
@@ -36,7 +36,7 @@ impl Marks {
         }
     }
 
-    /// Whether a number is in the set.
+    /// Returns whether a number is in the set.
     pub fn contains(&self, number: usize) -> bool
         ensures { IsTrue result ↔ Contains self.now number }
     {

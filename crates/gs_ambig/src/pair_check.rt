@@ -8,7 +8,7 @@ use gs_chars::{Memory, Text};
 use gs_grammar_machine::Auto;
 use std::alloc::Global;
 
-/// A list of symbols that machine i and machine j share.
+/// Returns a list of symbols that machine i and machine j share.
 fn shared_word(
     alloc: Global,
     machines: &[Auto],
@@ -27,7 +27,7 @@ fn shared_word(
     search.word_of_two(alloc, &machines[i], &machines[j])
 }
 
-/// The first machine, from i on, that shares a list of symbols with machine i, and such a list.
+/// Returns the first machine, from i on, that shares a list of symbols with machine i, and such a list.
 fn first_from(
     alloc: Global,
     machines: &[Auto],
@@ -46,7 +46,7 @@ fn first_from(
     Ok(None)
 }
 
-/// The answer for the machines, by the pairs in the order of i and then of j.
+/// Returns the answer for the machines, by the pairs in the order of i and then of j.
 fn verdict_of(alloc: Global, machines: &[Auto], search: &mut PairSearch) -> Result<Verdict, Memory>
     ensures { IfOk result (λ verdict. IsVerdict machines.now verdict) }
 {
@@ -59,9 +59,9 @@ fn verdict_of(alloc: Global, machines: &[Auto], search: &mut PairSearch) -> Resu
     Ok(Verdict::Clear)
 }
 
-/// Whether some list of symbols has two different accepting runs, in one machine or in two. `Clear` comes exactly where none
-/// has. `Double` names the first pair i, j, i at most j, in the order of i and then of j, that shares a list, and carries such
-/// a list as its symbols. Out of memory may come in place of each.
+/// Returns whether some list of symbols has two different accepting runs, in one machine or in two. `Clear` is returned if and
+/// only if none has. `Double` names the first pair i, j, i at most j, in the order of i and then of j, that shares a list, and
+/// carries such a list as its symbols. Out of memory may come instead of each.
 pub fn check(alloc: Global, machines: &[Auto]) -> Result<Verdict, Memory>
     ensures { IfOk result (λ verdict. IsVerdict machines.now verdict) }
 {

@@ -31,7 +31,7 @@ fn make_ready(dead: &mut Marks, m: &Auto, n: &Auto) -> Result<(), Memory>
 }
 
 impl PairSearch {
-    /// A search that has marked nothing yet. It takes no memory.
+    /// Returns a search that has marked nothing yet. Does not allocate.
     pub fn new(alloc: Global) -> PairSearch {
         PairSearch {
             dead: Marks::new(alloc),
@@ -39,7 +39,8 @@ impl PairSearch {
         }
     }
 
-    /// A list of symbols that both machines accept. `None` comes exactly where there is none. The one error is out of memory.
+    /// Returns a list of symbols that both machines accept. `None` is returned if and only if there is none. Fails only with
+    /// `Memory`.
     pub fn word_of_two(
         &mut self,
         alloc: Global,
@@ -53,8 +54,8 @@ impl PairSearch {
         search(alloc, m, n, m.start(), n.start(), &mut self.dead)
     }
 
-    /// A list of symbols with two different accepting runs of the machine. `None` comes exactly where there is none. The one error
-    /// is out of memory.
+    /// Returns a list of symbols with two different accepting runs of the machine. `None` is returned if and only if there is
+    /// none. Fails only with `Memory`.
     pub fn word_of_one(&mut self, alloc: Global, m: &Auto) -> Result<Option<Vec<u8>>, Memory>
         ensures found { IfFound result (λ word. Parts m.now (start_of m.now) word.items) }
         ensures none { IfNotFound result (IsSingle m.now (start_of m.now)) }

@@ -8,7 +8,7 @@ use gs_chars::Memory;
 use gs_grammar_machine::{Auto, Edge};
 use std::alloc::Global;
 
-/// The number of a pair of states, where the second machine has this many.
+/// Returns the number of a pair of states, where the second machine has this many.
 fn pair_number(p: usize, q: usize, states: usize, others: usize) -> usize
     requires first { p < states }
     requires second { q < others }
@@ -18,7 +18,7 @@ fn pair_number(p: usize, q: usize, states: usize, others: usize) -> usize
     p * others + q
 }
 
-/// The least symbol that both edges have.
+/// Returns the least symbol that both edges have.
 fn common_symbol(edge: &Edge, other: &Edge) -> Option<u8>
     ensures some { IfSome result (λ symbol. BothHave edge.now other.now symbol) }
     ensures none { IfNone result (HaveNoneInCommon edge.now other.now) }
@@ -31,7 +31,7 @@ fn common_symbol(edge: &Edge, other: &Edge) -> Option<u8>
     }
 }
 
-/// What was found behind a symbol, with the symbol at the start.
+/// What was found after a symbol, with the symbol at the start.
 pub fn with_front(symbol: u8, mut word: Vec<u8>) -> Result<Option<Vec<u8>>, Memory>
     ensures found { IfFound result (λ whole. whole.items ≡ symbol ∷ word.items) }
     ensures some { IfNotFound result ⊥ }
@@ -40,15 +40,15 @@ pub fn with_front(symbol: u8, mut word: Vec<u8>) -> Result<Option<Vec<u8>>, Memo
     Ok(Some(word))
 }
 
-/// Whether both states are the accepting ones.
+/// Returns whether both states are the accepting ones.
 fn are_accepting(m: &Auto, n: &Auto, p: usize, q: usize) -> bool
     ensures { IsTrue result ↔ ((p ≡ accept_of m.now) × (q ≡ accept_of n.now)) }
 {
     p == m.accept() && q == n.accept()
 }
 
-/// A list of symbols that leads both machines from these states to their accepting states. `None` comes exactly where there
-/// is none. Pairs of states from which none leads are marked, and are not gone to again.
+/// Returns a list of symbols that leads both machines from these states to their accepting states. `None` is returned if and only
+/// if there is none. Pairs of states from which none leads are marked, and are not gone to again.
 #[cycle(search)]
 pub fn search(
     alloc: Global,
@@ -83,8 +83,8 @@ pub fn search(
     Ok(None)
 }
 
-/// The same of lists of symbols that go by this edge in the first machine, and in the second by an edge from q to a state that
-/// is not below the least. The state p, which the edge leaves, tells how far the search can still go.
+/// Returns the same of lists of symbols that go by this edge in the first machine, and in the second by an edge from q to a state
+/// that is not below the least. The state p, which the edge leaves, tells how far the search can still go.
 #[cycle(search)]
 pub fn search_behind(
     alloc: Global,

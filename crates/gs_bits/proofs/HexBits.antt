@@ -97,7 +97,7 @@ module _ (text out : List ℕ) (n : ℕ) (answer : Result Unit FromHexError) (tw
         },
       )
 
--- a digit is no bad one
+-- a digit is not a bad one
 not_bad : (text : List ℕ) (place : ℕ) → is_hex_digit (slice_index text place) ≡ true → FirstBadDigit text place → ⊥
 not_bad text place h bad = let none : is_hex_digit (slice_index text place) ≡ false = ap is_some bad.bad in let both : true ≡ false = sym h ∙ none in cc
 

@@ -1,4 +1,4 @@
--- Bits in bytes: where a number of some of them stands, and what a write changes.
+-- Bits in bytes: the place of a number of bits, and the bits that a write changes.
 use Rattle.std.proofs.Common.{◌≡◌, ℕ, zero, suc, ◌+◌, ◌-◌, ◌*◌, ◌/◌, ◌%◌, ◌^◌, ◌<◌, ◌≤◌, List, [], ◌∷◌, ◌++◌, length, take, drop, slice_index, slice_set, refl, sym, ap, ap₂, ◌∙◌, arith, length-append, length-take-le}
 use Rattle.std.proofs.Math.Seq.{take-append-add, drop-append-add, take-add}
 use Rattle.std.proofs.lemmas.List.{append_assoc, append-nil, drop-drop, drop-take, drop_at, length-drop, length-take, take_all, take_at, take_more, take-take}
@@ -35,7 +35,7 @@ drop_past n k xs ys e = rw (← e) (drop-append-add xs ys k)
 take_past : (n k : ℕ) (xs ys : List ℕ) → length xs ≡ n → take (n + k) (xs ++ ys) ≡ xs ++ take k ys
 take_past n k xs ys e = rw (← e) (take-append-add xs ys k)
 
--- a byte's bits in three parts, with more bits behind them
+-- a byte's bits in three parts, with more bits after them
 parts_before : (a b c byte : ℕ) (ys : List ℕ) → a + b + c ≡ 8
     → bits_of 8 byte ++ ys ≡ bits_of a (byte / 2 ^ (b + c)) ++ (bits_of b (byte / 2 ^ c) ++ (bits_of c byte ++ ys))
 parts_before a b c byte ys e =
@@ -81,7 +81,7 @@ after_first r step rest changed piece byte ys e small c =
     ap (take (r + step)) after ∙ past ∙ ap (λ w. bits_of r (changed / 2 ^ (step + rest)) ++ w) (new ∙ low)
     ∙ ap (λ v. bits_of r v ++ bits_of step piece) high ∙ ap (λ w. w ++ bits_of step piece) (sym old ∙ sym (ap (take r) before))
 
--- bits written into one byte behind the first bits
+-- bits written into one byte after the first bits
 pub bits_after_write : (q r step rest changed piece : ℕ) (bytes : List ℕ) → q < length bytes → r + step + rest ≡ 8
     → piece < 2 ^ step
     → changed / 2 ^ rest ≡ slice_index bytes q / 2 ^ (step + rest) * 2 ^ step + piece
@@ -162,7 +162,7 @@ write_step n at d step left below value piece changed bytes front h within split
     one ∙ ap (λ w. w ++ bits_of step piece) written ∙ append_assoc front (bits_of d (value / 2 ^ left)) (bits_of step piece)
     ∙ ap (λ w. front ++ w) (sym number)
 
--- the bits of a byte with a piece put behind its used ones
+-- the bits of a byte with a piece put after its used ones
 pub byte_with_piece : (byte room width piece : ℕ) → byte < 2 ^ 8 → room ≤ 8 → width ≤ room → piece < 2 ^ width
     → (byte / 2 ^ room * 2 ^ width % 2 ^ 64 ≡ byte / 2 ^ room * 2 ^ width)
     × ((byte / 2 ^ room * 2 ^ width + piece) * 2 ^ (room - width) % 2 ^ 64 ≡ (byte / 2 ^ room * 2 ^ width + piece) * 2 ^ (room - width))
@@ -210,7 +210,7 @@ bits_of_bytes-append [] ys = refl
 bits_of_bytes-append (x ∷ xs) ys =
     ap (λ w. bits_of 8 x ++ w) (bits_of_bytes-append xs ys) ∙ sym (append_assoc (bits_of 8 x) (bits_of_bytes xs) (bits_of_bytes ys))
 
--- the bits of one byte more, written behind those before
+-- the bits of one byte more, written after those before
 pub spread_step : (place : ℕ) (bytes symbols one new : List ℕ) → place < length bytes → 8 * length bytes ≤ length symbols
     → take (8 * place) symbols ≡ bits_of_bytes (take place bytes) → one ≡ bits_of 8 (slice_index bytes place)
     → new ≡ put_mid (8 * place) 8 symbols one
@@ -239,7 +239,7 @@ pub spread_none : [] ≡ bits_of_bytes []
 unfolding bits_of_bytes
 spread_none = refl
 
--- the bits of a buffer stand before those of its bytes
+-- the bits of a buffer are before those of its bytes
 pub front_spread : (len q : ℕ) (bytes symbols : List ℕ) → len ≤ 8 * length bytes → len ≤ 8 * q → take (8 * length (take q bytes)) symbols ≡ bits_of_bytes (take q bytes)
     → take len symbols ≡ packed_bits len bytes
 front_spread len q bytes symbols l m e =

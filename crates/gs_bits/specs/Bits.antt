@@ -6,7 +6,7 @@ use Rattle.std.specs.Int.{bit_at}
 abbrev pub AreBits : List ℕ → Type 0
 AreBits bits = All (λ b. b < 2) bits
 
--- trusted, TDS 2.0, section 14.2: the number that the bits write: each counts 2 to the number of bits behind it
+-- trusted, TDS 2.0, section 14.2: the number that the bits write: each counts 2 to the number of bits after it
 abbrev pub number_of : List ℕ → ℕ
 number_of [] = 0
 number_of (b ∷ bits) = b * 2 ^ length bits + number_of bits

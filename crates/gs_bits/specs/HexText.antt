@@ -22,17 +22,17 @@ abbrev pub hex_of_bits : List ℕ → List ℕ
 hex_of_bits (a ∷ b ∷ c ∷ d ∷ bits) = hex_digit (number_of (a ∷ b ∷ c ∷ d ∷ [])) ∷ hex_of_bits bits
 hex_of_bits _ = []
 
--- trusted, own: the first byte that is no digit stands at this place
+-- trusted, own: the first byte that is not a digit is at this place
 pub record FirstBadDigit (text : List ℕ) (place : ℕ) : Type 0 where
   pub within : place < length text
   pub bad : hex_value (slice_index text place) ≡ None
   pub digits_before : AllPass is_hex_digit (take place text)
 
--- trusted, own: the text is as long as that of whole bytes, of which there are more than so many
+-- trusted, own: holds if the text has the length of whole bytes, and these are more than `n`
 abbrev pub NeedsMoreThan : ℕ → List ℕ → Type 0
 NeedsMoreThan most text = (length text % 2 ≡ 0) × (2 * most < length text)
 
--- trusted, own: the text is as long as that of at most so many whole bytes, and its first byte that is no digit stands at
--- this place
+-- trusted, own: holds if the text has the length of at most `n` whole bytes, and its first byte that is not a hexadecimal digit
+-- is at this place
 abbrev pub HasBadDigitWithin : ℕ → List ℕ → ℕ → Type 0
 HasBadDigitWithin most text place = (length text % 2 ≡ 0) × (length text ≤ 2 * most) × FirstBadDigit text place

@@ -12,7 +12,7 @@ use gs_chars::{Memory, Text};
 use std::alloc::Global;
 use std::marker::Model;
 
-/// A list of at most 8N bits in an array of N bytes, where N is at most 64. Contracts see the list: each item is 0 or 1.
+/// A list of at most 8N bits in an array of N bytes; N is at most 64. Contracts see the list: each item is 0 or 1.
 #[derive(Drop)]
 pub struct BitBuf<const N: usize> {
     bytes: [u8; N],
@@ -31,7 +31,7 @@ impl<const N: usize> Model for BitBuf<N> {
 }
 
 impl<const N: usize> BitBuf<N> {
-    /// A buffer of no bits. N is at most 64.
+    /// Returns a buffer of no bits. N is at most 64.
     pub fn new() -> BitBuf<N>
         requires { N ≤ 64 }
         ensures { result ≡ [] }
@@ -42,7 +42,7 @@ impl<const N: usize> BitBuf<N> {
         }
     }
 
-    /// The number of bits, at most 8N.
+    /// Returns the number of bits, at most 8N.
     pub fn len(&self) -> usize
         ensures count { result ≡ length self.now }
         ensures within { length self.now ≤ 8 * N }
@@ -52,7 +52,7 @@ impl<const N: usize> BitBuf<N> {
         self.len
     }
 
-    /// Whether bit i, counted from 0, is 1. i is below the number of bits.
+    /// Returns whether bit i, counted from 0, is 1. i is below the number of bits.
     pub fn get(&self, i: usize) -> bool
         requires { i < length self.now }
         ensures { IsTrue result ↔ (slice_index self.now i ≡ 1) }
@@ -71,7 +71,7 @@ impl<const N: usize> BitBuf<N> {
         self.len
     }
 
-    /// The number of the n bits from a place on, the highest first.
+    /// Returns the number of the n bits from a place on, the highest first.
     fn number_at(&self, from: usize, n: u32) -> u64
         requires width { n ≤ 64 }
         requires within { from + n ≤ length self.now }
@@ -80,8 +80,8 @@ impl<const N: usize> BitBuf<N> {
         number_in(&self.bytes, from, n)
     }
 
-    /// Appends the n bits of a number, the highest first. `Full` comes exactly where they have no room, and then nothing is
-    /// changed. n is at most 64, and the number is below 2^n.
+    /// Appends the n bits of a number, the highest first. `Full` is returned if and only if they have no room, and then nothing
+    /// is changed. n is at most 64, and the number is below 2^n.
     pub fn push_bits(&mut self, value: u64, n: u32) -> Result<(), Full>
         requires width { n ≤ 64 }
         requires fits { value < 2 ^ n }
@@ -97,15 +97,15 @@ impl<const N: usize> BitBuf<N> {
         Ok(())
     }
 
-    /// A cursor at the first bit.
+    /// Returns a cursor at the first bit.
     pub fn cursor(&self) -> Cursor<'_, N>
         ensures { result ≡ self.now }
     {
         Cursor::at_start(&self.bytes, self.len)
     }
 
-    /// The bits of a text of hexadecimal digits of either case, four to a digit. The errors are tried in this order: an odd
-    /// number of bytes, more than 2N bytes, the first byte that is no digit. N is at most 64.
+    /// Returns the bits of a text of hexadecimal digits of either case, four to a digit. The errors are tried in this order: an
+    /// odd number of bytes, more than 2N bytes, the first byte that is not a digit. N is at most 64.
     pub fn from_hex(text: &[u8]) -> Result<BitBuf<N>, HexFault>
         requires { N ≤ 64 }
         ensures odd { (result ≡ Err (HexFault.OddDigits)) ↔ (length text.now % 2 ≡ 1) }
@@ -130,7 +130,7 @@ impl<const N: usize> BitBuf<N> {
         })
     }
 
-    /// The upper-case hexadecimal digits of the bits, four to a digit. The one error is out of memory. The bits make whole
+    /// Returns the upper-case hexadecimal digits of the bits, four to a digit. Fails only with `Memory`. The bits make whole
     /// bytes.
     pub fn to_hex(&self, alloc: Global) -> Result<Text, Memory>
         requires { length self.now % 8 ≡ 0 }

@@ -26,7 +26,7 @@ impl<'a, const N: usize> Model for Cursor<'a, N> {
 }
 
 impl<'a, const N: usize> Cursor<'a, N> {
-    /// A cursor at the first of the bits of some bytes.
+    /// Returns a cursor at the first of the bits of some bytes.
     pub(crate) fn at_start(bytes: &'a [u8], len: usize) -> Cursor<'a, N>
         requires within { len ≤ 8 * length bytes.now }
         requires small { length bytes.now ≤ 64 }
@@ -35,7 +35,7 @@ impl<'a, const N: usize> Cursor<'a, N> {
         Cursor { bytes, len, at: 0 }
     }
 
-    /// The number of bits that are left.
+    /// Returns the number of bits that are left.
     pub fn left(&self) -> usize
         ensures count { result ≡ length self.now }
         ensures bits { AreBits self.now }
@@ -43,8 +43,8 @@ impl<'a, const N: usize> Cursor<'a, N> {
         self.len - self.at
     }
 
-    /// The number of the next n bits, the highest first. `Short` comes exactly where fewer are left, and then the cursor stays
-    /// where it is. n is at most 64.
+    /// Returns the number of the next n bits, the highest first. Returns `Short` if and only if fewer bits are left; the cursor
+    /// then does not move. n is at most 64.
     pub fn take(&mut self, n: u32) -> Result<u64, Short>
         requires { n ≤ 64 }
         ensures short { IsErr result ↔ (length self.old < n) }

@@ -1,7 +1,7 @@
 ghost use Rattle.std.specs.Prelude.{◌≡◌};
 ghost use Rattle.gs_bits.specs.Digits.{are_bit_digits};
 
-/// Whether a text is made of the digits 0 and 1 alone, as which bits are written.
+/// Returns whether a text has only the digits 0 and 1, the written form of bits.
 pub fn are_bit_digits(text: &[u8]) -> bool
     ensures { result ≡ are_bit_digits text.now }
 {

@@ -4,11 +4,11 @@ use thiserror::Error;
 #[derive(Clone, Copy, Debug)]
 pub struct Full;
 
-/// Fewer bits are left than were asked for.
+/// The error of a read of more bits than are left.
 #[derive(Clone, Copy, Debug)]
 pub struct Short;
 
-/// Why a text is no hexadecimal text of the bits of a buffer.
+/// Why a text is not a hexadecimal text of the bits of a buffer.
 #[derive(Clone, Copy, Debug, Error)]
 pub enum HexFault {
     /// The text has an odd number of bytes.
@@ -17,7 +17,7 @@ pub enum HexFault {
     /// The text has more digits than the buffer holds, two to a byte.
     #[error("more hexadecimal digits than the buffer holds")]
     Full,
-    /// The byte at this place, from 0, is the first that is no digit.
+    /// The byte at this place, from 0, is the first that is not a digit.
     #[error("no hexadecimal digit at byte {0}")]
     BadDigit(usize),
 }

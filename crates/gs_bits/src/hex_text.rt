@@ -7,7 +7,8 @@ use gs_chars::{Memory, Text};
 use hex::FromHexError;
 use std::alloc::Global;
 
-/// Writes the bytes of a text of hexadecimal digits, two to a byte. The error is the place of the first that is none.
+/// Writes the bytes of a text of hexadecimal digits, two digits to a byte. The error is the place of the first byte that is not a
+/// hexadecimal digit.
 pub(crate) fn decode(text: &[u8], out: &mut [u8]) -> Result<(), usize>
     requires { length text.now ≡ 2 * length out.old }
     ensures bad { (place : ℕ) → (result ≡ Err place) ↔ FirstBadDigit text.now place }
@@ -23,7 +24,7 @@ pub(crate) fn decode(text: &[u8], out: &mut [u8]) -> Result<(), usize>
     }
 }
 
-/// The upper-case digits of some bytes.
+/// Returns the upper-case digits of some bytes.
 pub(crate) fn encode(alloc: Global, bytes: &[u8]) -> Result<Text, Memory>
     ensures { IfOk result (λ text. text ≡ hex_of_bits (bits_of_bytes bytes.now)) }
 {

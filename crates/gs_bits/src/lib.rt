@@ -1,7 +1,7 @@
 //! Lists of bits in a fixed array, read by a cursor, and their hexadecimal texts.
 //!
 //! - `BitBuf` takes bits at its end, and is made of and written as hexadecimal digits, the highest bit first.
-//! - `Cursor` takes numbers of so many bits from the start.
+//! - `Cursor` takes numbers of that many bits from the start.
 //! - `are_bit_digits` says whether a text writes bits, as the digits 0 and 1.
 //!
 //! # Example
@@ -14,10 +14,10 @@
 //! 48 3 5 614141 812345 6789 Short 0 left 0
 //! ```
 //!
-//! # Where it differs from the standard
+//! # Differences from the standard
 //!
-//! - GS1 EPC Tag Data Standard gives a tag's bits as hexadecimal digits; here they are an even number of digits, in either case
-//!   where they are read, and in upper case where they are written.
+//! - GS1 EPC Tag Data Standard gives a tag's bits as hexadecimal digits. Here their number is even; they are read
+//!   case-insensitively and written in upper case.
 #![tactic(auto)]
 
 mod bit_buf;

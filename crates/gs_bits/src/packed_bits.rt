@@ -2,7 +2,7 @@ ghost use Rattle.std.specs.Prelude.{◌≡◌, ◌+◌, ◌-◌, ◌*◌, ◌/�
 ghost use Rattle.gs_bits.specs.Bits.{bits_of, number_of};
 ghost use Rattle.gs_bits.specs.PackedBits.{bits_of_bytes, packed_bits};
 
-/// The number of the n bits from a place on in some bytes, taken a byte at a time.
+/// Returns the number of the n bits from a place on in some bytes, taken a byte at a time.
 pub(crate) fn number_in(bytes: &[u8], from: usize, n: u32) -> u64
     requires width { n ≤ 64 }
     requires small { length bytes.now ≤ 64 }
@@ -23,7 +23,7 @@ pub(crate) fn number_in(bytes: &[u8], from: usize, n: u32) -> u64
     number
 }
 
-/// Writes the n bits of a number behind the first bits of some bytes, a byte at a time.
+/// Writes the n bits of a number after the first bits of some bytes, a byte at a time.
 pub(crate) fn write_behind(bytes: &mut [u8], len: usize, value: u64, n: u32)
     requires width { n ≤ 64 }
     requires small { length bytes.old ≤ 64 }
@@ -42,7 +42,7 @@ pub(crate) fn write_behind(bytes: &mut [u8], len: usize, value: u64, n: u32)
     }
 }
 
-/// The bits of a number above its lowest `below`, as many as `width`.
+/// Returns the bits of a number above its lowest `below`, as many as `width`.
 fn field(number: u64, below: u32, width: u32) -> u64
     requires narrow { width ≤ 8 }
     requires within { below < 64 }
@@ -51,7 +51,7 @@ fn field(number: u64, below: u32, width: u32) -> u64
     (number >> below) % (1 << width)
 }
 
-/// A byte whose lowest `room` bits are free, with a piece of so many bits at the start of them.
+/// Returns a byte whose lowest `room` bits are free, with a piece of that many bits at the start of them.
 fn with_piece(byte: u8, room: u32, piece: u64, width: u32) -> u8
     requires free { room ≤ 8 }
     requires fits { width ≤ room }

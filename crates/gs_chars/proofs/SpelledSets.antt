@@ -1,4 +1,4 @@
--- Which characters are of the set of 82: digits, and what is spelled.
+-- The characters of the set of 82: digits, and characters with a spelling.
 use Rattle.std.proofs.Common.{◌≡◌, ℕ, ◌≤◌, not, Bool, true, false, eqb, leb, List, [], ◌∷◌, ◌∙◌, refl, inl, inr, arith}
 use Rattle.std.specs.List.{list_any, list_all}
 use Rattle.std.specs.Prelude.{codes}

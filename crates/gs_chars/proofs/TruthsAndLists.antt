@@ -115,7 +115,7 @@ first_of_front (y ∷ xs) ys x e = e
 pub first_of_back : {X : Type 0} (xs ys : List X) (x : X) → xs ≡ [] → slice_get ys 0 ≡ Some x → slice_get (xs ++ ys) 0 ≡ Some x
 first_of_back xs ys x none e = rw none e
 
--- what is at a place
+-- an item at an index is within the list
 pub within : {X : Type 0} (xs : List X) (i : ℕ) (x : X) → slice_get xs i ≡ Some x → i < length xs
 within xs i x e = slice_get_within xs i x e
 

@@ -31,9 +31,9 @@ pub record IsEscape (c : ℕ) (spelling : List ℕ) : Type 0 where
   pub low_digit : hex_value low ≡ Some (c % 16)
   pub text : spelling ≡ 37 ∷ high ∷ low ∷ []
 
--- trusted, TDS 2.0, section 6.3.1; that the letter is read in either case is own: A character of the 82 is spelled by its
--- escape, whose letter is read in either case, where it is one of the seven, else as itself. Nothing else spells a
--- character.
+-- trusted, TDS 2.0, section 6.3.1; that the letter is read in either case is own: Holds if the text spells the character of the
+-- 82: by its escape for the seven escaped characters, with a letter in either case, otherwise by the character itself. Nothing
+-- else spells a character.
 abbrev pub Spells : ℕ → List ℕ → Type 0
 Spells c spelling = ((is_plain c ≡ true) × (spelling ≡ c ∷ [])) ⊎ ((is_escaped c ≡ true) × IsEscape c spelling)
 

@@ -4,7 +4,7 @@ ghost use Rattle.gs_chars.specs.Characters.{is_in_set82};
 
 use crate::char_set::CharSet;
 
-/// One of the seven characters that EPC URIs escape.
+/// Returns one of the seven characters that EPC URIs escape.
 #[tactic(auto, unfolding(crate::specs::Escapes::is_escaped))]
 fn is_escaped_in_uri(c: u8) -> bool
     ensures { result ≡ is_escaped c }
@@ -12,14 +12,14 @@ fn is_escaped_in_uri(c: u8) -> bool
     matches!(c, b'"' | b'%' | b'&' | b'/' | b'<' | b'>' | b'?')
 }
 
-/// A character that EPC URIs spell as itself.
+/// Returns a character that EPC URIs spell as itself.
 fn is_plain_in_uri(c: u8) -> bool
     ensures { result ≡ is_plain c }
 {
     CharSet::Set82.holds(c) && !is_escaped_in_uri(c)
 }
 
-/// The value of a hexadecimal digit of either case.
+/// Returns the value of a hexadecimal digit of either case.
 fn hex_digit_value(digit: u8) -> Option<u8>
     ensures { result ≡ hex_value digit }
 {
@@ -31,8 +31,8 @@ fn hex_digit_value(digit: u8) -> Option<u8>
     }
 }
 
-/// The character that the start of the text spells in an EPC URI, and the number of bytes of that spelling. `None` comes
-/// exactly where no prefix of the text spells a character (TDS 2.0, sections 6.3.1 and 7.1).
+/// Returns the character that the start of the text spells in an EPC URI, and the number of bytes of that spelling. `None` is
+/// returned if and only if no prefix of the text spells a character (TDS 2.0, sections 6.3.1 and 7.1).
 pub fn read_escape(text: &[u8]) -> Option<(u8, usize)>
     ensures found { IfSome result (λ r. BeginsWithSpelling text.now r.0 r.1) }
     ensures none { IfNone result ((c len : ℕ) → BeginsWithSpelling text.now c len → ⊥) }
@@ -55,7 +55,7 @@ pub fn read_escape(text: &[u8]) -> Option<(u8, usize)>
     Some((character, 3))
 }
 
-/// The byte of a number below 16 as an upper-case hexadecimal digit.
+/// Returns the byte of a number below 16 as an upper-case hexadecimal digit.
 fn upper_digit(n: u8) -> u8
     requires { n < 16 }
     ensures { result ≡ hex_digit n }
@@ -63,8 +63,8 @@ fn upper_digit(n: u8) -> u8
     if n < 10 { b'0' + n } else { b'A' + (n - 10) }
 }
 
-/// Writes the one spelling of a character of the 82 with upper-case letters (TDS 2.0, sections 6.3.1 and 7.1), and answers its
-/// number of bytes. The bytes behind it stay as they were. The character is one of the 82.
+/// Writes the one spelling of a character of the 82, with upper-case letters, and returns its number of bytes (TDS 2.0, sections
+/// 6.3.1 and 7.1). The bytes of `out` after it are unchanged. The character is one of the 82.
 pub fn write_escape(c: u8, out: &mut [u8; 3]) -> usize
     requires { IsTrue (is_in_set82 c) }
     ensures len { result ≡ length (written_spelling c) }
@@ -79,14 +79,14 @@ pub fn write_escape(c: u8, out: &mut [u8; 3]) -> usize
     }
 }
 
-/// A text that goes on after the written spelling of a character is read as that character, with that many bytes, and
-/// as no other.
+/// States that a text that begins with the written spelling of a character is read as that character, with that number of bytes,
+/// and as no other.
 pub fn written_spelling_is_read()
     ensures read { WrittenSpellingIsRead }
     ensures alone { NoOtherSpellingIsRead }
 {}
 
-/// No spelling begins another: two texts that begin alike begin with one spelling of one character.
+/// States that no spelling is a prefix of another: two texts with a common beginning begin with one spelling of one character.
 pub fn no_spelling_begins_another()
     ensures { NoSpellingBeginsAnother }
 {}

@@ -1,9 +1,10 @@
-//! Characters, texts, check digits and escapes: what every other crate stands on.
+//! Characters, texts, check digits and escapes: what every other crate is on.
 //!
-//! - `CharSet` is the digits, or the 82 characters of GS1 General Specifications, figure 7.11-1; `are_digits` and `are_visible`
-//!   tell whether all bytes of a text are digits, or visible characters; `count_digits` with how many digits it begins.
+//! - `CharSet` is the digits, or the 82 characters of GS1 General Specifications, figure 7.11-1. `are_digits` and `are_visible`
+//!   return whether all bytes of a text are digits, or visible characters; `count_digits` returns the number of leading digits.
 //! - `check_digit` gives the check digit of digits; `read_escape` and `write_escape` the escape of a character in a URI.
 //! - `Text` holds bytes, `List` holds values, and `Memory` says that memory ran out; `LONGEST_TEXT` is the most bytes of a text that is read.
+//! - `place_of` finds a byte in a text.
 //!
 //! # Example
 //!
@@ -15,7 +16,7 @@
 //! 3
 //! ```
 //!
-//! # Where it differs from the standards
+//! # Differences from the standards
 //!
 //! - The letters of an escape are read in either case and written in upper case (RFC 3986, 2.1).
 #![tactic(auto)]
@@ -25,15 +26,17 @@ mod check_digits;
 mod escapes;
 mod list;
 mod memory;
+mod places;
 mod rows;
 mod text;
 
 pub use char_set::{CharSet, are_digits, are_visible, count_digits};
-pub use check_digits::{check_digit, check_digit_completes_the_sum};
+pub use check_digits::{check_digit, check_digit_completes_the_sum, find_check_digit};
 pub use escapes::{
     no_spelling_begins_another, read_escape, write_escape, written_spelling_is_read,
 };
 pub use list::List;
 pub use memory::Memory;
+pub use places::place_of;
 pub use rows::Rows;
 pub use text::{LONGEST_TEXT, Text};

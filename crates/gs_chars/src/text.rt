@@ -35,7 +35,7 @@ impl Model for Text {
 }
 
 impl Text {
-    /// The text without bytes. It takes no memory.
+    /// Returns the text without bytes. Does not allocate.
     pub fn new(alloc: Global) -> Text
         ensures { result ≡ [] }
     {
@@ -44,7 +44,7 @@ impl Text {
         }
     }
 
-    /// A copy of the bytes. The one error is out of memory.
+    /// Returns a copy of the bytes. Fails only with `Memory`.
     pub fn from_bytes(alloc: Global, bytes: &[u8]) -> Result<Text, Memory>
         ensures { IfOk result (λ text. text ≡ bytes.now) }
     {
@@ -56,7 +56,7 @@ impl Text {
         Ok(Text { bytes })
     }
 
-    /// The text of the vector's bytes. It takes no memory.
+    /// Returns the text of the vector's bytes. Does not allocate.
     pub fn from_vec(bytes: Vec<u8>) -> Text
         ensures { result ≡ bytes.items }
     {
@@ -65,7 +65,7 @@ impl Text {
         }
     }
 
-    /// Appends the byte. The one error is out of memory, and then the text is as it was.
+    /// Appends the byte. Fails only with `Memory`, and then the text is unchanged.
     pub fn push(&mut self, byte: u8) -> Result<(), Memory>
         ensures appended { IfOk result (λ _. self.new ≡ self.old ++ byte ∷ []) }
         ensures unchanged { OnErr result (self.new ≡ self.old) }
@@ -73,7 +73,7 @@ impl Text {
         Ok(self.bytes.push(byte)?)
     }
 
-    /// Appends the bytes. The one error is out of memory, and then the text is as it was.
+    /// Appends the bytes. Fails only with `Memory`, and then the text is unchanged.
     pub fn extend_from_slice(&mut self, bytes: &[u8]) -> Result<(), Memory>
         ensures appended { IfOk result (λ _. self.new ≡ self.old ++ bytes.now) }
         ensures unchanged { OnErr result (self.new ≡ self.old) }
@@ -81,14 +81,14 @@ impl Text {
         Ok(self.bytes.extend_from_slice(bytes)?)
     }
 
-    /// A text of the same bytes. The one error is out of memory.
+    /// Returns a text of the same bytes. Fails only with `Memory`.
     pub fn copy(&self, alloc: Global) -> Result<Text, Memory>
         ensures { IfOk result (λ text. text ≡ self.now) }
     {
         Text::from_bytes(alloc, self.as_bytes())
     }
 
-    /// The bytes of the text.
+    /// Returns the bytes of the text.
     pub fn as_bytes(&self) -> &[u8]
         ensures { result.now ≡ self.now }
     {

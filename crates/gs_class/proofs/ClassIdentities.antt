@@ -41,7 +41,7 @@ characters_there found element most e f = rw (e, f) refl
 pub serial_kept : (ais : List AiRow) (row : ClassRow) (kept : KeptClass ais row) → is_serial_of ais kept.key (Digits (kept.k - 1) Nothing) (Ai row.element) ≡ true
 serial_kept ais row kept = rw (kept.lists, characters_there (find (has_code row.element) ais) kept.element kept.most kept.element_found kept.room.characters) refl
 
--- the kind that a class is keeps the rules of kinds
+-- the kind that a class is satisfies the rules of kinds
 abbrev pub kind_kept : (ais : List AiRow) (row : ClassRow) (kept : KeptClass ais row) → KeptKind ais (kind_of (class_of row))
 kind_kept ais row kept = record {
   row = kept.key;

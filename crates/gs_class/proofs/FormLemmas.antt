@@ -1,4 +1,4 @@
--- The errors of the form of a document of classes, and what it is read as.
+-- The errors of the form of a document of classes, and the rows that are read from it.
 use Rattle.std.proofs.Common.{◌≡◌, ℕ, ◌+◌, ◌≤◌, List, [], ◌∷◌, length, take, map, Some, slice_get, refl, inl, inr}
 use Rattle.std.specs.Prelude.{Result, Ok, Err}
 use Rattle.std.specs.Str.{IsUtf8}

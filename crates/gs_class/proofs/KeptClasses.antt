@@ -62,7 +62,7 @@ none_bad (Some x ∷ xs) h =
 
 -- ---- the key and the element
 
--- a key of digits with their check digit alone
+-- a key of only digits with their check digit
 pub record IsAlone (parts : List Part) (digits : ℕ) : Type 0 where
   pub k : ℕ
   pub parts_are : parts ≡ NumCheck k ∷ []
@@ -72,7 +72,7 @@ is_alone : (parts : List Part) (digits : ℕ) → digits_alone parts ≡ Some di
 is_alone (NumCheck k ∷ []) digits h = record { k = k; parts_are = refl; digits_are = let e : Some (k - 1) ≡ Some digits = h in let f : k - 1 ≡ digits = cc in sym f }
 is_alone parts digits h = absurd (let e : None ≡ Some digits = h in cc)
 
--- an element of characters alone, without a text for none
+-- an element of only characters, without a text that means none
 pub record IsRoom (row : AiRow) (most : ℕ) : Type 0 where
   pub none : is_empty row.none ≡ true
   pub characters : characters_of row.parts ≡ Some most
@@ -138,7 +138,7 @@ key_kept ais row key h =
     let two = and_parts first second three.0 in
     record { role = two.0; lead = two.1; lists = three.1; fits = whole.1 }
 
--- the rules beside the key
+-- the rules apart from the key's
 record KeptRules (ais : List AiRow) (earlier : List ClassRow) (row : ClassRow) : Type 0 where
   agree : list_all (agrees row) earlier ≡ true
   key : AiRow

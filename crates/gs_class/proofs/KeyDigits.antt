@@ -72,7 +72,7 @@ key_of_identity ais row kept identity made same =
 
 -- ---- the company prefix and the rest
 
--- what the rule of the company prefix says of its length
+-- the facts that the rule of the company prefix gives about its length
 pub record IsLength (digits lead n : ℕ) : Type 0 where
   pub some : 1 ≤ n
   pub room : n ≤ digits - lead
@@ -90,7 +90,7 @@ pub one_of_prefix : (digits lead n : ℕ) (items : List Item) → keeps_gcp (Dig
 unfolding keeps_gcp
 one_of_prefix digits lead n items h = (and_parts (is_gcp (Digits digits Nothing) lead n) (is_one (is_digits n) items) h).1
 
--- so many digits
+-- that many digits
 pub record AreDigits (n : ℕ) (text : List ℕ) : Type 0 where
   pub count : length text ≡ n
   pub digits : are_digits text ≡ true

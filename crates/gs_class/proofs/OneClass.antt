@@ -30,7 +30,7 @@ one_identity set text one other clear a b =
 
 -- ---- one answer
 
--- every item of every option keeps its bounds
+-- every item of every option is within its bounds
 abbrev pub AreGood : ClassRows → Type 0
 AreGood set = All (All IsItem) (item_lists set.level.options)
 

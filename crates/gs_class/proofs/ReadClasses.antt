@@ -33,7 +33,7 @@ class_read ais set text option values of one =
     record { class = class_of row.0; at = class_of_row ais set option of row.0 row.1; fits = fits_class ais row.0 (class_at ais of.rows option row.0 of.in_order row.1) values d.words each }
 
 module _ (ais : List AiRow) (set : ClassRows) (text : List ℕ) (option : ℕ) (values : List (List ℕ)) (classes : List Class) (of : IsOfTable ais set) (one : OneDerivation (item_lists set.level.options) text option values) (rows : classes ≡ set.classes) where
-  -- a class stands at the option
+  -- a class is at the option
   pub class_low : option < length classes
   class_low = let read = class_read ais set text option values of one in rw rows (slice_get_within set.classes option read.class read.at)
 

@@ -1,4 +1,4 @@
--- The sets that the rules make keep the bounds of items.
+-- The items of sets that satisfy the rules are within their bounds.
 use Rattle.std.proofs.Common.{◌≡◌, ℕ, ◌==◌, not, false, List, [], ◌∷◌, ◌++◌, map, Option, Some, None, get_or, refl, sym}
 use Rattle.std.specs.Prelude.{All, Ok, Err, codes}
 use Rattle.std.specs.Option.{option_map_or}

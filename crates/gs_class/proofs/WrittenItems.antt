@@ -197,7 +197,7 @@ module _ (ais : List AiRow) (row : ClassRow) (kept : KeptClass ais row) (identit
     lot = one_lot;
   }
 
--- ---- what is written
+-- ---- the written items
 
 named_serial : (field : Option Field) → is_field Serial field ≡ true → field ≡ Some Serial
 named_serial (Some Serial) h = refl
@@ -214,7 +214,7 @@ module _ (class : Class) (items : List Item) (identity : Elements) (can : CanWri
       let own = named_serial at.0 at.2 in
       slice_get-map (value_for (said_of class identity)) class.fields k ∙ ap (option_map (value_for (said_of class identity))) at.1 ∙ ap (λ (f : Option Field). Some (value_for (said_of class identity) f)) own
 
-  -- the item of the lot has a word, where all items hold their values
+  -- the item of the lot has a word if all items hold their values
   pub lot_held : AreHeld items (values_for (said_of class identity) class.fields) → why_not_lot class.fields items lot ≡ None
   lot_held held = by (position (is_field Serial) class.fields) refl
     where
@@ -248,7 +248,7 @@ module _ (class : Class) (items : List Item) (identity : Elements) (can : CanWri
   pub rejected_by : (k : ℕ) (why : Why) → IsFirstRejection items (values_for (said_of class identity) class.fields) k why → Err (CannotHold why) ≡ by_items class identity items
   rejected_by k why first = rw (lot_not_held k why first) refl
 
--- where the lot has a word, all items hold their values
+-- if the lot has a word, all items hold their values
 pub all_held : (class : Class) (items : List Item) (identity : Elements) → CanWrite class items identity → why_not_lot class.fields items (said_of class identity).serial ≡ None → AreHeld items (values_for (said_of class identity) class.fields)
 all_held class items identity can none k item value low at held =
     let field = mapped_some (value_for (said_of class identity)) (slice_get class.fields k) value (sym (slice_get-map (value_for (said_of class identity)) class.fields k) ∙ held) in

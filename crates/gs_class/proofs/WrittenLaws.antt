@@ -1,4 +1,4 @@
--- What is written of an identity is a class URI of it.
+-- The text that is written of an identity is a class URI of it.
 use Rattle.std.proofs.Common.{◌≡◌, ℕ, zero, suc, ◌-◌, ◌==◌, ◌&&◌, ◌||◌, ◌⊎◌, not, if◌then◌else◌, Bool, true, false, List, [], ◌∷◌, ◌++◌, length, take, drop, map, position, filter, Option, Some, None, bytes_eq, find, is_some, slice_get, refl, sym, ap, subst, ◌∙◌, arith, inl, inr, true≢false}
 use Rattle.std.specs.Prelude.{Result, Ok, Err}
 use Rattle.std.specs.List.{filter_map, list_any}
@@ -59,7 +59,7 @@ use Rattle.gs_class.proofs.WrittenItems.{all_held, can_write}
 
 -- ---- the steps of an answer
 
--- the class that writes, the class that names the identity, and what was asked on the way
+-- the class that writes, the class that names the identity, and the tests on the way
 pub record Steps (set : ClassRows) (identity : Elements) (text : List ℕ) : Type 0 where
   pub naming : Class
   pub i : ℕ
@@ -72,7 +72,7 @@ pub record Steps (set : ClassRows) (identity : Elements) (text : List ℕ) : Typ
   pub held : why_not_lot class.fields (items_at set i) (said_of class identity).serial ≡ None
   pub wrote : written (items_at set i) (values_for (said_of class identity) class.fields) ≡ text
 
--- an answer that is Ok comes of what is there
+-- a result of Ok has an optional value that is present
 there_is : {X : Type 0} (f : X → Result (List ℕ) ClassWriteFault) (o : Option X) (e : ClassWriteFault) (text : List ℕ) → option_map_or f o (Err e) ≡ Ok text → (x : X) × (o ≡ Some x) × (f x ≡ Ok text)
 there_is f None e text h = absurd (let g : Err e ≡ Ok text = h in cc)
 there_is f (Some x) e text h = (x, refl, h)
@@ -109,7 +109,7 @@ steps set prefixes gcp identity text h =
       wrote = let e : Ok (written (items_at set i.0) (values_for (said_of class.0 identity) class.0.fields)) ≡ Ok text = items.1 in cc;
     }
 
--- ---- what is read of the values of a class
+-- ---- the identity that is read from the values of a class
 
 module _ (ais : List AiRow) (row : ClassRow) (kept : KeptClass ais row) (identity : Elements) (made : IsMadeWith ais identity) (same : row.key ≡ identity.key.code) where
   abbrev said : KeyFields
@@ -161,7 +161,7 @@ or_more : (a b : Bool) → b ≡ true → (a || b) ≡ true
 or_more true b h = refl
 or_more false b h = h
 
--- the pair that is found by the first code, or one behind it
+-- the pair that is found by the first code, or one after it
 code_here : (code : List ℕ) (codes : List (List ℕ)) (first pair : Pair) (others : List Pair) (j : ℕ) → bytes_eq code first.code ≡ true → slice_get (first ∷ others) j ≡ Some pair
     → ((k : ℕ) → slice_get others k ≡ Some pair → list_any (bytes_eq pair.code) codes ≡ true) → list_any (bytes_eq pair.code) (code ∷ codes) ≡ true
 code_here code codes first pair others zero passes at rest =
@@ -183,7 +183,7 @@ listed_code pairs (code ∷ codes) j pair at = elim (find_by_cases (λ (p : Pair
       or_more (bytes_eq pair.code code) (list_any (bytes_eq pair.code) codes) (listed_code pairs codes j pair (rw here at at))
 ]
 
--- what is found among those that pass a test passes it
+-- an item that is found among those that pass a test passes it
 found_kept : (t p : Pair → Bool) (pairs : List Pair) (pair : Pair) → find p (filter t pairs) ≡ Some pair → t pair ≡ true
 found_kept t p [] pair e = absurd (let f : None ≡ Some pair = e in cc)
 found_kept t p (first ∷ pairs) pair e = elim (true_or_false (t first)) [
@@ -215,7 +215,7 @@ are_placed ais identity row made found =
       other = λ j pair at. found_kept (is_other row.qualifiers identity.key) (λ (p : Pair). bytes_eq pair.code p.code) pairs pair (own_ascending (filter (is_other row.qualifiers identity.key) pairs) j pair (rw attributes at at));
     }
 
--- a code that passes is not one of those of which none passes
+-- a code that passes the test is not in a list of which none passes
 unlisted : (p : List ℕ → Bool) (code : List ℕ) (codes : List (List ℕ)) → p code ≡ true → list_any p codes ≡ false → list_any (bytes_eq code) codes ≡ false
 unlisted p code [] passes none = refl
 unlisted p code (other ∷ codes) passes none =
@@ -225,7 +225,7 @@ unlisted p code (other ∷ codes) passes none =
 
 -- ---- what a class takes, over plain lists
 
--- the element has a pair among the qualifiers, where there are no attributes
+-- the element has a pair among the qualifiers if there are no attributes
 pair_there : (qualifiers attributes : List Pair) (element other : List ℕ) → attributes ≡ [] → element ≡ other → is_some (pair_with (qualifiers ++ attributes) other) ≡ true → (pair : Pair) × (pair_with qualifiers element ≡ Some pair)
 pair_there qualifiers attributes element other none same some =
     let own : is_some (pair_with (qualifiers ++ []) element) ≡ true = rw (none, ← same) at some in
@@ -299,7 +299,7 @@ module _ (ais : List AiRow) (rules : KeepsRules ais) (set : ClassRows) (identity
   element_listed : list_any (bytes_eq s.class.element) its_kept.key.qualifiers ≡ true
   element_listed = subst (λ (code : List ℕ). list_any (bytes_eq code) its_kept.key.qualifiers ≡ true) (ap (λ (c : Class). c.element) (sym its_row.class_is)) its_kept.lists
 
-  -- the code of a pair beside the key
+  -- the code of a pair other than the key
   code_of : (j : ℕ) (pair : Pair) → slice_get (others_of identity) j ≡ Some pair → (bytes_eq identity.key.code pair.code ≡ true) ⊎ (s.class.element ≡ pair.code)
   code_of j pair at =
       let fails = not_found (is_extra s.naming) (others_of identity) s.none_extra j pair at in
@@ -409,6 +409,6 @@ module _ (ais : List AiRow) (rules : KeepsRules ais) (set : ClassRows) (identity
     is = laid_out ∙ laid_is ais s.class (said_of s.class identity) fits rules ∙ ap (λ (f : KeyFields). class_identity s.class f) (sym back);
   }
 
--- what is written of an identity of the table is a class URI of it
+-- the text that is written of an identity of the table is a class URI of it
 pub written_is_read : (ais : List AiRow) → KeepsRules ais → (set : ClassRows) (prefixes : List PrefixEntry) (gcp : Option ℕ) (identity : Elements) (text : List ℕ) → IsOfTable ais set → IsMadeWith ais identity → class_answer set prefixes gcp identity ≡ Ok text → IsClass set text identity
 written_is_read ais rules set prefixes gcp identity text of made h = is_class ais rules set identity of made text (steps set prefixes gcp identity text h)

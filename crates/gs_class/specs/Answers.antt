@@ -1,5 +1,5 @@
--- The answer to the bytes of a document of classes: the set of its rows, or the first rejection. All bytes have one answer, but for
--- the text of an ambiguous set; out of memory may come in its place.
+-- The result of loading the bytes of a document of classes: the set of its rows, or the first rejection. All bytes have exactly
+-- one result, apart from the text of an ambiguous set, or `Memory` instead.
 use Rattle.std.specs.Prelude.{◌≡◌, ◌⊎◌, ℕ, ◌==◌, not, List, ◌++◌, map, codes, Result, Ok, Err}
 use Rattle.std.specs.Option.{option_map_or}
 use Rattle.serde_json.specs.Data.{Data}
@@ -22,7 +22,7 @@ use Rattle.gs_class.specs.Sets.{ClassRows, IsClear, set_of}
 abbrev pub ruled_rows : List AiRow → List ClassRow → Result ClassRows ClassLoadFault
 ruled_rows ais rows = first_or (class_rejections ais rows) (set_of rows)
 
--- trusted, own: the answer of the rules to a document: the errors of its form stand before the version, and this before the rows
+-- trusted, own: the answer of the rules to a document: the errors of its form are before the version, and this before the rows
 unfoldable pub ruled_document : List AiRow → Data → Result ClassRows ClassLoadFault
 ruled_document ais d =
     first_or (map Json (form_errors d) ++ (error_if (not (number_in (codes "version") d == 1)) Version ++ class_rejections ais (rows_of d)))
@@ -34,8 +34,8 @@ ruled_bytes ais bytes = option_map_or (ruled_document ais) (document_of bytes) (
 
 -- ---- which sets are ambiguous
 
--- trusted, own, after TDT 2.0 section 3: The answer of a set of rows that no rule rejects: the set itself where no text has two
--- derivations; else the first pair of its rows that shares a text, and such a text.
+-- trusted, own, after TDT 2.0 section 3: The result for a set of rows that no rule rejects: the set itself if no text has two
+-- derivations. Otherwise the first pair of its rows that shares a text, and such a text.
 abbrev pub IsJudged : ClassRows → Result ClassRows ClassLoadFault → Type 0
 IsJudged set (Ok made) = (made ≡ set) × IsClear set
 IsJudged set (Err (Ambiguous i j text)) = ShowsFirstShare set.level i j text
@@ -54,7 +54,7 @@ LoadAnswer ais bytes answer = Judged (ruled_bytes ais bytes) answer
 abbrev pub BuiltInAnswer : List AiRow → Result ClassRows ClassLoadFault → Type 0
 BuiltInAnswer ais answer = Judged (ruled_rows ais built_in_rows) answer
 
--- trusted, own: the answer, or out of memory in its place
+-- trusted, own: the answer, or out of memory instead
 abbrev pub OrMemory : (Result ClassRows ClassLoadFault → Type 0) → Result ClassRows ClassLoadFault → Type 0
 OrMemory Is answer = (answer ≡ Err Memory) ⊎ Is answer
 

@@ -1,4 +1,4 @@
--- What proofs and private functions say beside the definitions of Answers.antt.
+-- Definitions for proofs and private functions, in addition to Answers.antt.
 use Rattle.std.specs.Prelude.{◌≡◌, List, map, Result, Ok, Err}
 use Rattle.gs_chars.specs.Answers.{OrError, first_or}
 use Rattle.gs_grammar.specs.Ambiguity.{IsUnambiguous, ShowsFirstShare}
@@ -8,7 +8,7 @@ use Rattle.gs_json.specs.declared.error.JsonFault.TheVariants as json
 use Rattle.gs_class.specs.declared.error.ClassLoadFault.{ClassLoadFault}
 use Rattle.gs_class.specs.declared.error.ClassLoadFault.TheVariants.{Json, Ambiguous, Memory}
 
--- the answer is the first of the rejections, or Ok where there is none
+-- holds if the result is the first of the rejections, or Ok if there are none
 abbrev pub IsFirst : List ClassLoadFault → Result (Unit {0}) ClassLoadFault → Type 0
 IsFirst rejections answer = answer ≡ first_or rejections tt
 

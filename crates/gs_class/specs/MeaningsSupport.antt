@@ -1,4 +1,4 @@
--- What proofs and private functions say beside the definitions of Meanings.antt.
+-- Definitions for proofs and private functions, in addition to Meanings.antt.
 use Rattle.std.specs.Prelude.{◌≡◌, ℕ, false, List, [], ◌∷◌}
 use Rattle.gs_ai.specs.declared.part.Part.TheVariants.{NumCheck}
 use Rattle.gs_ai.specs.declared.row.AiRow.{AiRow}

@@ -39,24 +39,25 @@ is_class_item (Some Rest, _) = true
 is_class_item (Some Serial, _) = true
 is_class_item (_, _) = false
 
--- trusted, own: an item is not there, breaks a bound of texts, or is none of a class
+-- trusted, own: holds if the item is absent, breaks a bound of texts, or is not an item of a class
 abbrev pub is_bad_item : Option FieldItem → Bool
 is_bad_item None = true
 is_bad_item (Some item) = is_bad false item.1 || not (is_class_item item)
 
 -- ---- the key and the element
 
--- trusted, GS1 General Specifications, section 3.2: the digits of a key beside its check digit, where its parts are these alone
+-- trusted, GS1 General Specifications, section 3.2: the number of digits of a key before its check digit, if it has no other part
 abbrev pub digits_alone : List Part → Option ℕ
 digits_alone (NumCheck k ∷ []) = Some (k - 1)
 digits_alone _ = None
 
--- trusted, own: the most characters of an element that is characters alone and has no text for none
+-- trusted, own: the most characters of an element that is only characters and has no text that means none
 abbrev pub element_room : List AiRow → List ℕ → Option ℕ
 element_room ais element =
     option_and_then (λ (row : AiRow). if is_empty row.none then characters_of row.parts else None) (find (has_code element) ais)
 
--- trusted, own: the company prefix, the rest and the lot fit a key of so many digits and an element of at most so many characters
+-- trusted, own: the company prefix, the rest and the lot fit a key of that many digits and an element of at most that many
+-- characters
 unfoldable pub keeps_items : ClassRow → ℕ → ℕ → Bool
 keeps_items row digits most =
     keeps_gcp (Digits digits Nothing) row.lead row.gcp (items_of_field Gcp (present row.items))
@@ -68,7 +69,7 @@ abbrev pub fits_parts : List AiRow → ClassRow → List Part → Bool
 fits_parts ais row parts =
     option_map_or (λ digits. option_map_or (λ most. keeps_items row digits most) (element_room ais row.element) false) (digits_alone parts) false
 
--- trusted, own: the row of the key is that of a key, has at most one digit before the company prefix, lists the element, and the
+-- trusted, own: holds if the row is that of a key with at most one digit before the company prefix, lists the element, and the
 -- items fit
 unfoldable pub fits_key : List AiRow → ClassRow → AiRow → Bool
 fits_key ais row key =
@@ -89,7 +90,7 @@ agrees row other =
 unfoldable pub is_same_row : ClassRow → ClassRow → Bool
 is_same_row row other = bytes_eq row.name other.name && (row.gcp == other.gcp)
 
--- trusted, own: the row keeps the rules of classes, beside the earlier ones
+-- trusted, own: holds if the row satisfies the rules of classes, given the earlier ones
 unfoldable pub is_class : List AiRow → List ClassRow → ClassRow → Bool
 is_class ais earlier row =
     not (is_empty row.name) && are_visible row.name && list_all (agrees row) earlier

@@ -8,12 +8,12 @@ use Rattle.gs_class.specs.declared.class.Class.{Class}
 use Rattle.gs_class.specs.declared.row.ClassRow.{ClassRow}
 use Rattle.gs_class.specs.Rules.{class_rejections}
 
--- trusted, own: a set of classes: the level of their texts, and what is said of each of its options
+-- trusted, own: a set of classes: the level of their texts, and the facts of each of its options
 pub record ClassRows : Type 0 where
   pub level : LevelForm
   pub classes : List Class
 
--- trusted, own: what is said of the option of a row
+-- trusted, own: the facts of the option of a row
 abbrev pub class_of : ClassRow → Class
 class_of row = record {
   name = row.name;
@@ -32,7 +32,7 @@ option_of row = record { bit_level = false; items = alone (present row.items) }
 abbrev pub set_of : List ClassRow → ClassRows
 set_of rows = record { level = record { bit_level = false; options = map option_of rows }; classes = map class_of rows }
 
--- trusted, own: The set is of the table: it is the set of rows that no rule rejects beside the table's rows.
+-- trusted, own: Holds if the set is made for the table: it is the set of rows that no rule rejects, given the table's rows.
 pub record IsOfTable (ais : List AiRow) (set : ClassRows) : Type 0 where
   pub rows : List ClassRow
   pub in_order : class_rejections ais rows ≡ []

@@ -1,4 +1,5 @@
--- What is written of an identity as a class URI: TDS 2.0, 'EPC Class URIs'. Which class writes, and which rejection is named, is own.
+-- The class URI that is written of an identity: TDS 2.0, 'EPC Class URIs'. The choice of the class and of the named rejection is
+-- this project's own.
 use Rattle.std.specs.Prelude.{ℕ, ◌-◌, ◌==◌, ◌&&◌, not, Bool, if◌then◌else◌, List, [], ◌++◌, length, take, drop, map, position, Option, Some, option_and_then, is_some, slice_get, Result, Ok, Err, bytes_eq}
 use Rattle.std.specs.List.{find, list_any}
 use Rattle.std.specs.Option.{option_map_or, option_or}
@@ -23,7 +24,7 @@ use Rattle.gs_class.specs.Sets.{ClassRows}
 
 -- ---- the class that names an identity
 
--- trusted, own: the pairs of an identity beside its key
+-- trusted, own: the pairs of an identity other than its key
 abbrev pub others_of : Elements → List Pair
 others_of identity = identity.qualifiers ++ identity.attributes
 
@@ -49,7 +50,7 @@ lot_of class identity = option_map_or (λ (pair : Pair). pair.value) (pair_with 
 abbrev pub unchecked : List ℕ → List ℕ
 unchecked value = take (length value - 1) value
 
--- trusted, TDS 2.0, section 7: What an identity says by a class: the company prefix behind the lead digits, the rest with these at
+-- trusted, TDS 2.0, section 7: What an identity says by a class: the company prefix after the lead digits, the rest with these at
 -- the start, and the lot.
 abbrev pub said_of : Class → Elements → KeyFields
 said_of class identity = record {
@@ -71,7 +72,7 @@ value_for said _ = []
 abbrev pub values_for : KeyFields → List (Option Field) → List (List ℕ)
 values_for said fields = map (value_for said) fields
 
--- trusted, own: why the item of the lot has no word for it, where there is such an item
+-- trusted, own: why the item of the lot has no word for the lot, if there is such an item
 abbrev pub why_not_lot : List (Option Field) → List Item → List ℕ → Option Why
 why_not_lot fields items lot =
     option_and_then (λ k. option_and_then (λ item. why_not item lot) (slice_get items k)) (position (is_field Serial) fields)
@@ -93,7 +94,7 @@ abbrev pub by_class : ClassRows → Elements → ℕ → Result (List ℕ) Class
 by_class set identity i =
     option_map_or (λ class. by_items class identity (items_at set i)) (slice_get set.classes i) (Err NoOption)
 
--- trusted, own: the class has this name, and a company prefix of so many digits
+-- trusted, own: the class has this name, and a company prefix of that many digits
 abbrev pub is_sized : List ℕ → ℕ → Class → Bool
 is_sized name n class = bytes_eq name class.name && (class.gcp == n)
 
@@ -103,26 +104,26 @@ by_length set identity class n =
     option_map_or (by_class set identity) (position (is_sized class.name n) set.classes) (Err NoOption)
 
 -- trusted, GS1 General Specifications, section 1.4.4: the length of the company prefix: the given one, or that of the list by the
--- digits behind the lead digits
+-- digits after the lead digits
 unfoldable pub length_for : List PrefixEntry → Option ℕ → Class → Elements → Option ℕ
 length_for prefixes gcp class identity = option_or gcp (prefix_length prefixes (drop class.lead identity.key.value))
 
--- trusted, own: the answer by the class that names the identity: it has no pair beside the key and the element of the class, and
--- its company prefix has a length
+-- trusted, own: the result by the class that names the identity: the identity has no pair other than the key and the element of
+-- the class, and its company prefix has a length
 unfoldable pub by_name : ClassRows → List PrefixEntry → Option ℕ → Elements → Class → Result (List ℕ) ClassWriteFault
 by_name set prefixes gcp identity class =
     option_map_or (λ (pair : Pair). Err (Extra pair.code))
     (find (is_extra class) (others_of identity))
     (option_map_or (by_length set identity class) (length_for prefixes gcp class identity) (Err MissingGcp))
 
--- trusted, TDS 2.0, 'EPC Class URIs'; the order of the rejections is own: The answer of `write_class`. Some class has the key; the
--- first that has it and whose element is a pair of the identity names it; and what follows from that.
+-- trusted, TDS 2.0, 'EPC Class URIs'; the order of the rejections is own: The result of `write_class`. Some class has the key.
+-- The first that has it, and whose element is a pair of the identity, names the identity and decides the rest.
 unfoldable pub class_answer : ClassRows → List PrefixEntry → Option ℕ → Elements → Result (List ℕ) ClassWriteFault
 class_answer set prefixes gcp identity =
     if list_any (has_key identity) set.classes
     then option_map_or (by_name set prefixes gcp identity) (find (is_named_by identity) set.classes) (Err MissingElement)
     else Err NoClass
 
--- trusted, own: the answer, or out of memory in its place
+-- trusted, own: the answer, or out of memory instead
 abbrev pub OrMemory : Result (List ℕ) ClassWriteFault → Result (List ℕ) ClassWriteFault → Type 0
 OrMemory result answer = OrError Memory result answer

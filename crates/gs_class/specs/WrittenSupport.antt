@@ -1,4 +1,4 @@
--- What proofs and private functions say beside the definitions of Written.antt.
+-- Definitions for proofs and private functions, in addition to Written.antt.
 use Rattle.std.specs.Prelude.{◌≡◌, ℕ, true, false, List, [], length, Option, Some, None, slice_get, bytes_eq, position}
 use Rattle.gs_ident.specs.Elements.{Elements}
 use Rattle.gs_grammar.specs.declared.item.Item.{Item}
@@ -13,7 +13,7 @@ use Rattle.gs_class.specs.declared.writer.Said.{Said}
 use Rattle.gs_class.specs.Sets.{ClassRows}
 use Rattle.gs_class.specs.Written.{said_of, value_for}
 
--- what is said, as the fields of a key
+-- the fields of a class as the fields of a key
 abbrev pub fields_in : Said → KeyFields
 fields_in said = record { prefix = said.prefix; rest = said.rest; piece = []; total = []; serial = said.serial }
 

@@ -9,14 +9,14 @@ use gs_tables::Field;
 use gs_tables_document::FieldItem;
 use std::alloc::Global;
 
-/// A literal.
+/// Returns a literal.
 fn literal(alloc: Global, text: &[u8]) -> Result<Option<FieldItem>, Memory>
     ensures { IfOk result (λ item. item ≡ Some (None, Lit text.now)) }
 {
     Ok(Some((None, Item::Lit(Text::from_bytes(alloc, text)?))))
 }
 
-/// The items of the lot of a trade item whose company prefix has `n` digits.
+/// Returns the items of the lot of a trade item whose company prefix has `n` digits.
 fn lgtin_items(alloc: Global, n: u8) -> Result<List<Option<FieldItem>>, Memory>
     requires { n ≤ 13 }
     ensures { IfOk result (λ items. items ≡ lgtin_items n) }
@@ -31,7 +31,7 @@ fn lgtin_items(alloc: Global, n: u8) -> Result<List<Option<FieldItem>>, Memory>
     Ok(List::from_vec(items))
 }
 
-/// The lot of a trade item whose company prefix has `n` digits.
+/// Returns the lot of a trade item whose company prefix has `n` digits.
 fn lgtin_row(alloc: Global, n: u8) -> Result<ClassRow, Memory>
     requires { n ≤ 13 }
     ensures { IfOk result (λ row. row ≡ lgtin_row n) }
@@ -46,7 +46,7 @@ fn lgtin_row(alloc: Global, n: u8) -> Result<ClassRow, Memory>
     })
 }
 
-/// The built-in rows.
+/// Returns the built-in rows.
 pub(crate) fn built_in_rows(alloc: Global) -> Result<Vec<ClassRow>, Memory>
     ensures { IfOk result (λ rows. rows.items ≡ built_in_rows) }
 {

@@ -29,21 +29,21 @@ pub(crate) fn check_version(root: &Node<'_>) -> Result<(), ClassLoadFault>
     }
 }
 
-/// Whether some class has more items than the limit.
+/// Returns whether some class has more items than the limit.
 fn has_long(rows: &[ClassRow]) -> bool
     ensures { result ≡ has_long rows.now }
 {
     rows.iter().any(|row| row.items.items().len() > MOST_ITEMS)
 }
 
-/// Whether there are more classes, or more items of a class, than the limit.
+/// Returns whether there are more classes, or more items of a class, than the limit.
 fn are_many(rows: &[ClassRow]) -> bool
     ensures { result ≡ are_many rows.now }
 {
     rows.len() > MOST_CLASSES || has_long(rows)
 }
 
-/// Rejects row `i` where it is the same as an earlier one.
+/// Rejects row `i` if it equals an earlier one.
 fn check_unlike(earlier: &[ClassRow], i: usize, row: &ClassRow) -> Result<(), ClassLoadFault>
     ensures { IsFirst (option_to_list (option_map (λ j. ClassLoadFault.Duplicate j i)
         (position (is_same_row row.now) earlier.now))) result }
@@ -54,7 +54,7 @@ fn check_unlike(earlier: &[ClassRow], i: usize, row: &ClassRow) -> Result<(), Cl
     }
 }
 
-/// The first rejection of row `i`.
+/// Finds the first rejection of row `i`.
 fn check_row(
     ais: &AiTable,
     rows: &[ClassRow],
@@ -77,7 +77,7 @@ fn check_row(
     check_unlike(&rows[..i], i, row)
 }
 
-/// The first rejection of the rows: of their limits, then row by row.
+/// Finds the first rejection of the rows: of their limits, then row by row.
 pub(crate) fn check_rows(ais: &AiTable, rows: &[ClassRow]) -> Result<(), ClassLoadFault>
     ensures { IsFirst (class_rejections ais.now rows.now) result }
 {
@@ -87,7 +87,7 @@ pub(crate) fn check_rows(ais: &AiTable, rows: &[ClassRow]) -> Result<(), ClassLo
     check_each(ais, rows)
 }
 
-/// The first rejection of the rows, row by row.
+/// Finds the first rejection of the rows, row by row.
 fn check_each(ais: &AiTable, rows: &[ClassRow]) -> Result<(), ClassLoadFault>
     ensures { IsFirst (flat_map (row_rejections ais.now rows.now) (enumerate_from 0 rows.now)) result }
 {

@@ -19,8 +19,8 @@ use gs_json::{Doc, Node};
 use std::alloc::Global;
 use std::marker::Model;
 
-/// A set of classes: the options of their texts, and what is said of each beside its items, in the order of the rows. No text has two
-/// readings by it.
+/// A set of classes: the options of their texts, and the facts of each apart from its items, in the order of the rows. No text
+/// has two readings by the set.
 pub struct ClassSet {
     level: Level,
     classes: List<Class>,
@@ -49,13 +49,13 @@ impl Model for ClassSet {
 }
 
 impl ClassSet {
-    /// The set that a document in JSON gives: an object with exactly `version`, the number 1, and `classes`, an array of objects with
-    /// exactly `name`, `key`, `lead`, `element`, `gcp` and `items`. Of the rejections the first in this order is the answer. `Json`:
-    /// the bytes are no JSON text, or the document or a row has not this form. `Version`: the version is not 1. `Limit`: more than
-    /// 256 classes, or 24 items of one. Then row by row `BadItem` for its first bad item, `Size`, `Mismatch` where it breaks a rule
-    /// beside the table and the earlier rows, `Duplicate` for the first earlier row of one name and length of the company prefix.
-    /// Last `Ambiguous`: the first pair of rows that shares a text, and such a text. `Ok` comes exactly where none of these does:
-    /// the rows keep the rules, and no text has two readings. `Memory` may come in place of any answer.
+    /// Returns the set that a document in JSON gives: an object with exactly `version`, the number 1, and `classes`, an array of
+    /// objects with exactly `name`, `key`, `lead`, `element`, `gcp` and `items`. Returns the first rejection in this order.
+    /// `Json`: the bytes are not JSON text, or the document or a row does not have this form. `Version`: the version is not 1.
+    /// `Limit`: more than 256 classes, or 24 items of one. Then row by row `BadItem` for its first bad item, `Size`, `Mismatch`
+    /// if it breaks a rule given the table and the earlier rows, `Duplicate` for the first earlier row of one name and company
+    /// prefix length. Last `Ambiguous`: the first pair of rows that shares a text, and such a text. Returns `Ok` if and only if
+    /// none of these applies: the rows satisfy the rules, and no text has two readings. May return `Memory` instead.
     pub fn load(alloc: Global, table: &AiTable, bytes: &[u8]) -> Result<ClassSet, ClassLoadFault>
         ensures answer { OrMemory (LoadAnswer table.now bytes.now) result }
         ensures of_table { IfOk result (IsOfTable table.now) }
@@ -66,9 +66,9 @@ impl ClassSet {
         }
     }
 
-    /// The set of the built-in rows: the lot of a trade item, `urn:epc:class:lgtin`, for each length of the company prefix from 12
-    /// to 6. They go through the rules of `ClassSet::load`, and the answer is their first rejection where there is one, as over a table
-    /// without the trade item. `Memory` may come in place of any answer.
+    /// Returns the set of the built-in rows: the lot of a trade item, `urn:epc:class:lgtin`, for each company prefix length from
+    /// 12 to 6. They go through the rules of `ClassSet::load`; returns their first rejection if there is one, for example with a
+    /// table without the trade item. May return `Memory` instead.
     pub fn builtin(alloc: Global, table: &AiTable) -> Result<ClassSet, ClassLoadFault>
         ensures answer { OrMemory (BuiltInAnswer table.now) result }
         ensures of_table { IfOk result (IsOfTable table.now) }
@@ -76,7 +76,7 @@ impl ClassSet {
         ClassSet::of_rows(alloc, table, built_in_rows(alloc)?)
     }
 
-    /// The set of no class, by which no text has a reading. It is of each table. The one error is out of memory.
+    /// Returns the set of no class, by which no text has a reading. It is of each table. Fails only with `Memory`.
     pub fn none(alloc: Global) -> Result<ClassSet, Memory>
         ensures none { IfOk result (λ set. set ≡ set_of []) }
         ensures of_each_table { IfOk result (λ set. (ais : ListOf AiRow) → IsOfTable ais set) }
@@ -87,7 +87,7 @@ impl ClassSet {
         })
     }
 
-    /// The set that the document of this tree gives, or its first rejection.
+    /// Returns the set that the document of this tree gives, or its first rejection.
     fn of_root(alloc: Global, table: &AiTable, root: &Node<'_>) -> Result<ClassSet, ClassLoadFault>
         requires { root.now.place ≡ [] }
         ensures answer { OrMemory (Judged (ruled_document table.now (view root.now.tree))) result }
@@ -99,7 +99,7 @@ impl ClassSet {
         ClassSet::of_rows(alloc, table, rows)
     }
 
-    /// The set of the rows, or their first rejection.
+    /// Returns the set of the rows, or their first rejection.
     fn of_rows(
         alloc: Global,
         table: &AiTable,
@@ -114,21 +114,21 @@ impl ClassSet {
         Ok(ClassSet { level, classes })
     }
 
-    /// The number of classes.
+    /// Returns the number of classes.
     pub fn len(&self) -> usize
         ensures { result ≡ length self.now.classes }
     {
         self.classes.items().len()
     }
 
-    /// What is said of each option beside its items, in the order of the rows.
+    /// Returns the facts of each option apart from its items, in the order of the rows.
     pub(crate) fn classes(&self) -> &[Class]
         ensures { result.now ≡ self.now.classes }
     {
         self.classes.items()
     }
 
-    /// The options of the texts, in the order of the rows. The level is not ambiguous.
+    /// Returns the options of the texts, in the order of the rows. The level is not ambiguous.
     pub(crate) fn level(&self) -> &Level
         ensures level { result.now ≡ self.now.level }
         ensures clear { IsClear self.now }

@@ -11,7 +11,8 @@ pub enum ClassLoadFault {
     Version,
     /// There are more than 256 classes, or more than 24 items of one.
     Limit,
-    /// The item at the last index, of the class at the first, is none of a text, breaks a bound, or stands for another field.
+    /// The item at the last index, of the class at the first, is not an item of a text, breaks a bound, or belongs to another
+    /// field.
     BadItem(usize, usize),
     /// The items of the class have more than 512 symbols together.
     Size(usize),
@@ -19,8 +20,7 @@ pub enum ClassLoadFault {
     Mismatch(usize),
     /// The classes at the two indexes have one name and one length of the company prefix.
     Duplicate(usize, usize),
-    /// The classes at the two indexes, which may be one class, are the first pair that shares a text, and this is one that they
-    /// share.
+    /// The classes at the two indexes, which may be one class, are the first pair that shares a text, and this is such a text.
     Ambiguous {
         /// The index of the first of the two classes.
         i: usize,
@@ -49,7 +49,7 @@ pub enum ClassWriteFault {
     NoClass,
     /// No class that has the key has an element that is a pair of the identity.
     MissingElement,
-    /// The identity has this pair beside the key and the element.
+    /// The identity has this pair in addition to the key and the element.
     Extra(Text),
     /// No length of the company prefix is given, and the list has none.
     MissingGcp,

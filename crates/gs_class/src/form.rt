@@ -10,7 +10,7 @@ use gs_chars::{List, Memory};
 use gs_json::{Entry, JsonFault, Node, Sort, plan_of};
 use std::alloc::Global;
 
-/// The members of the document.
+/// Returns the members of the document.
 fn document_plan(alloc: Global) -> Result<List<Entry>, Memory>
     ensures { IfOk result (λ plan. plan ≡ document_plan) }
 {
@@ -23,7 +23,7 @@ fn document_plan(alloc: Global) -> Result<List<Entry>, Memory>
     )
 }
 
-/// The members of a row.
+/// Returns the members of a row.
 fn row_plan(alloc: Global) -> Result<List<Entry>, Memory>
     ensures { IfOk result (λ plan. plan ≡ row_plan) }
 {
@@ -40,7 +40,7 @@ fn row_plan(alloc: Global) -> Result<List<Entry>, Memory>
     )
 }
 
-/// An error of JSON, with out of memory as its own.
+/// Returns an error of JSON, with out of memory as its own.
 pub(crate) fn of_json(error: JsonFault) -> ClassLoadFault
     ensures { result ≡ of_json error }
 {
@@ -50,7 +50,7 @@ pub(crate) fn of_json(error: JsonFault) -> ClassLoadFault
     }
 }
 
-/// The first error of an object by its plan.
+/// Finds the first error of an object by its plan.
 fn judge_object(alloc: Global, object: &Node<'_>, plan: &[Entry]) -> Result<(), ClassLoadFault>
     ensures { IsFormFirst (shape_errors object.now plan.now) result }
 {
@@ -60,7 +60,7 @@ fn judge_object(alloc: Global, object: &Node<'_>, plan: &[Entry]) -> Result<(), 
     }
 }
 
-/// The first error of the rows of an array by the plan of a row, row by row.
+/// Finds the first error of the rows of an array by the plan of a row, row by row.
 #[tactic(auto, unfolding(crate::specs::Documents::array_errors))]
 fn judge_by(alloc: Global, array: &Node<'_>, plan: &[Entry]) -> Result<(), ClassLoadFault>
     requires { plan.now ≡ row_plan }
@@ -76,7 +76,7 @@ fn judge_by(alloc: Global, array: &Node<'_>, plan: &[Entry]) -> Result<(), Class
     Ok(())
 }
 
-/// The first error of the rows of an array, row by row.
+/// Finds the first error of the rows of an array, row by row.
 fn judge_items(alloc: Global, array: &Node<'_>) -> Result<(), ClassLoadFault>
     ensures { IsFormFirst (array_errors array.now.place (items_of (view array.now.tree))) result }
 {
@@ -84,7 +84,7 @@ fn judge_items(alloc: Global, array: &Node<'_>) -> Result<(), ClassLoadFault>
     judge_by(alloc, array, plan.items())
 }
 
-/// The first error of the rows of a document, row by row.
+/// Finds the first error of the rows of a document, row by row.
 #[tactic(auto, unfolding(crate::specs::Documents::array_errors, crate::specs::Documents::rows_errors))]
 fn judge_rows(alloc: Global, root: &Node<'_>) -> Result<(), ClassLoadFault>
     requires { root.now.place ≡ [] }
@@ -96,7 +96,7 @@ fn judge_rows(alloc: Global, root: &Node<'_>) -> Result<(), ClassLoadFault>
     }
 }
 
-/// The first error of the form of a document: of its object, then of its rows.
+/// Finds the first error of the form of a document: of its object, then of its rows.
 pub(crate) fn judge_form(alloc: Global, root: &Node<'_>) -> Result<(), ClassLoadFault>
     requires { root.now.place ≡ [] }
     ensures { IsFormFirst (form_errors (view root.now.tree)) result }

@@ -11,24 +11,25 @@ ghost use Rattle.gs_class.specs.Written.{class_answer};
 
 use gs_ai::AiTable;
 
-/// A text is a class URI of at most one identity, in a set by which no text has two readings.
+/// States that a text is a class URI of at most one identity, by a set by which no text has two readings.
 pub fn one_class()
     ensures { (set : ClassRows) (text : List ℕ) (one other : Elements) → IsClear set
         → IsClass set text one → IsClass set text other → one ≡ other }
 {}
 
-/// What is written of an identity is a class URI of it: the set is of the table, and the identity was made with it.
+/// States that the text that is written of an identity is a class URI of it. The set is of the table, and the identity was made
+/// with it.
 pub fn what_is_written_is_read(table: &AiTable)
     ensures { (set : ClassRows) (prefixes : List PrefixEntry) (gcp : Option ℕ) (identity : Elements)
         (text : List ℕ) → IsOfTable table.now set → IsMadeWith table.now identity
         → class_answer set prefixes gcp identity ≡ Ok text → IsClass set text identity }
 {
-    // the proof alone reads it: the rows keep the rules of application identifiers
+    // only for the proof: the rows satisfy the rules of application identifiers
     let _ = table.rows();
 }
 
-/// All bytes have an answer of `ClassSet::load`, and no other but for the text of an ambiguous set; and so have the built-in rows of
-/// `ClassSet::builtin`.
+/// States that all bytes have exactly one result of `ClassSet::load`, apart from the text of an ambiguous set, and that so have
+/// the built-in rows of `ClassSet::builtin`.
 pub fn classes_have_one_answer()
     ensures some { (ais : List AiRow) (bytes : List ℕ) →
         (answer : Result ClassRows ClassLoadFault) × LoadAnswer ais bytes answer }

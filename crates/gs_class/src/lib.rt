@@ -1,4 +1,5 @@
-//! Class URIs: which class of things a text names, as a lot of a trade item, and the text that is written of its identity.
+//! Class URIs: the class of things that a text names, such as a lot of a trade item, and the text that is written of its
+//! identity.
 //!
 //! - `ClassSet::load` reads a document of classes (JSON), or gives its first rejection; `ClassSet::builtin` makes the set of the built-in
 //!   rows, and `ClassSet::none` that of no class.
@@ -14,7 +15,7 @@
 //! https://id.gs1.org/01/80614141123458/10/998877
 //! ```
 //!
-//! # Where it differs from the standard
+//! # Differences from the standard
 //!
 //! - The document of classes and its rules are this project's own (docs/FORMATS.md, 'The class document'). A set by which a text has two
 //!   readings is rejected, with such a text.

@@ -15,7 +15,7 @@ use gs_grammar_level::Level;
 use gs_tables::split_items;
 use std::alloc::Global;
 
-/// The option of a row that no rule rejects, and what is said of it.
+/// Returns the option of a row that no rule rejects, with its facts.
 fn make_class(alloc: Global, row: ClassRow) -> Result<(Opt, Class), Memory>
     requires lead { row.lead ≤ 1 }
     requires gcp { row.gcp ≤ 12 }
@@ -43,7 +43,7 @@ fn make_class(alloc: Global, row: ClassRow) -> Result<(Opt, Class), Memory>
     Ok((Opt::of_items(false, items), class))
 }
 
-/// Appends the options of rows that no rule rejects, and what is said of each.
+/// Appends the options of rows that no rule rejects, with the facts of each.
 fn push_classes(
     alloc: Global,
     ais: &AiTable,
@@ -55,7 +55,7 @@ fn push_classes(
     ensures options { OnOk result (options.new.items ≡ options.old.items ++ map option_of rows.items) }
     ensures classes { OnOk result (classes.new.items ≡ classes.old.items ++ map class_of rows.items) }
 {
-    // the proof alone reads it: the rows keep the rules beside these application identifiers
+    // only for the proof: the rows satisfy the rules, given these application identifiers
     let _ = ais;
     for row in rows {
         let (option, class) = make_class(alloc, row)?;
@@ -65,7 +65,7 @@ fn push_classes(
     Ok(())
 }
 
-/// The options of rows that no rule rejects as a level, and what is said of each.
+/// Returns the options of rows that no rule rejects as a level, with the facts of each.
 pub(crate) fn make_parts(
     alloc: Global,
     ais: &AiTable,

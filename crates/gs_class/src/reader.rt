@@ -18,14 +18,14 @@ use gs_ident::Identity;
 use gs_tables::Field;
 use std::alloc::Global;
 
-/// The place of the first item that stands for a field.
+/// Returns the place of the first item that stands for a field.
 fn place_of(field: Field, fields: &[Option<Field>]) -> Option<usize>
     ensures { result ≡ position (is_field field) fields.now }
 {
     fields.iter().position(|named| *named == Some(field))
 }
 
-/// The value of a field, and the empty one where no item stands for it.
+/// Returns the value of a field, and the empty value if no item has the field.
 fn value_of<'a>(field: Field, fields: &[Option<Field>], values: &'a [Text]) -> &'a [u8]
     ensures { result.now ≡ value_of field fields.now values.now }
 {
@@ -35,13 +35,13 @@ fn value_of<'a>(field: Field, fields: &[Option<Field>], values: &'a [Text]) -> &
     }
 }
 
-/// The digits of the key that the values say, with their check digit.
+/// Returns the digits of the key that the values say, with their check digit.
 fn key_value(alloc: Global, ais: &AiTable, class: &Class, values: &[Text]) -> Result<Text, Memory>
     requires { FitsClass ais.now class.now (said_by class.now values.now) }
     ensures { IfOk result (λ value. value ≡ with_check (key_digits class.now.lead
         (said_by class.now values.now).prefix (said_by class.now values.now).rest)) }
 {
-    // the proof alone reads it: the rows keep the rules of application identifiers
+    // only for the proof: the rows satisfy the rules of application identifiers
     let _ = ais.rows();
     let fields = class.fields.items();
     let mut value = Text::new(alloc);
@@ -54,7 +54,7 @@ fn key_value(alloc: Global, ais: &AiTable, class: &Class, values: &[Text]) -> Re
     Ok(value)
 }
 
-/// The identity that the values of the items of a class say.
+/// Returns the identity that the values of the items of a class say.
 fn identity_of(
     alloc: Global,
     ais: &AiTable,
@@ -66,7 +66,7 @@ fn identity_of(
         ≡ class_identity class.now (said_by class.now values.now)) }
     ensures with_table { IfOk result (IsMadeWith ais.now) }
 {
-    // the proof alone reads it: the rows keep the rules of application identifiers
+    // only for the proof: the rows satisfy the rules of application identifiers
     let _ = ais.rows();
     let key = Pair {
         code: class.key.copy(alloc)?,
@@ -80,9 +80,9 @@ fn identity_of(
     Identity::of_key(alloc, ais, key, Some(element))
 }
 
-/// The identity that a text is a class URI of, by the set (TDS 2.0, 'EPC Class URIs'): the key, laid out with its check digit, and the
-/// element with the lot. `NoReading` comes exactly where the text has no derivation by a class of the set. `Memory` may come in
-/// place of any answer. The set is of the table.
+/// Returns the identity that a text is a class URI of, by the set (TDS 2.0, 'EPC Class URIs'): the key, laid out with its check
+/// digit, and the element with the lot. `NoReading` is returned if and only if the text has no derivation by a class of the set.
+/// May return `Memory` instead. The set is of the table.
 pub fn read_class(
     alloc: Global,
     set: &ClassSet,

@@ -12,14 +12,14 @@ use gs_tables_document::FieldItem;
 use serde_json::Value;
 use std::alloc::Global;
 
-/// A copy of the text of the member of a name, and of the empty one where there is none.
+/// Returns a copy of the text of the named member, and of the empty text if there is none.
 fn copy_in(alloc: Global, object: &Value, name: &str) -> Result<Text, Memory>
     ensures { IfOk result (λ text. text ≡ text_in name.now (view object.now)) }
 {
     Text::from_bytes(alloc, text_in(object, name).as_bytes())
 }
 
-/// The item that an array is, where it is one of a text.
+/// Returns the item that an array is, if it is an item of a text.
 fn read_class_item(alloc: Global, item: &Node<'_>) -> Result<Option<FieldItem>, Memory>
     ensures { IfOk result (λ entry. entry ≡ item_of false (view item.now.tree)) }
 {
@@ -30,7 +30,7 @@ fn read_class_item(alloc: Global, item: &Node<'_>) -> Result<Option<FieldItem>, 
     }
 }
 
-/// The items of an array.
+/// Returns the items of an array.
 fn read_items(alloc: Global, array: &Node<'_>) -> Result<List<Option<FieldItem>>, Memory>
     ensures { IfOk result (λ items. items ≡ map (item_of false) (items_of (view array.now.tree))) }
 {
@@ -45,7 +45,7 @@ fn read_items(alloc: Global, array: &Node<'_>) -> Result<List<Option<FieldItem>>
     Ok(List::from_vec(items))
 }
 
-/// The items of the member `items` of a row.
+/// Returns the items of the member `items` of a row.
 fn items_of_row(alloc: Global, row: &Node<'_>) -> Result<List<Option<FieldItem>>, Memory>
     ensures { IfOk result (λ items. items
         ≡ map (item_of false) (items_in (codes "items") (view row.now.tree))) }
@@ -56,7 +56,7 @@ fn items_of_row(alloc: Global, row: &Node<'_>) -> Result<List<Option<FieldItem>>
     }
 }
 
-/// The row that an object is.
+/// Returns the row that an object is.
 fn read_row(alloc: Global, row: &Node<'_>) -> Result<ClassRow, Memory>
     ensures { IfOk result (λ made. made ≡ row_of (view row.now.tree)) }
 {
@@ -72,7 +72,7 @@ fn read_row(alloc: Global, row: &Node<'_>) -> Result<ClassRow, Memory>
     })
 }
 
-/// The rows of an array, in their order.
+/// Returns the rows of an array, in their order.
 fn rows_of_array(alloc: Global, array: &Node<'_>) -> Result<Vec<ClassRow>, Memory>
     ensures { IfOk result (λ rows. rows.items ≡ map row_of (items_of (view array.now.tree))) }
 {
@@ -87,7 +87,7 @@ fn rows_of_array(alloc: Global, array: &Node<'_>) -> Result<Vec<ClassRow>, Memor
     Ok(rows)
 }
 
-/// The rows of a document, in their order.
+/// Returns the rows of a document, in their order.
 pub(crate) fn read_rows(alloc: Global, root: &Node<'_>) -> Result<Vec<ClassRow>, Memory>
     ensures { IfOk result (λ rows. rows.items ≡ rows_of (view root.now.tree)) }
 {

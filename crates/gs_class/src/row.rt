@@ -8,12 +8,12 @@ pub struct ClassRow {
     pub name: Text,
     /// The code of the key.
     pub key: Text,
-    /// How many digits of the key stand before the company prefix and go with the rest.
+    /// How many digits of the key are before the company prefix and go with the rest.
     pub lead: u64,
-    /// The code of the element that tells the class among the things of one key.
+    /// The AI of the element that identifies the class among the things of one key.
     pub element: Text,
     /// How many digits the GS1 Company Prefix has.
     pub gcp: u64,
-    /// The items, each absent where the document has none of a text there.
+    /// The items. One is absent if the document has an item there that is not an item of a text.
     pub items: List<Option<FieldItem>>,
 }

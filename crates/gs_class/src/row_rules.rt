@@ -12,7 +12,7 @@ use gs_tables::{
 };
 use gs_tables_document::FieldItem;
 
-/// Whether the item is a literal, or stands for the company prefix, the rest or the lot.
+/// Returns whether the item is a literal, or stands for the company prefix, the rest or the lot.
 fn is_class_item(item: &FieldItem) -> bool
     ensures { result ≡ is_class_item item.now }
 {
@@ -23,7 +23,7 @@ fn is_class_item(item: &FieldItem) -> bool
     }
 }
 
-/// Whether an item is not there, breaks a bound of texts, or is none of a class.
+/// Returns whether the item is absent, breaks a bound of texts, or is not an item of a class.
 fn is_bad_item(entry: &Option<FieldItem>) -> bool
     ensures { result ≡ is_bad_item entry.now }
 {
@@ -33,14 +33,14 @@ fn is_bad_item(entry: &Option<FieldItem>) -> bool
     }
 }
 
-/// The index of the first bad item.
+/// Returns the index of the first bad item.
 pub(crate) fn first_bad(items: &[Option<FieldItem>]) -> Option<usize>
     ensures { result ≡ position is_bad_item items.now }
 {
     items.iter().position(is_bad_item)
 }
 
-/// The digits of a key beside its check digit, where its parts are these alone.
+/// Returns the number of digits of a key before its check digit, if it has no other part.
 fn digits_alone(parts: &[Part]) -> Option<u8>
     ensures { result ≡ digits_alone parts.now }
 {
@@ -50,7 +50,7 @@ fn digits_alone(parts: &[Part]) -> Option<u8>
     }
 }
 
-/// The most characters of an element that is characters alone and has no text for none.
+/// Returns the most characters of an element that is only characters and has no text that means none.
 fn element_room(ais: &AiTable, element: &[u8]) -> Option<u8>
     ensures { result ≡ element_room ais.now element.now }
 {
@@ -62,7 +62,8 @@ fn element_room(ais: &AiTable, element: &[u8]) -> Option<u8>
     }
 }
 
-/// Whether the company prefix, the rest and the lot fit a key of so many digits and an element of at most so many characters.
+/// Returns whether the company prefix, the reference and the lot fit a key of `digits` digits and an element of at most `most`
+/// characters.
 #[tactic(auto, unfolding(crate::specs::Rules::keeps_items))]
 fn keeps_items(row: &ClassRow, digits: u8, most: u8) -> bool
     ensures { result ≡ keeps_items row.now digits most }
@@ -74,7 +75,7 @@ fn keeps_items(row: &ClassRow, digits: u8, most: u8) -> bool
         && keeps_serial(Some(Room::Characters(most)), items)
 }
 
-/// Whether the items fit the key and the element.
+/// Returns whether the items fit the key and the element.
 fn fits_parts(ais: &AiTable, row: &ClassRow, parts: &[Part]) -> bool
     ensures { result ≡ fits_parts ais.now row.now parts.now }
 {
@@ -87,7 +88,7 @@ fn fits_parts(ais: &AiTable, row: &ClassRow, parts: &[Part]) -> bool
     }
 }
 
-/// Whether the row of the key is that of a key, has at most one digit before the company prefix, lists the element, and the items
+/// Returns whether the row is that of a key with at most one digit before the company prefix, lists the element, and the items
 /// fit.
 #[tactic(auto, unfolding(crate::specs::Rules::fits_key))]
 fn fits_key(ais: &AiTable, row: &ClassRow, key: &AiRow) -> bool
@@ -99,14 +100,14 @@ fn fits_key(ais: &AiTable, row: &ClassRow, key: &AiRow) -> bool
         && fits_parts(ais, row, key.parts.items())
 }
 
-/// Whether two rows have one key and one element.
+/// Returns whether two rows have one key and one element.
 fn is_same_pair(row: &ClassRow, other: &ClassRow) -> bool
     ensures { result ≡ is_same_pair row.now other.now }
 {
     row.key == other.key && row.element == other.element
 }
 
-/// Whether rows of one name have one key, lead and element, and rows of two names differ in key or element.
+/// Returns whether rows of one name have one key, lead and element, and rows of two names differ in key or element.
 #[tactic(auto, unfolding(crate::specs::Rules::agrees))]
 fn agrees(row: &ClassRow, other: &ClassRow) -> bool
     ensures { result ≡ agrees row.now other.now }
@@ -119,7 +120,7 @@ fn agrees(row: &ClassRow, other: &ClassRow) -> bool
     }
 }
 
-/// Whether two rows have one name and one length of the company prefix.
+/// Returns whether two rows have one name and one length of the company prefix.
 #[tactic(auto, unfolding(crate::specs::Rules::is_same_row))]
 fn is_same_row(row: &ClassRow, other: &ClassRow) -> bool
     ensures { result ≡ is_same_row row.now other.now }
@@ -127,21 +128,21 @@ fn is_same_row(row: &ClassRow, other: &ClassRow) -> bool
     row.name == other.name && row.gcp == other.gcp
 }
 
-/// The index of the first row that is the same.
+/// Returns the index of the first row that is the same.
 pub(crate) fn first_same(earlier: &[ClassRow], row: &ClassRow) -> Option<usize>
     ensures { result ≡ position (is_same_row row.now) earlier.now }
 {
     earlier.iter().position(|other| is_same_row(row, other))
 }
 
-/// Whether the row agrees with each earlier one.
+/// Returns whether the row agrees with each earlier one.
 fn agrees_with(earlier: &[ClassRow], row: &ClassRow) -> bool
     ensures { result ≡ list_all (agrees row.now) earlier.now }
 {
     earlier.iter().all(|other| agrees(row, other))
 }
 
-/// Whether the row keeps the rules of classes, beside the earlier ones.
+/// Returns whether the row satisfies the rules of classes, given the earlier ones.
 #[tactic(auto, unfolding(crate::specs::Rules::is_class))]
 pub(crate) fn is_class(ais: &AiTable, earlier: &[ClassRow], row: &ClassRow) -> bool
     ensures { result ≡ is_class ais.now earlier.now row.now }

@@ -22,13 +22,13 @@ use std::alloc::Global;
 struct Said {
     /// The company prefix.
     prefix: Text,
-    /// What follows it in the key, with the lead digits at the start.
+    /// The digits of the key after the company prefix, with the lead digits at the start.
     rest: Text,
     /// The lot.
     serial: Text,
 }
 
-/// The first pair with the code beside the key.
+/// Returns the first pair with the code, other than the key.
 fn pair_with<'a>(identity: &'a Identity, code: &[u8]) -> Option<&'a Pair>
     ensures { option_copied result ≡ pair_with (others_of identity.now) code.now }
 {
@@ -38,42 +38,42 @@ fn pair_with<'a>(identity: &'a Identity, code: &[u8]) -> Option<&'a Pair>
         .find(|pair| code == pair.code.as_bytes())
 }
 
-/// Whether the class has the key of the identity.
+/// Returns whether the class has the key of the identity.
 fn has_key(identity: &Identity, class: &Class) -> bool
     ensures { result ≡ has_key identity.now class.now }
 {
     class.key == identity.key().code
 }
 
-/// Whether some class has the key of the identity.
+/// Returns whether some class has the key of the identity.
 fn some_has_key(identity: &Identity, classes: &[Class]) -> bool
     ensures { result ≡ list_any (has_key identity.now) classes.now }
 {
     classes.iter().any(|class| has_key(identity, class))
 }
 
-/// Whether the class has the key of the identity, and its element is a pair of it.
+/// Returns whether the class has the key of the identity, and its element is a pair of it.
 fn is_named_by(identity: &Identity, class: &Class) -> bool
     ensures { result ≡ is_named_by identity.now class.now }
 {
     has_key(identity, class) && pair_with(identity, class.element.as_bytes()).is_some()
 }
 
-/// The first class that names the identity.
+/// Returns the first class that names the identity.
 fn naming<'a>(identity: &Identity, classes: &'a [Class]) -> Option<&'a Class>
     ensures { option_copied result ≡ find (is_named_by identity.now) classes.now }
 {
     classes.iter().find(|class| is_named_by(identity, class))
 }
 
-/// Whether the pair is neither that of the key nor that of the element of the class.
+/// Returns whether the pair is neither that of the key nor that of the element of the class.
 fn is_extra(class: &Class, pair: &Pair) -> bool
     ensures { result ≡ is_extra class.now pair.now }
 {
     class.key != pair.code && class.element != pair.code
 }
 
-/// The first pair of the identity that is neither that of the key nor that of the element of the class.
+/// Returns the first pair of the identity that is neither that of the key nor that of the element of the class.
 fn extra_of<'a>(class: &Class, identity: &'a Identity) -> Option<&'a Pair>
     ensures { option_copied result ≡ find (is_extra class.now) (others_of identity.now) }
 {
@@ -83,7 +83,7 @@ fn extra_of<'a>(class: &Class, identity: &'a Identity) -> Option<&'a Pair>
         .find(|pair| is_extra(class, pair))
 }
 
-/// The value of the element of the class.
+/// Returns the value of the element of the class.
 fn lot_of<'a>(class: &Class, identity: &'a Identity) -> &'a [u8]
     ensures { result.now ≡ lot_of class.now identity.now }
 {
@@ -93,28 +93,28 @@ fn lot_of<'a>(class: &Class, identity: &'a Identity) -> &'a [u8]
     }
 }
 
-/// The bytes behind so many, as far as there are any.
+/// Returns the bytes after that many, as far as there are any.
 fn behind(text: &[u8], count: usize) -> &[u8]
     ensures { result.now ≡ drop count text.now }
 {
     &text[count.min(text.len())..]
 }
 
-/// The first bytes, as many as there are.
+/// Returns the first bytes, as many as there are.
 fn front(text: &[u8], count: usize) -> &[u8]
     ensures { result.now ≡ take count text.now }
 {
     &text[..count.min(text.len())]
 }
 
-/// The digits of a key before its check digit.
+/// Returns the digits of a key before its check digit.
 fn unchecked(value: &[u8]) -> &[u8]
     ensures { result.now ≡ unchecked value.now }
 {
     front(value, value.len().saturating_sub(1))
 }
 
-/// What an identity says by a class.
+/// Returns the fields that an identity has by a class.
 fn said_of(alloc: Global, class: &Class, identity: &Identity) -> Result<Said, Memory>
     ensures { IfOk result (λ said. fields_in said ≡ said_of class.now identity.now) }
 {
@@ -130,7 +130,7 @@ fn said_of(alloc: Global, class: &Class, identity: &Identity) -> Result<Said, Me
     })
 }
 
-/// The value that an item of the field holds.
+/// Returns the value that an item of the field holds.
 fn value_for(alloc: Global, said: &Said, field: Option<Field>) -> Result<Text, Memory>
     ensures { IfOk result (λ value. value ≡ value_for (fields_in said.now) field) }
 {
@@ -142,7 +142,7 @@ fn value_for(alloc: Global, said: &Said, field: Option<Field>) -> Result<Text, M
     }
 }
 
-/// The value of each item.
+/// Returns the value of each item.
 fn values_for(alloc: Global, said: &Said, fields: &[Option<Field>]) -> Result<Vec<Text>, Memory>
     ensures { IfOk result (λ values. values.items ≡ values_for (fields_in said.now) fields.now) }
 {
@@ -153,7 +153,7 @@ fn values_for(alloc: Global, said: &Said, fields: &[Option<Field>]) -> Result<Ve
     Ok(values)
 }
 
-/// What the class writes of the identity by its option.
+/// Writes the identity by the option of the class.
 fn write_option(
     alloc: Global,
     class: &Class,
@@ -173,7 +173,7 @@ fn write_option(
     }
 }
 
-/// The index of the first class of the name whose company prefix has so many digits.
+/// Returns the index of the first class of the name whose company prefix has that many digits.
 fn sized(classes: &[Class], name: &[u8], n: u8) -> Option<usize>
     ensures { result ≡ position (is_sized name.now n) classes.now }
 {
@@ -182,7 +182,7 @@ fn sized(classes: &[Class], name: &[u8], n: u8) -> Option<usize>
         .position(|class| name == class.name.as_bytes() && class.gcp == n)
 }
 
-/// What the first class of the name writes whose company prefix has so many digits.
+/// Writes the identity by the first class of the name whose company prefix has `n` digits.
 #[tactic(auto, unfolding(crate::specs::Written::by_length))]
 fn write_by_length(
     alloc: Global,
@@ -205,7 +205,7 @@ fn write_by_length(
     }
 }
 
-/// The length of the company prefix: the given one, or that of the list.
+/// Returns the length of the company prefix: the given one, or that of the list.
 #[tactic(auto, unfolding(crate::specs::Written::length_for))]
 fn length_for(
     prefixes: &PrefixList,
@@ -224,7 +224,7 @@ fn length_for(
     }
 }
 
-/// What is written by the class that names the identity.
+/// Writes the identity by the class that names it.
 #[tactic(auto, unfolding(crate::specs::Written::by_name))]
 fn write_by_name(
     alloc: Global,
@@ -246,12 +246,12 @@ fn write_by_name(
     }
 }
 
-/// The class URI of an identity (TDS 2.0, 'EPC Class URIs'). Of the rejections the first in this order is the answer. `NoClass`: no class
-/// has the identity's key. `MissingElement`: no class with that key has an element that is a pair of the identity; else the first that
-/// has gives the name. `Extra`: the first pair beside the key and that element. `MissingGcp`: no length of the company prefix is
-/// given, and the list has none for the digits behind the lead digits. `NoOption`: no class of the name has a company prefix of that
-/// length. `CannotHold`: the item of the lot does not hold it. `Memory` may come in place of any answer. The set is of the table, and
-/// the identity was made with it.
+/// Returns the class URI of an identity (TDS 2.0, 'EPC Class URIs'), or the first rejection in this order. `NoClass`: no class
+/// has the identity's key. `MissingElement`: no class with that key has an element that is a pair of the identity; otherwise the
+/// first that has one gives the name. `Extra`: the first pair other than the key and that element. `MissingGcp`: no company
+/// prefix length is given, and the list has none for the digits after the lead digits. `NoOption`: no class of the name has a
+/// company prefix of that length. `CannotHold`: the item of the lot does not hold it. May return `Memory` instead. The set is of
+/// the table, and the identity was made with it.
 #[tactic(auto, unfolding(crate::specs::Written::class_answer))]
 pub fn write_class(
     alloc: Global,
@@ -265,7 +265,7 @@ pub fn write_class(
     requires made { IsMadeWith table.now identity.now }
     ensures { OrMemory result (class_answer set.now prefixes.now gcp identity.now) }
 {
-    // the proof alone reads it: the rows keep the rules of application identifiers
+    // only for the proof: the rows satisfy the rules of application identifiers
     let _ = table.rows();
     let classes = set.classes();
     if !some_has_key(identity, classes) {

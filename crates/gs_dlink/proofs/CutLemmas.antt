@@ -2,22 +2,15 @@
 use Rattle.std.proofs.Common.{◌≡◌, ℕ, zero, suc, ◌+◌, ◌-◌, ◌<◌, ◌≤◌, ◌==◌, not, Bool, true, false, cond, List, [], ◌∷◌, ◌++◌, length, get_or, take, drop, Option, Some, None, refl, sym, ap, ◌∙◌, arith, inl, inr, if◌then◌else◌, drop-cons, take-append-drop, add-one, append-nil, append_assoc, length-drop}
 use Rattle.std.specs.List.{after_first, before_first, list_any, position_or_len}
 use Rattle.std.specs.Prelude.{option_and_then}
-use Rattle.std.specs.Option.{MatchOption, unwrap_or}
+use Rattle.std.specs.Option.{MatchOption}
 use Rattle.std.proofs.lemmas.Bool.Decides.{nat_tests}
 use Rattle.std.proofs.lemmas.List.{get_or-drop}
-use Rattle.std.proofs.lemmas.List.Sums.{position_or_len_is}
-use Rattle.memchr.specs.Find.{IsFirstByte, IsLastByte, NoneAfter, Nowhere, Passes}
+use Rattle.memchr.specs.Find.{IsLastByte, NoneAfter, Nowhere, Passes}
 use Rattle.gs_chars.proofs.TruthsAndLists.{false_from, or_second, true_or_false}
 use Rattle.gs_dlink.specs.Uris.{authority_end, authority_from, ends_authority, is_slash, scheme_end, part_pairs, pieces_behind, query_pairs, query_parts, segments, separates_parts, Written}
 use Rattle.gs_dlink.specs.UrisSupport.{LastSlash, NoSlash}
 
 -- ---- what the searches of `memchr` give
-
-pub place_is : (test : ℕ → Bool) (text : List ℕ) (r : Option ℕ) → IsFirstByte test text r → unwrap_or r (length text) ≡ position_or_len test text
-place_is test text None h = sym (position_or_len_is test text (length text) 0 (omega arith) (λ k low. false_from _ (h k (omega arith) low)) (λ high. absurd (omega arith)))
-place_is test text (Some k) h =
-    let first = h.0 in
-    sym (position_or_len_is test text k 0 (let high = first.high in omega arith) (λ j low. false_from _ (first.before j (omega arith) low)) (λ _. h.1))
 
 none_any : (test : ℕ → Bool) (text : List ℕ) → ((k : ℕ) → k < length text → test (get_or text k 0) ≡ false) → list_any test text ≡ false
 none_any test [] none = refl
@@ -52,7 +45,7 @@ last_at text k none h = record {
         let low' : j < length (drop (k + 1) text) = rw e at low in
         omega (arith, below text k j (omega arith) low')
 
--- the last slash, where there is one
+-- the last slash, if there is one
 pub slash_answer : (text : List ℕ) (r : Option ℕ) → IsLastByte is_slash text r → MatchOption r (NoSlash text) (LastSlash text)
 slash_answer text None h = no_slash text h
 slash_answer text (Some k) h = last_at text k h.0 h.1
@@ -203,7 +196,7 @@ module _ (all front new : List Written) (at : ℕ) (rest : List ℕ) (end : ℕ)
       let e : at + (first_place rest + 1) ≡ at + first_place rest + 1 = omega arith in
       rw (part, place, e) (append_assoc front (part_pairs (record { at = at; text = take (first_place rest) rest })) _ ∙ ap (λ pairs. front ++ pairs) (sym (parts_step at rest low'))) ∙ so_far
 
--- ---- what a byte that passes leaves where it is
+-- ---- a byte that passes leaves the rest unchanged
 
 module _ (test : ℕ → Bool) where
   pub place_seam : (a b : List ℕ) (s : ℕ) → test s ≡ true → position_or_len test (a ++ s ∷ b) ≡ position_or_len test a
@@ -220,7 +213,7 @@ module _ (test : ℕ → Bool) where
   any_drop (c ∷ a) zero h = h
   any_drop (c ∷ a) (suc n) h = any_drop a n (or_second (test c) (list_any test a) h)
 
--- ---- the authority behind a scheme
+-- ---- the authority after a scheme
 
 pub no_scheme : (text : List ℕ) → None ≡ scheme_end text → None ≡ authority_end text
 unfolding authority_end

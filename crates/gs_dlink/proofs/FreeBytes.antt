@@ -1,4 +1,4 @@
--- The bytes that cut a link into its parts stand in no code and in no escaped value.
+-- The bytes that cut a link into its parts are in no code and in no escaped value.
 use Rattle.std.proofs.Common.{◌≡◌, ℕ, ◌/◌, ◌%◌, ◌<◌, ◌==◌, ◌&&◌, not, nat_lt, Bool, true, false, List, [], ◌∷◌, ◌++◌, All, refl, sym, ap, ◌∙◌, arith, inl, inr, true≢false}
 use Rattle.std.specs.Prelude.{codes}
 use Rattle.std.specs.Char.{is_ascii_hexdigit}
@@ -8,12 +8,11 @@ use Rattle.std.proofs.lemmas.Bool.Decides.{nat_tests}
 use Rattle.std.proofs.lemmas.List.Elements.{All-cons, All-head, All-nil, All-tail}
 use Rattle.percent_encoding.specs.Percent.{percent_decode}
 use Rattle.percent_encoding.proofs.PercentLemmas.{round_trip}
-use Rattle.gs_chars.specs.Characters.{are_digits, are_in_set82, is_digit, is_in_set82, set82}
+use Rattle.gs_chars.specs.Characters.{are_digits, are_in_set82, is_digit, is_in_set82, set82, is_byte}
 use Rattle.gs_chars.specs.Escapes.{hex_digit}
 use Rattle.gs_chars.proofs.TruthsAndLists.{and_first, and_second, and_true, true_or_false}
 use Rattle.gs_ident.specs.Links.{escaped_byte, is_unescaped, percent_encoded}
 use Rattle.gs_ident.proofs.ValueEscapes.{IsByte, same_text}
-use Rattle.gs_dlink.specs.Uris.{is_byte}
 use Rattle.gs_dlink.specs.Values.{are_escapes}
 
 abbrev separators : List ℕ

@@ -1,4 +1,4 @@
--- The answer to a pair, and to pairs, by what was found of them.
+-- The result for a pair, and for pairs, by the rows that were found.
 use Rattle.std.proofs.Common.{◌≡◌, ◌≢◌, ℕ, zero, suc, ◌+◌, ◌<◌, ◌≤◌, true, false, List, [], ◌∷◌, ◌++◌, length, map, take, find, position, slice_get, get_or, Option, Some, None, option_map, All, refl, sym, ap, ◌∙◌, inl, inr, arith}
 use Rattle.std.specs.Prelude.{Result, Ok, Err}
 use Rattle.std.proofs.lemmas.List.{map-append}
@@ -63,7 +63,7 @@ module _ (table : List AiRow) where
       by (Ok p) (Err e) f g h rest = absurd (let bad : Err e ≡ Ok ps = h in cc)
       by (Ok p) (Ok os) f g h rest = let same : p ∷ os ≡ ps = cc in rw (f, rest os g, ← same) refl
 
-  -- the first error behind pairs without one
+  -- the first error after pairs without one
   pub answer_rejected : (xs ys : List Written) (x : Written) (ps : List Pair) (e : LinkFault) → written_answer table xs ≡ Ok ps → pair_answer table x ≡ Err e → written_answer table (xs ++ x ∷ ys) ≡ Err e
   answer_rejected [] ys x ps e h f = rw f refl
   answer_rejected (w ∷ xs) ys x ps e h f = by (pair_answer table w) (written_answer table xs) refl refl h (λ os g. answer_rejected xs ys x os e g f)
@@ -115,7 +115,7 @@ pub answer_error : (answer : Result (List Pair) LinkFault) (e : LinkFault) → O
 answer_error answer e (inl m) other = absurd (other (let same : e ≡ Memory = cc in same))
 answer_error answer e (inr h) other = rw (← h) refl
 
--- ---- pairs that are read are in order
+-- ---- pairs that are read are valid
 
 pub pair_in_order : (table : List AiRow) (w : Written) (p : Pair) → pair_answer table w ≡ Ok p → IsInOrder table p
 unfolding pair_answer

@@ -32,7 +32,7 @@ odd x (y ∷ z ∷ u) d h =
     let rest = tail_of (first_pair y z) (paired u) d h in
     rw (odd z u rest.0 rest.1) refl
 
--- segments before pairs are none, or pairs before them
+-- segments before pairs are not pairs, or they are pairs before them
 pub in_front : (f u : List Piece) (d : List Written) → paired u ≡ Some d → (paired (f ++ u) ≡ None) ⊎ ((front : List Written) × (paired (f ++ u) ≡ Some (front ++ d)))
 in_front [] u d h = inr ([], h)
 in_front (x ∷ []) u d h = inl (odd x u d h)
@@ -82,7 +82,7 @@ module _ (table : List AiRow) (rules : KeepsRules table) where
       by None h = refl
       by (Some row) h = let place = h row refl in (rules.lists_qualifiers place.0 row place.1).1
 
-  -- a pair whose code is a key's stands in no key path but at the start
+  -- a pair whose code is a key's is in no key path but at the start
   pub only_in_front : (w : Written) (front d : List Written) (s : Written) → is_key s.code ≡ true → is_key_path table (w ∷ (front ++ s ∷ d)) ≡ false
   only_in_front w front d s key = elim (true_or_false (is_key_path table (w ∷ (front ++ s ∷ d)))) [
     | inr other ↦ other
@@ -152,7 +152,7 @@ module _ (table : List AiRow) (rules : KeepsRules table) where
   pub at_most_one : (segments : List Piece) (a b : List Written) → IsKeyPath table segments a → IsKeyPath table segments b → a ≡ b
   at_most_one segments a b is_a is_b = same_some a b (sym (path_found segments a is_a) ∙ path_found segments b is_b)
 
--- what is found is a key path
+-- a path that is found is a key path
 pub found_is_path : (table : List AiRow) (segments : List Piece) (pairs : List Written) → key_path table segments ≡ Some pairs → IsKeyPath table segments pairs
 unfolding key_path
 found_is_path table [] pairs h = absurd (let g : None ≡ Some pairs = h in cc)
@@ -170,7 +170,7 @@ found_is_path table (x ∷ segments) pairs h = by (λ g. found_is_path table seg
 
 -- ---- the walk from the end
 
--- The segments of the path are those of its start and then those of the pairs, none of which has the code of a key.
+-- The segments of the path are those of its start and then those of the pairs; none of them has the code of a key.
 pub record Walked (table : List AiRow) (at : ℕ) (path front : List ℕ) (pairs : List Written) : Type 0 where
   pub within : length front ≤ length path
   pub behind : List Piece
@@ -226,11 +226,11 @@ turned old new x e = rw (e, reverse-append old (x ∷ [])) refl
 pub pushed : {X : Type 0} (f : X → Written) (old new : List X) (x : X) → new ≡ old ++ x ∷ [] → map f (reverse new) ≡ f x ∷ map f (reverse old)
 pushed f old new x e = rw (turned old new x e) refl
 
--- the pairs behind the one that was pushed last, and stands at the start now
+-- the pairs after the one that was pushed last, and is at the start now
 pub behind_last : {X : Type 0} (old new all : List X) (x : X) → new ≡ old ++ x ∷ [] → all ≡ reverse new → take (length all - 1) (drop 1 all) ≡ reverse old
 behind_last old new all x e t = let whole : all ≡ x ∷ reverse old = t ∙ turned old new x e in rw whole (rest_taken 1 (x ∷ reverse old))
 
--- the key path of a key and the pairs behind it
+-- the key path of a key and the pairs after it
 pub ordered_path : (table : List AiRow) (key : Written) (pairs : List Written) → is_key_of table key.code ≡ true → is_in_order (listed_of table key.code) (codes_of pairs) ≡ true → Some (key ∷ pairs) ≡ path_or table (Some (key ∷ pairs)) None
 ordered_path table key pairs is ordered = rw (is, ordered) refl
 

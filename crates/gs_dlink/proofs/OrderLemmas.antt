@@ -11,7 +11,7 @@ use Rattle.gs_dlink.specs.ValuesSupport.{written_of}
 
 -- ---- codes
 
--- the code at an index, and none behind the end
+-- the code at an index, and none after the end
 pub code_there : (pairs : List WrittenPair) (i : ℕ) (code : List ℕ) (pair : WrittenPair) (r : Bool) → i < length pairs → pair ≡ get_or pairs i pair → r ≡ bytes_eq code pair.code.now → r ≡ is_code_at (map written_of pairs) i code
 code_there pairs i code pair r low read e = e ∙ rw (slice_get-map written_of pairs i, read_at pairs i pair low read) refl
 
@@ -37,7 +37,7 @@ at_end [] (suc n) h = absurd (omega arith)
 at_end (w ∷ pairs) zero h = let e : (0 == suc (length pairs)) ≡ false = grind (arith, nat_tests) in e
 at_end (w ∷ pairs) (suc n) h = let e : (suc n == suc (length pairs)) ≡ (n == length pairs) = grind (arith, nat_tests) in e ∙ at_end pairs n (omega arith)
 
--- the codes from `next` on have to stand in the list from `index` on
+-- the codes from `next` on must be in the list from `index` on
 pub record Ordered (list : List (List ℕ)) (pairs : List Written) (index next : ℕ) : Type 0 where
   pub within : next ≤ length pairs
   pub left : is_in_order list (codes_of pairs) ≡ is_in_order (drop index list) (codes_of (drop next pairs))

@@ -7,7 +7,7 @@ use Rattle.gs_ai.specs.Tables.{is_key, is_key_of}
 use Rattle.gs_ai.specs.Values.{has_code}
 use Rattle.gs_ai.proofs.Searches.{none_any, passes_none}
 
--- a code that no row has is no key's
+-- a code that no row has is not a key's
 pub no_row_no_key : (table : List AiRow) (code : List ℕ) → position (has_code code) table ≡ None → is_key_of table code ≡ false
 no_row_no_key table code h = none_any (λ row. has_code code row && is_key row.role) table (λ j row at. rw (passes_none (has_code code) table j row h at) refl)
 

@@ -3,7 +3,7 @@ use Rattle.std.proofs.Common.{◌≡◌, ℕ, ◌==◌, true, false, List, [], �
 use Rattle.std.specs.List.{position_or_len}
 use Rattle.percent_encoding.specs.Percent.{percent_decode}
 use Rattle.gs_chars.proofs.TruthsAndLists.{true_or_false}
-use Rattle.gs_dlink.specs.Uris.{is_byte}
+use Rattle.gs_chars.specs.Characters.{is_byte}
 use Rattle.gs_dlink.specs.Values.{are_escapes}
 use Rattle.gs_dlink.specs.ValuesSupport.{unescaped}
 
@@ -29,7 +29,7 @@ plain_decodes (b ∷ high ∷ low ∷ rest) h =
 pub plain_spelled : (text : List ℕ) → position_or_len (is_byte 37) text ≡ length text → Some text ≡ unescaped text
 plain_spelled text h = rw (plain_escapes text h, plain_decodes text h) refl
 
--- what was found of a text says whether its percent signs begin escapes
+-- the search in a text decides whether its percent signs begin escapes
 pub spelled : (text value : List ℕ) → Some value ≡ unescaped text → (are_escapes text ≡ true) × (value ≡ percent_decode text)
 spelled text value h = elim (true_or_false (are_escapes text)) [
   | inl t ↦ let g = rw t at h in (t, (let same : value ≡ percent_decode text = cc in same))

@@ -4,7 +4,7 @@ use Rattle.std.specs.Prelude.{Ok}
 use Rattle.std.specs.List.{after_first, before_first, flat_map, list_any}
 use Rattle.std.proofs.lemmas.Bool.Decides.{nat_tests}
 use Rattle.percent_encoding.specs.Percent.{percent_decode}
-use Rattle.gs_chars.specs.Characters.{are_digits}
+use Rattle.gs_chars.specs.Characters.{are_digits, is_byte}
 use Rattle.gs_chars.proofs.TruthsAndLists.{and_first, and_second, equal_bytes, true_or_false}
 use Rattle.gs_ai.specs.declared.errors.ValueFault.TheVariants.{Unknown, Length}
 use Rattle.gs_ai.specs.declared.pair.Pair.{Pair}
@@ -21,13 +21,13 @@ use Rattle.gs_ident.proofs.PairLemmas.{Each, find_by_cases, found_each, found_pa
 use Rattle.gs_ident.proofs.ValueEscapes.{IsByte}
 use Rattle.gs_dlink.specs.Answers.{written_answer}
 use Rattle.gs_dlink.specs.Paths.{paired}
-use Rattle.gs_dlink.specs.Uris.{Written, is_byte, is_slash, part_pairs, pieces_behind, query_parts, separates_parts}
+use Rattle.gs_dlink.specs.Uris.{Written, is_slash, part_pairs, pieces_behind, query_parts, separates_parts}
 use Rattle.gs_dlink.specs.Values.{is_short_gtin, padded, pair_answer}
 use Rattle.gs_dlink.proofs.CutLemmas.{after_seam, any_append, before_none, before_seam, no_pieces, pieces_seam}
 use Rattle.gs_dlink.proofs.FreeBytes.{are_free, decoded_again, digits_free, encoded_escapes, encoded_free, equal_number, is_free, no_byte, none_in, set82_bytes}
 use Rattle.gs_dlink.proofs.JudgementLemmas.{valued}
 
--- ---- what is written of a pair
+-- ---- the written form of a pair
 
 pub record IsSpelled (written : Written) (pair : Pair) : Type 0 where
   pub code : written.code ≡ pair.code
@@ -44,7 +44,7 @@ spelled_append [] vs (p ∷ ps) qs f g = absurd f
 spelled_append (w ∷ ws) vs [] qs f g = absurd f
 spelled_append (w ∷ ws) vs (p ∷ ps) qs f g = (f.0, spelled_append ws vs ps qs f.1 g)
 
--- ---- a value in order is no short GTIN
+-- ---- a value in order is not a short GTIN
 
 has_length : (parts : List Part) (value : List ℕ) → parts_error parts value ≡ None → has_length_of parts value ≡ true
 has_length parts value h = elim (true_or_false (has_length_of parts value)) [

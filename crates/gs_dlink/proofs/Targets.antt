@@ -1,4 +1,4 @@
--- The answer to a path with its query, by the places at which it is cut, and to a link by the place behind its authority.
+-- The result for a path with its query, by the places at which it is cut, and for a link by the place after its authority.
 use Rattle.std.proofs.Common.{◌≡◌, ℕ, ◌+◌, ◌≤◌, true, false, List, ◌++◌, length, take, drop, Option, Some, None, All, refl, sym, ap, ◌∙◌, inl, inr}
 use Rattle.std.specs.Prelude.{Result, Ok, Err}
 use Rattle.std.specs.List.{position_or_len}
@@ -11,7 +11,8 @@ use Rattle.gs_dlink.specs.declared.error.LinkFault.TheVariants.{NotHttp, NoKeyPa
 use Rattle.gs_dlink.specs.Answers.{by_key_path, is_rooted, link_answer, target_answer, written_answer}
 use Rattle.gs_dlink.specs.AnswersSupport.{OrMemory}
 use Rattle.gs_dlink.specs.Paths.{key_path}
-use Rattle.gs_dlink.specs.Uris.{authority_end, is_byte, path_of, query_of, query_pairs, segments, Written}
+use Rattle.gs_chars.specs.Characters.{is_byte}
+use Rattle.gs_dlink.specs.Uris.{authority_end, path_of, query_of, query_pairs, segments, Written}
 use Rattle.gs_dlink.proofs.CutLemmas.{length_take}
 use Rattle.gs_dlink.proofs.JudgementLemmas.{written_in_order}
 
@@ -51,7 +52,7 @@ pub no_link : (table : List AiRow) (text : List ℕ) → None ≡ authority_end 
 unfolding link_answer
 no_link table text h = rw (← h) refl
 
--- ---- pairs that are read are in order
+-- ---- pairs that are read are valid
 
 pub target_in_order : (table : List AiRow) (at : ℕ) (text : List ℕ) (ps : List Pair) → target_answer table at text ≡ Ok ps → All (IsInOrder table) ps
 unfolding target_answer

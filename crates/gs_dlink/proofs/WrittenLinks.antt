@@ -17,7 +17,8 @@ use Rattle.gs_ident.proofs.PairLemmas.{Each, each_from_all, found_passes}
 use Rattle.gs_dlink.specs.Answers.{is_rooted, link_answer, target_answer}
 use Rattle.gs_dlink.specs.Paths.{codes_of, is_in_order, key_path, listed_of, paired}
 use Rattle.gs_dlink.specs.Stems.{are_stem_bytes, begins_authority, goes_on, is_stem_byte, stem_ok}
-use Rattle.gs_dlink.specs.Uris.{Written, authority_end, ends_authority, is_byte, is_slash, path_of, pieces_behind, query_of as link_query_of, query_pairs, segments}
+use Rattle.gs_chars.specs.Characters.{is_byte}
+use Rattle.gs_dlink.specs.Uris.{Written, authority_end, ends_authority, is_slash, path_of, pieces_behind, query_of as link_query_of, query_pairs, segments}
 use Rattle.gs_dlink.proofs.CutLemmas.{after_none, after_seam, any_append, any_drop, before_none, before_seam, pieces_seam, place_seam, place_within}
 use Rattle.gs_dlink.proofs.FreeBytes.{equal_number, is_free, no_byte}
 use Rattle.gs_dlink.proofs.KeyPaths.{lists_no_key, none_in_order, ordered_path, path_from_key}
@@ -54,7 +55,7 @@ chosen_in_order pairs (first ∷ list) = by (pair_with pairs first) refl (chosen
 ordered_for : (table : List AiRow) (pairs : List Pair) (key own : Pair) (qualifiers : List Pair) → key ≡ own → qualifiers ≡ filter_map (pair_with pairs) (listed table own) → is_in_order (listed_of table key.code) (pair_codes qualifiers) ≡ true
 ordered_for table pairs key own qualifiers e f = rw (e, f) (chosen_in_order pairs (listed table own))
 
--- ---- what is known of an identity that was made
+-- ---- the facts of an identity that was made
 
 module _ (table : List AiRow) (identity : Elements) (is_made : IsMadeWith table identity) where
   made : Made table (counted table (pairs_of identity)) identity
@@ -72,7 +73,7 @@ module _ (table : List AiRow) (identity : Elements) (is_made : IsMadeWith table 
   qualifiers_ordered =
       ordered_for table (counted table (pairs_of identity)) identity.key made.key identity.qualifiers key_is (ap (λ (a : Elements). a.qualifiers) made.elements)
 
--- ---- the codes of what is written
+-- ---- the codes of a written link
 
 spelled_codes : (ws : List Written) (ps : List Pair) → AllSpelled ws ps → codes_of ws ≡ pair_codes ps
 spelled_codes [] [] h = refl
@@ -80,9 +81,9 @@ spelled_codes [] (p ∷ ps) h = absurd h
 spelled_codes (w ∷ ws) [] h = absurd h
 spelled_codes (w ∷ ws) (p ∷ ps) h = rw (h.0.code, spelled_codes ws ps h.1) refl
 
--- ---- the bytes of what is written
+-- ---- the bytes of a written link
 
--- the text of a query behind its question mark
+-- the text of a query after its question mark
 abbrev query_text : List Pair → List ℕ
 query_text [] = []
 query_text (p ∷ ps) = query_part p ++ tails ps
@@ -210,7 +211,7 @@ stem_free s other (c ∷ r) h = elim (true_or_false (is_byte s c)) [
   | inr t ↦ rw t (stem_free s other r (and_second (is_stem_byte c) (are_stem_bytes r) h))
 ]
 
--- the stem behind its scheme
+-- the stem after its scheme
 record Behind (r : List ℕ) : Type 0 where
   first : ℕ
   others : List ℕ
@@ -226,7 +227,7 @@ behind_https : (r : List ℕ) → goes_on (codes "https://" ++ r) 8 ≡ true →
 behind_https [] h bytes = absurd (true≢false (sym h))
 behind_https (c ∷ r) h bytes = record { first = c; others = r; is = refl; no_slash = false_from_not (c == 47) (and_second (nat_lt 8 (length (codes "https://" ++ c ∷ r))) (not (c == 47)) h); bytes = bytes }
 
--- the stem is one of the schemes and what is behind it
+-- the stem is one of the schemes and the rest after it
 stem_cut : (stem : List ℕ) → stem_ok stem ≡ true → (r : List ℕ) × ((stem ≡ codes "http://" ++ r) ⊎ (stem ≡ codes "https://" ++ r)) × Behind r
 unfolding stem_ok
 stem_cut stem h =
@@ -256,7 +257,7 @@ https_end : (y : List ℕ) → (position_or_len ends_authority y == 0) ≡ false
 unfolding authority_end
 https_end y h = rw h refl
 
--- the authority of what is behind a scheme is there
+-- the rest after a scheme has an authority
 authority_there : (r : List ℕ) → Behind r → (position_or_len ends_authority r == 0) ≡ false
 authority_there r b = rw b.is (by b.first b.no_slash (stem_free 63 refl (b.first ∷ b.others) (rw b.is at b.bytes)) (stem_free 35 refl (b.first ∷ b.others) (rw b.is at b.bytes)))
   where
@@ -279,7 +280,7 @@ module _ (table : List AiRow) (rules : KeepsRules table) (identity : Elements) (
       ∙ append_assoc stem (path_step identity.key) (steps identity.qualifiers ++ query_of identity.attributes)
       ∙ ap (λ (text : List ℕ). stem ++ text) (sym (append_assoc (path_step identity.key) (steps identity.qualifiers) (query_of identity.attributes)))
 
-  -- what stands behind the scheme, cut at the end of the authority
+  -- the text after the scheme, cut at the end of the authority
   behind_read : (r : List ℕ) → Behind r → (text : List ℕ) (n : ℕ) → authority_end text ≡ Some (n + position_or_len ends_authority r)
       → drop (n + position_or_len ends_authority r) text ≡ drop (position_or_len ends_authority r) (r ++ (steps (identity.key ∷ identity.qualifiers) ++ query_of identity.attributes)) → link_answer table text ≡ Ok (pairs_of identity)
   behind_read r b text n end left =

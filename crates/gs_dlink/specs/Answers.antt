@@ -29,14 +29,14 @@ abbrev pub by_key_path : List AiRow → List Written → Option (List Written) �
 by_key_path table query None = Err NoKeyPath
 by_key_path table query (Some path) = written_answer table (path ++ query)
 
--- trusted, RFC 9112, section 3.2.1; GS1 Digital Link URI Syntax, section 3: the answer to a path with its query that stands
--- at a place in the whole text
+-- trusted, RFC 9112, section 3.2.1; GS1 Digital Link URI Syntax, section 3: the answer to a path with its query that is at a
+-- place in the whole text
 unfoldable pub target_answer : List AiRow → ℕ → List ℕ → Result (List Pair) LinkFault
 target_answer table at text =
     if not (is_rooted (path_of text)) then Err NoKeyPath
     else by_key_path table (query_pairs (at + length (path_of text) + 1) (query_of text)) (key_path table (segments at (path_of text)))
 
--- trusted, own: the answer to a link, by the place behind its authority
+-- trusted, own: the answer to a link, by the place after its authority
 abbrev pub by_authority : List AiRow → List ℕ → Option ℕ → Result (List Pair) LinkFault
 by_authority table text None = Err NotHttp
 by_authority table text (Some at) = target_answer table at (drop at text)
@@ -45,7 +45,7 @@ by_authority table text (Some at) = target_answer table at (drop at text)
 unfoldable pub link_answer : List AiRow → List ℕ → Result (List Pair) LinkFault
 link_answer table text = by_authority table text (authority_end text)
 
--- trusted, own: the error of an answer, where it is one
+-- trusted, own: the error of a result, if it is one
 abbrev pub error_in : Result (List Pair) LinkFault → Option LinkFault
 error_in (Ok _) = None
 error_in (Err error) = Some error
@@ -55,8 +55,7 @@ error_in (Err error) = Some error
 abbrev pub IsLink : List AiRow → List ℕ → List Pair → Type 0
 IsLink table text pairs = link_answer table text ≡ Ok pairs
 
--- trusted, GS1 Digital Link URI Syntax, section 3; the order of the errors is own: the first error of a text that is no
--- link
+-- trusted, GS1 Digital Link URI Syntax, section 3; the order of the errors is own: the first error of a text that is not a link
 abbrev pub link_error : List AiRow → List ℕ → Option LinkFault
 link_error table text = error_in (link_answer table text)
 
@@ -64,7 +63,7 @@ link_error table text = error_in (link_answer table text)
 abbrev pub IsTarget : List AiRow → List ℕ → List Pair → Type 0
 IsTarget table text pairs = target_answer table 0 text ≡ Ok pairs
 
--- trusted, RFC 9112, section 3.2.1; GS1 Digital Link URI Syntax, section 3: the first error of the target of a request,
--- where there is one
+-- trusted, RFC 9112, section 3.2.1; GS1 Digital Link URI Syntax, section 3: the first error of the target of a request, if there
+-- is one
 abbrev pub target_error : List AiRow → List ℕ → Option LinkFault
 target_error table text = error_in (target_answer table 0 text)

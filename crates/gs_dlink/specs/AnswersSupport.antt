@@ -1,4 +1,4 @@
--- What proofs and private functions say beside the definitions of Answers.antt.
+-- Definitions for proofs and private functions, in addition to Answers.antt.
 use Rattle.std.specs.Prelude.{Result}
 use Rattle.gs_chars.specs.Answers.{OrError}
 use Rattle.gs_dlink.specs.declared.error.LinkFault.{LinkFault}

@@ -6,7 +6,7 @@ use Rattle.gs_ai.specs.Tables.{is_key_of}
 use Rattle.gs_ai.specs.Values.{has_code}
 use Rattle.gs_dlink.specs.Uris.{Piece, Written}
 
--- trusted, own: the segments in pairs, a code and a value each, where their number is even
+-- trusted, own: the segments in pairs, a code and a value each, if their number is even
 abbrev pub paired : List Piece → Option (List Written)
 paired [] = Some []
 paired (code ∷ []) = None
@@ -17,7 +17,7 @@ paired (code ∷ value ∷ segments) =
 abbrev pub codes_of : List Written → List (List ℕ)
 codes_of pairs = map (λ (pair : Written). pair.code) pairs
 
--- trusted, own: the codes stand in the list in its order, each at most once
+-- trusted, own: the codes are in the list in its order, each at most once
 abbrev pub is_in_order : List (List ℕ) → List (List ℕ) → Bool
 is_in_order list [] = true
 is_in_order [] (code ∷ codes) = false
@@ -40,12 +40,12 @@ pub record IsKeyPath (table : List AiRow) (segments : List Piece) (pairs : List 
   pub rest : paired (drop before segments) ≡ Some pairs
   pub is_path : is_key_path table pairs ≡ true
 
--- trusted, own: these pairs where they are a key path, else the others
+-- these pairs if they are a key path, otherwise the others
 abbrev pub path_or : List AiRow → Option (List Written) → Option (List Written) → Option (List Written)
 path_or table None other = other
 path_or table (Some pairs) other = if is_key_path table pairs then Some pairs else other
 
--- trusted, GS1 Digital Link URI Syntax, section 3: the key path in which the segments end, where they end in one
+-- by law one_key_path: the key path in which the segments end, where they end in one
 unfoldable pub key_path : List AiRow → List Piece → Option (List Written)
 key_path table [] = None
 key_path table (segment ∷ segments) = path_or table (paired (segment ∷ segments)) (key_path table segments)

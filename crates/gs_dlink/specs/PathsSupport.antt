@@ -1,4 +1,4 @@
--- What proofs and private functions say beside the definitions of Paths.antt.
+-- Definitions for proofs and private functions, in addition to Paths.antt.
 use Rattle.std.specs.Prelude.{ℕ, Bool, false, List, bytes_eq, slice_get}
 use Rattle.std.specs.Option.{option_map_or}
 use Rattle.gs_dlink.specs.Uris.{Written}

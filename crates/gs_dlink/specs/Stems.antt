@@ -11,11 +11,11 @@ is_stem_byte c = is_ascii_graphic c && not (c == 63) && not (c == 35)
 abbrev pub are_stem_bytes : List ℕ → Bool
 are_stem_bytes stem = list_all is_stem_byte stem
 
--- trusted, own: the byte at a place is there and is no slash
+-- trusted, own: holds if there is a byte at this place, and it is not a slash
 abbrev pub goes_on : List ℕ → ℕ → Bool
 goes_on stem n = nat_lt n (length stem) && not (slice_index stem n == 47)
 
--- trusted, own: `http://` or `https://`, and then a byte that is no slash
+-- trusted, own: `http://` or `https://`, and then a byte that is not a slash
 abbrev pub begins_authority : List ℕ → Bool
 begins_authority stem =
     if starts_with nat_eq stem (codes "http://") then goes_on stem 7

@@ -2,14 +2,10 @@
 use Rattle.std.specs.Prelude.{ℕ, ◌+◌, ◌==◌, ◌&&◌, ◌||◌, not, Bool, if◌then◌else◌, List, [], ◌∷◌, map, length, take, drop, codes, Option, Some, None, option_and_then, bytes_eq}
 use Rattle.std.specs.Char.{to_ascii_lowercase}
 use Rattle.std.specs.List.{after_first, before_first, flat_map, position_or_len}
-use Rattle.gs_chars.specs.Characters.{are_digits}
+use Rattle.gs_chars.specs.Characters.{are_digits, is_byte}
 use Rattle.gs_ai.specs.Tables.{is_empty}
 
 -- ---- the bytes that separate
-
--- trusted, own: the byte is this one
-abbrev pub is_byte : ℕ → ℕ → Bool
-is_byte byte c = c == byte
 
 -- trusted, own: the byte is `/`
 abbrev pub is_slash : ℕ → Bool
@@ -25,39 +21,39 @@ separates_parts c = c == 38 || c == 59
 
 -- ---- scheme and authority (sections 3.1 and 3.2)
 
--- trusted, own: the text begins with the scheme in letters of either case
+-- trusted, own: the text begins with the scheme case-insensitively
 abbrev pub has_scheme : List ℕ → List ℕ → Bool
 has_scheme scheme text = bytes_eq (map to_ascii_lowercase (take (length scheme) text)) scheme
 
--- trusted, own: the place behind `http://` or `https://`
+-- trusted, own: the place after `http://` or `https://`
 abbrev pub scheme_end : List ℕ → Option ℕ
 scheme_end text =
     if has_scheme (codes "http://") text then Some 7
     else if has_scheme (codes "https://") text then Some 8
     else None
 
--- trusted, own: the place behind an authority that begins at a place and is not empty
+-- trusted, own: the place after an authority that begins at a place and is not empty
 abbrev pub authority_from : List ℕ → ℕ → Option ℕ
 authority_from text n =
     if position_or_len ends_authority (drop n text) == 0 then None
     else Some (n + position_or_len ends_authority (drop n text))
 
--- trusted, RFC 3986, sections 3.1 and 3.2: the place behind the authority of a text that begins with `http://` or
--- `https://` and an authority
+-- trusted, RFC 3986, sections 3.1 and 3.2: the place after the authority of a text that begins with `http://` or `https://` and
+-- an authority
 unfoldable pub authority_end : List ℕ → Option ℕ
 authority_end text = option_and_then (authority_from text) (scheme_end text)
 
 -- ---- path, query and fragment (sections 3.3 to 3.5), of a text that begins with the path
 
--- trusted, RFC 3986, sections 3.3 to 3.5: what stands before the first `#`
+-- trusted, RFC 3986, sections 3.3 to 3.5: the text before the first `#`
 abbrev pub without_fragment : List ℕ → List ℕ
 without_fragment text = before_first (is_byte 35) text
 
--- trusted, RFC 3986, sections 3.3 to 3.5: the path: what stands before the first `?` and the first `#`
+-- trusted, RFC 3986, sections 3.3 to 3.5: the path: the text before the first `?` and the first `#`
 abbrev pub path_of : List ℕ → List ℕ
 path_of text = before_first (is_byte 63) (without_fragment text)
 
--- trusted, RFC 3986, sections 3.3 to 3.5: what follows the first question mark, and nothing where there is none
+-- trusted, RFC 3986, sections 3.3 to 3.5: the text after the first question mark, and the empty text if there is none
 abbrev pub query_of : List ℕ → List ℕ
 query_of text = after_first (is_byte 63) (without_fragment text)
 
@@ -68,7 +64,7 @@ pub record Piece : Type 0 where
   pub at : ℕ
   pub text : List ℕ
 
--- trusted, own: the pieces of a text behind each byte that separates, where the text stands at a place
+-- trusted, own: the pieces of a text after each byte that separates, for a text at this place
 abbrev pub pieces_behind : (ℕ → Bool) → ℕ → List ℕ → List Piece
 pieces_behind separates at [] = []
 pieces_behind separates at (c ∷ text) =
@@ -76,7 +72,7 @@ pieces_behind separates at (c ∷ text) =
     then record { at = at + 1; text = before_first separates text } ∷ pieces_behind separates (at + 1) text
     else pieces_behind separates (at + 1) text
 
--- trusted, RFC 3986, section 3.3: the segments of a path, each behind its slash (section 3.3)
+-- trusted, RFC 3986, section 3.3: the segments of a path, each after its slash (section 3.3)
 unfoldable pub segments : ℕ → List ℕ → List Piece
 segments at path = pieces_behind is_slash at path
 
@@ -85,13 +81,13 @@ abbrev pub query_parts : ℕ → List ℕ → List Piece
 query_parts at query =
     record { at = at; text = before_first separates_parts query } ∷ pieces_behind separates_parts at query
 
--- trusted, own: A pair as it is written: the place of its code in the whole text, the code, and the value with its escapes.
+-- trusted, own: A pair as written: the place of its code in the whole text, the code, and the value with its escapes.
 pub record Written : Type 0 where
   pub at : ℕ
   pub code : List ℕ
   pub value : List ℕ
 
--- trusted, own: the pair of a part: its name before the first equals sign, and the value behind it
+-- trusted, own: the pair of a part: its name before the first equals sign, and the value after it
 abbrev pub part_pair : Piece → Written
 part_pair part = record {
   at = part.at;

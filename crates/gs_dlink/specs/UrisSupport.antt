@@ -1,4 +1,4 @@
--- What proofs and private functions say beside the definitions of Uris.antt.
+-- Definitions for proofs and private functions, in addition to Uris.antt.
 use Rattle.std.specs.Prelude.{◌≡◌, ℕ, ◌+◌, ◌<◌, false, List, ◌∷◌, ◌++◌, length, take, drop}
 use Rattle.std.specs.List.{list_any}
 use Rattle.gs_dlink.specs.Uris.{is_slash}
@@ -7,7 +7,7 @@ use Rattle.gs_dlink.specs.Uris.{is_slash}
 abbrev pub NoSlash : List ℕ → Type 0
 NoSlash text = list_any is_slash text ≡ false
 
--- the last slash stands at this place
+-- the last slash is at this place
 pub record LastSlash (text : List ℕ) (place : ℕ) : Type 0 where
   pub within : place < length text
   pub cut : text ≡ take place text ++ 47 ∷ drop (place + 1) text

@@ -15,7 +15,7 @@ use Rattle.gs_dlink.specs.declared.error.LinkFault.TheVariants.{Element}
 use Rattle.gs_dlink.specs.declared.written.WrittenPair.{WrittenPair}
 use Rattle.gs_dlink.specs.Uris.{Written}
 
--- trusted, own: the row of the pair is that of its code
+-- the row of the pair is that of its code
 abbrev pub IsPlaced : List AiRow → WrittenPair → Type 0
 IsPlaced table pair = pair.row ≡ position (has_code pair.code.now) table
 
@@ -34,7 +34,7 @@ are_escapes (c ∷ text) = (not (c == 37) || begins_hex text) && are_escapes tex
 abbrev pub is_short_gtin : List ℕ → Bool
 is_short_gtin value = ((length value == 8) || (length value == 12) || (length value == 13)) && are_digits value
 
--- trusted, own: with leading zeros up to 14 digits, where the row allows a short GTIN and the value is one
+-- trusted, own: the value with leading zeros up to 14 digits, if the row allows a short GTIN and the value is one
 abbrev pub padded : Bool → List ℕ → List ℕ
 padded short value = if short && is_short_gtin value then take (14 - length value) (codes "000000") ++ value else value
 

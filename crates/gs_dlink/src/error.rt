@@ -1,14 +1,14 @@
 use gs_ai::ElementFault;
 use gs_chars::Memory;
 
-/// Why a text is no link, or a target none of a link.
+/// Why a text is not a link, or a target none of a link.
 #[derive(Clone, Copy, Debug)]
 pub enum LinkFault {
     /// It does not begin with `http://` or `https://` and an authority.
     NotHttp,
     /// Its path ends in no key with its qualifiers.
     NoKeyPath,
-    /// What is wrong with a pair, at the place of its code in the whole text.
+    /// The error of a pair, at the place of its code in the whole text.
     Element(ElementFault),
     /// Out of memory.
     Memory,

@@ -1,7 +1,7 @@
 ghost use Rattle.std.specs.Prelude.{◌≡◌};
 ghost use Rattle.gs_dlink.specs.Values.{are_escapes, begins_hex};
 
-/// Whether the text begins with two hexadecimal digits.
+/// Returns whether the text begins with two hexadecimal digits.
 fn begins_hex(text: &[u8]) -> bool
     ensures { result ≡ begins_hex text.now }
 {
@@ -11,7 +11,7 @@ fn begins_hex(text: &[u8]) -> bool
     }
 }
 
-/// Whether each percent sign of the text begins an escape.
+/// Returns whether each percent sign of the text begins an escape.
 pub(crate) fn are_escapes(text: &[u8]) -> bool
     ensures { result ≡ are_escapes text.now }
 {

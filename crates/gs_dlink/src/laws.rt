@@ -9,25 +9,25 @@ ghost use Rattle.gs_dlink.specs.Uris.{Piece, Written};
 
 use gs_ai::AiTable;
 
-/// The segments of a path end in at most one key path, which `key_path` finds.
+/// States that the segments of a path end in at most one key path, which `key_path` finds.
 pub fn one_key_path(table: &AiTable)
     ensures one { (segments : List Piece) (a b : List Written)
         → IsKeyPath table.now segments a → IsKeyPath table.now segments b → a ≡ b }
     ensures found { (segments : List Piece) (path : List Written)
         → (key_path table.now segments ≡ Some path) ↔ IsKeyPath table.now segments path }
 {
-    // For the proof alone: the rows keep the rules.
+    // Only for the proof: the rows satisfy the rules.
     let _ = table.rows();
 }
 
-/// The link that is written of an identity of the table, under every stem that a link may have, names the identity's pairs;
-/// so does its canonical link.
+/// States that the link that is written of an identity of the table, under every allowed stem, names the identity's pairs, and so
+/// does its canonical link.
 pub fn written_link_is_read(table: &AiTable)
     ensures written { (stem : List ℕ) (identity : Elements) → stem_ok stem ≡ true
         → IsMadeWith table.now identity → IsLink table.now (spelled stem identity) (pairs_of identity) }
     ensures canonical { (identity : Elements) → IsMadeWith table.now identity
         → IsLink table.now (canonical_link identity) (pairs_of identity) }
 {
-    // For the proof alone: the rows keep the rules.
+    // Only for the proof: the rows satisfy the rules.
     let _ = table.rows();
 }

@@ -2,19 +2,19 @@
 //!
 //! - `read_link` reads a whole link; `read_target` the target of a request, without a host.
 //! - `stem_ok` says whether links may be written under an address, and `write_link` writes one.
-//! - `place_of` and `part_len` cut the target of a request and its query.
+//! - `part_len` cuts the query of a request target.
 //!
 //! # Example
 //!
-//! A link of a shop with a path of its own before the key, an escape, a part of the query that is none of an identity, and a
-//! fragment. The gate runs this case, for which crates/vectors_texts/src/digital_links.rt makes the call.
+//! A link of a shop with its own path before the key, an escape, a query parameter that is not an element, and a fragment. The
+//! gate runs this case, for which crates/vectors_texts/src/digital_links.rt makes the call.
 //!
 //! ```text
 //! gs_dlink::read_link https://shop.example/a/01/9506000134352/21/%41?linkType=x&17=261231#f
 //! 01 09506000134352 21 A 17 261231
 //! ```
 //!
-//! # Where it differs from the standard
+//! # Differences from the standard
 //!
 //! - Of GS1 Digital Link: URI Syntax it has uncompressed links with numeric codes; the names of codes, as `gtin`, and
 //!   compressed links are not read.
@@ -33,7 +33,7 @@ mod stem;
 mod value;
 mod written;
 
-pub use cuts::{part_len, place_of};
+pub use cuts::part_len;
 pub use error::LinkFault;
 pub use laws::{one_key_path, written_link_is_read};
 pub use one_answer::one_answer_each;

@@ -5,7 +5,7 @@ ghost use Rattle.gs_dlink.specs.declared.error.LinkFault.{LinkFault};
 ghost use Rattle.gs_dlink.specs.declared.error.LinkFault.TheVariants.{Memory as WantOfMemory};
 ghost use Rattle.gs_dlink.specs.Answers.{IsLink, link_error};
 
-/// A text is a link that names one list of pairs, or it has one error, and not both. Out of memory is no error of a text.
+/// States that a text is a link that names one list of pairs, or has one error, and not both. `Memory` is not an error of a text.
 pub fn one_answer_each()
     ensures pairs { (table : List AiRow) (text : List ℕ) (one other : List Pair)
         → IsLink table text one → IsLink table text other → one ≡ other }

@@ -13,7 +13,7 @@ use gs_chars::{Memory, Text};
 use memchr::memrchr;
 use std::alloc::Global;
 
-/// The place of the last slash.
+/// Returns the place of the last slash.
 #[tactic(auto, using(crate::proofs::CutLemmas::slash_answer))]
 fn last_slash(text: &[u8]) -> Option<usize>
     ensures { MatchOption result (NoSlash text.now) (LastSlash text.now) }
@@ -21,7 +21,7 @@ fn last_slash(text: &[u8]) -> Option<usize>
     memrchr(b'/', text)
 }
 
-/// Whether the pair at an index has the code.
+/// Returns whether the pair at an index has the code.
 fn is_code_at(pairs: &[WrittenPair<'_>], index: usize, code: &[u8]) -> bool
     ensures { result ≡ is_code_at (map written_of pairs.now) index code.now }
 {
@@ -31,7 +31,7 @@ fn is_code_at(pairs: &[WrittenPair<'_>], index: usize, code: &[u8]) -> bool
     }
 }
 
-/// Whether the codes of the pairs stand in the list in its order, each at most once.
+/// Returns whether the codes of the pairs are in the list in its order, each at most once.
 fn are_in_order(list: &[Text], pairs: &[WrittenPair<'_>]) -> bool
     ensures { result ≡ is_in_order list.now (codes_of (map written_of pairs.now)) }
 {
@@ -44,7 +44,7 @@ fn are_in_order(list: &[Text], pairs: &[WrittenPair<'_>]) -> bool
     next == pairs.len()
 }
 
-/// Whether the code of the pair is that of a key.
+/// Returns whether the code of the pair is that of a key.
 fn is_key(table: &AiTable, pair: &WrittenPair<'_>) -> bool
     requires { IsPlaced table.now pair.now }
     ensures { result ≡ is_key_of table.now pair.now.code.now }
@@ -55,7 +55,7 @@ fn is_key(table: &AiTable, pair: &WrittenPair<'_>) -> bool
     }
 }
 
-/// The codes that the row of a key lists as qualifiers.
+/// Returns the codes that the row of a key lists as qualifiers.
 fn listed<'a>(table: &'a AiTable, key: &WrittenPair<'_>) -> &'a [Text]
     requires { IsPlaced table.now key.now }
     ensures { result.now ≡ listed_of table.now key.now.code.now }
@@ -66,7 +66,7 @@ fn listed<'a>(table: &'a AiTable, key: &WrittenPair<'_>) -> &'a [Text]
     }
 }
 
-/// The key path of a key and of the pairs behind it, last pair first, where they are one.
+/// Returns the key path of a key and of the pairs after it, last pair first, if they are one.
 fn with_key<'a>(
     table: &AiTable,
     key: WrittenPair<'a>,
@@ -88,8 +88,8 @@ fn with_key<'a>(
     Ok(Some(path))
 }
 
-/// The pairs of the key path in which the path ends: the segments are looked at from the end, two at a time, up to the code
-/// of a key.
+/// Returns the pairs of the key path in which the path ends: the segments are looked at from the end, two at a time, up to the
+/// code of a key.
 pub(crate) fn key_path<'a>(
     alloc: Global,
     table: &AiTable,
@@ -101,7 +101,7 @@ pub(crate) fn key_path<'a>(
         ≡ key_path table.now (segments at path.now)) }
     ensures placed { IfOk result (λ pairs. IfSome pairs (λ found. All (IsPlaced table.now) found.items)) }
 {
-    // For the proof alone: the rows keep the rules.
+    // Only for the proof: the rows satisfy the rules.
     let _ = table.rows();
     let mut pairs = Vec::new(alloc);
     let mut front = path;

@@ -3,12 +3,12 @@ ghost use Rattle.gs_dlink.specs.Uris.{part_pairs, query_pairs};
 ghost use Rattle.gs_dlink.specs.Values.{IsPlaced};
 ghost use Rattle.gs_dlink.specs.ValuesSupport.{written_of};
 
-use crate::cuts::{part_len, place_of};
+use crate::cuts::part_len;
 use crate::written::WrittenPair;
 use gs_ai::AiTable;
-use gs_chars::{Memory, are_digits};
+use gs_chars::{Memory, are_digits, place_of};
 
-/// What stands behind a place of the text, and nothing where the text ends there.
+/// Returns the text after a place, and the empty text if it ends there.
 pub(crate) fn behind(text: &[u8], place: usize) -> &[u8]
     requires { place ≤ length text.now }
     ensures { result.now ≡ drop (place + 1) text.now }
@@ -20,7 +20,7 @@ pub(crate) fn behind(text: &[u8], place: usize) -> &[u8]
     }
 }
 
-/// Appends the pair of a part of a query, where its name is one of digits.
+/// Appends the pair of a part of a query, if its name is digits.
 fn push_part<'a>(
     table: &AiTable,
     pairs: &mut Vec<WrittenPair<'a>>,
@@ -46,7 +46,7 @@ fn push_part<'a>(
     Ok(())
 }
 
-/// Appends the pairs of a query in their order. The query stands at the place in the whole text.
+/// Appends the pairs of a query in their order. The query is at the place in the whole text.
 pub(crate) fn push_query<'a>(
     table: &AiTable,
     pairs: &mut Vec<WrittenPair<'a>>,

@@ -7,19 +7,19 @@ ghost use Rattle.gs_dlink.specs.Uris.{authority_end, has_scheme, scheme_end};
 ghost use Rattle.gs_dlink.specs.Values.{IsPlaced};
 ghost use Rattle.gs_dlink.specs.ValuesSupport.{written_of};
 
-use crate::cuts::{authority_len, place_of};
+use crate::cuts::authority_len;
 use crate::error::LinkFault;
 use crate::path::key_path;
 use crate::query::{behind, push_query};
 use crate::value::read_pair;
 use crate::written::WrittenPair;
 use gs_ai::{AiTable, Pair};
-use gs_chars::List;
+use gs_chars::{List, place_of};
 use std::alloc::Global;
 
-/// The pairs that a link names: those of its key path, then those of its query (GS1 Digital Link URI Syntax, section 3). The
-/// first error is the answer: `NotHttp`, `NoKeyPath`, then pair by pair `Unknown`, `Escape` and the errors of the value, at
-/// the place of the pair's code in the text. `Memory` may come in place of any answer.
+/// Returns the pairs that a link names: those of its key path, then those of its query (GS1 Digital Link URI Syntax, section 3).
+/// The first error is the answer: `NotHttp`, `NoKeyPath`, then pair by pair `Unknown`, `Escape` and the errors of the value, at
+/// the place of the pair's code in the text. May return `Memory` instead.
 pub fn read_link(alloc: Global, table: &AiTable, uri: &[u8]) -> Result<Vec<Pair>, LinkFault>
     ensures pairs { IfOk result (λ pairs. IsLink table.now uri.now pairs.items) }
     ensures in_order { IfOk result (λ pairs. All (IsInOrder table.now) pairs.items) }
@@ -32,7 +32,7 @@ pub fn read_link(alloc: Global, table: &AiTable, uri: &[u8]) -> Result<Vec<Pair>
     Ok(pairs.into_vec())
 }
 
-/// The same for the target of a request: a path with its query (RFC 9112, section 3.2.1). It never answers `NotHttp`.
+/// Returns the same for the target of a request: a path with its query (RFC 9112, section 3.2.1). It never answers `NotHttp`.
 pub fn read_target(alloc: Global, table: &AiTable, target: &[u8]) -> Result<Vec<Pair>, LinkFault>
     ensures pairs { IfOk result (λ pairs. IsTarget table.now target.now pairs.items) }
     ensures in_order { IfOk result (λ pairs. All (IsInOrder table.now) pairs.items) }
@@ -43,7 +43,7 @@ pub fn read_target(alloc: Global, table: &AiTable, target: &[u8]) -> Result<Vec<
     Ok(pairs.into_vec())
 }
 
-/// Whether the text begins with the scheme, whose letters are lower case, in letters of either case.
+/// Returns whether the text begins with the scheme, whose letters are lower case, case-insensitively.
 fn has_scheme(text: &[u8], scheme: &[u8]) -> bool
     requires { map to_ascii_lowercase scheme.now ≡ scheme.now }
     ensures test { result ≡ has_scheme scheme.now text.now }
@@ -52,7 +52,7 @@ fn has_scheme(text: &[u8], scheme: &[u8]) -> bool
     scheme.len() <= text.len() && text[..scheme.len()].eq_ignore_ascii_case(scheme)
 }
 
-/// The place behind `http://` or `https://`, with which the text begins.
+/// Returns the place after `http://` or `https://`, with which the text begins.
 fn scheme_end(text: &[u8]) -> Option<usize>
     ensures end { result ≡ scheme_end text.now }
     ensures within { IfSome result (λ end. end ≤ length text.now) }
@@ -66,7 +66,7 @@ fn scheme_end(text: &[u8]) -> Option<usize>
     }
 }
 
-/// The place behind the authority of a text that begins with `http://` or `https://` and an authority.
+/// Returns the place after the authority of a text that begins with `http://` or `https://` and an authority.
 fn authority_end(text: &[u8]) -> Option<usize>
     ensures end { result ≡ authority_end text.now }
     ensures within { IfSome result (λ end. end ≤ length text.now) }
@@ -76,7 +76,7 @@ fn authority_end(text: &[u8]) -> Option<usize>
     if len == 0 { None } else { Some(scheme + len) }
 }
 
-/// Whether the path is empty or begins with a slash.
+/// Returns whether the path is empty or begins with a slash.
 fn is_rooted(path: &[u8]) -> bool
     ensures { result ≡ is_rooted path.now }
 {
@@ -86,7 +86,7 @@ fn is_rooted(path: &[u8]) -> bool
     }
 }
 
-/// The pairs of a path with its query that stand at a place in the whole text, or the first error.
+/// Returns the pairs of a path with its query that are at a place in the whole text, or the first error.
 #[tactic(auto, unfolding(crate::specs::Answers::target_answer))]
 fn read_at(alloc: Global, table: &AiTable, at: usize, text: &[u8]) -> Result<List<Pair>, LinkFault>
     requires { at + length text.now < 2 ^ 63 }
@@ -105,7 +105,7 @@ fn read_at(alloc: Global, table: &AiTable, at: usize, text: &[u8]) -> Result<Lis
     read_pairs(alloc, table, written.as_slice())
 }
 
-/// The pairs that are written so, or the first error of one.
+/// Returns the pairs that are written so, or the first error of one.
 fn read_pairs(
     alloc: Global,
     table: &AiTable,

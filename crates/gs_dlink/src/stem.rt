@@ -1,4 +1,5 @@
-ghost use Rattle.std.specs.Prelude.{◌≡◌, ◌++◌, true, IfOk, option_map, IsTrue};
+ghost use Rattle.std.specs.Prelude.{◌≡◌, ◌++◌, true, IfOk, OnErr, option_map, IsTrue};
+ghost use Rattle.gs_chars.specs.Answers.{BeginsWith};
 ghost use Rattle.gs_ident.specs.Links.{spelled};
 ghost use Rattle.gs_dlink.specs.Stems.{are_stem_bytes, begins_authority, ends_in_slash, stem_ok};
 
@@ -6,7 +7,7 @@ use gs_chars::{Memory, Text};
 use gs_ident::{Identity, spell};
 use std::alloc::Global;
 
-/// Whether each byte may stand in a stem: bytes from 33 to 126 but `?` and `#`.
+/// Returns whether each byte may be in a stem: bytes from 33 to 126 except `?` and `#`.
 fn are_stem_bytes(stem: &[u8]) -> bool
     ensures { result ≡ are_stem_bytes stem.now }
 {
@@ -14,7 +15,7 @@ fn are_stem_bytes(stem: &[u8]) -> bool
         .all(|c| c.is_ascii_graphic() && *c != b'?' && *c != b'#')
 }
 
-/// Whether the stem goes on, behind `http://` or `https://`, with a byte that is no slash.
+/// Returns whether a byte that is not a slash follows `http://` or `https://` at the start of the stem.
 fn begins_authority(stem: &[u8]) -> bool
     ensures { result ≡ begins_authority stem.now }
 {
@@ -25,15 +26,15 @@ fn begins_authority(stem: &[u8]) -> bool
     }
 }
 
-/// Whether the last byte is a slash.
+/// Returns whether the last byte is a slash.
 fn ends_in_slash(stem: &[u8]) -> bool
     ensures { result ≡ ends_in_slash stem.now }
 {
     !stem.is_empty() && stem[stem.len() - 1] == b'/'
 }
 
-/// Whether a link may be written under the stem: 1 to 1,024 bytes from 33 to 126 that begin with `http://` or `https://` in
-/// lower case and a byte that is no slash, have no `?` and no `#`, and do not end in a slash.
+/// Returns whether a link may be written under the stem: 1 to 1,024 bytes from 33 to 126 that begin with `http://` or `https://`
+/// in lower case and a byte that is not a slash, have no `?` and no `#`, and do not end in a slash.
 #[tactic(auto, unfolding(crate::specs::Stems::stem_ok))]
 pub fn stem_ok(stem: &[u8]) -> bool
     ensures { result ≡ stem_ok stem.now }
@@ -41,8 +42,8 @@ pub fn stem_ok(stem: &[u8]) -> bool
     stem.len() <= 1024 && are_stem_bytes(stem) && begins_authority(stem) && !ends_in_slash(stem)
 }
 
-/// The link of the identity under the stem (GS1 Digital Link URI Syntax, section 4). The one error is out of memory. The
-/// stem is one that `stem_ok` allows.
+/// Returns the link of the identity under the stem (GS1 Digital Link URI Syntax, section 4). Fails only with `Memory`. `stem_ok`
+/// allows the stem.
 pub fn write_link(alloc: Global, stem: &[u8], identity: &Identity) -> Result<Text, Memory>
     requires { stem_ok stem.now ≡ true }
     ensures { IfOk result (λ text. text ≡ spelled stem.now identity.now) }
@@ -50,11 +51,12 @@ pub fn write_link(alloc: Global, stem: &[u8], identity: &Identity) -> Result<Tex
     spell(alloc, stem, identity)
 }
 
-/// Appends the link of the identity under the stem, as `write_link` gives it. The one error is out of memory; `out` may then have
-/// a part of the link more. The stem is one that `stem_ok` allows.
+/// Appends the link of the identity under the stem, as `write_link` returns it. Fails only with `Memory`; `out` then begins with
+/// its old contents. `stem_ok` allows the stem.
 pub fn append_link(out: &mut Vec<u8>, stem: &[u8], identity: &Identity) -> Result<(), Memory>
     requires { stem_ok stem.now ≡ true }
-    ensures { IfOk result (λ _. out.new.items ≡ out.old.items ++ spelled stem.now identity.now) }
+    ensures written { IfOk result (λ _. out.new.items ≡ out.old.items ++ spelled stem.now identity.now) }
+    ensures begun { OnErr result (BeginsWith out.new.items out.old.items) }
 {
     gs_ident::append_link(out, stem, identity)
 }

@@ -4,26 +4,25 @@ ghost use Rattle.percent_encoding.specs.Percent.{percent_decode};
 ghost use Rattle.gs_dlink.specs.Values.{IsPlaced, is_short_gtin, padded, pair_answer};
 ghost use Rattle.gs_dlink.specs.ValuesSupport.{unescaped, written_of};
 
-use crate::cuts::place_of;
 use crate::error::LinkFault;
 use crate::escapes::are_escapes;
 use crate::written::WrittenPair;
 use gs_ai::{AiTable, ElementFault, ElementWhy, Pair, ValueFault};
-use gs_chars::{Memory, Text, are_digits};
+use gs_chars::{Memory, Text, are_digits, place_of};
 use percent_encoding::percent_decode;
 use std::alloc::Global;
 
-/// The zeros that a GTIN of 8 digits lacks.
+/// The leading zeros of a GTIN of 8 digits.
 const ZEROS: &[u8] = b"000000";
 
-/// Whether the text is a GTIN of 8, 12 or 13 digits.
+/// Returns whether the text is a GTIN of 8, 12 or 13 digits.
 fn is_short_gtin(text: &[u8]) -> bool
     ensures { result ≡ is_short_gtin text.now }
 {
     (text.len() == 8 || text.len() == 12 || text.len() == 13) && are_digits(text)
 }
 
-/// The text without its escapes.
+/// Returns the text without its escapes.
 fn decoded(alloc: Global, text: &[u8]) -> Result<Text, Memory>
     ensures { IfOk result (λ out. out ≡ percent_decode text.now) }
 {
@@ -32,7 +31,7 @@ fn decoded(alloc: Global, text: &[u8]) -> Result<Text, Memory>
     Ok(Text::from_vec(out))
 }
 
-/// The value that the text spells. `None` comes exactly where a percent sign begins no escape.
+/// Returns the value that the text spells. `None` is returned if and only if a percent sign begins no escape.
 fn unescaped(alloc: Global, text: &[u8]) -> Result<Option<Text>, Memory>
     ensures { IfOk result (λ value. value ≡ unescaped text.now) }
 {
@@ -45,7 +44,7 @@ fn unescaped(alloc: Global, text: &[u8]) -> Result<Option<Text>, Memory>
     Ok(Some(decoded(alloc, text)?))
 }
 
-/// The value with leading zeros up to 14 digits, where it is a short GTIN and its row allows one.
+/// Returns the value with leading zeros up to 14 digits, if it is a short GTIN and its row allows one.
 fn padded(alloc: Global, short: bool, value: Text) -> Result<Text, Memory>
     ensures { IfOk result (λ out. out ≡ padded short value) }
 {
@@ -57,7 +56,7 @@ fn padded(alloc: Global, short: bool, value: Text) -> Result<Text, Memory>
     Ok(out)
 }
 
-/// The error of a pair at the place of its code.
+/// Returns the error of a pair at the place of its code.
 fn error_of(written: &WrittenPair<'_>, why: ElementWhy) -> LinkFault
     ensures { result ≡ LinkFault.Element (record { at = written.now.at; why = why }) }
 {
@@ -67,7 +66,7 @@ fn error_of(written: &WrittenPair<'_>, why: ElementWhy) -> LinkFault
     })
 }
 
-/// The pair that is written so, or its first error: `Unknown`, `Escape`, an error of the value.
+/// Returns the pair that is written so, or its first error: `Unknown`, `Escape`, an error of the value.
 pub(crate) fn read_pair(
     alloc: Global,
     table: &AiTable,

@@ -1,5 +1,5 @@
-/// A pair as it stands in a link, lent by it, with the place of its code in the whole text and the row of its code, which is
-/// looked up once. Contracts see place, code and value; that the row is the one of the code is `IsPlaced`.
+/// A pair of a link, lent by it, with the place of its code in the whole text and the row of its code, which is looked up once.
+/// Contracts see place, code and value; `IsPlaced` says that the row is that of the code.
 #[derive(Clone, Copy)]
 pub(crate) struct WrittenPair<'a> {
     pub(crate) at: usize,

@@ -16,7 +16,7 @@ body_shorter text = by (find (λ front. begins front text) identifiers)
     by None = omega arith
     by (Some front) = omega (arith, length-drop (length front) text)
 
--- nothing of the kind stands before a digit
+-- nothing of the kind is before a digit
 pub digit_body : (c : ℕ) (text : List ℕ) → is_digit c ≡ true → body_of (c ∷ text) ≡ c ∷ text
 unfolding body_of
 digit_body c text digit =

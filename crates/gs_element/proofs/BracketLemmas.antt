@@ -1,12 +1,13 @@
--- Elements with their codes in brackets: each is given by the text that it stands before.
-use Rattle.std.proofs.Common.{◌≡◌, ℕ, ◌<◌, ◌≤◌, ◌==◌, ◌&&◌, not, true, false, List, [], ◌∷◌, ◌++◌, length, drop, Option, Some, None, refl, sym, ap, ◌∙◌, append_assoc, arith, ◌⊎◌, inl, inr, true≢false}
-use Rattle.std.specs.List.{take_while}
+-- Elements with their codes in brackets: each is given by the text that it is before.
+use Rattle.std.proofs.Common.{◌≡◌, ℕ, suc, ◌+◌, ◌<◌, ◌≤◌, ◌==◌, ◌&&◌, not, true, false, List, [], ◌∷◌, ◌++◌, length, take, drop, Option, Some, None, refl, sym, ap, ◌∙◌, append_assoc, arith, ◌⊎◌, inl, inr, true≢false}
+use Rattle.std.specs.List.{position_or_len, take_while}
 use Rattle.std.proofs.lemmas.Bool.Decides.{nat_tests}
 use Rattle.std.proofs.Math.Seq.{drop-append_seam}
 use Rattle.std.proofs.lemmas.List.{append_cancel_left}
 use Rattle.std.proofs.lemmas.List.Sums.{take_while-cons}
+use Rattle.memchr.specs.Find.{is_byte2}
 use Rattle.gs_chars.specs.Characters.{are_digits, are_in_set82, is_digit, is_in_set82}
-use Rattle.gs_chars.proofs.TruthsAndLists.{and_first, and_second, false_from, true_or_false}
+use Rattle.gs_chars.proofs.TruthsAndLists.{and_first, and_second, false_from, or_parts, true_or_false}
 use Rattle.gs_ai.specs.declared.errors.ElementFault.{ElementFault}
 use Rattle.gs_ai.specs.declared.errors.ElementWhy.TheVariants.{Value, Bracket}
 use Rattle.gs_ai.specs.declared.errors.ValueFault.{ValueFault}
@@ -22,7 +23,7 @@ use Rattle.gs_element.proofs.JoinLemmas.{IsBlocked, IsGreedy, IsKnown}
 
 -- ---- codes
 
--- digits up to a character that is none
+-- digits up to a character that is not a digit
 digits_before : (code : List ℕ) (c : ℕ) (after : List ℕ) → are_digits code ≡ true → is_digit c ≡ false → take_while is_digit (code ++ c ∷ after) ≡ code
 digits_before [] c after digits other = take_while-cons is_digit c after ∙ (rw other refl)
 digits_before (d ∷ code) c after digits other =
@@ -102,7 +103,19 @@ pub plain_next : (text : List ℕ) (c : ℕ) (rest : List ℕ) → text ≡ c �
 plain_next text c [] e other plain = let o = other_number c 40 other in rw e (rw o (refl, refl))
 plain_next text c (d ∷ rest) e other plain = let o = other_number c 40 other in rw e (rw (o, plain) (refl, refl))
 
--- what is written of a value is read as the value
+-- the characters before the first opening bracket or backslash stand for themselves
+pub plain_front : (text : List ℕ) → (value_before text ≡ take (position_or_len (is_byte2 40 92) text) text ++ value_before (drop (position_or_len (is_byte2 40 92) text) text)) × (text ≡ written_value (take (position_or_len (is_byte2 40 92) text) text) ++ drop (position_or_len (is_byte2 40 92) text) text)
+plain_front [] = (refl, refl)
+plain_front (c ∷ text) = elim (true_or_false (is_byte2 40 92 c)) [
+  | inl ends ↦ rw ends (refl, refl)
+  | inr plain ↦
+      let both = or_parts (c == 40) (c == 92) plain in
+      let rest = plain_front text in
+      let e : 1 + position_or_len (is_byte2 40 92) text ≡ suc (position_or_len (is_byte2 40 92) text) = omega arith in
+      rw (plain, e, both.0) (value_one c text both.0 both.1 ∙ ap (λ (x : List ℕ). c ∷ x) rest.0, ap (λ (x : List ℕ). c ∷ x) rest.1)
+]
+
+-- the written form of a value is read as the value
 pub value_known : (value after : List ℕ) → are_in_set82 value ≡ true → is_cut after ≡ true → value_before (written_value value ++ after) ≡ value
 value_known [] after plain cut = value_none after cut
 value_known (c ∷ value) after plain cut =
@@ -114,7 +127,7 @@ value_known (c ∷ value) after plain cut =
       | inr other ↦ rw other (value_one c (written_value value ++ after) other (no_backslash c (and_first _ _ plain)) ∙ ap (λ (x : List ℕ). c ∷ x) rest)
     ]
 
--- a text is what is written of the value at its start, and then a cut
+-- a text is the written form of the value at its start, and then a cut
 pub record IsValueFront (text : List ℕ) : Type 0 where
   pub after : List ℕ
   pub text_is : text ≡ written_value (value_before text) ++ after
@@ -166,7 +179,7 @@ module _ (rows : List AiRow) (rules : KeepsRules rows) where
   ends : (pair : Pair) (text after : List ℕ) → Element pair text after → (before : List ℕ) × (text ≡ before ++ after) × (0 < length before)
   ends pair text after h = (bracketed_element pair, h.text_is, omega arith)
 
-  -- both parts of what is behind a bracket
+  -- both parts of the text after a bracket
   record SameFront (p q : Pair) (a b : List ℕ) : Type 0 where
     codes : p.code ≡ q.code
     texts : written_value p.value ++ a ≡ written_value q.value ++ b
@@ -279,7 +292,7 @@ pub no_code : (rows : List AiRow) (text : List ℕ) → 0 < length text → None
 no_code rows [] some e = absurd (omega arith)
 no_code rows (c ∷ text) some e = ap (front_error rows) (sym e)
 
--- an error of the value behind the code at the start
+-- an error of the value after the code at the start
 pub no_value : (rows : List AiRow) (text code behind value : List ℕ) (error : ValueFault) → 0 < length text → Some (code, behind) ≡ code_front text → value ≡ value_before behind → value_error rows code value ≡ Some error → bracketed_error rows text ≡ Some (record { at = 1; why = Value error })
 no_value rows [] code behind value error some e v f = absurd (omega arith)
 no_value rows (c ∷ text) code behind value error some e v f = ap (front_error rows) (sym e) ∙ (rw (← v, f) refl)

@@ -5,7 +5,7 @@ use Rattle.gs_ai.specs.declared.errors.ElementFault.{ElementFault}
 use Rattle.gs_ai.specs.declared.pair.Pair.{Pair}
 use Rattle.gs_element.specs.Joins.{Form, Joined, IsFirstError}
 
--- no element stands at the start of the text
+-- no element is at the start of the text
 abbrev pub IsBlocked : Form → List ℕ → Type 0
 IsBlocked Element text = (pair : Pair) (after : List ℕ) → Element pair text after → ⊥
 
@@ -99,7 +99,7 @@ module _ (Element : Form) (error_of : List ℕ → Option ElementFault) (known :
 
   -- ---- one list of pairs
 
-  -- an end that elements are read to is no end of text with no element at its start
+  -- an end that elements are read to is not an end of text with no element at its start
   no_more : (pairs : List Pair) (after : List ℕ) → IsBlocked Element after → 0 < length after → Joined Element pairs after [] → ⊥
   no_more [] after blocked some e = let f = ap length e in absurd (omega arith)
   no_more (p ∷ pairs) after blocked some j = blocked p j.0 j.1

@@ -1,4 +1,4 @@
--- Elements as they stand in a symbol: each is given by the text that it stands before.
+-- Elements in a symbol: each is determined by the text at which it begins.
 use Rattle.std.proofs.Common.{◌≡◌, ℕ, zero, suc, ◌+◌, ◌-◌, ◌<◌, ◌≤◌, ◌==◌, not, Bool, true, false, List, [], ◌∷◌, ◌++◌, length, take, drop, position, find, Option, Some, None, IsSome, get_or, slice_get, refl, sym, ap, subst, ◌∙◌, append_assoc, arith, ◌⊎◌, inl, inr, true≢false, length-append}
 use Rattle.std.specs.List.{before_first}
 use Rattle.std.specs.Option.{option_and_then, option_map_or}
@@ -69,7 +69,7 @@ module _ (rows : List AiRow) (rules : KeepsRules rows) where
   abbrev Element : Pair → List ℕ → List ℕ → Type 0
   Element = IsRawElement rows
 
-  -- ---- what is known of an element by the text
+  -- ---- the facts of an element by the text
 
   -- the row whose code begins the text has the code
   record IsOfFront (pair : Pair) (text : List ℕ) : Type 0 where
@@ -155,9 +155,9 @@ module _ (rows : List AiRow) (rules : KeepsRules rows) where
       let some = part.2 in
       absurd (omega (arith, length-append part.0 after))
 
-  -- ---- what is left behind code and value
+  -- ---- the rest after code and value
 
-  -- behind each element at the start of the text stand these bytes
+  -- each element at the start of the text is followed by these bytes
   abbrev Leaves : List ℕ → List ℕ → Type 0
   Leaves text left = (pair : Pair) (after : List ℕ) → Element pair text after → (closing : List ℕ) × (left ≡ closing ++ after) × ((closing ≡ 29 ∷ []) ⊎ (closing ≡ []))
 
@@ -227,7 +227,7 @@ module _ (rows : List AiRow) (rules : KeepsRules rows) where
   pub judged : (text : List ℕ) (index : ℕ) (row : AiRow) (code after value : List ℕ) → IsFrontRow text index row → code ≡ row.code → after ≡ drop (length row.code) text → value ≡ raw_value code after → raw_value_error rows text ≡ row_error rows index value
   judged text index row code after value is c a v = rw (is.found, is.at, v, c, a) refl
 
-  -- what is cut at that row
+  -- the value that is cut by that row
   pub cut_at : (text : List ℕ) (index : ℕ) (row : AiRow) (code after value rest : List ℕ) → IsFrontRow text index row → code ≡ row.code → after ≡ drop (length row.code) text → value ≡ raw_value code after → row_error rows index value ≡ None → rest ≡ without_separator (drop (length value) after) → IsCutFrom rows text code value rest
   cut_at text index row code after value rest is c a v fits r =
       let behind : after ≡ drop (length code) text = a ∙ ap (λ (x : List ℕ). drop (length x) text) (sym c) in
@@ -254,7 +254,7 @@ module _ (rows : List AiRow) (rules : KeepsRules rows) where
 
   -- ---- an element is cut
 
-  -- the value is a prefix of what stands behind the code
+  -- the value is a prefix of the text after the code
   value_front : (code after : List ℕ) → raw_value code after ≡ take (length (raw_value code after)) after
   value_front code after = by (predefined_length code)
     where
@@ -267,7 +267,7 @@ module _ (rows : List AiRow) (rules : KeepsRules rows) where
       by (Some n) = fronts (n - length code) after
       by None = fronts _ after
 
-  -- what is left where the value ends before a byte 29 or at the end
+  -- the rest, if the value ends before a byte 29 or at the end
   stopped : (after : List ℕ) → is_closed (drop (length (before_first (λ c. c == 29) after)) after) ≡ true
   stopped [] = refl
   stopped (c ∷ after) = elim (true_or_false (c == 29)) [
@@ -282,7 +282,7 @@ module _ (rows : List AiRow) (rules : KeepsRules rows) where
   some_or_none None = inr refl
   some_or_none (Some n) = inl refl
 
-  -- the bytes behind a value, and what is left behind them
+  -- the bytes after a value, and the rest after them
   record IsClosing (code left : List ℕ) : Type 0 where
     closing : List ℕ
     parts : left ≡ closing ++ without_separator left
@@ -370,7 +370,7 @@ pub front_error : (rows : List AiRow) (text : List ℕ) (error : ValueFault) →
 front_error rows [] error some e = absurd (omega arith)
 front_error rows (c ∷ text) error some e = rw e refl
 
--- the value that is cut is a part of what is behind the code
+-- the cut value is a part of the text after the code
 pub value_within : (code after value : List ℕ) → value ≡ raw_value code after → length value ≤ length after
 value_within code after value e = rw e (by (predefined_length code))
   where

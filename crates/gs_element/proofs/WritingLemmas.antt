@@ -1,4 +1,4 @@
--- What is written of pairs, and that it is read as these pairs.
+-- The text that is written of pairs, and that it is read as these pairs.
 use Rattle.std.proofs.Common.{◌≡◌, ℕ, ◌+◌, ◌<◌, ◌≤◌, Bool, true, if◌then◌else◌, List, [], ◌∷◌, ◌++◌, length, take, get_or, Option, Some, None, is_some, is_none, All, refl, sym, ap, subst, ◌∙◌, append_assoc, append-nil, ◌⊎◌, inl, inr, IsSome}
 use Rattle.std.proofs.lemmas.Grind.{flat_map-append}
 use Rattle.std.proofs.lemmas.List.{take_all, take_more}
@@ -112,7 +112,7 @@ module _ (rows : List AiRow) (identity : Elements) (made : IsMadeWith rows ident
   pub attributes_in_order : All (IsInOrder rows) identity.attributes
   attributes_in_order = all_right (IsInOrder rows) identity.qualifiers identity.attributes others
 
--- ---- what is written is read
+-- ---- the written text is read
 
 module _ (rows : List AiRow) (rules : KeepsRules rows) where
   some_or_not : (code : List ℕ) (r : Option ℕ) → predefined_length code ≡ r → (separator code ≡ 29 ∷ []) ⊎ ((separator code ≡ []) × IsSome (predefined_length code))

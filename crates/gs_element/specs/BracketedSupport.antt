@@ -1,4 +1,4 @@
--- What proofs and private functions say beside the definitions of Bracketed.antt.
+-- Definitions for proofs and private functions, in addition to Bracketed.antt.
 use Rattle.std.specs.Prelude.{ℕ, Bool, false, ◌==◌, ◌&&◌, List, [], ◌∷◌}
 
 -- the character is a backslash, and an opening bracket follows it

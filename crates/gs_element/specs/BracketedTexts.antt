@@ -1,5 +1,5 @@
--- Element strings as they are printed below a symbol, each code in brackets: GS1 General Specifications, section 4
--- (human readable interpretation). The backslash before a bracket of a value is this project's own.
+-- Bracketed element strings: GS1 General Specifications, section 4 (human readable interpretation). The backslash before a
+-- bracket of a value is this project's own.
 use Rattle.std.specs.Prelude.{◌≡◌, ℕ, Bool, true, ◌==◌, ◌&&◌, not, List, [], ◌∷◌, ◌++◌, length, drop, take_while, Option, Some, None, if◌then◌else◌}
 use Rattle.std.specs.List.{flat_map}
 use Rattle.std.specs.Option.{option_map}
@@ -13,7 +13,7 @@ use Rattle.gs_ai.specs.Values.{value_error}
 use Rattle.gs_ident.specs.Identities.{IsInOrder}
 use Rattle.gs_element.specs.Joins.{Joined, IsFirstError}
 
--- ---- what is written
+-- ---- the written text
 
 -- trusted, own: an opening bracket of a value is written with a backslash before it
 abbrev pub written_character : ℕ → List ℕ
@@ -27,11 +27,11 @@ written_value value = flat_map written_character value
 abbrev pub bracketed_element : Pair → List ℕ
 bracketed_element pair = 40 ∷ (pair.code ++ 41 ∷ written_value pair.value)
 
--- trusted, GS1 General Specifications, section 4 (human readable interpretation): the elements one behind another
+-- trusted, GS1 General Specifications, section 4 (human readable interpretation): the elements one after another
 abbrev pub bracketed_text : List Pair → List ℕ
 bracketed_text pairs = flat_map bracketed_element pairs
 
--- ---- what is read
+-- ---- the text that is read
 
 -- trusted, own: the text ends, or goes on with an opening bracket
 abbrev pub is_cut : List ℕ → Bool
@@ -53,8 +53,8 @@ IsBracketed table text pairs = Joined (IsBracketedElement table) pairs text []
 
 -- ---- errors
 
--- trusted, own: The value up to the next opening bracket that has no backslash before it, or the end. A backslash before an
--- opening bracket is none of its characters; any other is.
+-- trusted, own: The value up to the next opening bracket without a backslash before it, or the end. A backslash before an opening
+-- bracket is not one of its characters; any other is.
 abbrev pub value_before : List ℕ → List ℕ
 value_before [] = []
 value_before (c ∷ []) = if c == 40 then [] else c ∷ []
@@ -63,12 +63,12 @@ value_before (c ∷ d ∷ text) =
     else if c == 92 && d == 40 then 40 ∷ value_before text
     else c ∷ value_before (d ∷ text)
 
--- trusted, own: the code and what follows its closing bracket, which is the first character of what is behind the code
+-- trusted, own: the code and the text after its closing bracket, which is the first character after the code
 abbrev pub closed_code : List ℕ → List ℕ → Option (List ℕ × List ℕ)
 closed_code code [] = None
 closed_code code (c ∷ text) = if not (is_empty code) && (c == 41) then Some (code, text) else None
 
--- trusted, own: the code in brackets at the start of a text, one or more digits, and what follows it
+-- trusted, own: the code in brackets at the start of a text, one or more digits, and the text after it
 abbrev pub code_front : List ℕ → Option (List ℕ × List ℕ)
 code_front [] = None
 code_front (c ∷ text) =

@@ -13,11 +13,11 @@ Joined Element [] text rest = text ≡ rest
 Joined Element (pair ∷ pairs) text rest =
     (after : List ℕ) × Element pair text after × Joined Element pairs after rest
 
--- trusted, own: The error of a text that is no join of elements stands after the longest prefix that is one: it is
--- the error that the rest has at its start. `whole` is the text as it was given, of which the text is the end.
+-- trusted, own: Holds if this is the error of a text that is not a join of elements: the error at the start of the rest, after
+-- the longest prefix that is one. `whole` is the given text, and `text` its end.
 pub record IsFirstError (Element : Form) (error_of : List ℕ → Option ElementFault) (whole text : List ℕ)
     (error : ElementFault) : Type 0 where
-  -- a prefix that is a join, and what is left
+  -- the pairs of a prefix that is a join, and the rest
   pub pairs : List Pair
   pub rest : List ℕ
   pub joined : Joined Element pairs text rest

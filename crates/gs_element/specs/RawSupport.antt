@@ -1,4 +1,4 @@
--- What proofs and private functions say beside the definitions of Raw.antt.
+-- Definitions for proofs and private functions, in addition to Raw.antt.
 use Rattle.std.specs.Prelude.{◌≡◌, ℕ, ◌-◌, ◌==◌, List, [], ◌∷◌, length, drop, find, Some, None, if◌then◌else◌}
 use Rattle.gs_ai.specs.declared.row.AiRow.{AiRow}
 use Rattle.gs_ai.specs.Tables.{begins}
@@ -10,7 +10,7 @@ abbrev pub without_separator : List ℕ → List ℕ
 without_separator [] = []
 without_separator (c ∷ text) = if c == 29 then text else c ∷ text
 
--- what is cut from the start of a text: the code that begins it, its value, and what is left behind one byte 29
+-- the parts that are cut from the start of a text: the code that begins it, its value, and the rest after one byte 29
 pub record IsCutFrom (table : List AiRow) (text code value rest : List ℕ) : Type 0 where
   pub row : AiRow
   pub found : find (λ r. begins r.code text) table ≡ Some row

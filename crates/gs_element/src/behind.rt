@@ -1,11 +1,14 @@
-ghost use Rattle.std.specs.Prelude.{◌≡◌, ◌∷◌, ◌++◌, [], true, IfOk, IfSome, IfNone};
+ghost use Rattle.std.specs.Prelude.{◌≡◌, ◌≤◌, ◌∷◌, ◌++◌, [], true, IfOk, IfSome, IfNone, length};
+ghost use Rattle.std.specs.List.{position_or_len};
 ghost use Rattle.std.specs.Option.{option_map};
+ghost use Rattle.memchr.specs.Find.{is_byte2};
 ghost use Rattle.gs_element.specs.BracketedTexts.{closed_code, code_front, is_cut, value_before, written_character, written_value};
 ghost use Rattle.gs_element.specs.BracketedSupport.{is_escape};
 
 use gs_chars::{Memory, Text, count_digits};
+use memchr::memchr2;
 
-/// The code and what follows its closing bracket, which is the first character of what is behind the code.
+/// Returns the code and the text after its closing bracket, which is the first character after the code.
 fn closed_code<'a>(code: &'a [u8], behind: &'a [u8]) -> Option<(&'a [u8], &'a [u8])>
     ensures { option_map (λ front. (front.0.now, front.1.now)) result ≡ closed_code code.now behind.now }
 {
@@ -15,8 +18,8 @@ fn closed_code<'a>(code: &'a [u8], behind: &'a [u8]) -> Option<(&'a [u8], &'a [u
     }
 }
 
-/// The code in brackets at the start of the text, one or more digits, and what follows it. `None` comes exactly where no such
-/// code is at the start.
+/// Returns the code in brackets at the start of the text, one or more digits, and the text after it. Returns `None` if the text
+/// does not begin with such a code.
 pub fn code_front(text: &[u8]) -> Option<(&[u8], &[u8])>
     ensures { option_map (λ front. (front.0.now, front.1.now)) result ≡ code_front text.now }
 {
@@ -29,14 +32,14 @@ pub fn code_front(text: &[u8]) -> Option<(&[u8], &[u8])>
     }
 }
 
-/// The next character of a value, and what is left behind it.
+/// Next character of a value, and the rest of the text.
 #[derive(Clone, Copy)]
 struct Next<'a> {
     character: u8,
     rest: &'a [u8],
 }
 
-/// Whether the character is a backslash before an opening bracket.
+/// Returns whether the character is a backslash that escapes an opening bracket.
 fn is_escape(character: u8, behind: &[u8]) -> bool
     ensures { result ≡ is_escape character behind.now }
 {
@@ -46,8 +49,8 @@ fn is_escape(character: u8, behind: &[u8]) -> bool
     }
 }
 
-/// The next character of a value, and `None` where the value ends: at the end of the text, or at an opening bracket
-/// without a backslash before it. A backslash before an opening bracket is no character.
+/// Returns the next character of a value, or `None` if the value ends: at the end of the text, or at an opening bracket
+/// without a backslash before it. A backslash before an opening bracket is not a character of the value.
 fn next_character(text: &[u8]) -> Option<Next<'_>>
     ensures value { IfSome result (λ next. value_before text.now
         ≡ next.character ∷ value_before next.rest.now) }
@@ -73,13 +76,23 @@ fn next_character(text: &[u8]) -> Option<Next<'_>>
     })
 }
 
-/// Appends the value up to the next opening bracket that has no backslash before it, or the end, and answers what is left.
+/// Returns the number of characters of the text before its first opening bracket or backslash, or of all.
+fn plain_len(text: &[u8]) -> usize
+    ensures len { result ≡ position_or_len (is_byte2 40 92) text.now }
+    ensures within { result ≤ length text.now }
+{
+    memchr2(b'(', b'\\', text).unwrap_or(text.len())
+}
+
+/// Appends the value up to the next opening bracket without a backslash before it, or the end, and returns the rest.
 pub fn read_value<'a>(text: &'a [u8], value: &mut Text) -> Result<&'a [u8], Memory>
     ensures value { IfOk result (λ _. value.new ≡ value.old ++ value_before text.now) }
     ensures rest { IfOk result (λ rest. text.now ≡ written_value (value_before text.now) ++ rest.now) }
     ensures cut { IfOk result (λ rest. is_cut rest.now ≡ true) }
 {
-    let mut rest = text;
+    // most values have no backslash, so they are copied whole
+    let (plain, mut rest) = text.split_at(plain_len(text));
+    value.extend_from_slice(plain)?;
     while let Some(next) = next_character(rest) {
         value.push(next.character)?;
         rest = next.rest;

@@ -10,14 +10,12 @@ use gs_ai::{AiTable, ElementWhy, Pair};
 use gs_chars::Text;
 use std::alloc::Global;
 
-/// The pairs of an element string in the printed form: for each element `(`, its code, `)` and its value, in which `\(`
-/// stands for an opening bracket (GS1 General Specifications, section 4; the backslash is this project's own). An empty
-/// text has no pairs.
+/// Reads an element string in the printed form: for each element `(`, its code, `)` and its value, in which `\(` stands for an
+/// opening bracket (GS1 General Specifications, section 4; the backslash is this project's own). An empty text has no pairs.
 ///
-/// The error is that at the smallest place: `Bracket` where `(` has to stand or where no digits and `)` follow one; at the
-/// place of the code's first digit `Unknown` where no row has the code, or the error of the value. `Memory` is out of
-/// memory, and may come in place of any answer. The text is scanned once, from left to right, and memory is taken for the
-/// pairs alone.
+/// The error is the one at the smallest place: `Bracket` if `(` is missing, or if digits and `)` do not follow it. At the place
+/// of the code's first digit it is `Unknown` if no row has the code, or the error of the value. May return `Memory` instead.
+/// Reads the text from left to right, and allocates only for the pairs.
 pub fn read_bracketed(
     alloc: Global,
     table: &AiTable,
@@ -27,7 +25,7 @@ pub fn read_bracketed(
     ensures in_order { IfOk result (λ pairs. All (IsInOrder table.now) pairs.items) }
     ensures rejected { IfErr result (IsBracketedRejection table.now text.now) }
 {
-    // For the proof alone: the rows of the table keep its rules.
+    // only for the proof: the rows of the table satisfy its rules
     let _ = table.rows();
     let mut pairs = Vec::new(alloc);
     let mut rest = text;

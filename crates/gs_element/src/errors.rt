@@ -6,7 +6,7 @@ use gs_chars::Memory;
 /// Why a text gives no pairs.
 #[derive(Clone, Copy)]
 pub enum ElementsFault {
-    /// The text is no element string: where, and why.
+    /// The text is not an element string: where, and why.
     Element(ElementFault),
     /// Out of memory.
     Memory,
@@ -22,7 +22,7 @@ impl From<Memory> for ElementsFault {
     }
 }
 
-/// The rejection for what is wrong at a place.
+/// Returns the rejection for an error at a place.
 pub fn error_at(at: usize, why: ElementWhy) -> ElementsFault
     ensures { result ≡ ElementsFault.Element (record { at = at; why = why }) }
 {

@@ -1,4 +1,4 @@
-//! Element strings: the texts of barcodes, as a scanner gives them and as people read them, and the pairs they hold.
+//! Element strings: the texts of barcodes, as scanners transmit them and as people read them, and their pairs.
 //!
 //! - `read_raw` reads a scanned element string, with its symbology identifier or without; `read_bracketed` one with application
 //!   identifiers in brackets.
@@ -14,11 +14,11 @@
 //! 01 09506000134352 17 261231 10 ABC 21 X1
 //! ```
 //!
-//! # Where it differs from the standard
+//! # Differences from the standard
 //!
-//! - A group separator may stand behind the last element, and behind one of predefined length (GS1 General Specifications, 7.8,
-//!   advise against writing it, and none is written there).
-//! - What is written has no symbology identifier.
+//! - A group separator may follow the last element, and one of predefined length. GS1 General Specifications, section 7.8, advise
+//!   against writing it, and none is written there.
+//! - A written text has no symbology identifier.
 #![tactic(auto)]
 
 mod behind;

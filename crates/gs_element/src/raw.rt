@@ -15,7 +15,7 @@ use std::alloc::Global;
 /// The FNC1, as readers transmit it.
 const FNC1: u8 = 29;
 
-/// The text without a symbology identifier or an FNC1 at the start.
+/// Returns the text without a symbology identifier or an FNC1 at the start.
 #[tactic(auto, unfolding(crate::specs::Raw::body_of))]
 fn body_of(text: &[u8]) -> &[u8]
     ensures { result.now ≡ body_of text.now }
@@ -31,7 +31,7 @@ fn body_of(text: &[u8]) -> &[u8]
     }
 }
 
-/// The text without one FNC1 at the start.
+/// Returns the text without one FNC1 at the start.
 fn without_separator(text: &[u8]) -> &[u8]
     ensures { result.now ≡ without_separator text.now }
 {
@@ -41,7 +41,7 @@ fn without_separator(text: &[u8]) -> &[u8]
     }
 }
 
-/// The number of bytes before the next FNC1, or of all.
+/// Returns the number of bytes before the next FNC1, or of all.
 fn len_before_separator(text: &[u8]) -> usize
     ensures len { result ≡ prefix_len (λ c. not (c == 29)) text.now }
     ensures within { result ≤ length text.now }
@@ -49,8 +49,8 @@ fn len_before_separator(text: &[u8]) -> usize
     text.iter().take_while(|c| **c != FNC1).count()
 }
 
-/// The value that is cut behind a code: what the predefined length of code and value leaves to it, or all up to the next
-/// FNC1; all that is left where that is less.
+/// Returns the value that is cut after a code: the part that the predefined length of code and value leaves to it, or all up to
+/// the next FNC1; the whole rest if that is shorter.
 fn cut_value<'a>(predefined: Option<usize>, code: &[u8], after: &'a [u8]) -> &'a [u8]
     requires { predefined ≡ predefined_length code.now }
     ensures { result.now ≡ raw_value code.now after.now }
@@ -88,20 +88,19 @@ fn cut_element<'a>(table: &AiTable, text: &'a [u8]) -> Result<Cut<'a>, ValueFaul
     Ok(Cut { code, value, rest })
 }
 
-/// The pairs of an element string as a reader gives it: one of the symbology identifiers `]C1`, `]e0`, `]d2`, `]Q3` or one
-/// FNC1 (the byte 29) may stand at the start; behind an element without predefined length stands an FNC1 unless the text ends,
-/// and one may stand behind any other (GS1 General Specifications, section 7.8). An empty text has no pairs.
+/// Returns the pairs of an element string as a scanner transmits it: one of the symbology identifiers `]C1`, `]e0`, `]d2`, `]Q3`
+/// or one FNC1 (the byte 29) may be at the start; an FNC1 follows each element without predefined length, except at the end, and
+/// may follow any other (GS1 General Specifications, section 7.8). An empty text has no pairs.
 ///
-/// The error is the first from the left, at the place of the code: `Unknown` where no code begins what is left, else that
-/// of the value. `Memory` is out of memory, and may come in place of any answer. The text is scanned once, from left to
-/// right, and memory is taken for the pairs alone.
+/// Returns the first error from the left, at the place of the code: `Unknown` if no code begins the rest, otherwise that of the
+/// value. May return `Memory` instead. Scans the text once, from left to right, and allocates only the pairs.
 pub fn read_raw(alloc: Global, table: &AiTable, text: &[u8]) -> Result<Vec<Pair>, ElementsFault>
     ensures read { IfOk result (λ pairs. IsRaw table.now text.now pairs.items) }
     ensures in_order { IfOk result (λ pairs. All (IsInOrder table.now) pairs.items) }
     ensures rejected { IfErr result (IsRawRejection table.now text.now) }
 {
     let mut pairs = Vec::new(alloc);
-    // For the proof alone: the rows of the table keep its rules.
+    // Only for the proof: the rows of the table satisfy its rules.
     let _ = table.rows();
     let mut rest = body_of(text);
     while !rest.is_empty() {

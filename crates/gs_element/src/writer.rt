@@ -1,4 +1,5 @@
-ghost use Rattle.std.specs.Prelude.{◌≡◌, ◌++◌, All, IfOk, is_none};
+ghost use Rattle.std.specs.Prelude.{◌≡◌, ◌++◌, All, IfOk, OnErr, is_none};
+ghost use Rattle.gs_chars.specs.Answers.{BeginsWith};
 ghost use Rattle.gs_ai.specs.PredefinedLengths.{predefined_length};
 ghost use Rattle.gs_ident.specs.Elements.{pairs_of};
 ghost use Rattle.gs_ident.specs.Identities.{IsInOrder, IsMadeWith};
@@ -11,7 +12,7 @@ use gs_chars::{Memory, Text};
 use gs_ident::Identity;
 use std::alloc::Global;
 
-/// Whether the code has no predefined length.
+/// Returns whether the code has no predefined length.
 fn is_open(table: &AiTable, pair: &Pair) -> bool
     requires { IsInOrder table.now pair.now }
     ensures { result ≡ is_none (predefined_length pair.now.code) }
@@ -25,9 +26,10 @@ fn is_open(table: &AiTable, pair: &Pair) -> bool
     }
 }
 
-/// Appends an FNC1 where the element before is open.
+/// Appends an FNC1 if the element before is open.
 fn write_separator(out: &mut Vec<u8>, unclosed: bool) -> Result<(), Memory>
-    ensures { IfOk result (λ _. out.new.items ≡ out.old.items ++ separator_of unclosed) }
+    ensures written { IfOk result (λ _. out.new.items ≡ out.old.items ++ separator_of unclosed) }
+    ensures begun { OnErr result (BeginsWith out.new.items out.old.items) }
 {
     if unclosed {
         out.push(29)?;
@@ -35,7 +37,7 @@ fn write_separator(out: &mut Vec<u8>, unclosed: bool) -> Result<(), Memory>
     Ok(())
 }
 
-/// Appends the elements of the pairs behind one that is open or not, and answers whether the last of all is open.
+/// Appends the elements of the pairs after one that is open or not, and returns whether the last of all is open.
 fn write_elements(
     table: &AiTable,
     out: &mut Vec<u8>,
@@ -45,6 +47,7 @@ fn write_elements(
     requires { All (IsInOrder table.now) pairs.now }
     ensures written { IfOk result (λ _. out.new.items ≡ out.old.items ++ raw_behind unclosed pairs.now) }
     ensures last { IfOk result (λ last. last ≡ last_open unclosed pairs.now) }
+    ensures begun { OnErr result (BeginsWith out.new.items out.old.items) }
 {
     let mut last = unclosed;
     for pair in pairs {
@@ -56,11 +59,12 @@ fn write_elements(
     Ok(last)
 }
 
-/// Appends the element string of the identity, as `write_raw` gives it. The one error is out of memory; `out` may then have a part
-/// of it more. The identity is one that `make` of gs_ident gave by this table.
+/// Appends the element string of the identity, as `write_raw` returns it. Fails only with `Memory`; `out` then begins with its old
+/// contents. `make` of gs_ident made the identity with this table.
 pub fn append_raw(out: &mut Vec<u8>, table: &AiTable, identity: &Identity) -> Result<(), Memory>
     requires { IsMadeWith table.now identity.now }
-    ensures { IfOk result (λ _. out.new.items ≡ out.old.items ++ raw_text (pairs_of identity.now)) }
+    ensures written { IfOk result (λ _. out.new.items ≡ out.old.items ++ raw_text (pairs_of identity.now)) }
+    ensures begun { OnErr result (BeginsWith out.new.items out.old.items) }
 {
     let key = identity.key();
     out.extend_from_slice(key.code.as_bytes())?;
@@ -71,9 +75,9 @@ pub fn append_raw(out: &mut Vec<u8>, table: &AiTable, identity: &Identity) -> Re
     Ok(())
 }
 
-/// The element string of the identity, in the order of its pairs: code and value of each, and an FNC1 (the byte 29) behind one
-/// that has no predefined length and is not the last (GS1 General Specifications, section 7.8). Nothing stands at the start. The
-/// one error is out of memory. The identity is one that `make` of gs_ident gave by this table.
+/// Returns the element string of the identity, in the order of its pairs: code and value of each, and an FNC1 (the byte 29) after
+/// each element without predefined length, except the last (GS1 General Specifications, section 7.8). It has no symbology
+/// identifier. Fails only with `Memory`. `make` of gs_ident made the identity with this table.
 pub fn write_raw(alloc: Global, table: &AiTable, identity: &Identity) -> Result<Text, Memory>
     requires { IsMadeWith table.now identity.now }
     ensures { IfOk result (λ text. text ≡ raw_text (pairs_of identity.now)) }
@@ -85,7 +89,8 @@ pub fn write_raw(alloc: Global, table: &AiTable, identity: &Identity) -> Result<
 
 /// Appends a character of a value, an opening bracket with a backslash before it.
 fn write_character(out: &mut Vec<u8>, c: u8) -> Result<(), Memory>
-    ensures { IfOk result (λ _. out.new.items ≡ out.old.items ++ written_character c) }
+    ensures written { IfOk result (λ _. out.new.items ≡ out.old.items ++ written_character c) }
+    ensures begun { OnErr result (BeginsWith out.new.items out.old.items) }
 {
     if c == b'(' {
         out.push(b'\\')?;
@@ -99,7 +104,8 @@ fn write_character(out: &mut Vec<u8>, c: u8) -> Result<(), Memory>
 
 /// Appends a value.
 fn write_value(out: &mut Vec<u8>, value: &[u8]) -> Result<(), Memory>
-    ensures { IfOk result (λ _. out.new.items ≡ out.old.items ++ written_value value.now) }
+    ensures written { IfOk result (λ _. out.new.items ≡ out.old.items ++ written_value value.now) }
+    ensures begun { OnErr result (BeginsWith out.new.items out.old.items) }
 {
     for c in value {
         write_character(out, *c)?;
@@ -109,7 +115,8 @@ fn write_value(out: &mut Vec<u8>, value: &[u8]) -> Result<(), Memory>
 
 /// Appends the code of the pair in brackets, and its value.
 fn write_pair(out: &mut Vec<u8>, pair: &Pair) -> Result<(), Memory>
-    ensures { IfOk result (λ _. out.new.items ≡ out.old.items ++ bracketed_element pair.now) }
+    ensures written { IfOk result (λ _. out.new.items ≡ out.old.items ++ bracketed_element pair.now) }
+    ensures begun { OnErr result (BeginsWith out.new.items out.old.items) }
 {
     out.push(b'(')?;
     out.extend_from_slice(pair.code.as_bytes())?;
@@ -119,7 +126,8 @@ fn write_pair(out: &mut Vec<u8>, pair: &Pair) -> Result<(), Memory>
 
 /// Appends each pair.
 fn write_pairs(out: &mut Vec<u8>, pairs: &[Pair]) -> Result<(), Memory>
-    ensures { IfOk result (λ _. out.new.items ≡ out.old.items ++ bracketed_text pairs.now) }
+    ensures written { IfOk result (λ _. out.new.items ≡ out.old.items ++ bracketed_text pairs.now) }
+    ensures begun { OnErr result (BeginsWith out.new.items out.old.items) }
 {
     for pair in pairs {
         write_pair(out, pair)?;
@@ -127,18 +135,19 @@ fn write_pairs(out: &mut Vec<u8>, pairs: &[Pair]) -> Result<(), Memory>
     Ok(())
 }
 
-/// Appends the element string of the identity in the printed form, as `write_bracketed` gives it. The one error is out of memory;
-/// `out` may then have a part of it more.
+/// Appends the element string of the identity in the printed form, as `write_bracketed` returns it. Fails only with `Memory`;
+/// `out` then begins with its old contents.
 pub fn append_bracketed(out: &mut Vec<u8>, identity: &Identity) -> Result<(), Memory>
-    ensures { IfOk result (λ _. out.new.items ≡ out.old.items ++ bracketed_text (pairs_of identity.now)) }
+    ensures written { IfOk result (λ _. out.new.items ≡ out.old.items ++ bracketed_text (pairs_of identity.now)) }
+    ensures begun { OnErr result (BeginsWith out.new.items out.old.items) }
 {
     write_pair(out, identity.key())?;
     write_pairs(out, identity.qualifiers())?;
     write_pairs(out, identity.attributes())
 }
 
-/// The element string of the identity in the printed form, in the order of its pairs: each code in brackets, and its value
-/// with `\(` for an opening bracket. The one error is out of memory.
+/// Returns the element string of the identity in the printed form, in the order of its pairs: each code in brackets, and its
+/// value with `\(` for an opening bracket. Fails only with `Memory`.
 pub fn write_bracketed(alloc: Global, identity: &Identity) -> Result<Text, Memory>
     ensures { IfOk result (λ text. text ≡ bracketed_text (pairs_of identity.now)) }
 {

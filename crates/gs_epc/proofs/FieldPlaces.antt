@@ -14,12 +14,12 @@ use Rattle.gs_epc.specs.EpcsSupport.{KeepsOthers}
 use Rattle.gs_epc.specs.Filters.{IsFilter}
 use Rattle.gs_ai.proofs.Searches.{position-cons, position_some, read_at}
 
--- the value behind the first field that passes a test
+-- the value after the first field that passes a test
 abbrev first_value : (Option Field → Bool) → List (Option Field) → List (List ℕ) → Option (List ℕ)
 first_value test fields values =
     option_map (λ (pair : Option Field × List ℕ). pair.1) (find (λ (pair : Option Field × List ℕ). test pair.0) (zip fields values))
 
--- ---- the value stands at the place of its field
+-- ---- the value is at the place of its field
 
 none_then : (place : Option ℕ) → None ≡ option_and_then (λ k. slice_get {X = List ℕ} [] k) place
 none_then None = refl

@@ -35,7 +35,7 @@ word_of_filter (Int most) value w h word = digit_of word.0.0 value (seven word.0
 word_of_filter (Num bits most) value w h word = digit_of word.0 value (seven word.0 most word.1.0.small (and_second (bits == 3) (most == 7) h)) word.1.0.text
 word_of_filter item value w h word = absurd (let g : false ≡ true = h in cc)
 
--- the value of the filter, where each item of it is a filter value
+-- the value of the filter, if each item of it is a filter value
 filter_of_items : (items : List FieldItem) (values words : List (List ℕ)) → EachWord (map (λ (i : FieldItem). i.1) items) values words → list_all is_filter (items_of_field Filter items) ≡ true → IfSome (value_at Filter (map (λ (i : FieldItem). i.0) items) values) IsFilter
 filter_of_items [] values words no_item all = tt
 filter_of_items ((None, item) ∷ items) values words (one_item _ value w _ values' words' word each) all = filter_of_items items values' words' each all
@@ -65,7 +65,7 @@ all_filters Binary encoding items h =
 all_filters Tag encoding items h = one_of_all is_filter (items_of_field Filter items) (and_second (not (is_empty encoding)) (is_one is_filter (items_of_field Filter items)) h)
 all_filters Pure encoding items h = none_of_all is_filter (items_of_field Filter items) (and_second (is_empty encoding) (is_empty (items_of_field Filter items)) h)
 
--- ---- the filter of an option that keeps the rules
+-- ---- the filter of an option that satisfies the rules
 
 pub filter_kept : (set : TableRows) (level : LevelName) (items : List Item) (info : OptInfo) (values words : List (List ℕ)) → KeptOption set level items info → EachWord items values words → IfSome (value_at Filter info.fields values) IsFilter
 filter_kept set level items info values words kept held =

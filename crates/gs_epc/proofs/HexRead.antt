@@ -16,7 +16,7 @@ use Rattle.gs_grammar.specs.WrittenWords.{written}
 use Rattle.gs_grammar.proofs.WritingLemmas.{lit_bits}
 use Rattle.gs_epc.proofs.WrittenSizes.{in_bounds}
 
--- ---- what is written of an option of bits is bits
+-- ---- the text written by an option of bits is bits
 
 zero_bits : (n : ℕ) → AreBits (replicate {A = ℕ} n 0)
 zero_bits n = All-replicate (λ b. b < 2) n 0 (omega arith)

@@ -16,7 +16,7 @@ use Rattle.gs_epc.specs.Epcs.{value_at, value_of}
 use Rattle.gs_epc.specs.KeptFields.{AreCharacters, AreNumbers}
 use Rattle.gs_epc.proofs.KeptItems.{characters_of_word, digits_of_word, numbers_of_word}
 
--- the values are held by items of which none is bad
+-- the items hold the values, and none of the items is bad
 pub record AreHeld (bits : Bool) (items : List FieldItem) (values words : List (List ℕ)) : Type 0 where
   pub each : EachWord (alone items) values words
   pub good : position (is_bad bits) (alone items) ≡ None
@@ -64,7 +64,7 @@ nothing_of field items values h = rw (no_value field items values (empty (items_
     empty [] h = refl
     empty (x ∷ xs) h = absurd (let f : false ≡ true = h in cc)
 
--- the field has one item, of so many digits
+-- the field has one item, of that many digits
 pub digits_of : (bits : Bool) (field : Field) (items : List FieldItem) (values words : List (List ℕ)) (n : ℕ) → AreHeld bits items values words → is_one (is_digits n) (items_of_field field items) ≡ true → (length (value_of field (fields_of items) values) ≡ n) × (are_digits (value_of field (fields_of items) values) ≡ true)
 digits_of bits field items values words n held h =
     let one = the_one (is_digits n) (items_of_field field items) h in

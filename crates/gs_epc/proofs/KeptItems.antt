@@ -31,7 +31,7 @@ digits_in_set (c ∷ text) h =
     let rest : are_digits text ≡ true = grind (arith, nat_tests) in
     rw (digit_in_set c first, digits_in_set text rest) refl
 
--- an item of so many digits has so many digits
+-- an item of that many digits has that many digits
 pub digits_of_word : (n : ℕ) (item : Item) (value w : List ℕ) → is_digits n item ≡ true → Word item value w → (length value ≡ n) × (are_digits value ≡ true)
 digits_of_word n (Lit _) value w h word = absurd (let f : false ≡ true = h in cc)
 digits_of_word n (Pad k) value w h word = let l = word.0 in (let same : k ≡ n = grind (arith, nat_tests) in omega arith, word.1)

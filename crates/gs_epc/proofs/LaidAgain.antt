@@ -1,4 +1,4 @@
--- Laying out what was taken apart of a key's value.
+-- Laying out the fields that were taken from a key's value.
 use Rattle.std.proofs.Common.{◌≡◌, ℕ, zero, suc, ◌+◌, ◌-◌, ◌≤◌, nat_le, not, if◌then◌else◌, Bool, true, false, List, [], ◌∷◌, ◌++◌, length, take, drop, position, Option, Some, None, bytes_eq, is_some, is_none, refl, sym, ap, ◌∙◌, arith, append_assoc}
 use Rattle.std.specs.List.{list_all}
 use Rattle.std.specs.Option.{option_map, option_or}
@@ -53,7 +53,7 @@ parts_kept parts value e = by (has_length_of parts value) (wrong_character parts
 
 -- ---- digits
 
--- digits with a check digit, and what follows them
+-- digits with a check digit, and the rest after them
 checked_again : (k : ℕ) (value : List ℕ) → is_checked k (take k value) ≡ true → with_check (take (k - 1) value) ++ drop k value ≡ value
 checked_again k value h =
     let piece = take k value in
@@ -140,7 +140,7 @@ none_behind_check k value short =
     let sum : greatest_of (NumCheck k ∷ []) ≡ greatest_length (NumCheck k) + greatest_of [] = sum_by-cons greatest_length (NumCheck k) [] in
     drop_all k value (omega arith)
 
--- ---- what stands behind the check digit
+-- ---- the rest after the check digit
 
 -- a kind without further fields has its tail there
 no_further : (parts : List Part) (kind : Kind) (n : ℕ) (value serial : List ℕ) → kind.further ≡ [] → behind_check kind (fields_at parts kind n value serial) ≡ tail_of_key kind.serial serial

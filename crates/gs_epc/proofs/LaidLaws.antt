@@ -30,7 +30,7 @@ use Rattle.gs_epc.proofs.LaidSets.{AllOf, are_one, is_tail, no_pairs, own_elemen
 use Rattle.gs_ident.proofs.KeyPairs.{found_place}
 use Rattle.gs_ident.proofs.MovedPairs.{row_distinct}
 
--- ---- the kinds of a set keep the rules
+-- ---- the kinds of a set satisfy the rules
 
 no_kinds : (document : Document) → row_rejections document ≡ [] → kinds_rejections document.ais document.kinds ≡ []
 unfolding row_rejections
@@ -52,7 +52,7 @@ kept_kind set i row shaped at =
 
 -- ---- the qualifiers
 
--- the qualifiers are what is found by the codes that the key's row lists
+-- the qualifiers are the pairs that are found by the codes that the key's row lists
 found_by_codes : (ais : List AiRow) (identity : Elements) (row : AiRow) → IsMadeWith ais identity → find (has_code identity.key.code) ais ≡ Some row → identity.qualifiers ≡ filter_map (pair_with (counted ais (pairs_of identity))) row.qualifiers
 unfolding elements_of
 found_by_codes ais identity row made found =

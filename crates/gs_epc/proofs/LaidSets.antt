@@ -36,7 +36,7 @@ found_kept t p (first ∷ pairs) pair e = elim (true_or_false (t first)) [
   | inr h ↦ found_kept t p pairs pair (rw h at e)
 ]
 
--- the code of what is found by a code
+-- the code of a pair that is found by a code
 code_found : (pairs : List Pair) (code : List ℕ) (pair : Pair) → pair_with pairs code ≡ Some pair → code ≡ pair.code
 code_found pairs code pair e = equal_bytes code pair.code (found_passes (λ p. bytes_eq code p.code) pairs pair e)
 
@@ -47,7 +47,7 @@ differs_first : (a b : Bool) → not (a) ≡ true → a ≡ false
 differs_first true b h = absurd (let e : false ≡ true = h in cc)
 differs_first false b h = refl
 
--- where all that is found has a code that is none of these, nothing is found
+-- if each found pair has a code that is not one of these, no pair is found
 none_else : (pairs : List Pair) (code : List ℕ) (codes : List (List ℕ)) → list_any (bytes_eq code) codes ≡ false → AllOf code (filter_map (pair_with pairs) codes) → filter_map (pair_with pairs) codes ≡ []
 none_else pairs code [] apart all = refl
 none_else pairs code (other ∷ codes) apart all = elim (find_by_cases (λ (p : Pair). bytes_eq other p.code) pairs) [

@@ -1,4 +1,4 @@
--- The pairs that an EPC lays out are in order, and have the identity of its layout.
+-- The pairs that an EPC lays out are valid, and have the identity of its layout.
 use Rattle.std.proofs.Common.{◌≡◌, ℕ, ◌&&◌, true, List, [], ◌∷◌, All, Option, Ok, bytes_eq, is_none, refl, sym, ap, ◌∙◌, inl, inr}
 use Rattle.std.proofs.lemmas.List.Elements.{All-cons, All-nil}
 use Rattle.std.specs.List.{list_any}
@@ -23,7 +23,7 @@ use Rattle.gs_epc.specs.LayoutSupport.{serial_pairs}
 use Rattle.gs_ident.proofs.KeyPairs.{IsKeyPair, alone_made, both_made, found_place, is_key_pair}
 use Rattle.gs_epc.proofs.LayoutValues.{pairs_in_order}
 
--- a pair counts unless its value stands for none
+-- a pair counts unless its value means none
 counted_one : (ais : List AiRow) (pair : Pair) → counted ais (pair ∷ []) ≡ unless_none ais pair
 counted_one ais pair = elim (true_or_false (stands_for_none ais pair)) [
   | inl none ↦ rw none refl
@@ -53,7 +53,7 @@ module _ (ais : List AiRow) (kind : Kind) (fields : KeyFields) (fit : FitKind ai
 
 -- ---- the identity that `of_key` makes
 
--- the key of the kind has its row, which lists the code of a serial that has an element of its own
+-- the key of the kind has its row, which lists the code of a serial in a separate element
 lists_serial : (ais : List AiRow) (row : AiRow) (form : KeyForm) (at : SerialAt) (serial : List ℕ) → is_serial_of ais row form at ≡ true
     → All (λ pair. list_any (bytes_eq pair.code) row.qualifiers ≡ true) (serial_pairs at serial)
 lists_serial ais row form Nowhere serial rule = All-nil (λ (pair : Pair). list_any (bytes_eq pair.code) row.qualifiers ≡ true)

@@ -54,7 +54,7 @@ digits_in_set (c ∷ text) all =
 
 -- ---- the digits of a key
 
--- so many digits, and at least one
+-- that many digits, and at least one
 pub record HaveDigits (count lead : ℕ) (prefix rest : List ℕ) : Type 0 where
   pub together : length (key_digits lead prefix rest) ≡ count
   pub digits : list_all is_digit (key_digits lead prefix rest) ≡ true
@@ -86,7 +86,7 @@ checked_value : (k : ℕ) (parts : List Part) (digits tail : List ℕ) → 2 ≤
 checked_value k parts digits tail two long all kept =
     in_front (NumCheck k) parts (with_check digits) tail (length-append digits (check_digit_of digits ∷ []) ∙ omega (arith, long, two)) (checked_piece k digits two long all) kept
 
--- the value of digits that fit, with their check digit and what stands behind it
+-- the value of digits that fit, with their check digit and the rest after it
 digits_value : (k : ℕ) (parts : List Part) (behind : Behind) (form : KeyForm) (lead : ℕ) (prefix rest others : List ℕ) → Digits (k - 1) behind ≡ form → list_all is_part (NumCheck k ∷ parts) ≡ true → 1 ≤ length prefix
     → FitForm form lead prefix rest → KeepsParts parts others → KeepsParts (NumCheck k ∷ parts) (with_check (key_digits lead prefix rest) ++ others)
 digits_value k parts behind form lead prefix rest others same are some fits kept =
@@ -115,7 +115,7 @@ digits_kept (NumCheck k ∷ NumOpt most ∷ []) form lead prefix rest piece tota
     (rw (none.0, none.1) (at_end (NumOpt most) tail (number_piece most tail room')))
 digits_kept parts form lead prefix rest piece total tail formed are some fits further room = absurd (let e : None ≡ Some form = formed in cc)
 
--- digits and characters behind them
+-- digits and characters after them
 behind_digits : (most lead : ℕ) (prefix rest : List ℕ) → 1 ≤ length prefix → FitForm (Characters most) lead prefix rest → AreCharacters most (prefix ++ rest)
 behind_digits most lead prefix rest some fits =
     let whole = length-append prefix rest in
@@ -155,7 +155,7 @@ tail_fits ais row form Nowhere serial rule room = no_tail (tail_of form) true (a
 tail_fits ais row form Tail serial rule room = room
 tail_fits ais row form (Ai code) serial rule room = no_tail (tail_of form) (list_any (bytes_eq code) row.qualifiers) (and_left _ _ rule)
 
--- ---- the value of a serial that has an element of its own
+-- ---- the value of a serial in a separate element
 
 characters_kept : (parts : List Part) (serial : List ℕ) → is_some (characters_of parts) ≡ true → FitsRoom (option_map in_room.Characters (characters_of parts)) serial → KeepsParts parts serial
 characters_kept (Set most ∷ []) serial some room = at_end (Set most) serial (set_piece most serial room)
@@ -185,7 +185,7 @@ value_in_order ais kind fields fit in_order =
     let kept = key_kept parts fit.of_kind.form kind fields fit.of_kind.formed (listed parts (row_parts fit.of_kind.row in_order)) fit.prefix_least fit.fits further tail in
     rw fit.of_kind.found (no_error parts (key_value parts kind fields) kept)
 
--- the key with its value, and the serial where it has an element of its own
+-- the key with its value, and the serial if it is in a separate element
 pub pairs_in_order : (ais : List AiRow) (kind : Kind) (fields : KeyFields) (fit : FitKind ais kind fields) → is_row fit.of_kind.row ≡ true → All (IsInOrder ais) (key_pair ais kind fields ∷ serial_pairs kind.serial fields.serial)
 pairs_in_order ais kind fields fit in_order =
     All-cons (IsInOrder ais) (key_pair ais kind fields) (serial_pairs kind.serial fields.serial) (record { fits = value_in_order ais kind fields fit in_order })
@@ -224,7 +224,7 @@ by_parts (NumCheck k ∷ Num a ∷ Num b ∷ []) form lead prefix rest formed di
 by_parts (Set most ∷ []) form lead prefix rest formed digits are some fits = absurd (let e : true ≡ false = digits in cc)
 by_parts parts form lead prefix rest formed digits are some fits = by_digits parts form lead prefix rest formed are some fits
 
--- the digits of a key that is no characters, by the row that is found
+-- the digits of a key that is not characters, by the row that is found
 pub are_key_digits : (ais : List AiRow) (kind : Kind) (fields : KeyFields) (fit : FitKind ais kind fields) (row : AiRow) → Some row ≡ find (has_code kind.key) ais → is_row row ≡ true
     → is_some (characters_of row.parts) ≡ false → AreKeyDigits kind.lead fields.prefix fields.rest
 are_key_digits ais kind fields fit row found in_order digits =

@@ -15,7 +15,7 @@ use Rattle.gs_epc.specs.Readings.{IsHex, ReadsAs, ReadsHex}
 use Rattle.gs_bits.specs.HexText.{bits_of_hex}
 use Rattle.gs_epc.proofs.ReadingFacts.{IsSaid, hex_answer, says}
 
--- what is named by the values of the one derivation
+-- the identity that the values of the one derivation name
 pub names_one : (set : TableRows) (level : LevelName) (symbols : List ℕ) (option : ℕ) (values seen : List (List ℕ)) (info : OptInfo) (answer : Result Named EpcFault) → seen ≡ values → IsSaid set level option values info → OneDerivation (options_of level set) symbols option values
     → IfOk answer (IsNamed set (epc_of info seen)) → IfErr answer (λ error. error ≡ Memory) → Names set (ReadsAs set level symbols) answer
 names_one set level symbols option values seen info (Ok named) same said one is failed = record { said = Ok (epc_of info values); read = says set level symbols option values info (epc_of info values) said one refl; names = rw same at is }

@@ -16,7 +16,7 @@ use Rattle.gs_epc.proofs.Rejections.{RejectedBefore, candidate_at, no_candidate,
 
 -- ---- the first number
 
--- the first number is that of the first option of the kind and prefix length, m behind n, and the others follow it
+-- the first number is that of the first option of the kind and prefix length, m after n, and the others follow it
 pub record IsNext (n kind gcp : ℕ) (infos : List OptInfo) (i : ℕ) (others : List ℕ) : Type 0 where
   pub m : ℕ
   pub place : i ≡ n + m
@@ -59,7 +59,7 @@ none_next n kind gcp (first ∷ infos) e j other at = elim (true_or_false (is_of
     by zero at rest fails = let same : first ≡ other = cc in rw same at fails
     by (suc j) at rest fails = rest j other at
 
--- ---- the options behind a place
+-- ---- the options after a place
 
 at_drop : {X : Type 0} (xs : List X) (n j : ℕ) → slice_get (drop n xs) j ≡ slice_get xs (n + j)
 at_drop xs zero j = let e : 0 + j ≡ j = omega arith in rw e refl
@@ -73,7 +73,7 @@ at_drop [] (suc n) j = nowhere j (suc n + j)
 at_drop (x ∷ xs) (suc n) j = let e : suc n + j ≡ suc (n + j) = omega arith in rw e (at_drop xs n j)
 
 module _ (set : TableRows) (level : LevelName) (epc : Epc) where
-  -- an option of another kind or prefix length is no candidate
+  -- an option of another kind or prefix length is not a candidate
   other_option : (infos : List OptInfo) (i : ℕ) → infos ≡ (level_rows level set).info → ((other : OptInfo) → slice_get infos i ≡ Some other → is_of epc.kind epc.gcp other ≡ false) → Candidate set level epc i → ⊥
   other_option infos i rows others candidate =
       let said : slice_get infos i ≡ Some candidate.info = rw rows candidate.said in
@@ -82,14 +82,14 @@ module _ (set : TableRows) (level : LevelName) (epc : Epc) where
       let both : true ≡ false = sym passes ∙ fails in
       cc
 
-  -- the options between two places are no candidates
+  -- the options between two places are not candidates
   jump : (n m : ℕ) (rejection : EpcWriteFault) → RejectedBefore set level epc n rejection → ((j : ℕ) → j < m → Candidate set level epc (n + j) → ⊥) → RejectedBefore set level epc (n + m) rejection
   jump n zero rejection before fails = let e : n + 0 ≡ n = omega arith in rw e before
   jump n (suc m) rejection before fails =
       let e : n + suc m ≡ n + m + 1 = omega arith in
       rw e (skipped set level epc (n + m) rejection (jump n m rejection before (λ j low candidate. fails j (omega arith) candidate)) (fails m (omega arith)))
 
-  -- the options before n are rejected, and the numbers behind the first k are those of the options from n on
+  -- the options before n are rejected, and the numbers after the first k are those of the options from n on
   pub record TriedFirst (infos : List OptInfo) (numbers : List ℕ) (k : ℕ) (rejection : EpcWriteFault) : Type 0 where
     pub n : ℕ
     pub rejected : RejectedBefore set level epc n rejection

@@ -1,4 +1,4 @@
--- What is read of the values that an EPC gives the items of an option: the fields of that EPC.
+-- The fields that are read from the values that an EPC gives the items of an option: the fields of that EPC.
 use Rattle.std.proofs.Common.{◌≡◌, ℕ, ◌%◌, ◌==◌, ◌&&◌, not, Bool, true, false, if◌then◌else◌, List, [], ◌∷◌, map, Option, Some, None, decimal, refl, ap, arith, inl, inr}
 use Rattle.std.specs.List.{list_any}
 use Rattle.std.specs.Option.{option_map_or}
@@ -26,7 +26,7 @@ use Rattle.gs_epc.proofs.FieldPlaces.{named}
 
 -- ---- the values of fields
 
--- the value of a field is its own, where an item stands for it
+-- the value of a field is its own if an item has the field
 pub value_where : (field : Field) (fields : List (Option Field)) (v : Option Field → List ℕ) → value_at field fields (map v fields) ≡ (if list_any (is_field field) fields then Some (v (Some field)) else None)
 value_where field [] v = refl
 value_where field (name ∷ fields) v = elim (true_or_false (is_field field name)) [

@@ -1,4 +1,4 @@
--- What is written is read as the same fields.
+-- A written text is read as the same fields.
 use Rattle.std.proofs.Common.{◌≡◌, ℕ, ◌%◌, List, length, Ok, sym, ◌∙◌, arith}
 use Rattle.std.proofs.lemmas.List.{length-map}
 use Rattle.gs_bits.specs.HexText.{bits_of_hex, hex_of_bits}

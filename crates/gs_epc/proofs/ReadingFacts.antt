@@ -25,7 +25,7 @@ use Rattle.gs_epc.specs.Filters.{IsFilter}
 use Rattle.gs_epc.specs.Readings.{IsHex, ReadsAs, ReadsHex, Says}
 use Rattle.gs_epc.proofs.FieldRules.{filter_kept}
 
--- an option holds the values, and this is said of it
+-- an option holds the values, and these are its facts
 pub record IsSaid (set : TableRows) (level : LevelName) (option : ℕ) (values : List (List ℕ)) (info : OptInfo) : Type 0 where
   pub items : List Item
   pub words : List (List ℕ)
@@ -33,12 +33,12 @@ pub record IsSaid (set : TableRows) (level : LevelName) (option : ℕ) (values :
   pub said : slice_get (level_rows level set).info option ≡ Some info
   pub held : EachWord items values words
 
--- ---- an option and what is said of it
+-- ---- an option and its facts
 
 as_many : (set : TableRows) (level : LevelName) → IsShaped set → length (options_of level set) ≡ length (level_rows level set).info
 as_many set level shaped = length-map (level_rows level set).level.options (λ (option : OptionForm). option.items) ∙ as_many_said set level shaped
 
--- something is said of the option of a derivation
+-- the option of a derivation has facts
 pub option_low : (set : TableRows) (level : LevelName) (symbols : List ℕ) (option : ℕ) (values : List (List ℕ)) (infos : List OptInfo) → IsShaped set → OneDerivation (options_of level set) symbols option values → infos ≡ (level_rows level set).info → option < length infos
 option_low set level symbols option values infos shaped one rows =
     let d = one.derivation in

@@ -83,7 +83,7 @@ module _ (set : TableRows) (level : LevelName) (epc : Epc) where
   none_holds n (CannotHold field why) last i candidate low holds = last.none i candidate low holds
   none_holds n Memory h i candidate low holds = h
 
-  -- option n is no candidate
+  -- option n is not a candidate
   pub skipped : (n : ℕ) (rejection : EpcWriteFault) → RejectedBefore n rejection → (Candidate set level epc n → ⊥) → RejectedBefore (n + 1) rejection
   skipped n NoOption none fails = λ i low candidate. no_candidate_more n none fails i low candidate
   skipped n (CannotHold field why) before fails = record {
@@ -124,7 +124,7 @@ module _ (set : TableRows) (level : LevelName) (epc : Epc) where
 
   -- ---- the ends
 
-  -- no candidate stands past the end
+  -- there is no candidate past the end
   none_past : (infos : List OptInfo) (n i : ℕ) → infos ≡ (level_rows level set).info → length infos ≤ n → n ≤ i → Candidate set level epc i → ⊥
   none_past infos n i rows past low candidate =
       let said : slice_get infos i ≡ Some candidate.info = rw rows candidate.said in
@@ -165,7 +165,7 @@ module _ (set : TableRows) (level : LevelName) (epc : Epc) where
   pub writes : (n : ℕ) (rejection : EpcWriteFault) (candidate : Candidate set level epc n) (text : List ℕ) → RejectedBefore n rejection → IsTried set level epc candidate (Ok text) → Writes set level epc text
   writes n rejection candidate text before tried = record { option = n; candidate = candidate; holds = tried.0; first = none_holds n rejection before; text_is = tried.1 }
 
-  -- ---- what is read of an option
+  -- ---- the facts of an option
 
   -- an option that passes is a candidate
   pub candidate_at : (infos : List OptInfo) (n : ℕ) (info : OptInfo) → IsShaped set → infos ≡ (level_rows level set).info → n < length infos → info ≡ get_or infos n info → true ≡ is_candidate level epc info → Candidate set level epc n
@@ -175,7 +175,7 @@ module _ (set : TableRows) (level : LevelName) (epc : Epc) where
       let item = at_place (options_of level set) n (omega arith) in
       record { items = item.0; info = info; of_level = item.1; said = rw rows at (read_at infos n info low read); passes = sym passes }
 
-  -- one that does not pass is none
+  -- an option that does not pass is not a candidate
   pub no_candidate : (infos : List OptInfo) (n : ℕ) (info : OptInfo) → infos ≡ (level_rows level set).info → n < length infos → info ≡ get_or infos n info → false ≡ is_candidate level epc info → Candidate set level epc n → ⊥
   no_candidate infos n info rows low read fails candidate =
       let said : slice_get infos n ≡ Some candidate.info = rw rows candidate.said in

@@ -50,7 +50,7 @@ from_digits lead n prefix rest digits are within count =
       rest_back = rw (front, behind, left) whole;
     }
 
--- the digits before their check digit, and what follows it
+-- the digits before their check digit, and the rest after it
 checked_front : (k : ℕ) (digits tail : List ℕ) → length digits ≡ k - 1 → take (k - 1) (with_check digits ++ tail) ≡ digits
 checked_front k digits tail long =
     let check = check_digit_of digits ∷ [] in
@@ -63,7 +63,7 @@ checked_behind k digits tail one long =
 
 -- ---- the value of a key
 
--- prefix, rest, piece and total are back, and so is the tail where the key has one
+-- prefix, reference, piece and total are restored, and so is the tail if the key has one
 pub record IsTakenBack (parts : List Part) (form : KeyForm) (kind : Kind) (n : ℕ) (fields : KeyFields) : Type 0 where
   pub back : AreBack fields.prefix fields.rest (prefix_in parts kind.lead n (key_value parts kind fields)) (rest_in parts kind.lead n (key_value parts kind fields))
   pub piece_back : piece_in parts kind.further (key_value parts kind fields) ≡ fields.piece
@@ -82,7 +82,7 @@ fit_digits k tail form lead prefix rest same some fits =
     let one = are.some_digit in
     record { count = are.together; some = omega arith; within = are.lead_within }
 
--- what parts with a check digit say of digits that fit, with a leading zero or without
+-- the fields that parts with a check digit give for digits that fit, with or without a leading zero
 module _ (k : ℕ) (lead n : ℕ) (prefix rest tail : List ℕ) (fit : FitDigits k lead prefix rest) (count : length prefix ≡ n) where
   abbrev front : List ℕ
   front = take (k - 1) (with_check (key_digits lead prefix rest) ++ tail)
@@ -118,7 +118,7 @@ pieces_back (a ∷ b ∷ []) piece total tail others fits is =
     }
 pieces_back (a ∷ b ∷ c ∷ further) piece total tail others fits is = absurd fits
 
--- what stands behind the check digit is the tail, where there is one
+-- the rest after the check digit is the tail, if there is one
 only_tail : (form : KeyForm) (kind : Kind) (fields : KeyFields) → kind.further ≡ further_of form → FitsFurther kind.further fields.piece fields.total → is_some (tail_of form) ≡ true → behind_check kind fields ≡ tail_of_key kind.serial fields.serial
 only_tail form kind fields of fits some =
     let none = subst (λ (lengths : List ℕ). FitsFurther lengths fields.piece fields.total) (of ∙ alone form some) fits in
@@ -176,7 +176,7 @@ some_room None serial some fits = absurd (let e : false ≡ true = some in cc)
 some_room (Some (room.Characters most)) serial some fits = some_text serial fits.least
 some_room (Some (room.Digits most)) serial some fits = some_text serial fits.least
 
--- the text for none is the serial, where the serial stands for none
+-- the text for none is the serial, if the serial means none
 none_is : (row : Option AiRow) (serial : List ℕ) → option_map_or (λ (r : AiRow). not (is_empty r.none) && bytes_eq r.none serial) row false ≡ true → unless_empty (option_map_or (λ (r : AiRow). r.none) row []) ≡ Some serial
 none_is None serial h = absurd (let e : false ≡ true = h in cc)
 none_is (Some row) serial h =

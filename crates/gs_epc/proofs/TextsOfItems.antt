@@ -24,7 +24,7 @@ no_values : (fields : List (Option Field)) → texts_of fields [] ≡ no_texts
 no_values [] = refl
 no_values (field ∷ fields) = refl
 
--- behind the last item that has a value there are none
+-- after the last item that has a value there are none
 pub texts_past : (fields : List (Option Field)) (values : List (List ℕ)) (place : ℕ) → place ≡ min (length fields) (length values) → no_texts ≡ texts_of (drop place fields) (drop place values)
 texts_past fields values place e = elim (leb_tells (length fields) (length values)) [
   | inl short ↦

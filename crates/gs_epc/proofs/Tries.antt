@@ -63,7 +63,7 @@ of_level set level form options option i shaped same kinds rows low read =
     let kind : (get_or options i option).bit_level ≡ form.bit_level = all i option low in
     ap (λ (o : OptionForm). o.bit_level) read ∙ kind ∙ ap (λ (f : LevelForm). f.bit_level) same ∙ level_bits set level shaped
 
--- ---- what is read of a candidate
+-- ---- the facts of a candidate
 
 -- the option, its fields and their values are the candidate's
 pub record IsRead (set : TableRows) (level : LevelName) (epc : Epc) (i : ℕ) (candidate : Candidate set level epc i) (option : OptionForm) (fields : List (Option Field)) (values : List (List ℕ)) : Type 0 where
@@ -81,7 +81,7 @@ option_read set level epc i candidate form options option same rows read =
     let both : Some option.items ≡ Some candidate.items = rw here at mapped in
     cc
 
--- the level has as many options, and says of as many
+-- the level has as many options as facts
 pub option_low : (set : TableRows) (level : LevelName) (epc : Epc) (i : ℕ) (candidate : Candidate set level epc i) (form : LevelForm) (options : List OptionForm) → form ≡ (level_rows level set).level → options ≡ form.options → i < length options
 option_low set level epc i candidate form options same rows =
     let lists : slice_get (map (λ (o : OptionForm). o.items) options) i ≡ Some candidate.items = rw (rows, same) candidate.of_level in

@@ -1,4 +1,4 @@
--- What is written of an option of bits has as many bits as its items.
+-- The text written by an option of bits has as many bits as its items.
 use Rattle.std.proofs.Common.{◌≡◌, ℕ, ◌+◌, ◌-◌, ◌*◌, ◌%◌, ◌≤◌, suc, Bool, true, false, not, List, [], ◌∷◌, ◌++◌, length, position, replicate, None, refl, ap, ◌∙◌, arith, length-append}
 use Rattle.std.specs.List.{flat_map}
 use Rattle.std.proofs.lemmas.List.{length-replicate}
@@ -55,7 +55,7 @@ written_count (item ∷ items) (value ∷ values) good one_each held =
     let whole = length-append (written_word item value) (written items values) in
     omega arith
 
--- whole bytes are written where the items are whole bytes
+-- whole bytes are written if the items are whole bytes
 pub whole_bytes : (bits : Bool) (items : List Item) (values : List (List ℕ)) (first out : List ℕ) → bits ≡ true → position (is_bad bits) items ≡ None → length values ≡ length items → AreHeld items values → size_of_all items % 8 ≡ 0 → first ≡ [] → out ≡ first ++ written items values → length out % 8 ≡ 0
 whole_bytes bits items values first out is good one_each held whole none made =
     let same : out ≡ written items values = rw none at made in

@@ -17,13 +17,14 @@ use Rattle.gs_epc.specs.Epcs.{options_of}
 
 -- ---- candidates
 
--- trusted, own: a name of an encoding is the one that is asked for: any where none is, and on the level of pure identities
+-- trusted, own: holds if the name of an encoding is the requested one: any if none is requested, and on the level of pure
+-- identities
 abbrev pub is_asked : LevelName → List ℕ → List ℕ → Bool
 is_asked Pure asked name = true
 is_asked Tag asked name = is_empty asked || bytes_eq asked name
 is_asked Binary asked name = is_empty asked || bytes_eq asked name
 
--- trusted, own: an option is of the EPC's kind and prefix length, and of the encoding that is asked for
+-- trusted, own: holds if an option has the EPC's kind and company prefix length, and the requested encoding
 abbrev pub is_candidate : LevelName → Epc → OptInfo → Bool
 is_candidate level epc info =
     (info.kind == epc.kind) && (info.gcp == epc.gcp) && is_asked level epc.encoding info.encoding
@@ -49,7 +50,7 @@ abbrev pub HasFilter : Option ℕ → Type 0
 HasFilter None = ⊥
 HasFilter (Some filter) = filter ≤ 7
 
--- trusted, own: a filter value is there on the levels of tags
+-- trusted, own: holds if there is a filter value, on the levels of tags
 abbrev pub HasFilterOn : LevelName → Option ℕ → Type 0
 HasFilterOn Pure filter = Unit {0}
 HasFilterOn Tag filter = HasFilter filter
@@ -59,7 +60,7 @@ HasFilterOn Binary filter = HasFilter filter
 abbrev pub filter_text : LevelName → Option ℕ → List ℕ
 filter_text level filter = option_map_or decimal (filter_on level filter) []
 
--- trusted, own: the value of the items that stand for a field; one that stands for none has the empty value
+-- trusted, own: the value of the items of a field; an item without a field has the empty value
 abbrev pub value_for : LevelName → Epc → Option Field → List ℕ
 value_for level epc None = []
 value_for level epc (Some Filter) = filter_text level epc.filter

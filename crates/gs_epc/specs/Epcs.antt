@@ -15,16 +15,16 @@ use Rattle.gs_tables.specs.Rules.{is_field}
 use Rattle.gs_tables.specs.Tables.{TableRows, level_rows}
 use Rattle.gs_epc.specs.declared.epc.Epc.{Epc}
 
--- trusted, own: the value of the first item that stands for a field, where there is one
+-- trusted, own: the value of the first item of a field, if there is one
 abbrev pub value_at : Field → List (Option Field) → List (List ℕ) → Option (List ℕ)
 value_at field fields values =
     option_map (λ (pair : Option Field × List ℕ). pair.1) (find (λ (pair : Option Field × List ℕ). is_field field pair.0) (zip fields values))
 
--- trusted, own: the value of a field, and the empty one where no item stands for it
+-- trusted, own: the value of a field, and the empty value if no item has the field
 abbrev pub value_of : Field → List (Option Field) → List (List ℕ) → List ℕ
 value_of field fields values = option_map_or (λ value. value) (value_at field fields values) []
 
--- trusted, own: the filter value, where an item stands for it
+-- trusted, own: the filter value, if an item has it
 abbrev pub filter_of : List (Option Field) → List (List ℕ) → Option ℕ
 filter_of fields values = option_map decimal_value (value_at Filter fields values)
 

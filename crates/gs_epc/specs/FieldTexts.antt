@@ -1,11 +1,11 @@
--- What the items of an option say of the key, field by field.
+-- The fields of the key that the items of an option have.
 use Rattle.std.specs.Prelude.{ℕ, List, Option, Some, None}
 use Rattle.gs_tables_document.specs.declared.field.Field.{Field}
 use Rattle.gs_tables_document.specs.declared.field.Field.TheVariants.{Filter, Gcp, Rest, Piece, Total, Serial}
 use Rattle.gs_epc.specs.Epcs.{value_of}
 use Rattle.gs_epc.specs.Layout.{KeyFields}
 
--- what the values of items say of the key
+-- the fields of the key that the values of items give
 abbrev pub texts_of : List (Option Field) → List (List ℕ) → KeyFields
 texts_of fields values = record {
   prefix = value_of Gcp fields values;
@@ -15,7 +15,7 @@ texts_of fields values = record {
   serial = value_of Serial fields values;
 }
 
--- what is said with the value of one item more, which stands before the others
+-- the fields with the value of one more item, before the others
 abbrev pub with_text : Option Field → List ℕ → KeyFields → KeyFields
 with_text (Some Gcp) text f = record { prefix = text; rest = f.rest; piece = f.piece; total = f.total; serial = f.serial }
 with_text (Some Rest) text f = record { prefix = f.prefix; rest = text; piece = f.piece; total = f.total; serial = f.serial }

@@ -19,12 +19,12 @@ use Rattle.gs_epc.specs.Layout.{KeyFields, parts_at}
 
 -- ---- the parts of a key's value
 
--- trusted, own: the value behind the leading zero, where the parts begin with one
+-- trusted, own: the value after the leading zero, where the parts begin with one
 abbrev pub behind_zero : List Part → List ℕ → List ℕ
 behind_zero (Zero ∷ _) value = drop 1 value
 behind_zero _ value = value
 
--- trusted, own: the digits of the key with its check digit, behind a zero: so many
+-- trusted, own: the digits of the key with its check digit, after a zero: that many
 abbrev pub checked_count : List Part → ℕ
 checked_count (Zero ∷ NumCheck count ∷ _) = count
 checked_count (NumCheck count ∷ _) = count
@@ -34,58 +34,57 @@ checked_count _ = 0
 abbrev pub digits_in : List Part → List ℕ → List ℕ
 digits_in parts value = take (checked_count parts - 1) (behind_zero parts value)
 
--- trusted, own: what follows the check digit
+-- trusted, own: the rest of a key after the check digit
 abbrev pub tail_in : List Part → List ℕ → List ℕ
 tail_in parts value = drop (checked_count parts) (behind_zero parts value)
 
--- trusted, own: The company prefix: the first n of the characters, or of the digits behind the lead digits, or all of
--- fewer.
+-- trusted, own: The company prefix: the first n of the characters, or of the digits after the lead digits, or all of fewer.
 abbrev pub prefix_in : List Part → ℕ → ℕ → List ℕ → List ℕ
 prefix_in (Set _ ∷ []) lead n value = take n value
 prefix_in parts lead n value = take n (drop lead (digits_in parts value))
 
--- trusted, own: The rest: the characters behind the prefix, or the lead digits followed by the digits behind the prefix.
+-- trusted, own: The rest: the characters after the prefix, or the lead digits followed by the digits after the prefix.
 abbrev pub rest_in : List Part → ℕ → ℕ → List ℕ → List ℕ
 rest_in (Set _ ∷ []) lead n value = drop n value
 rest_in parts lead n value = take lead (digits_in parts value) ++ drop n (drop lead (digits_in parts value))
 
--- trusted, own: the value of a key of the kind of this index from the company prefix on: what follows a leading zero and
--- the lead digits
+-- trusted, own: the value of a key of the kind of this index from the company prefix on: the rest after a leading zero and the
+-- lead digits
 abbrev pub value_from_prefix : TableRows → ℕ → List ℕ → List ℕ
 value_from_prefix set kind value =
     option_map_or (λ (row : Kind). drop row.lead (behind_zero (parts_at set.ais row.key) value)) (slice_get set.kinds kind) []
 
--- trusted, own: how many digits the piece has, by the two lengths of a kind, and 0 where it has none
+-- trusted, own: how many digits the piece has, by the two lengths of a kind, and 0 if it has none
 abbrev pub piece_length : List ℕ → ℕ
 piece_length (a ∷ _) = a
 piece_length [] = 0
 
--- trusted, own: how many digits the total has, by the two lengths of a kind, and 0 where it has none
+-- trusted, own: how many digits the total has, by the two lengths of a kind, and 0 if it has none
 abbrev pub total_length : List ℕ → ℕ
 total_length (_ ∷ b ∷ _) = b
 total_length _ = 0
 
--- trusted, own: the piece: the first of the digits behind the check digit
+-- trusted, own: the piece: the first of the digits after the check digit
 abbrev pub piece_in : List Part → List ℕ → List ℕ → List ℕ
 piece_in parts further value = take (piece_length further) (tail_in parts value)
 
--- trusted, own: the total: the digits behind the piece
+-- trusted, own: the total: the digits after the piece
 abbrev pub total_in : List Part → List ℕ → List ℕ → List ℕ
 total_in parts further value = take (total_length further) (drop (piece_length further) (tail_in parts value))
 
 -- ---- the serial
 
--- trusted, own: the text, where it is not empty
+-- trusted, own: the text, if it is not empty
 abbrev pub unless_empty : List ℕ → Option (List ℕ)
 unless_empty [] = None
 unless_empty text = Some text
 
--- trusted, own: the text that stands for an absent element in the row of its code, and the empty one where the row has none
+-- trusted, own: the text that means an absent element in the row of its code, and the empty text if there is no row
 abbrev pub none_text : List AiRow → List ℕ → List ℕ
 none_text ais code = option_map_or (λ (row : AiRow). row.none) (find (has_code code) ais) []
 
--- trusted, own: The serial: empty where the kind has none, the tail of the key, or the value of the qualifier that it is.
--- Where that is absent, its text for none stands for it. There may be none.
+-- trusted, own: The serial: empty if the kind has none, the tail of the key, or the value of its qualifier. If that is absent,
+-- its text for none is the serial, if there is one.
 abbrev pub serial_in : List AiRow → List Part → SerialAt → Elements → Option (List ℕ)
 serial_in ais parts Nowhere identity = Some []
 serial_in ais parts Tail identity = unless_empty (tail_in parts identity.key.value)
@@ -105,7 +104,7 @@ fields_at parts kind n value serial = record {
   serial = serial;
 }
 
--- trusted, TDS 2.0, section 7: the fields of an identity by its kind and a prefix of n, unless its serial is lacking
+-- trusted, TDS 2.0, section 7: the fields of an identity by its kind and a prefix of n, unless its serial is missing
 abbrev pub take_apart : List AiRow → Kind → Elements → ℕ → Option KeyFields
 take_apart ais kind identity n =
     option_map (fields_at (parts_at ais kind.key) kind n identity.key.value)
@@ -126,20 +125,20 @@ epc_of_key kind n fields =
       serial = fields.serial;
     }
 
--- trusted, own: what an identity says by the kind of this index and a prefix of n, unless its serial is lacking
+-- trusted, own: what an identity says by the kind of this index and a prefix of n, unless its serial is missing
 abbrev pub epc_at : TableRows → ℕ → Elements → ℕ → Option Epc
 epc_at set kind identity n =
     option_and_then (λ (row : Kind). option_map (epc_of_key kind n) (take_apart set.ais row identity n))
     (slice_get set.kinds kind)
 
--- trusted, TDS 2.0, section 7: an identity has nothing beside the key of a kind and its serial
+-- trusted, TDS 2.0, section 7: holds if an identity has only the key of a kind and its serial
 pub record IsOfKind (kind : Kind) (identity : Elements) : Type 0 where
   pub key : identity.key.code ≡ kind.key
   pub qualifiers : (i : ℕ) (pair : Pair) → slice_get identity.qualifiers i ≡ Some pair → kind.serial ≡ Ai pair.code
   pub attributes : identity.attributes ≡ []
 
--- trusted, TDS 2.0, section 7: The answer of `fields_of`: what the identity says, or that its serial is lacking. Out of
--- memory may come in place of each.
+-- trusted, TDS 2.0, section 7: Holds if the result is that of `fields_of`: the fields of the identity, or that its serial is
+-- missing. `Memory` may come instead.
 abbrev pub IsTakenApart : TableRows → ℕ → Elements → ℕ → Result Epc FieldsFault → Type 0
 IsTakenApart set kind identity n (Ok epc) = epc_at set kind identity n ≡ Some epc
 IsTakenApart set kind identity n (Err MissingSerial) = epc_at set kind identity n ≡ None

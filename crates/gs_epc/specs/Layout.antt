@@ -17,8 +17,8 @@ use Rattle.gs_tables_document.specs.declared.kind.SerialAt.TheVariants.{Nowhere,
 use Rattle.gs_tables.specs.Tables.{TableRows}
 use Rattle.gs_epc.specs.declared.epc.Epc.{Epc}
 
--- trusted, own: what a key says by its kind: the company prefix, the rest, the piece and the total, which are empty where
--- the kind has none, and the serial
+-- trusted, own: what a key says by its kind: the company prefix, the rest, the piece and the total, which are empty if the kind
+-- has none, and the serial
 pub record KeyFields : Type 0 where
   pub prefix : List ℕ
   pub rest : List ℕ
@@ -26,7 +26,7 @@ pub record KeyFields : Type 0 where
   pub total : List ℕ
   pub serial : List ℕ
 
--- trusted, own: what an EPC says of its key
+-- trusted, own: the fields of an EPC's key
 abbrev pub fields_in : Epc → KeyFields
 fields_in epc = record {
   prefix = epc.prefix;
@@ -40,13 +40,13 @@ fields_in epc = record {
 abbrev pub parts_at : List AiRow → List ℕ → List Part
 parts_at ais code = option_map_or (λ (row : AiRow). row.parts) (find (has_code code) ais) []
 
--- trusted, own: the leading zero of the key, where its parts begin with one
+-- trusted, own: the leading zero of the key, if its parts begin with one
 abbrev pub zero_in_front : List Part → List ℕ
 zero_in_front (Zero ∷ _) = codes "0"
 zero_in_front _ = []
 
--- trusted, own: The digits of the key without its check digit: the lead digits of the rest (the indicator digit of a GTIN,
--- the extension digit of an SSCC), the company prefix, and the other digits of the rest.
+-- trusted, own: The digits of the key without its check digit: the indicator digit of a GTIN or the extension digit of an SSCC,
+-- the company prefix, and the other digits of the reference.
 abbrev pub key_digits : ℕ → List ℕ → List ℕ → List ℕ
 key_digits lead prefix rest = take lead rest ++ prefix ++ drop lead rest
 
@@ -54,25 +54,25 @@ key_digits lead prefix rest = take lead rest ++ prefix ++ drop lead rest
 abbrev pub with_check : List ℕ → List ℕ
 with_check digits = digits ++ check_digit_of digits ∷ []
 
--- trusted, own: the digits of a key are 1 to 18, and the lead digits stand in the rest
+-- trusted, own: the digits of a key are 1 to 18, and the lead digits are in the rest
 pub record AreKeyDigits (lead : ℕ) (prefix rest : List ℕ) : Type 0 where
   pub lead_within : lead ≤ length rest
   pub least : 1 ≤ length (key_digits lead prefix rest)
   pub most : length (key_digits lead prefix rest) ≤ 18
   pub digits : IsTrue (are_digits (key_digits lead prefix rest))
 
--- trusted, own: the serial behind the key, where it stands in the key's own value
+-- trusted, own: the serial after the key, if it is in the key's own value
 abbrev pub tail_of_key : SerialAt → List ℕ → List ℕ
 tail_of_key Tail serial = serial
 tail_of_key Nowhere serial = []
 tail_of_key (Ai code) serial = []
 
--- trusted, own: what stands behind the check digit: the piece and the total, and the serial where it is the tail
+-- trusted, own: the rest after the check digit: the piece and the total, and the serial if it is the tail
 abbrev pub behind_check : Kind → KeyFields → List ℕ
 behind_check kind fields = fields.piece ++ (fields.total ++ tail_of_key kind.serial fields.serial)
 
--- trusted, TDS 2.0, section 7; GS1 General Specifications, section 3: the value of the key: characters as they are, digits
--- with a leading zero, the check digit and what stands behind it
+-- trusted, TDS 2.0, section 7; GS1 General Specifications, section 3: the value of the key: its characters, or its digits with a
+-- leading zero, the check digit and the rest after it
 abbrev pub key_value : List Part → Kind → KeyFields → List ℕ
 key_value (Set _ ∷ []) kind fields = fields.prefix ++ fields.rest
 key_value parts kind fields =
@@ -82,11 +82,11 @@ key_value parts kind fields =
 abbrev pub key_pair : List AiRow → Kind → KeyFields → Pair
 key_pair ais kind fields = record { code = kind.key; value = key_value (parts_at ais kind.key) kind fields }
 
--- trusted, own: the element of a serial, which is absent where the serial is the text that stands for none
+-- trusted, own: the element of a serial, which is absent if the serial is the text that means none
 abbrev pub unless_none : List AiRow → Pair → List Pair
 unless_none ais pair = if stands_for_none ais pair then [] else pair ∷ []
 
--- trusted, own: the element in which a serial stands; none where it stands in the tail of the key, or nowhere
+-- trusted, own: the element of a serial; none if it is in the tail of the key, or the kind has none
 abbrev pub serial_elements : List AiRow → SerialAt → List ℕ → List Pair
 serial_elements ais (Ai code) serial = unless_none ais (record { code = code; value = serial })
 serial_elements ais Tail serial = []

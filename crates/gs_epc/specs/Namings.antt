@@ -1,4 +1,4 @@
--- What tags and EPC URIs name: the identity of the EPC that they say, and what they say beside it. TDS 2.0, sections 6, 7 and 14.
+-- The identities that tags and EPC URIs name, and the other facts of their EPCs. TDS 2.0, sections 6, 7 and 14.
 use Rattle.std.specs.Prelude.{◌≡◌, Result, Ok, Err}
 use Rattle.gs_tables.specs.Tables.{TableRows}
 use Rattle.gs_epc.specs.declared.epc.Epc.{Epc}
@@ -6,14 +6,14 @@ use Rattle.gs_epc.specs.declared.error.EpcFault.{EpcFault}
 use Rattle.gs_epc.specs.declared.named.Named.{Named}
 use Rattle.gs_epc.specs.Layout.{IsLaidOut}
 
--- trusted, TDS 2.0, section 7: what an EPC names: the identity by which its key is laid out, and what it says beside its key
+-- trusted, TDS 2.0, section 7: holds if the EPC names the identity by which its key is laid out, with these other facts
 pub record IsNamed (set : TableRows) (epc : Epc) (named : Named) : Type 0 where
   pub laid : IsLaidOut set epc named.identity
   pub gcp : named.gcp ≡ epc.gcp
   pub filter : named.filter ≡ epc.filter
   pub encoding : named.encoding ≡ epc.encoding
 
--- trusted, own: what is named where a text says this EPC, or none for this reason
+-- trusted, own: holds if the result is the named identity of the EPC that was read, or the same reason
 abbrev pub NamesSaid : TableRows → Result Epc EpcFault → Result Named EpcFault → Type 0
 NamesSaid set (Ok epc) (Ok named) = IsNamed set epc named
 NamesSaid set (Err error) (Err reason) = reason ≡ error

@@ -1,4 +1,4 @@
--- What proofs and private functions say beside the definitions of Readings.antt.
+-- Definitions for proofs and private functions, in addition to Readings.antt.
 use Rattle.std.specs.Prelude.{ℕ, List, Result}
 use Rattle.gs_grammar_level.specs.Readings.{Reads}
 use Rattle.gs_grammar_level.specs.declared.readings.Reading.{Reading}

@@ -1,5 +1,5 @@
--- What is written of an EPC: TDS 2.0, sections 6 (pure identity URIs), 12 (tag URIs) and 14 (bits), by the options of TDT
--- 2.0, section 3. That the first option which holds every field writes, and which rejection is named, is this project's own.
+-- The texts of an EPC: TDS 2.0, sections 6 (pure identity URIs), 12 (tag URIs) and 14 (bits), by the options of TDT 2.0, section
+-- 3. That the first option that holds every field writes, and the choice of the named rejection, is this project's own.
 use Rattle.std.specs.Prelude.{◌≡◌, ◌<◌, ◌⊎◌, ℕ, List, Option, Some, None, option_and_then, slice_get, unwrap_or, Result, Ok, Err}
 use Rattle.gs_bits.specs.HexText.{hex_of_bits}
 use Rattle.gs_grammar.specs.declared.error.Why.{Why}
@@ -24,7 +24,7 @@ text_on Binary symbols = hex_of_bits symbols
 text_on Tag symbols = symbols
 text_on Pure symbols = symbols
 
--- trusted, own: the field that item k stands for; an item that stands for none counts as the rest
+-- trusted, own: the field of item k; an item without a field counts as the reference
 abbrev pub field_at : List (Option Field) → ℕ → Field
 field_at fields k = unwrap_or (option_and_then (λ (named : Option Field). named) (slice_get fields k)) Rest
 
@@ -42,8 +42,8 @@ module _ (set : TableRows) (level : LevelName) (epc : Epc) where
     pub first : IsFirstRejection candidate.items (values_for level epc candidate.info) k why
     pub stands_for : field ≡ field_at candidate.info.fields k
 
-  -- trusted, own: Each item of a candidate holds its value, and this field is left out: what has no item holds the empty
-  -- text alone.
+  -- trusted, own: Holds if each item of a candidate holds its value, and this field has no item, so that only the empty text
+  -- fits.
   pub record LeavesOut {i : ℕ} (candidate : Candidate set level epc i) (field : Field) (why : Why)
       : Type 0 where
     pub held : AreHeld candidate.items (values_for level epc candidate.info)
@@ -58,7 +58,7 @@ module _ (set : TableRows) (level : LevelName) (epc : Epc) where
   abbrev pub text_by : {i : ℕ} → Candidate set level epc i → List ℕ
   text_by candidate = text_on level (written candidate.items (values_for level epc candidate.info))
 
-  -- trusted, own: the answer of one candidate: its text where it holds every field, else what it does not hold
+  -- the result of one candidate: its text if it holds every field, otherwise the field that it does not hold
   abbrev pub IsTried : {i : ℕ} → Candidate set level epc i → Result (List ℕ) EpcWriteFault → Type 0
   IsTried candidate (Ok text) = HoldsAll candidate × (text ≡ text_by candidate)
   IsTried candidate (Err NoOption) = ⊥
@@ -85,22 +85,22 @@ module _ (set : TableRows) (level : LevelName) (epc : Epc) where
     pub last : (i : ℕ) → option < i → Candidate set level epc i → ⊥
     pub none : (n : ℕ) → NoneHoldsBefore n
 
-  -- trusted, own: The answer to an EPC that is to be written in a level: the text of the first candidate that holds every
-  -- field; that there is no candidate; that none holds every field, and what the last does not hold. Out of memory may
-  -- come in place of each.
+  -- trusted, own: Holds if the result is that of writing an EPC in a level: the text of the first candidate that holds every
+  -- field; that there is no candidate; or that none holds every field, with the field that the last does not hold. `Memory` may
+  -- come instead.
   abbrev pub WritesAs : Result (List ℕ) EpcWriteFault → Type 0
   WritesAs (Ok text) = Writes text
   WritesAs (Err NoOption) = (i : ℕ) → Candidate set level epc i → ⊥
   WritesAs (Err (CannotHold field why)) = LastRejects field why
   WritesAs (Err Memory) = Unit {0}
 
--- trusted, own: what is read of a text that was written: of bits their hexadecimal text
+-- trusted, own: the reading of a written text: of bits, that of their hexadecimal text
 abbrev pub ReadsText : TableRows → LevelName → List ℕ → Result Epc EpcFault → Type 0
 ReadsText set Binary text answer = ReadsHex set text answer
 ReadsText set Tag text answer = ReadsAs set Tag text answer
 ReadsText set Pure text answer = ReadsAs set Pure text answer
 
--- trusted, own: the same fields, by an option that is said to be this
+-- trusted, own: the same fields, by an option with these facts
 abbrev pub same_fields : LevelName → OptInfo → Epc → Epc
 same_fields level info epc = record {
   kind = epc.kind;

@@ -13,7 +13,7 @@ use std::alloc::Global;
 /// The texts of the filter values.
 const DIGITS: &[u8] = b"01234567";
 
-/// Whether the name of an encoding is the one that is asked for.
+/// Returns whether the name of an encoding is the requested one.
 pub(crate) fn is_asked(level: LevelName, asked: &[u8], name: &[u8]) -> bool
     ensures { result ≡ is_asked level asked.now name.now }
 {
@@ -23,7 +23,7 @@ pub(crate) fn is_asked(level: LevelName, asked: &[u8], name: &[u8]) -> bool
     }
 }
 
-/// The text of a filter value.
+/// Returns the text of a filter value.
 fn filter_digit(filter: Option<u8>) -> &'static [u8]
     requires { HasFilter filter }
     ensures { result.now ≡ option_map_or decimal filter [] }
@@ -34,7 +34,7 @@ fn filter_digit(filter: Option<u8>) -> &'static [u8]
     }
 }
 
-/// The text of the filter value, empty on the level of pure identities.
+/// Returns the text of the filter value, empty on the level of pure identities.
 fn filter_text(level: LevelName, filter: Option<u8>) -> &'static [u8]
     requires { HasFilterOn level filter }
     ensures { result.now ≡ filter_text level filter }
@@ -46,7 +46,7 @@ fn filter_text(level: LevelName, filter: Option<u8>) -> &'static [u8]
     }
 }
 
-/// A copy of a text that is one byte as a rule, which takes fewer steps so.
+/// Returns a copy of a text that is one byte as a rule, which takes fewer steps so.
 fn few(alloc: Global, bytes: &[u8]) -> Result<Text, Memory>
     ensures { IfOk result (λ text. text ≡ bytes.now) }
 {
@@ -55,7 +55,7 @@ fn few(alloc: Global, bytes: &[u8]) -> Result<Text, Memory>
     Ok(text)
 }
 
-/// The rest, joined: its lead digits are one as a rule.
+/// Returns the rest, joined: its lead digits are one as a rule.
 fn rest_of(alloc: Global, epc: &LentEpc<'_>) -> Result<Text, Memory>
     ensures { IfOk result (λ text. text ≡ epc.now.rest) }
 {
@@ -64,7 +64,7 @@ fn rest_of(alloc: Global, epc: &LentEpc<'_>) -> Result<Text, Memory>
     Ok(text)
 }
 
-/// A copy of the value of the items that stand for a field.
+/// Returns a copy of the value of the items that stand for a field.
 fn value_for(
     alloc: Global,
     epc: &LentEpc<'_>,
@@ -85,7 +85,7 @@ fn value_for(
     }
 }
 
-/// The values of the items that stand for these fields.
+/// Returns the values of the items that stand for these fields.
 pub(crate) fn values_for(
     alloc: Global,
     level: LevelName,
@@ -103,7 +103,7 @@ pub(crate) fn values_for(
     Ok(values)
 }
 
-/// Whether an item stands for the field.
+/// Returns whether an item stands for the field.
 fn has_item(field: Field, fields: &[Option<Field>]) -> bool
     ensures { result ≡ list_any (is_field field) fields.now }
 {
@@ -115,7 +115,7 @@ fn has_item(field: Field, fields: &[Option<Field>]) -> bool
     false
 }
 
-/// Whether a text is not empty, and no item stands for its field.
+/// Returns whether a text is not empty, and no item stands for its field.
 fn is_left_out(field: Field, fields: &[Option<Field>], text: &[u8]) -> bool
     ensures { result ≡ is_left_out field fields.now text.now }
 {
@@ -123,7 +123,7 @@ fn is_left_out(field: Field, fields: &[Option<Field>], text: &[u8]) -> bool
     !text.is_empty() && !has_item(field, fields)
 }
 
-/// Whether the rest is not empty, and no item stands for it.
+/// Returns whether the rest is not empty, and no item stands for it.
 fn leaves_rest(fields: &[Option<Field>], epc: &LentEpc<'_>) -> bool
     ensures { result ≡ is_left_out Field.Rest fields.now epc.now.rest }
 {
@@ -133,7 +133,7 @@ fn leaves_rest(fields: &[Option<Field>], epc: &LentEpc<'_>) -> bool
     is_left_out(Field::Rest, fields, epc.lead)
 }
 
-/// The first of the rest, the piece, the total and the serial that an option leaves out.
+/// Returns the first of the rest, the piece, the total and the serial that an option leaves out.
 pub(crate) fn left_out(fields: &[Option<Field>], epc: &LentEpc<'_>) -> Option<Field>
     ensures { result ≡ left_out fields.now epc.now }
 {

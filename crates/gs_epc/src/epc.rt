@@ -13,7 +13,7 @@ pub struct Epc {
     pub gcp: u8,
     /// The GS1 Company Prefix.
     pub prefix: Text,
-    /// What follows the prefix in the key, with the lead digit at the start, empty where the prefix leaves nothing.
+    /// The reference of the key, with the indicator or extension digit at the start; empty if the company prefix leaves nothing.
     pub rest: Text,
     /// The number of the piece, empty for a kind without pieces.
     pub piece: Text,

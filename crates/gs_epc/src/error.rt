@@ -4,7 +4,7 @@ use gs_chars::Memory;
 /// Why a text says no EPC.
 #[derive(Clone, Copy, Debug)]
 pub enum EpcFault {
-    /// The text is no hexadecimal text of at most 128 digits.
+    /// The text is not a hexadecimal text of at most 128 digits.
     Hex(HexFault),
     /// The level has no derivation of it.
     NoReading,

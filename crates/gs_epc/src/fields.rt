@@ -14,14 +14,14 @@ use gs_tables::{Field, OptInfo};
 use std::alloc::Global;
 use std::mem;
 
-/// The place of the first item that stands for a field.
+/// Returns the place of the first item that stands for a field.
 fn place_of(field: Field, fields: &[Option<Field>]) -> Option<usize>
     ensures { result ≡ position (is_field field) fields.now }
 {
     fields.iter().position(|named| *named == Some(field))
 }
 
-/// The number of a filter value.
+/// Returns the number of a filter value.
 fn filter_number(value: &Text) -> u8
     requires { IsFilter value.now }
     ensures { result ≡ decimal_value value.now }
@@ -29,7 +29,7 @@ fn filter_number(value: &Text) -> u8
     value.as_bytes()[0] - b'0'
 }
 
-/// The number of the filter value, where an item stands for it.
+/// Returns the number of the filter value, if an item has it.
 pub(crate) fn filter_of(fields: &[Option<Field>], values: &[Text]) -> Option<u8>
     requires { IfSome (value_at Field.Filter fields.now values.now) IsFilter }
     ensures { result ≡ filter_of fields.now values.now }
@@ -38,7 +38,7 @@ pub(crate) fn filter_of(fields: &[Option<Field>], values: &[Text]) -> Option<u8>
     Some(filter_number(value))
 }
 
-/// Moves the value of a field out, the empty one where no item stands for it, and leaves the other values as they are.
+/// Moves the value of a field out, the empty one if no item has the field, and leaves the other values unchanged.
 fn take_value(alloc: Global, field: Field, fields: &[Option<Field>], values: &mut [Text]) -> Text
     ensures value { result ≡ value_of field fields.now values.old }
     ensures others { KeepsOthers field fields.now values.old values.new }
@@ -50,7 +50,7 @@ fn take_value(alloc: Global, field: Field, fields: &[Option<Field>], values: &mu
     }
 }
 
-/// What an option says by the values of its items, which are moved out, with a copy of the name of its encoding.
+/// Returns the EPC of an option by the values of its items, which are moved out, with a copy of the name of its encoding.
 fn taken(alloc: Global, info: &OptInfo, encoding: Text, values: &mut [Text]) -> Epc
     requires encoding { encoding ≡ info.now.encoding }
     requires filter { IfSome (value_at Field.Filter info.now.fields values.now) IsFilter }
@@ -70,7 +70,7 @@ fn taken(alloc: Global, info: &OptInfo, encoding: Text, values: &mut [Text]) -> 
     }
 }
 
-/// What an option says by the values of its items. The one error is out of memory.
+/// Returns the EPC of an option by the values of its items. Fails only with `Memory`.
 pub(crate) fn epc_of(alloc: Global, info: &OptInfo, values: List<Text>) -> Result<Epc, Memory>
     requires { IfSome (value_at Field.Filter info.now.fields values) IsFilter }
     ensures { IfOk result (λ epc. epc ≡ epc_of info.now values) }
@@ -80,7 +80,7 @@ pub(crate) fn epc_of(alloc: Global, info: &OptInfo, values: List<Text>) -> Resul
     Ok(taken(alloc, info, encoding, &mut values))
 }
 
-/// Puts the value of an item in the place of its field.
+/// Puts the value of an item instead of its field.
 fn put_text<'a>(texts: &mut KeyTexts<'a>, field: Option<Field>, text: &'a [u8])
     ensures { texts.new ≡ with_text field text.now texts.old }
 {
@@ -94,7 +94,7 @@ fn put_text<'a>(texts: &mut KeyTexts<'a>, field: Option<Field>, text: &'a [u8])
     }
 }
 
-/// What the values of items say of the key. The first item of a field counts, so the last is taken first.
+/// Returns the fields of the key that the values of items give. The first item of a field counts, so the last is taken first.
 pub(crate) fn texts_of<'a>(fields: &[Option<Field>], values: &'a [Text]) -> KeyTexts<'a>
     ensures { result ≡ texts_of fields.now values.now }
 {

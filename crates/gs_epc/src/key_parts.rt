@@ -13,21 +13,21 @@ use gs_ident::Identity;
 use gs_tables::{SerialAt, TableSet, are_characters};
 use std::alloc::Global;
 
-/// The first bytes of a value, as many as there are.
+/// Returns the first bytes of a value, as many as there are.
 fn front(value: &[u8], count: usize) -> &[u8]
     ensures { result.now ≡ take count value.now }
 {
     &value[..count.min(value.len())]
 }
 
-/// The bytes of a value behind so many.
+/// Returns the bytes of a value after that many.
 fn behind(value: &[u8], count: usize) -> &[u8]
     ensures { result.now ≡ drop count value.now }
 {
     &value[count.min(value.len())..]
 }
 
-/// The value behind the leading zero, where the parts begin with one.
+/// Returns the value after the leading zero, where the parts begin with one.
 fn behind_zero<'a>(parts: &[Part], value: &'a [u8]) -> &'a [u8]
     ensures { result.now ≡ behind_zero parts.now value.now }
 {
@@ -37,7 +37,7 @@ fn behind_zero<'a>(parts: &[Part], value: &'a [u8]) -> &'a [u8]
     }
 }
 
-/// The number of digits of the key with its check digit.
+/// Returns the number of digits of the key with its check digit.
 fn checked_count(parts: &[Part]) -> usize
     ensures { result ≡ checked_count parts.now }
 {
@@ -48,7 +48,7 @@ fn checked_count(parts: &[Part]) -> usize
     }
 }
 
-/// The digits of the key without its check digit.
+/// Returns the digits of the key without its check digit.
 fn digits_in<'a>(parts: &[Part], value: &'a [u8]) -> &'a [u8]
     ensures { result.now ≡ digits_in parts.now value.now }
 {
@@ -58,14 +58,14 @@ fn digits_in<'a>(parts: &[Part], value: &'a [u8]) -> &'a [u8]
     )
 }
 
-/// What follows the check digit.
+/// Returns the rest of the key after the check digit.
 fn tail_in<'a>(parts: &[Part], value: &'a [u8]) -> &'a [u8]
     ensures { result.now ≡ tail_in parts.now value.now }
 {
     behind(behind_zero(parts, value), checked_count(parts))
 }
 
-/// The number of digits of the piece, by the two lengths of a kind.
+/// Returns the number of digits of the piece, by the two lengths of a kind.
 fn piece_length(further: &[u8]) -> usize
     ensures { result ≡ piece_length further.now }
 {
@@ -75,7 +75,7 @@ fn piece_length(further: &[u8]) -> usize
     }
 }
 
-/// The number of digits of the total, by the two lengths of a kind.
+/// Returns the number of digits of the total, by the two lengths of a kind.
 fn total_length(further: &[u8]) -> usize
     ensures { result ≡ total_length further.now }
 {
@@ -85,14 +85,14 @@ fn total_length(further: &[u8]) -> usize
     }
 }
 
-/// The piece: the first of the digits behind the check digit.
+/// Returns the piece: the first of the digits after the check digit.
 fn piece_in<'a>(parts: &[Part], further: &[u8], value: &'a [u8]) -> &'a [u8]
     ensures { result.now ≡ piece_in parts.now further.now value.now }
 {
     front(tail_in(parts, value), piece_length(further))
 }
 
-/// The total: the digits behind the piece.
+/// Returns the total: the digits after the piece.
 fn total_in<'a>(parts: &[Part], further: &[u8], value: &'a [u8]) -> &'a [u8]
     ensures { result.now ≡ total_in parts.now further.now value.now }
 {
@@ -102,7 +102,7 @@ fn total_in<'a>(parts: &[Part], further: &[u8], value: &'a [u8]) -> &'a [u8]
     )
 }
 
-/// The company prefix.
+/// Returns the company prefix.
 fn prefix_in<'a>(parts: &[Part], lead: u8, gcp: u8, value: &'a [u8]) -> &'a [u8]
     ensures { result.now ≡ prefix_in parts.now lead gcp value.now }
 {
@@ -115,7 +115,7 @@ fn prefix_in<'a>(parts: &[Part], lead: u8, gcp: u8, value: &'a [u8]) -> &'a [u8]
     )
 }
 
-/// The two texts joined.
+/// Returns the two texts joined.
 pub(crate) fn joined(alloc: Global, first: &[u8], others: &[u8]) -> Result<Text, Memory>
     ensures { IfOk result (λ text. text ≡ first.now ++ others.now) }
 {
@@ -124,7 +124,7 @@ pub(crate) fn joined(alloc: Global, first: &[u8], others: &[u8]) -> Result<Text,
     Ok(text)
 }
 
-/// What follows the company prefix: the lead digits, and what is behind them.
+/// Returns the part after the company prefix: the lead digits, and the digits after them.
 fn rest_in<'a>(parts: &[Part], lead: u8, gcp: u8, value: &'a [u8]) -> (&'a [u8], &'a [u8])
     ensures { result.0.now ++ result.1.now ≡ rest_in parts.now lead gcp value.now }
 {
@@ -137,7 +137,7 @@ fn rest_in<'a>(parts: &[Part], lead: u8, gcp: u8, value: &'a [u8]) -> (&'a [u8],
     (front(digits, lead), behind(behind(digits, lead), gcp))
 }
 
-/// The parts of the key of a code.
+/// Returns the parts of the key of a code.
 fn parts_at<'a>(ais: &'a AiTable, code: &[u8]) -> &'a [Part]
     ensures { result.now ≡ parts_at ais.now code.now }
 {
@@ -147,7 +147,7 @@ fn parts_at<'a>(ais: &'a AiTable, code: &[u8]) -> &'a [Part]
     }
 }
 
-/// The text that stands for an absent element of the code.
+/// Returns the text that stands for an absent element of the code.
 fn none_text<'a>(ais: &'a AiTable, code: &[u8]) -> &'a [u8]
     ensures { result.now ≡ none_text ais.now code.now }
 {
@@ -157,21 +157,21 @@ fn none_text<'a>(ais: &'a AiTable, code: &[u8]) -> &'a [u8]
     }
 }
 
-/// The text, where it is not empty.
+/// Returns the text, if it is not empty.
 fn unless_empty(text: &[u8]) -> Option<&[u8]>
     ensures { option_copied result ≡ unless_empty text.now }
 {
     if text.is_empty() { None } else { Some(text) }
 }
 
-/// The first pair with the code.
+/// Returns the first pair with the code.
 fn pair_with<'a>(pairs: &'a [Pair], code: &[u8]) -> Option<&'a Pair>
     ensures { option_copied result ≡ pair_with pairs.now code.now }
 {
     pairs.iter().find(|pair| code == pair.code.as_bytes())
 }
 
-/// The serial, where the identity has one or has no need of it.
+/// Returns the serial, if the identity has one or needs none.
 fn serial_in<'a>(
     ais: &'a AiTable,
     parts: &[Part],
@@ -190,8 +190,8 @@ fn serial_in<'a>(
     }
 }
 
-/// The value of a key of a kind of the set, named by its index, from the company prefix on (TDS 2.0, section 7): what follows
-/// a leading zero and the lead digits, as far as there is anything.
+/// Returns the value of a key of a kind of the set, by the kind's index, from the company prefix on (TDS 2.0, section 7): the
+/// rest after a leading zero and the lead digits, if there is any.
 pub fn value_from_prefix<'a>(set: &TableSet, kind: usize, value: &'a [u8]) -> &'a [u8]
     requires { kind < length set.now.kinds }
     ensures { result.now ≡ value_from_prefix set.now kind value.now }
@@ -201,7 +201,7 @@ pub fn value_from_prefix<'a>(set: &TableSet, kind: usize, value: &'a [u8]) -> &'
     behind(behind_zero(parts, value), usize::from(row.lead))
 }
 
-/// The EPC with a copy of each text.
+/// Returns the EPC with a copy of each text.
 fn copied(alloc: Global, lent: &LentEpc<'_>) -> Result<Epc, Memory>
     ensures { IfOk result (λ epc. epc ≡ lent.now) }
 {
@@ -218,9 +218,9 @@ fn copied(alloc: Global, lent: &LentEpc<'_>) -> Result<Epc, Memory>
     })
 }
 
-/// What an identity says by a kind of the set, named by its index, and the length of the company prefix (TDS 2.0, section
-/// 7): prefix, rest, piece, total and serial, with an empty encoding and no filter. Where the value of the key is too short, so are
-/// they. `MissingSerial` comes exactly where the kind has a serial, the identity lacks it, and no text stands for its
+/// Returns the fields of an identity by a kind of the set, by the kind's index, and the company prefix length (TDS 2.0, section
+/// 7): prefix, reference, piece, total and serial, with an empty encoding and no filter value. If the value of the key is too
+/// short, so are they. Returns `MissingSerial` if and only if the kind has a serial, the identity lacks it, and no text means its
 /// absence.
 pub fn lent_fields_of<'a>(
     set: &'a TableSet,
@@ -253,7 +253,7 @@ pub fn lent_fields_of<'a>(
     })
 }
 
-/// What an identity says by a kind of the set and the length of the company prefix, as by `lent_fields_of`, in texts of its own.
+/// Returns the fields of an identity as `lent_fields_of` does, in owned texts.
 pub fn fields_of(
     alloc: Global,
     set: &TableSet,

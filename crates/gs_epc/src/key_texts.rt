@@ -4,7 +4,7 @@ ghost use Rattle.gs_epc.specs.Layout.{fields_in};
 use crate::epc::Epc;
 use std::marker::Model;
 
-/// What an EPC says of its key, lent: each text as `Epc` has it.
+/// The lent fields of an EPC's key: each text as `Epc` has it.
 #[derive(Drop)]
 pub(crate) struct KeyTexts<'a> {
     pub(crate) prefix: &'a [u8],
@@ -28,7 +28,7 @@ impl<'a> Model for KeyTexts<'a> {
     } };
 }
 
-/// What an EPC says of its key.
+/// Returns the fields of an EPC's key.
 pub(crate) fn texts_in(epc: &Epc) -> KeyTexts<'_>
     ensures { result ≡ fields_in epc.now }
 {

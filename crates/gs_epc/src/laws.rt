@@ -22,19 +22,19 @@ pub fn taking_apart_undoes_laying_out()
         → epc_at set epc.kind identity epc.gcp ≡ Some (record epc { encoding = []; filter = None }) }
 {}
 
-/// Laying out undoes taking apart: where an identity of the set's application identifiers has nothing beside the key of a
-/// kind and its serial, the fields that it is taken apart to, by whatever prefix length, are laid out to that identity.
+/// States that laying out undoes taking apart: if an identity of the set's application identifiers has only the key of a kind and
+/// its serial, the fields that it is taken apart to, by any company prefix length, are laid out to that identity.
 pub fn laying_out_undoes_taking_apart(set: &TableSet)
     ensures { (kind n : ℕ) (row : Kind) (identity : Elements) (epc : Epc)
         → slice_get set.now.kinds kind ≡ Some row → IsOfKind row identity
         → IsMadeWith set.now.ais identity → epc_at set.now kind identity n ≡ Some epc
         → IsLaidOut set.now epc identity }
 {
-    // the proof alone reads it: the rows keep the rules of application identifiers
+    // only for the proof: the rows satisfy the rules of application identifiers
     let _ = set.ais().rows();
 }
 
-/// What is written by tables that are loaded is read as the same fields, by the encoding of the option that wrote.
+/// States that a text that is written by loaded tables is read as the same fields, by the encoding of the option that wrote it.
 pub fn what_is_written_is_read()
     ensures { (set : TableRows) (level : LevelName) (epc : Epc) (text : List ℕ) → IsLoaded set
         → HasFilterOn level epc.filter → (writes : Writes set level epc text)

@@ -16,7 +16,7 @@ use gs_ident::Identity;
 use gs_tables::{Kind, SerialAt, TableSet, are_characters};
 use std::alloc::Global;
 
-/// The leading zero of the key, where its parts begin with one.
+/// Returns the leading zero of the key, if its parts begin with one.
 fn zero_in_front(parts: &[Part]) -> &'static [u8]
     ensures { result.now ≡ zero_in_front parts.now }
 {
@@ -26,7 +26,7 @@ fn zero_in_front(parts: &[Part]) -> &'static [u8]
     }
 }
 
-/// The serial, where it stands in the key's own value.
+/// Returns the serial, if it is in the key's own value.
 fn tail_of_key<'a>(at: &SerialAt, serial: &'a [u8]) -> &'a [u8]
     ensures { result.now ≡ tail_of_key at.now serial.now }
 {
@@ -36,7 +36,7 @@ fn tail_of_key<'a>(at: &SerialAt, serial: &'a [u8]) -> &'a [u8]
     }
 }
 
-/// Appends digits, of which there is at most one as a rule: one takes fewer steps so than as a slice.
+/// Appends digits one by one. There is usually at most one, for which this takes fewer instructions than appending a slice.
 pub(crate) fn push_few(value: &mut Text, digits: &[u8]) -> Result<(), Memory>
     ensures { IfOk result (λ _. value.new ≡ value.old ++ digits.now) }
 {
@@ -58,8 +58,8 @@ fn push_digits(value: &mut Text, lead: u8, prefix: &[u8], rest: &[u8]) -> Result
     Ok(())
 }
 
-/// Appends the digits of a key and their check digit (TDS 2.0, section 7): the lead digits of the rest, the company prefix, and the
-/// other digits of the rest. The one error is out of memory. The digits are 1 to 18, and the lead digits stand in the rest.
+/// Appends the digits of a key and their check digit (TDS 2.0, section 7): the lead digits of the rest, the company prefix, and
+/// the other digits of the rest. Fails only with `Memory`. The digits are 1 to 18, and the lead digits are in the rest.
 pub fn push_checked(value: &mut Text, lead: u8, prefix: &[u8], rest: &[u8]) -> Result<(), Memory>
     requires { AreKeyDigits lead prefix.now rest.now }
     ensures { IfOk result (λ _. value.new ≡ value.old ++ with_check (key_digits lead prefix.now rest.now)) }
@@ -81,7 +81,7 @@ fn push_some(value: &mut Text, text: &[u8]) -> Result<(), Memory>
     value.extend_from_slice(text)
 }
 
-/// Appends what stands behind the check digit: the piece and the total, and the serial where it is the tail.
+/// Appends the rest after the check digit: the piece and the total, and the serial if it is the tail.
 fn push_behind(value: &mut Text, kind: &Kind, texts: &KeyTexts) -> Result<(), Memory>
     ensures { IfOk result (λ _. value.new ≡ value.old ++ behind_check kind.now texts.now) }
 {
@@ -91,7 +91,7 @@ fn push_behind(value: &mut Text, kind: &Kind, texts: &KeyTexts) -> Result<(), Me
     Ok(())
 }
 
-/// The value of a key of digits: a leading zero, the digits with their check digit, and what stands behind it.
+/// Returns the value of a key of digits: a leading zero, the digits with their check digit, and the rest after it.
 fn digits_value(
     alloc: Global,
     parts: &[Part],
@@ -110,7 +110,7 @@ fn digits_value(
     Ok(value)
 }
 
-/// The value of the key, by the parts of its row.
+/// Returns the value of the key, by the parts of its row.
 fn key_value(alloc: Global, ais: &AiTable, kind: &Kind, texts: &KeyTexts) -> Result<Text, Memory>
     requires { FitKind ais.now kind.now texts.now }
     ensures { IfOk result (λ value. value
@@ -126,7 +126,7 @@ fn key_value(alloc: Global, ais: &AiTable, kind: &Kind, texts: &KeyTexts) -> Res
     digits_value(alloc, parts, kind, texts)
 }
 
-/// The pair of a serial that has an element of its own.
+/// Returns the pair of a serial in a separate element.
 fn serial_pair(alloc: Global, at: &SerialAt, serial: &[u8]) -> Result<Option<Pair>, Memory>
     ensures { IfOk result (λ pair. pairs_in pair ≡ serial_pairs at.now serial.now) }
 {
@@ -139,7 +139,7 @@ fn serial_pair(alloc: Global, at: &SerialAt, serial: &[u8]) -> Result<Option<Pai
     }
 }
 
-/// The identity of a key of the kind, and of its serial.
+/// Returns the identity of a key of the kind, and of its serial.
 pub(crate) fn lay_out(
     alloc: Global,
     ais: &AiTable,
@@ -150,7 +150,7 @@ pub(crate) fn lay_out(
     ensures laid { IfOk result (λ identity. identity ≡ lay ais.now kind.now texts.now) }
     ensures with_table { IfOk result (IsMadeWith ais.now) }
 {
-    // the proof alone reads it: the rows keep the rules of application identifiers
+    // only for the proof: the rows satisfy the rules of application identifiers
     let _ = ais.rows();
     let key = Pair {
         code: kind.key.copy(alloc)?,
@@ -160,8 +160,8 @@ pub(crate) fn lay_out(
     Identity::of_key(alloc, ais, key, serial)
 }
 
-/// The identity that an EPC of the set names (TDS 2.0, section 7): the key of its kind, laid out with its check digit, and its
-/// serial. The one error is out of memory. The EPC is one that a reading by the set gave.
+/// Returns the identity that an EPC of the set names (TDS 2.0, section 7): the key of its kind, laid out with its check digit,
+/// and its serial. Fails only with `Memory`. The EPC is one that a reading by the set gave.
 pub fn identity_of(alloc: Global, set: &TableSet, epc: &Epc) -> Result<Identity, Memory>
     requires { IsOfSet set.now epc.now }
     ensures laid { IfOk result (IsLaidOut set.now epc.now) }

@@ -19,7 +19,7 @@ pub struct LentEpc<'a> {
     pub prefix: &'a [u8],
     /// The lead digits of the rest.
     pub lead: &'a [u8],
-    /// What follows them in the rest.
+    /// The rest of the reference after them.
     pub behind: &'a [u8],
     /// The number of the piece, empty for a kind without pieces.
     pub piece: &'a [u8],
@@ -48,7 +48,7 @@ impl<'a> Model for LentEpc<'a> {
     } };
 }
 
-/// An EPC, lent.
+/// Returns an EPC, lent.
 pub(crate) fn lent(epc: &Epc) -> LentEpc<'_>
     ensures { result ≡ epc.now }
 {

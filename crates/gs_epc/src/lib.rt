@@ -1,10 +1,11 @@
-//! EPCs: what tag bits and EPC URIs say by the tables, the identities that they name, and what is written of an identity.
+//! EPCs: the EPC of tag bits and of EPC URIs by the tables, the identity that it names, and the texts that are written of an
+//! identity.
 //!
 //! - `read_hex`, `read_tag` and `read_pure` give the fields of an EPC; `write_hex`, `write_tag` and `write_pure` its text.
 //! - `name_hex`, `name_tag` and `name_pure` give at once the identity that a text names, its filter value and its encoding.
 //! - `identity_of` lays the fields out as a key and its serial number; `fields_of` takes an identity apart. `push_checked` writes
 //!   the digits of a key, for gs_class too.
-//! - `lent_fields_of` and `write_lent` are `fields_of` and `write_level` over texts that are lent, of which none is copied.
+//! - `lent_fields_of` and `write_lent` are `fields_of` and `write_level` over lent texts, without copies.
 //!
 //! # Example
 //!
@@ -16,12 +17,12 @@
 //! sgtin sgtin-96 Some(3) 7 0614141 812345 6789
 //! ```
 //!
-//! # Where it differs from the standard
+//! # Differences from the standard
 //!
 //! - Of GS1 EPC Tag Data Standard 2.0 it has the schemes that the loaded tables have; of the built-in ones no `+` scheme, no raw
 //!   URI and no pattern.
 //! - Hexadecimal digits and the letters of escapes are read in either case, and written in upper case.
-//! - Where several encodings hold an EPC and none is asked for, the first in the order of the tables is written.
+//! - If several encodings hold an EPC and none is requested, the first in the order of the tables is written.
 #![tactic(auto)]
 
 mod candidates;

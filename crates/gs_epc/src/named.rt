@@ -1,7 +1,7 @@
 use gs_chars::Text;
 use gs_ident::Identity;
 
-/// What a tag or an EPC URI names, and what it says beside its key.
+/// The identity that a tag or an EPC URI names, and the facts of its EPC apart from the key.
 #[derive(Drop)]
 pub struct Named {
     /// The identity of the EPC that it says, as from `identity_of`.

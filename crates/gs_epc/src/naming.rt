@@ -18,7 +18,7 @@ use gs_grammar_level::{Reading, read_bits, read_text};
 use gs_tables::{LevelName, OptInfo, TableSet};
 use std::alloc::Global;
 
-/// What the EPC names that an option says by the values of its items. The values are not moved, so no EPC is made.
+/// Returns what an EPC names, given the option and the values of its items. Moves no value, so that no EPC is made.
 fn named_by(
     alloc: Global,
     set: &TableSet,
@@ -43,7 +43,7 @@ fn named_by(
     })
 }
 
-/// What a reading of some symbols in a level names.
+/// Returns what the EPC of a reading of symbols in a level names.
 fn named(
     alloc: Global,
     set: &TableSet,
@@ -64,7 +64,8 @@ fn named(
     }
 }
 
-/// What the bits of a tag name: what `read_hex` and `identity_of` give, in fewer steps. The errors are those of `read_hex`.
+/// Returns what the bits of a tag name: the identity that `read_hex` and `identity_of` give, in fewer steps, with the errors of
+/// `read_hex`.
 pub fn name_hex(alloc: Global, set: &TableSet, text: &[u8]) -> Result<Named, EpcFault>
     ensures names { Names set.now (ReadsHex set.now text.now) result }
     ensures with_table { IfOk result (λ named. IsMadeWith set.now.ais named.identity) }
@@ -76,7 +77,7 @@ pub fn name_hex(alloc: Global, set: &TableSet, text: &[u8]) -> Result<Named, Epc
     }
 }
 
-/// What a text of a level names.
+/// Returns what a text of a level names.
 fn name_level(
     alloc: Global,
     set: &TableSet,
@@ -89,7 +90,8 @@ fn name_level(
     named(alloc, set, level, read_text(alloc, set.level(level), text))
 }
 
-/// What an EPC tag URI names: what `read_tag` and `identity_of` give, in fewer steps. The errors are those of `read_tag`.
+/// Returns what an EPC tag URI names: the identity that `read_tag` and `identity_of` give, in fewer steps, with the errors of
+/// `read_tag`.
 pub fn name_tag(alloc: Global, set: &TableSet, text: &[u8]) -> Result<Named, EpcFault>
     ensures names { Names set.now (ReadsAs set.now LevelName.Tag text.now) result }
     ensures with_table { IfOk result (λ named. IsMadeWith set.now.ais named.identity) }
@@ -97,8 +99,8 @@ pub fn name_tag(alloc: Global, set: &TableSet, text: &[u8]) -> Result<Named, Epc
     name_level(alloc, set, LevelName::Tag, text)
 }
 
-/// What an EPC pure identity URI names: what `read_pure` and `identity_of` give, in fewer steps. The errors are those of
-/// `read_pure`.
+/// Returns what an EPC pure identity URI names: the identity that `read_pure` and `identity_of` give, in fewer steps, with the
+/// errors of `read_pure`.
 pub fn name_pure(alloc: Global, set: &TableSet, text: &[u8]) -> Result<Named, EpcFault>
     ensures names { Names set.now (ReadsAs set.now LevelName.Pure text.now) result }
     ensures with_table { IfOk result (λ named. IsMadeWith set.now.ais named.identity) }

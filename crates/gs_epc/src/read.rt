@@ -12,7 +12,7 @@ use gs_grammar_level::{Reading, read_bits, read_text};
 use gs_tables::{LevelName, TableSet};
 use std::alloc::Global;
 
-/// What a reading of some symbols in a level says.
+/// Returns the EPC of a reading of symbols in a level.
 fn answer(
     alloc: Global,
     set: &TableSet,
@@ -30,8 +30,8 @@ fn answer(
     }
 }
 
-/// What the bits of a tag say, in a text of at most 128 hexadecimal digits of either case (TDS 2.0, section 14). The errors
-/// are tried in this order: the text is no such hexadecimal text; the bits have no derivation in the level of bits.
+/// Reads the bits of a tag, a text of at most 128 hexadecimal digits in either case (TDS 2.0, section 14). The errors are tried
+/// in this order: the text is not such a hexadecimal text; the bits have no derivation in the level of bits.
 pub fn read_hex(alloc: Global, set: &TableSet, text: &[u8]) -> Result<Epc, EpcFault>
     ensures answer { ReadsHex set.now text.now result }
     ensures of_set { IfOk result (IsOfSet set.now) }
@@ -43,7 +43,7 @@ pub fn read_hex(alloc: Global, set: &TableSet, text: &[u8]) -> Result<Epc, EpcFa
     }
 }
 
-/// What a text of a level says.
+/// Reads a text of a level.
 fn read_level(alloc: Global, set: &TableSet, level: LevelName, text: &[u8]) -> Result<Epc, EpcFault>
     ensures answer { ReadsAs set.now level text.now result }
     ensures of_set { IfOk result (IsOfSet set.now) }
@@ -51,8 +51,8 @@ fn read_level(alloc: Global, set: &TableSet, level: LevelName, text: &[u8]) -> R
     answer(alloc, set, level, read_text(alloc, set.level(level), text))
 }
 
-/// What an EPC tag URI says (TDS 2.0, section 12): `NoReading` comes exactly where the text has no derivation in the level
-/// of tag URIs.
+/// Reads an EPC tag URI (TDS 2.0, section 12). Returns `NoReading` if and only if the text has no derivation in the level of tag
+/// URIs.
 pub fn read_tag(alloc: Global, set: &TableSet, text: &[u8]) -> Result<Epc, EpcFault>
     ensures answer { ReadsAs set.now LevelName.Tag text.now result }
     ensures of_set { IfOk result (IsOfSet set.now) }
@@ -60,7 +60,7 @@ pub fn read_tag(alloc: Global, set: &TableSet, text: &[u8]) -> Result<Epc, EpcFa
     read_level(alloc, set, LevelName::Tag, text)
 }
 
-/// What an EPC pure identity URI says (TDS 2.0, section 6): `NoReading` comes exactly where the text has no derivation in the
+/// Reads an EPC pure identity URI (TDS 2.0, section 6). Returns `NoReading` if and only if the text has no derivation in the
 /// level of pure identity URIs.
 pub fn read_pure(alloc: Global, set: &TableSet, text: &[u8]) -> Result<Epc, EpcFault>
     ensures answer { ReadsAs set.now LevelName.Pure text.now result }

@@ -6,7 +6,7 @@ use thiserror::Error;
 /// Why an identity is not taken apart.
 #[derive(Clone, Copy, Debug, Error)]
 pub enum FieldsFault {
-    /// The kind has a serial, the identity lacks it, and no text stands for its absence.
+    /// The kind has a serial, the identity lacks it, and no text means its absence.
     #[error("the identity lacks the serial that its kind has")]
     MissingSerial,
     /// Out of memory.
@@ -28,7 +28,7 @@ impl From<Memory> for FieldsFault {
 /// Why an EPC is not written.
 #[derive(Clone, Copy, Debug)]
 pub enum EpcWriteFault {
-    /// The level has no option of this kind and prefix length and of the encoding that is asked for.
+    /// The level has no option of this kind, company prefix length and requested encoding.
     NoOption,
     /// No such option holds every field. The last one does not hold this field, for this reason.
     CannotHold(Field, Why),

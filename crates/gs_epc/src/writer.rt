@@ -16,7 +16,7 @@ use gs_grammar::{Opt, Why, WriteFault, write_bits, write_text};
 use gs_tables::{Field, LevelName, TableSet};
 use std::alloc::Global;
 
-/// The hexadecimal digits of the bits of an option.
+/// Returns the hexadecimal digits of the bits of an option.
 fn write_digits(alloc: Global, option: &Opt, values: &[Text]) -> Result<Text, WriteFault>
     requires bit_level { option.now.bit_level ≡ true }
     requires one_each { length values.now ≡ length option.now.items }
@@ -25,7 +25,7 @@ fn write_digits(alloc: Global, option: &Opt, values: &[Text]) -> Result<Text, Wr
     ensures held { IsOk result → AreHeld option.now.items values.now }
     ensures rejected { IfErr result (IsWriteFault option.now.items values.now) }
 {
-    // the proof alone reads it: the items keep their bounds
+    // only for the proof: the items are within their bounds
     let _ = option.items();
     let mut bits = BitBuf::<64>::new();
     if let Err(error) = write_bits(option, values, &mut bits) {
@@ -37,7 +37,7 @@ fn write_digits(alloc: Global, option: &Opt, values: &[Text]) -> Result<Text, Wr
     }
 }
 
-/// The text of an option of a level: of bits their hexadecimal digits.
+/// Returns the text of an option of a level: of bits their hexadecimal digits.
 fn write_option(
     alloc: Global,
     level: LevelName,
@@ -57,18 +57,18 @@ fn write_option(
     }
 }
 
-/// The field that an item stands for.
+/// Returns the field that an item stands for.
 fn field_at(fields: &[Option<Field>], item: usize) -> Field
     ensures { result ≡ field_at fields.now item }
 {
     match fields.get(item) {
         Some(Some(field)) => *field,
-        // an item that stands for no field counts as the rest
+        // an item without a field counts as the reference
         _ => Field::Rest,
     }
 }
 
-/// What a candidate writes, or what it does not hold.
+/// Writes an EPC by a candidate, or returns the field that it does not hold.
 fn try_candidate(
     alloc: Global,
     set: &TableSet,
@@ -95,9 +95,9 @@ fn try_candidate(
     }
 }
 
-/// What an EPC is written as by the options of a level: of bits the hexadecimal digits that `write_hex` writes, else the URI that
-/// `write_tag` or `write_pure` writes, with the same errors. The EPC has a filter value, which is at most 7, where the level is
-/// not that of pure identities.
+/// Writes an EPC by the options of a level: for bits the hexadecimal digits that `write_hex` writes, otherwise the URI that
+/// `write_tag` or `write_pure` writes, with the same errors. The EPC has a filter value of at most 7, except for the level of
+/// pure identities.
 pub fn write_lent(
     alloc: Global,
     set: &TableSet,
@@ -127,7 +127,7 @@ pub fn write_lent(
     Err(rejection)
 }
 
-/// What an EPC is written as by the options of a level, as by `write_lent`.
+/// Writes an EPC by the options of a level, as `write_lent` does.
 pub fn write_level(
     alloc: Global,
     set: &TableSet,
@@ -140,11 +140,11 @@ pub fn write_level(
     write_lent(alloc, set, level, &lent(epc))
 }
 
-/// The bits of an EPC in upper-case hexadecimal digits (TDS 2.0, section 14). The candidates are the options of bits of the
-/// EPC's kind and prefix length and, where its encoding is not empty, of that encoding, in their order. The first that holds
-/// every field writes. `NoOption` comes exactly where there is no candidate. `CannotHold` comes exactly where there are some
-/// and none holds every field, and names the first field, in the order of the items, that the last does not hold; a rest or
-/// serial that has no item comes after all items and has to be empty. The EPC has a filter value, which is at most 7.
+/// Returns the bits of an EPC in upper-case hexadecimal digits (TDS 2.0, section 14). The candidates are the options of bits of
+/// the EPC's kind and company prefix length and, if its encoding is not empty, of that encoding, in their order. The first that
+/// holds every field writes. Returns `NoOption` if and only if there is no candidate. Returns `CannotHold` if and only if there
+/// are some and none holds every field; it names the first field, in the order of the items, that the last does not hold. A
+/// reference or serial without an item comes after all items and has to be empty. The EPC has a filter value of at most 7.
 pub fn write_hex(alloc: Global, set: &TableSet, epc: &Epc) -> Result<Text, EpcWriteFault>
     requires { HasFilter epc.now.filter }
     ensures { WritesAs set.now LevelName.Binary epc.now result }
@@ -152,8 +152,8 @@ pub fn write_hex(alloc: Global, set: &TableSet, epc: &Epc) -> Result<Text, EpcWr
     write_level(alloc, set, LevelName::Binary, epc)
 }
 
-/// The EPC tag URI of an EPC (TDS 2.0, section 12), by the options of tag URIs as `write_hex` by those of bits. The EPC has a
-/// filter value, which is at most 7.
+/// Returns the EPC tag URI of an EPC (TDS 2.0, section 12), by the options of tag URIs as `write_hex` by those of bits. The EPC
+/// has a filter value, which is at most 7.
 pub fn write_tag(alloc: Global, set: &TableSet, epc: &Epc) -> Result<Text, EpcWriteFault>
     requires { HasFilter epc.now.filter }
     ensures { WritesAs set.now LevelName.Tag epc.now result }
@@ -161,8 +161,8 @@ pub fn write_tag(alloc: Global, set: &TableSet, epc: &Epc) -> Result<Text, EpcWr
     write_level(alloc, set, LevelName::Tag, epc)
 }
 
-/// The EPC pure identity URI of an EPC (TDS 2.0, section 6), by the options of pure identity URIs as `write_hex` by those
-/// of bits. The encoding and the filter of the EPC say nothing here.
+/// Returns the EPC pure identity URI of an EPC (TDS 2.0, section 6), by the options of pure identity URIs as `write_hex` by those
+/// of bits. The encoding and the filter value of the EPC are not used.
 pub fn write_pure(alloc: Global, set: &TableSet, epc: &Epc) -> Result<Text, EpcWriteFault>
     ensures { WritesAs set.now LevelName.Pure epc.now result }
 {

@@ -1,4 +1,4 @@
--- The derivations of a list of symbols can be counted, where it is decidable of each list whether it is a word.
+-- The derivations of a list of symbols can be counted if it is decidable whether a list is a word.
 use Rattle.std.proofs.Common.{ℕ, ◌≤◌, ◌+◌, ◌⊎◌, List, [], ◌∷◌, ◌++◌, length, take, drop, zero, suc, refl, subst, inl, inr, arith}
 use Rattle.std.proofs.lemmas.List.{append_assoc, append-nil}
 use Rattle.gs_grammar.specs.declared.item.Item.{Item}
@@ -18,7 +18,7 @@ pub record Ways (items : List Item) (w : List ℕ) : Type 0 where
   pub found : Found
   pub finds : Finds items w found
 
--- the ways of the item and then the items, where the item's word is shorter than the cut, counted
+-- the number of ways in which the item and then the items derive the list, with a word of the item shorter than the cut
 record WaysBefore (item : Item) (items : List Item) (w : List ℕ) (cut : ℕ) : Type 0 where
   found : Found
   finds : FindsBefore item items w cut found

@@ -43,7 +43,7 @@ derives_uncons item items w values words d = each_uncons item items w values wor
 each_nil : (values words : List (List ℕ)) → EachWord [] values words → (values ≡ []) × (words ≡ [])
 each_nil values words no_item = (refl, refl)
 
--- no item derives the empty list alone
+-- no items derive only the empty list
 pub derives_nil : (w : List ℕ) (values words : List (List ℕ)) → Derives [] w values words → (w ≡ []) × (values ≡ []) × (words ≡ [])
 derives_nil w values words d =
     let e = each_nil values words d.each in
@@ -104,7 +104,7 @@ two_ways item items w h =
           h.differ (same_place w h.place h.place' h.split.within h.split'.within front) back;
     }
 
--- all splits are shorter than the cut, so what is found before it is what is found
+-- all splits are shorter than the cut, so those found before it are all of them
 pub found_before : (item : Item) (items : List Item) (w : List ℕ) (cut : ℕ) (found : Found) → FindsBefore item items w cut found → ((k : ℕ) → AtCut item items w k → k < cut) → Finds (item ∷ items) w found
 found_before item items w cut Never h bound = λ d.
     let c = to_cut item items w d.values d.words d.derives in
@@ -124,7 +124,7 @@ found_before item items w cut Once h bound =
     }
 found_before item items w cut Twice h bound = two_ways item items w h
 
--- where a split can be
+-- the possible splits
 pub record CutBounds (item : Item) (w : List ℕ) (k : ℕ) : Type 0 where
   pub least : shortest_of item ≤ k
   pub most : k ≤ size_of item
@@ -156,7 +156,7 @@ found_skip item items w cut Once h none =
     }
 found_skip item items w cut Twice h none = h
 
--- the splits at the cut, where its symbols are a word: as many as the items after it have ways
+-- the splits at the cut, if its symbols are a word: as many as the ways of the items after it
 pub at_cut : (item : Item) (items : List Item) (w : List ℕ) (cut : ℕ) → cut ≤ length w → IsWord item (take cut w) → IsDerived items (drop cut w) → AtCut item items w cut
 at_cut item items w cut l h d = record { within = l; value = h.0; word = h.1; values = d.values; words = d.words; rest = d.derives }
 
@@ -206,7 +206,7 @@ found_joined item items w cut Twice more h l word m = h
 derived_nil : (w : List ℕ) → length w ≡ 0 → IsDerived [] w
 derived_nil w h = let o = nil_once w h in record { values = o.values; words = o.words; derives = o.derives }
 
--- where no item is left, the empty list alone is derived
+-- if no item is left, only the empty list is derived
 pub nil_derived : (items : List Item) (w : List ℕ) (b : Bool) → length items ≡ 0 → b ≡ nat_eq (length w) 0 → IsTrue b ↔ IsDerived items w
 nil_derived items w true h e = rw (nil_from_length items h) (λ _. derived_nil w (grind (arith, nat_tests)), λ _. refl)
 nil_derived items w false h e = rw (nil_from_length items h) (λ t. let f : false ≡ true = t in cc, λ d. absurd (nil_never w (grind (arith, nat_tests)) d))
@@ -272,7 +272,7 @@ first_item items item others e h = All-head IsItem item others (rw e at h)
 pub other_items : (items : List Item) (item : Item) (others : List Item) → items ≡ item ∷ others → All IsItem items → All IsItem others
 other_items items item others e h = All-tail IsItem item others (rw e at h)
 
--- the numbers so far, where the items to come derive the rest
+-- the numbers so far, if the items to come derive the rest
 pub record Tallies (items : List Item) (w : List ℕ) (left : List Item) (rest : List ℕ) (numbers : List ℕ) : Type 0 where
   pub back : (values words : List (List ℕ)) → Derives left rest values words → HasNumbers items w (numbers ++ numbers_of_words left words)
   pub derived : IsDerived left rest

@@ -104,7 +104,7 @@ small_word (NumStr bits hi) value w i h = rw h.2.written (small_bits _ (AreBits-
 small_word (Ascii7 lo hi bits) value w i h = rw h.1.packed (All-append (λ s. s < 128) _ _ (small_packed value) (small_zeros h.1.padding))
 small_word (Fill a b) value w i h = elim h.1 as (λ _. AreSmall w) [ inl e ↦ rw e (small_zeros a) | inr e ↦ rw e (small_zeros b) ]
 
--- ---- what is derived is short, and its symbols are small
+-- ---- a derived list is short, and its symbols are small
 
 record IsWithin (n : ℕ) (w : List ℕ) : Type 0 where
   short : length w ≤ n
@@ -250,7 +250,7 @@ share_known level items i j = elim (search (sizes level) (ShareList level i j) (
 
 -- ---- the first pair
 
--- the least number below n of which the fact holds
+-- the least number below n with the property
 record Least (n : ℕ) (P : ℕ → Type 0) : Type 0 where
   k : ℕ
   holds : P k
@@ -266,7 +266,7 @@ least (suc n) P decide = elim (least n P decide) as (λ _. Least (suc n) P ⊎ (
   ]
 ]
 
--- option j stands at or behind i, and they share a list
+-- option j is at or after i, and they share a list
 abbrev SharesBehind : List (List Item) → ℕ → ℕ → Type 0
 SharesBehind level i j = (i ≤ j) × Share level i j
 

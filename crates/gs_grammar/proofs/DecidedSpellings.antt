@@ -18,7 +18,7 @@ known false fact d = inr (λ h. let f : false ≡ true = d.1 h in cc)
 pub same_list : (w v : List ℕ) → (w ≡ v) ⊎ (w ≡ v → ⊥)
 same_list w v = known (bytes_eq w v) (w ≡ v) (bytes_eq-Decides w v)
 
--- the spelling at the start of a list, where it has one
+-- the spelling at the start of a list, if it has one
 record Front (w : List ℕ) : Type 0 where
   c : ℕ
   len : ℕ

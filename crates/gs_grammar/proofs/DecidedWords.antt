@@ -18,7 +18,7 @@ use Rattle.gs_grammar.proofs.DecidedSpellings.{known, same_list, spelled_decided
 use Rattle.gs_grammar.specs.Counts.{Counted}
 use Rattle.gs_grammar.proofs.CountLemmas.{IsDecided, count_level}
 
--- the list is a word of the item, or it is none
+-- the list is a word of the item, or it is not
 abbrev IsKnownWord : Item → List ℕ → Type 0
 IsKnownWord item w = IsWord item w ⊎ (IsWord item w → ⊥)
 
@@ -107,7 +107,7 @@ num_decided bits greatest w = elim (number_decided bits w) as (λ _. IsKnownWord
   | inr none ↦ inr (λ h. none h.1.0 h.1.1.1)
 ]
 
--- the digits of the number are a 1 and from 1 to so many behind it, or they are not
+-- the digits of the number are a 1 and from 1 to that many after it, or they are not
 abbrev IsSomeOne : ℕ → ℕ → Type 0
 IsSomeOne hi number = (count : ℕ) × ((1 ≤ count) × (count ≤ hi) × IsOneBehind count number)
 

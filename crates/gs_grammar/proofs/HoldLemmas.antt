@@ -193,7 +193,7 @@ word_held (Ascii7 lo hi bits) value w i h =
     reason_none (not (are_in_set82 value)) (not (is_between lo hi (length value) && leb (7 * length value) bits)) false false (not_true (are_in_set82 value) h.1.characters) (not_true (is_between lo hi (length value) && leb (7 * length value) bits) (rw (between, fits) refl)) refl refl
 word_held (Fill a b) value w i h = reason_none false (not (eqb (length value) 0)) false false refl (count_is value 0 (ap length h.0)) refl refl
 
--- an answer by reasons tells whether there is a word
+-- a result by reasons decides whether there is a word
 pub holds_word : (item : Item) (value : List ℕ) (result : Result (Unit {0}) Why) → greatest_of item < 2 ^ 64 → MatchResult result (λ _. why_not item value ≡ None) (λ why. why_not item value ≡ Some why) → IsOk result ↔ ((w : List ℕ) × Word item value w)
 holds_word item value (Ok u) i h = (λ _. (written_word item value, held_word item value i h), λ _. refl)
 holds_word item value (Err why) i h = (λ f. absurd (let x : false ≡ true = f in cc), λ w. let n = word_held item value w.0 i w.1 in let f : Some why ≡ None = sym h ∙ n in cc)

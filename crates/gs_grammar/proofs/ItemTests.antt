@@ -1,4 +1,4 @@
--- What the reader tests of a list of symbols tells whether it is a word of an item, and which value the word has.
+-- The reader's tests of a list of symbols decide whether it is a word of an item, and the value of the word.
 use Rattle.std.proofs.Common.{◌≡◌, ◌↔◌, ℕ, ◌<◌, ◌≤◌, ◌-◌, ◌^◌, ◌∷◌, ◌&&◌, ◌⊎◌, Bool, true, false, IsTrue, nat_eq, Option, Some, None, IfSome, IfNone, List, length, take, refl, sym, ◌∙◌, ap, arith, leb, decimal, inl, inr}
 use Rattle.std.proofs.lemmas.Bool.{leb-true, le-leb}
 use Rattle.std.proofs.lemmas.List.{length-take-le}
@@ -54,7 +54,7 @@ digits_test lo hi w answer e =
     ) in
     of_language (Digits lo hi) w answer both
 
--- digits behind a 1
+-- digits after a 1
 
 pub numstr_some : (bits hi count number : ℕ) (w : List ℕ) → 1 ≤ count → count ≤ hi → IsOneBehind count number → WritesNumber bits number w → IsWord (NumStr bits hi) w
 numstr_some bits hi count number w l m d e = (language_is (NumStr bits hi) w).1 (record { count = count; number = number; least = l; most = m; digits = d; written = e })
@@ -185,7 +185,7 @@ num_value item bits greatest number w out i h e t =
 abbrev pub IsBits : Item → ℕ → Type 0
 IsBits item bits = ((n : ℕ) × (item ≡ NumPad bits n)) ⊎ ((greatest : ℕ) × (item ≡ Num bits greatest))
 
--- or of digits behind a 1
+-- or of digits after a 1
 abbrev pub IsNumber : Item → ℕ → Type 0
 IsNumber item bits = ((n : ℕ) × (item ≡ NumPad bits n)) ⊎ (((greatest : ℕ) × (item ≡ Num bits greatest)) ⊎ ((hi : ℕ) × (item ≡ NumStr bits hi)))
 
@@ -248,7 +248,7 @@ ascii_value item lo hi bits w out i h p =
 pub ascii_unpacked : (lo hi bits : ℕ) (w out : List ℕ) (answer : Bool) → (IsTrue answer ↔ IsWord (Ascii7 lo hi bits) w) → answer ≡ true → IsPacked out w → Word (Ascii7 lo hi bits) out w
 ascii_unpacked lo hi bits w out answer e t p = ascii_value (Ascii7 lo hi bits) lo hi bits w out refl (e.0 t) p
 
--- a list is a word exactly where a reader finds what the word is
+-- a list is a word if and only if a reader finds what the word is
 
 known_none : (item : Item) (w : List ℕ) (answer : Bool) → answer ≡ false → (IsWord item w → ⊥) → IsTrue answer ↔ IsWord item w
 known_none item w answer e none = (λ t. absurd (let f : false ≡ true = sym e ∙ t in cc), λ i. absurd (none i))

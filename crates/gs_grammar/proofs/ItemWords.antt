@@ -1,4 +1,4 @@
--- The words of each item, without their values: laws over the definitions of words alone.
+-- The words of each item, without their values: laws over only the definitions of words.
 use Rattle.std.proofs.Common.{◌≡◌, ◌↔◌, ℕ, ◌<◌, ◌^◌, ◌⊎◌, IsTrue, List, [], ◌∷◌, length, refl, sym, ◌∙◌, ap, arith, decimal, replicate}
 use Rattle.gs_chars.specs.Characters.{are_digits}
 use Rattle.gs_grammar.specs.declared.item.Item.{Item}

@@ -15,12 +15,12 @@ use Rattle.gs_grammar.specs.NumeralsSupport.{IsPadded}
 pub own : IsNumeralModel (λ ds. are_digits ds ≡ true) decimal_value
 own = numerals_by_weight _ (search rules) decimal_value (search rules)
 
--- the number that decimal digits write behind another number
+-- the number that decimal digits write after another number
 abbrev pub value_after : ℕ → List ℕ → ℕ
 value_after number [] = number
 value_after number (digit ∷ digits) = value_after (10 * number + (digit - 48)) digits
 
--- digits behind a number count as much as they do alone
+-- the decimal value of digits after a number
 pub after_is : (number : ℕ) (digits : List ℕ) → value_after number digits ≡ number * 10 ^ length digits + decimal_value digits
 after_is number [] = omega arith
 after_is number (digit ∷ digits) =
@@ -182,7 +182,7 @@ padded_from n number (suc place) digits p = padded_from n number place (digits +
 pub some_padded : (n number : ℕ) → number < 10 ^ n → (digits : List ℕ) × IsPadded n number digits
 some_padded n number h = let r = padded_from n number n [] (pads_start n number h) in (r.0, pads_end n number r.0 r.1)
 
--- the last digits of a number, written behind a place of a list, and the number before them
+-- the last digits of a number, written after a place of a list, and the number before them
 pub record Fills (n number place left : ℕ) (digits : List ℕ) : Type 0 where
   pub back : List ℕ
   pub behind : List ℕ
@@ -216,14 +216,14 @@ fills_step n number place left digits low f =
           rw (power, plain) (fills_value left (10 ^ length f.back) (decimal_value f.back) number f.value);
     }
 
--- the whole number, where nothing of it is left
+-- the whole number, if nothing of it is left
 pub fills_end : (n number : ℕ) (digits : List ℕ) → Fills n number 0 0 digits → IsPadded n number (take n digits)
 fills_end n number digits f =
     let long : length f.back ≡ n = let c = f.count in omega arith in
     let front : take n digits ≡ f.back = rw f.shape (take_at f.back f.behind n long) in
     rw front (record { count = long; all_digits = f.all_digits; value = let v = f.value in omega arith })
 
--- a number of which something is left has more digits
+-- a number has more digits if something of it is left
 pub fills_more : (n number left : ℕ) (digits : List ℕ) → Fills n number 0 left digits → 0 < left → 10 ^ n ≤ number
 fills_more n number left digits f some =
     let long : length f.back ≡ n = let c = f.count in omega arith in

@@ -31,7 +31,7 @@ one_reading level w option option' values values' one other =
     let same = same_values d.items e.items d.values e.values d.words e.words items s.words d.derives.each e.derives.each in
     (sym one.of_option ∙ sym s.option ∙ other.of_option, sym one.of_values ∙ same ∙ other.of_values)
 
--- beside the only derivation there are not two
+-- a list with only one derivation does not have two
 pub not_two : (level : List (List Item)) (w : List ℕ) (option : ℕ) (values : List (List ℕ)) → OneDerivation level w option values → TwoDerivations level w → ⊥
 not_two level w option values one two =
     let a = one.only two.one in

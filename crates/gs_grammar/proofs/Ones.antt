@@ -1,4 +1,4 @@
--- Numbers whose digits are a 1 and others behind it.
+-- Numbers whose digits are a 1 and others after it.
 use Rattle.std.proofs.Common.{◌≡◌, ℕ, ◌<◌, ◌≤◌, ◌+◌, ◌-◌, ◌*◌, ◌^◌, ◌⊎◌, IsTrue, List, ◌∷◌, length, inl, inr, refl, sym, ◌∙◌, ap, suc, add-one, arith, decimal}
 use Rattle.std.proofs.Math.Nat.{pow-le-pow_right, pow-succ', one-le-pow}
 use Rattle.std.proofs.lemmas.Bool.{cases_lt, cases_eq}
@@ -14,11 +14,11 @@ behind_zero digits = omega arith
 pub behind_one : (digits : List ℕ) → number_behind 1 digits ≡ decimal_value (49 ∷ digits)
 behind_one digits = omega arith
 
--- digits behind a 1 write a number of that many digits behind a 1
+-- digits after a 1 write a number of that many digits after a 1
 pub one_behind : (digits : List ℕ) → IsTrue (are_digits digits) → IsOneBehind (length digits) (decimal_value (49 ∷ digits))
 one_behind digits d = let b = value_below digits (length digits) d refl in record { from = omega arith; below = omega arith }
 
--- two powers of ten, of which one is not above the number and the other not ten times below it
+-- two powers of ten: one is at most the number, and ten times the other is above it
 order : (j k number : ℕ) → 10 ^ j ≤ number → number < 10 * 10 ^ k → j ≤ k
 order j k number a b = elim (cases_lt k j) as (λ _. j ≤ k) [
   | inl l ↦ absurd (
@@ -29,7 +29,7 @@ order j k number a b = elim (cases_lt k j) as (λ _. j ≤ k) [
   | inr g ↦ g
 ]
 
--- a number has one count of digits behind a 1
+-- a number has one count of digits after a 1
 pub same_count : (j k number : ℕ) → 10 ^ j ≤ number → number < 10 * 10 ^ j → IsOneBehind k number → j ≡ k
 same_count j k number a b h =
     let from = h.from in
@@ -38,7 +38,7 @@ same_count j k number a b h =
     let high = order k j number from b in
     omega arith
 
--- the digits behind a 1 are fixed by the number
+-- the digits after a 1 are fixed by the number
 pub same_behind : (xs ys : List ℕ) → IsTrue (are_digits xs) → IsTrue (are_digits ys) → decimal_value (49 ∷ xs) ≡ decimal_value (49 ∷ ys) → xs ≡ ys
 same_behind xs ys a b e =
     let x = one_behind xs a in
@@ -49,7 +49,7 @@ same_behind xs ys a b e =
     let power : 10 ^ length xs ≡ 10 ^ length ys = ap (λ (k : ℕ). 10 ^ k) count in
     same_digits xs ys count a b (omega arith)
 
--- the digits behind the 1 of a number
+-- the digits after the 1 of a number
 pub padded_behind : (count number : ℕ) (digits : List ℕ) → IsOneBehind count number → IsPadded count (number - 10 ^ count) digits → decimal_value (49 ∷ digits) ≡ number
 padded_behind count number digits h p =
     let from = h.from in
@@ -63,7 +63,7 @@ behind_small count number h = let below = h.below in let some = one-le-pow count
 pub some_behind : (count number : ℕ) → IsOneBehind count number → (digits : List ℕ) × IsPadded count (number - 10 ^ count) digits
 some_behind count number h = some_padded count (number - 10 ^ count) (behind_small count number h)
 
--- a number of no digit, or of too many, is no 1 and from 1 to so many digits behind it
+-- a number of no digits, or of too many, is not a 1 followed by 1 to that many digits
 pub none_behind : (power most number : ℕ) → (0 < number → 10 ^ power ≤ number) → number < 10 * 10 ^ power → ((1 ≤ power) → (power ≤ most) → number < 2 * 10 ^ power → ⊥) → (count : ℕ) → 1 ≤ count → count ≤ most → IsOneBehind count number → ⊥
 none_behind power most number a b none count c d h =
     let from = h.from in

@@ -97,7 +97,7 @@ one_and_last level items w d e =
       differ = λ s. let b = slice_get_within level d.option d.items d.of_level in let o = s.option in omega arith;
     }
 
--- two derivations stay two where more options follow
+-- two derivations remain two if more options follow
 pub still_two : (level more : List (List Item)) (w : List ℕ) → TwoDerivations level w → TwoDerivations (level ++ more) w
 still_two level more w t =
     record {

@@ -85,7 +85,7 @@ zeros_number (x ∷ xs) h =
 code_number : (c : ℕ) → c < 128 → number_of (bits_of 7 c) ≡ c
 code_number c h = number_of-bits_of 7 c ∙ mod-eq_of_lt h
 
--- zeros begin with no code but 0
+-- zeros begin only with the code 0
 zeros_no_code : (p c : ℕ) (rest : List ℕ) → 0 < c → c < 128 → replicate p 0 ≡ bits_of 7 c ++ rest → ⊥
 zeros_no_code p c rest h k e =
     let front : take 7 (replicate p 0) ≡ bits_of 7 c = ap (take 7) e ∙ take_at (bits_of 7 c) rest 7 (length-bits_of 7 c) in
@@ -103,7 +103,7 @@ same_code c d x y h k e =
 split_front : (c p : ℕ) (v : List ℕ) → flat_map (bits_of 7) (c ∷ v) ++ replicate p 0 ≡ bits_of 7 c ++ (flat_map (bits_of 7) v ++ replicate p 0)
 split_front c p v = append_assoc (bits_of 7 c) (flat_map (bits_of 7) v) (replicate p 0)
 
--- what begins with a code goes on with the rest of the value
+-- a list that begins with a code goes on with the rest of the value
 pub record PackGoesOn (u : List ℕ) (c : ℕ) (rest : List ℕ) : Type 0 where
   pub value : List ℕ
   pub whole : u ≡ c ∷ value

@@ -1,4 +1,4 @@
--- Numbers that have room in so many bits.
+-- Numbers that have room in that many bits.
 use Rattle.std.proofs.Common.{◌≡◌, ℕ, ◌<◌, ◌≤◌, ◌+◌, ◌-◌, ◌*◌, ◌^◌, ◌%◌, leb, ltb, eqb, false, arith}
 use Rattle.std.proofs.Math.Pow.{pow_mono}
 use Rattle.std.proofs.lemmas.Nat.{pow-add}
@@ -9,7 +9,7 @@ room_of_64 number bits h small =
     let power : 2 ^ 64 ≤ 2 ^ bits = pow_mono h in
     grind (arith, nat_tests)
 
--- a number of two parts, the higher of which is not 0
+-- a number of two parts; the higher part is not 0
 pub no_low_room : (number high low bits : ℕ) → 2 ^ 128 * high + low ≡ number → bits < 128 → (high ≡ 0 → ⊥) → eqb high 0 ≡ ltb number (2 ^ bits)
 no_low_room number high low bits e b h =
     let power : 2 ^ bits ≤ 2 ^ 128 = pow_mono {i = bits} {j = 128} (omega arith) in

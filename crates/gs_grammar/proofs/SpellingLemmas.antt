@@ -10,7 +10,7 @@ pub spelling_bounds : (c : ℕ) (s : List ℕ) → Spells c s → (0 < length s)
 spelling_bounds c s (inl p) = rw p.1 (omega arith, omega arith)
 spelling_bounds c s (inr q) = rw q.1.text (omega arith, omega arith)
 
--- what begins with a spelling goes on with the rest of the value
+-- a list that begins with a spelling goes on with the rest of the value
 pub record GoesOn (u : List ℕ) (c : ℕ) (rest : List ℕ) : Type 0 where
   pub value : List ℕ
   pub whole : u ≡ c ∷ value
@@ -68,7 +68,7 @@ pub record RestOf (u rest : List ℕ) (n : ℕ) : Type 0 where
   pub spelled : SpellsEach value rest
   pub count : length u ≡ n + length value
 
--- what a count of n characters says, where the rest is still to come
+-- the facts of a count of n characters, with the rest still to come
 pub record Counts (w rest : List ℕ) (n : ℕ) : Type 0 where
   pub back : (v : List ℕ) → SpellsEach v rest → SpellsMany (n + length v) w
   pub forth : (u : List ℕ) → SpellsEach u w → RestOf u rest n
@@ -131,7 +131,7 @@ gathers_end w rest out k e =
 pub gathers_none : (w rest out : List ℕ) → Gathers w rest out → 0 < length rest → ((c len : ℕ) → BeginsWithSpelling rest c len → ⊥) → (u : List ℕ) → SpellsEach u w → ⊥
 gathers_none w rest out k = counts_none w rest (length out) k.counts
 
--- a value has more characters than those so far, where the rest is not empty
+-- a value has more characters than those so far if the rest is not empty
 pub gathers_more : (w rest out : List ℕ) (count : ℕ) → Gathers w rest (take count out) → length out ≡ 64 → count ≡ 64 → 0 < length rest → (u : List ℕ) → length u ≤ 64 → SpellsEach u w → ⊥
 gathers_more w rest out count k room full some u few s =
     let r = k.counts.forth u s in

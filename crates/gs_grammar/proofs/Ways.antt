@@ -23,7 +23,7 @@ Finds items w Never = IsDerived items w → ⊥
 Finds items w Once = OneWay items w
 Finds items w Twice = TwoWays items w
 
--- two splits are one where they are cut at one place and go on with the same words
+-- two splits are equal if they are cut at one place and go on with the same words
 pub record OneCut (item : Item) (items : List Item) (w : List ℕ) (cut : ℕ) : Type 0 where
   pub place : ℕ
   pub before : place < cut
@@ -38,7 +38,7 @@ pub record TwoCuts (item : Item) (items : List Item) (w : List ℕ) : Type 0 whe
   pub split' : AtCut item items w place'
   pub differ : place ≡ place' → split.words ≡ split'.words → ⊥
 
--- in how many ways the item and then the items derive the list, where the item's word is shorter than the cut
+-- the number of ways in which the item and then the items derive the list, with a word of the item shorter than the cut
 abbrev pub FindsBefore : Item → List Item → List ℕ → ℕ → Found → Type 0
 FindsBefore item items w cut Never = (k : ℕ) → k < cut → AtCut item items w k → ⊥
 FindsBefore item items w cut Once = OneCut item items w cut

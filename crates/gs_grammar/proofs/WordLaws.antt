@@ -38,7 +38,7 @@ pub of_level : (bit_level : Bool) (item : Item) → is_in_bounds bit_level item 
 of_level true item h = rw h refl
 of_level false item h = or_true (is_in_bounds true item) (is_in_bounds false item) h
 
--- where none is bad, each is an item
+-- if none is bad, each is an item
 in_bounds_of : (bit_level : Bool) (item : Item) → is_bad bit_level item ≡ false → is_in_bounds bit_level item ≡ true
 in_bounds_of bit_level item h = grind (arith, nat_tests)
 
@@ -128,7 +128,7 @@ word_length (Fill a b) value w i h =
       | inr e ↦ let m = ap length e ∙ length-replicate b 0 in (omega arith, omega arith)
     ]
 
--- the fewest symbols of a word of an item that keeps its bounds are at least one
+-- the fewest symbols of a word of an item that is within its bounds are at least one
 at_least_one : (bit_level : Bool) (item : Item) → is_in_bounds bit_level item ≡ true → 1 ≤ shortest_of item
 at_least_one bit_level (Lit literal) h = grind (arith, nat_tests)
 at_least_one bit_level (Pad n) h = grind (arith, nat_tests)

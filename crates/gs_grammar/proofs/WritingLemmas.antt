@@ -1,4 +1,4 @@
--- What is written of the values of an option, word by word.
+-- The written values of an option, word by word.
 use Rattle.std.proofs.Common.{◌≡◌, ℕ, ◌<◌, ◌≤◌, ◌+◌, ◌-◌, ◌*◌, ◌^◌, suc, Bool, true, List, [], ◌∷◌, ◌++◌, length, get_or, drop, replicate, Some, None, refl, sym, ◌∙◌, ap, subst, arith, All, inl, inr, length-append}
 use Rattle.std.specs.List.{AllPass, flat_map, list_all, position, slice_get}
 use Rattle.std.proofs.Math.Pow.{pow_mono}
@@ -140,7 +140,7 @@ bits_all (b ∷ symbols) h =
     let p = and_parts (is_symbol true b) (list_all (is_symbol true) symbols) h in
     All-cons (λ b. b < 2) b symbols (ltb-true b 2 p.0) (bits_all symbols p.1)
 
--- what a bit item says of a value that it holds
+-- the facts of a bit item and a value that it holds
 
 pub lit_bits : (item : Item) (literal : List ℕ) → item ≡ Lit literal → is_in_bounds true item ≡ true → AreBits literal
 lit_bits item literal i b =

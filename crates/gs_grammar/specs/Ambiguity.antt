@@ -16,8 +16,8 @@ pub record IsAmbiguous (level : List (List Item)) : Type 0 where
 abbrev pub IsUnambiguous : List (List Item) → Type 0
 IsUnambiguous level = IsAmbiguous level → ⊥
 
--- trusted, own: The two options share the list: it has a derivation by each. Two derivations by different options are
--- different; an option shares a list with itself where the list has two different derivations by it.
+-- trusted, own: Holds if the two options share the list: it has a derivation by each. Two derivations by different options are
+-- different; an option shares a list with itself if the list has two different derivations by it.
 pub record ShareList (level : List (List Item)) (i j : ℕ) (w : List ℕ) : Type 0 where
   pub one : Derivation level w
   pub other : Derivation level w
@@ -25,12 +25,12 @@ pub record ShareList (level : List (List Item)) (i j : ℕ) (w : List ℕ) : Typ
   pub by_other : other.option ≡ j
   pub differ : AreSame level w one other → ⊥
 
--- trusted, own: a text that shows symbols: the bytes `0` and `1` for the numbers of a bit level, and the symbols of any
--- other as they are
+-- trusted, own: the text of symbols: the bytes `0` and `1` for the numbers of a bit level, and the symbols themselves for any
+-- other level
 abbrev pub shown_symbols : Bool → List ℕ → List ℕ
 shown_symbols bit_level w = if bit_level then map (λ bit. bit + 48) w else w
 
--- trusted, own: the pair k, l stands before the pair i, j: in the order of the first option, and then of the second
+-- trusted, own: the pair k, l is before the pair i, j: in the order of the first option, and then of the second
 abbrev pub StandsBefore : ℕ → ℕ → ℕ → ℕ → Type 0
 StandsBefore k l i j = (k < i) ⊎ ((k ≡ i) × (l < j))
 
@@ -47,7 +47,7 @@ pub record HasFirstShare (level : List (List Item)) : Type 0 where
   pub w : List ℕ
   pub share : IsFirstShare level i j w
 
--- trusted, own: each item of each option keeps its bounds
+-- trusted, own: each item of each option is within its bounds
 abbrev pub AreItems : List (List Item) → Type 0
 AreItems level = (k : ℕ) (items : List Item) → slice_get level k ≡ Some items → All IsItem items
 

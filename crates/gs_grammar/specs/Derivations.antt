@@ -33,7 +33,7 @@ pub record HasNumbers (items : List Item) (w numbers : List ℕ) : Type 0 where
   pub derives : Derives items w values words
   pub numbers_are : numbers ≡ numbers_of_words items words
 
--- trusted, own: the answer whether the items derive the list: where they do, by words of these numbers
+-- trusted, own: holds if the result says whether the items derive the list, and if they do, by words of these numbers
 abbrev pub GivesNumbers : Bool → List Item → List ℕ → List ℕ → Type 0
 GivesNumbers answer items w numbers = MatchBool answer (HasNumbers items w numbers) (IsDerived items w → ⊥)
 
@@ -47,7 +47,7 @@ pub record Derivation (level : List (List Item)) (w : List ℕ) : Type 0 where
   pub of_level : slice_get level option ≡ Some items
   pub derives : Derives items w values words
 
--- trusted, own: two derivations are one where the option and the words are the same
+-- trusted, own: holds if two derivations have the same option and the same words
 pub record AreSame (level : List (List Item)) (w : List ℕ) (one other : Derivation level w) : Type 0 where
   pub option : one.option ≡ other.option
   pub words : one.words ≡ other.words

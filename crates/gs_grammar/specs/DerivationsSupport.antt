@@ -1,4 +1,4 @@
--- What proofs and private functions say beside the definitions of Derivations.antt.
+-- Definitions for proofs and private functions, in addition to Derivations.antt.
 use Rattle.std.specs.Prelude.{◌≡◌, ℕ, List}
 use Rattle.gs_grammar.specs.declared.item.Item.{Item}
 use Rattle.gs_grammar.specs.Derivations.{Derives}
@@ -8,7 +8,7 @@ pub record HasValues (items : List Item) (w : List ℕ) (values : List (List ℕ
   pub words : List (List ℕ)
   pub derives : Derives items w values words
 
--- the items derive the list in one way alone
+-- the items derive the list in only one way
 pub record OneWay (items : List Item) (w : List ℕ) : Type 0 where
   pub values : List (List ℕ)
   pub words : List (List ℕ)

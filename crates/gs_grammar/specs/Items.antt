@@ -14,7 +14,7 @@ is_symbol false c = is_visible c
 abbrev pub is_between : ℕ → ℕ → ℕ → Bool
 is_between low high n = nat_le low n && nat_le n high
 
--- trusted, own bounds: an item is one of the level and keeps its bounds
+-- trusted, own bounds: an item is one of the level and is within its bounds
 abbrev pub is_in_bounds : Bool → Item → Bool
 is_in_bounds bit_level (Lit literal) = is_between 1 64 (length literal) && list_all (is_symbol bit_level) literal
 is_in_bounds bit_level (Pad n) = not bit_level && is_between 1 18 n
@@ -31,7 +31,7 @@ is_in_bounds bit_level (Fill a b) = bit_level && nat_le 1 a && nat_le a b && nat
 abbrev pub is_bad : Bool → Item → Bool
 is_bad bit_level item = not (is_in_bounds bit_level item)
 
--- trusted, own bounds: an item keeps its bounds, on a level of its kind
+-- trusted, own bounds: an item is within its bounds, on a level of its kind
 abbrev pub IsItem : Item → Type 0
 IsItem item = IsTrue (is_in_bounds true item || is_in_bounds false item)
 
@@ -48,7 +48,7 @@ size_of (NumStr bits hi) = bits
 size_of (Ascii7 lo hi bits) = bits
 size_of (Fill a b) = b
 
--- trusted, own: the fewest symbols that a word of the item has: as many as the most, where all words have one length
+-- trusted, own: the fewest symbols of a word of the item: as many as the most, if all words have one length
 abbrev pub shortest_of : Item → ℕ
 shortest_of (Digits lo hi) = lo
 shortest_of (Int most) = 1

@@ -1,4 +1,4 @@
--- What proofs and private functions say beside the definitions of Items.antt.
+-- Definitions for proofs and private functions, in addition to Items.antt.
 use Rattle.std.specs.Prelude.{ℕ}
 use Rattle.gs_grammar.specs.declared.item.Item.{Item}
 use Rattle.gs_grammar.specs.declared.item.Item.TheVariants.{Int, Num}

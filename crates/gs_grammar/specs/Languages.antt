@@ -19,24 +19,24 @@ pub record PacksWithin (lo hi : ℕ) (w : List ℕ) : Type 0 where
   pub least : lo ≤ count
   pub most : count ≤ hi
 
--- trusted, own: the list is a number up to the greatest, in so many bits
+-- trusted, own: the list is a number up to the greatest, in that many bits
 pub record IsNumberWithin (bits greatest : ℕ) (w : List ℕ) : Type 0 where
   pub number : ℕ
   pub small : number ≤ greatest
   pub written : WritesNumber bits number w
 
--- trusted, own: the list is a number of at most n digits, in so many bits
+-- trusted, own: the list is a number of at most n digits, in that many bits
 pub record IsNumberOfDigits (bits n : ℕ) (w : List ℕ) : Type 0 where
   pub number : ℕ
   pub small : number < 10 ^ n
   pub written : WritesNumber bits number w
 
--- trusted, own: the digits of the number are a 1 and so many behind it
+-- trusted, own: the digits of the number are a 1 and that many after it
 pub record IsOneBehind (count number : ℕ) : Type 0 where
   pub from : 10 ^ count ≤ number
   pub below : number < 2 * 10 ^ count
 
--- trusted, own: the list is a number whose digits are a 1 and from 1 to hi behind it, in so many bits
+-- trusted, own: the list is a number whose digits are a 1 and from 1 to hi after it, in that many bits
 pub record IsOneAndDigits (bits hi : ℕ) (w : List ℕ) : Type 0 where
   pub count : ℕ
   pub number : ℕ

@@ -1,4 +1,4 @@
--- Laws of words, of what is written and of derivations, each of all items and of all levels. A function of src/laws.rt proves each.
+-- Laws of words, of written values and of derivations, for all items and all levels. A function of src/laws.rt proves each.
 use Rattle.std.specs.Prelude.{◌≡◌, ◌<◌, ◌^◌, ◌∷◌, ℕ, All, Bool, List, IsTrue, Some, length, slice_get}
 use Rattle.gs_grammar.specs.declared.item.Item.{Item}
 use Rattle.gs_grammar.specs.declared.item.Item.TheVariants.{NumPad, Num, NumStr}
@@ -16,29 +16,29 @@ WordFixesValue = (item : Item) (value other w : List ℕ) → Word item value w 
 abbrev pub DigitsWriteTheirNumber : Type 0
 DigitsWriteTheirNumber = (bits n : ℕ) (value w : List ℕ) → Word (NumPad bits n) value w → number_of_word (NumPad bits n) w ≡ decimal_value value
 
--- trusted, own: the number of a word of a numeral in bits, up to a greatest below 2 to the 64, is the one that its value
+-- trusted, own: the number of a word of a numeral in bits, up to a greatest below 2 to the 64, is the number that its value
 -- writes
 abbrev pub NumeralWritesItsNumber : Type 0
 NumeralWritesItsNumber =
     (bits greatest : ℕ) (value w : List ℕ) → greatest < 2 ^ 64 → Word (Num bits greatest) value w → number_of_word (Num bits greatest) w ≡ decimal_value value
 
--- trusted, own: the number of a word of digits behind a 1 is the one that the 1 and the value write
+-- trusted, own: the number of a word of digits after a 1 is the one that the 1 and the value write
 abbrev pub DigitsBehindOneWriteTheirNumber : Type 0
 DigitsBehindOneWriteTheirNumber =
     (bits hi : ℕ) (value w : List ℕ) → Word (NumStr bits hi) value w → number_of_word (NumStr bits hi) w ≡ decimal_value (49 ∷ value)
 
--- trusted, own: no word of an item that keeps its bounds is empty
+-- trusted, own: no word of an item that is within its bounds is empty
 abbrev pub NoWordIsEmpty : Type 0
 NoWordIsEmpty = (bit_level : Bool) (item : Item) (value w : List ℕ) → IsTrue (is_in_bounds bit_level item) → Word item value w → 0 < length w
 
--- trusted, own: what is written of values that the items hold is a list that the items derive, with these values
+-- trusted, own: the text written of values that the items hold is a list that the items derive, with these values
 abbrev pub WrittenIsDerived : Type 0
 WrittenIsDerived =
     (items : List Item) (values : List (List ℕ)) → All IsItem items → length values ≡ length items → AreHeld items values
     → Derives items (written items values) values (written_words items values)
 
--- trusted, own: in a level that is not ambiguous, what is written of values that an option holds has one derivation: by
--- this option, with these values
+-- trusted, own: in a level that is not ambiguous, the text written of values that an option holds has one derivation: by this
+-- option, with these values
 abbrev pub WrittenIsRead : Type 0
 WrittenIsRead =
     (level : List (List Item)) (option : ℕ) (items : List Item) (values : List (List ℕ)) → IsUnambiguous level
@@ -51,7 +51,7 @@ OneDerivationIsOneReading =
     (level : List (List Item)) (w : List ℕ) (option other : ℕ) (values others : List (List ℕ))
     → OneDerivation level w option values → OneDerivation level w other others → (option ≡ other) × (values ≡ others)
 
--- trusted, own: beside the only derivation of a list of symbols there are not two
+-- trusted, own: a list of symbols with only one derivation does not have two
 abbrev pub OneDerivationIsNotTwo : Type 0
 OneDerivationIsNotTwo =
     (level : List (List Item)) (w : List ℕ) (option : ℕ) (values : List (List ℕ)) → OneDerivation level w option values → TwoDerivations level w → ⊥

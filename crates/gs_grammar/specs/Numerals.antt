@@ -3,10 +3,10 @@ use Rattle.std.specs.Prelude.{◌≡◌, ℕ, ◌^◌, ◌<◌, List, decimal, I
 use Rattle.gs_chars.specs.Characters.{are_digits}
 use Rattle.gs_grammar.specs.Words.{decimal_value}
 
--- trusted, own: the symbols are the decimal text, without leading zeros, of no number below 2 to the 64
+-- the symbols are the decimal text, without leading zeros, of no number below 2 to the 64
 abbrev pub NoNumeral : List ℕ → Type 0
 NoNumeral symbols = (number : ℕ) → number < 2 ^ 64 → symbols ≡ decimal number → ⊥
 
--- trusted, own: the symbols are digits, which write a number below 2 to the 64
+-- the symbols are digits, which write a number below 2 to the 64
 abbrev pub WritesSmall : List ℕ → Type 0
 WritesSmall symbols = IsTrue (are_digits symbols) × (decimal_value symbols < 2 ^ 64)

@@ -1,10 +1,10 @@
--- What proofs and private functions say beside the definitions of Numerals.antt.
+-- Definitions for proofs and private functions, in addition to Numerals.antt.
 use Rattle.std.specs.Prelude.{◌≡◌, ℕ, ◌+◌, ◌*◌, ◌^◌, ◌<◌, List, ◌++◌, decimal, drop, length, IsTrue}
 use Rattle.gs_chars.specs.Characters.{are_digits}
 use Rattle.gs_bits.specs.Bits.{bits_of}
 use Rattle.gs_grammar.specs.Words.{decimal_value}
 
--- the number that another number and decimal digits behind it write
+-- the number that another number and decimal digits after it write
 abbrev pub number_behind : ℕ → List ℕ → ℕ
 number_behind front digits = front * 10 ^ length digits + decimal_value digits
 

@@ -6,8 +6,7 @@ use Rattle.gs_bits.specs.Bits.{bits_of, number_of}
 use Rattle.gs_grammar.specs.declared.item.Item.{Item}
 use Rattle.gs_grammar.specs.declared.item.Item.TheVariants.{Lit, Pad, Digits, Int, Esc, NumPad, Num, NumStr, Ascii7, Fill}
 
--- trusted, own: the number that decimal digits write, and 0 where there are none: each counts 10 to the number of digits
--- behind it
+-- trusted, own: the number that decimal digits write, and 0 if there are none: each counts 10 to the number of digits after it
 abbrev pub decimal_value : List ℕ → ℕ
 decimal_value [] = 0
 decimal_value (digit ∷ digits) = (digit - 48) * 10 ^ length digits + decimal_value digits
@@ -39,8 +38,7 @@ pub record WritesNumber (bits number : ℕ) (w : List ℕ) : Type 0 where
   pub fits : number < 2 ^ bits
   pub written : w ≡ bits_of bits number
 
--- trusted, TDS 2.0, sections 6.3.1, 7.1, 14.2 to 14.4: the word is 7 bits of each character of the value, and zeros behind
--- them
+-- trusted, TDS 2.0, sections 6.3.1, 7.1, 14.2 to 14.4: the word is 7 bits of each character of the value, and zeros after them
 pub record IsPacked (value w : List ℕ) : Type 0 where
   pub characters : IsTrue (are_in_set82 value)
   pub padding : ℕ
@@ -89,8 +87,7 @@ written_word (Ascii7 lo hi bits) value = flat_map (bits_of 7) value ++ replicate
 written_word (Fill a b) value = replicate b 0
 written_word _ value = value
 
--- trusted, own: the number that the whole of a word writes: its bits, where the item is a number in bits, and 0 of any
--- other item
+-- trusted, own: the number that a whole word writes: its bits if the item is a number in bits, and 0 for any other item
 abbrev pub number_of_word : Item → List ℕ → ℕ
 number_of_word (NumPad bits n) w = number_of w
 number_of_word (Num bits greatest) w = number_of w

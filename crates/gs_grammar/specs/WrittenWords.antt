@@ -1,4 +1,4 @@
--- Which values an item holds, and what is written of the values of an option.
+-- The values that an item holds, and the text that is written of the values of an option.
 use Rattle.std.specs.Prelude.{◌≡◌, ℕ, ◌^◌, ◌<◌, ◌==◌, ◌*◌, ◌&&◌, ◌||◌, nat_lt, nat_le, not, Bool, false, if◌then◌else◌, List, [], ◌∷◌, Option, Some, None, Result, MatchResult, length, slice_index, slice_get}
 use Rattle.std.specs.List.{concat}
 use Rattle.gs_chars.specs.Characters.{are_digits, are_in_set82}
@@ -20,7 +20,7 @@ first_reason char size zero large =
     else if large then Some Large
     else None
 
--- trusted, own: the answer is the reason, where there is one, and else Ok
+-- trusted, own: holds if the result is the reason, if there is one, and otherwise Ok
 abbrev pub GivesReason : Result (Unit {0}) Why → Option Why → Type 0
 GivesReason answer reason = MatchResult answer (λ _. reason ≡ None) (λ why. reason ≡ Some why)
 
@@ -28,13 +28,13 @@ GivesReason answer reason = MatchResult answer (λ _. reason ≡ None) (λ why. 
 abbrev pub has_leading_zero : List ℕ → Bool
 has_leading_zero value = nat_lt 1 (length value) && (slice_index value 0 == 48)
 
--- trusted, own: the number that digits write is above the greatest, or has no room in so many bits
+-- trusted, own: the number that digits write is above the greatest, or has no room in that many bits
 abbrev pub is_too_large : ℕ → ℕ → List ℕ → Bool
 is_too_large bits greatest value = nat_lt greatest (decimal_value value) || nat_le (2 ^ bits) (decimal_value value)
 
--- trusted, the order is own: Why an item has no word for the value: the first reason that fits, or none. A number is large
--- where it is above the greatest or has no room in the bits; characters that packed have no room are too many, and so are
--- digits that behind a 1 have none. The last case is that of items whose value is empty.
+-- trusted, the order is own: Why an item has no word for the value: the first reason that applies, or none. A number is large if
+-- it is above the greatest or does not fit in the bits. Characters whose packed form does not fit are too many, and so are digits
+-- that do not fit after a 1. The last case is that of items whose value is empty.
 abbrev pub why_not : Item → List ℕ → Option Why
 why_not (Pad n) value = first_reason (not (are_digits value)) (not (length value == n)) false false
 why_not (Digits lo hi) value = first_reason (not (are_digits value)) (not (is_between lo hi (length value))) false false
@@ -69,7 +69,7 @@ written_words [] values = []
 written_words (item ∷ items) [] = []
 written_words (item ∷ items) (value ∷ values) = written_word item value ∷ written_words items values
 
--- trusted, the order is own: what is written of the values: the written words joined
+-- trusted, the order is own: the text written of the values: the written words joined
 abbrev pub written : List Item → List (List ℕ) → List ℕ
 written items values = concat (written_words items values)
 

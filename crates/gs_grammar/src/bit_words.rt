@@ -5,15 +5,15 @@ ghost use Rattle.gs_grammar.specs.NumeralsSupport.{HasCode, NoCode};
 use gs_chars::{CharSet, Memory, Text};
 use std::alloc::Global;
 
-/// Whether the symbols are n zeros.
+/// Returns whether the symbols are n zeros.
 pub fn are_zeros(symbols: &[u8], n: usize) -> bool
     ensures { IsTrue result ↔ (symbols.now ≡ replicate n 0) }
 {
     symbols.len() == n && symbols.iter().all(|symbol| *symbol == 0)
 }
 
-/// The number that the symbols are in this many bits, the highest first. `None` comes exactly where they are no number in so
-/// many bits. There are at most 64 bits.
+/// Returns the number that the symbols are in this many bits, the highest first. `None` is returned if and only if they are not
+/// number in that many bits. There are at most 64 bits.
 pub fn number_in_bits(symbols: &[u8], bits: usize) -> Option<u64>
     requires { bits ≤ 64 }
     ensures some { IfSome result (λ number. WritesNumber bits number symbols.now) }
@@ -32,7 +32,7 @@ pub fn number_in_bits(symbols: &[u8], bits: usize) -> Option<u64>
     Some(number)
 }
 
-/// The code, from 1 to 127, that the first 7 symbols are. `None` comes exactly where they are none.
+/// Returns the code, from 1 to 127, of the first 7 symbols. Returns `None` if and only if they are not such a code.
 fn front_code(symbols: &[u8]) -> Option<u8>
     ensures some { IfSome result (λ code. HasCode symbols.now code) }
     ensures none { IfNone result (NoCode symbols.now) }
@@ -48,8 +48,8 @@ fn front_code(symbols: &[u8]) -> Option<u8>
     }
 }
 
-/// The number of characters that the symbols pack, 7 bits each, with zeros behind them. `None` comes exactly where they
-/// pack no value.
+/// Returns the number of characters that the symbols pack, 7 bits each, with zeros after them. `None` is returned if and only if
+/// they pack no value.
 pub fn packed_count(symbols: &[u8]) -> Option<usize>
     ensures some { IfSome result (λ n. PacksMany n symbols.now) }
     ensures none { IfNone result ((value : List ℕ) → IsPacked value symbols.now → ⊥) }
@@ -70,7 +70,7 @@ pub fn packed_count(symbols: &[u8]) -> Option<usize>
     }
 }
 
-/// The characters that the symbols pack. They are packed characters.
+/// Returns the characters that the symbols pack. They are packed characters.
 pub fn unpacked(alloc: Global, symbols: &[u8]) -> Result<Text, Memory>
     requires { (value : List ℕ) × IsPacked value symbols.now }
     ensures { IfOk result (λ value. IsPacked value symbols.now) }

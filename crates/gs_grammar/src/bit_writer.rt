@@ -86,7 +86,7 @@ fn push_decimal<const N: usize>(digits: &[u8], bits: u8, out: &mut BitBuf<N>)
     }
 }
 
-/// Appends the number that a 1 and the digits behind it write, which is below 2 to the 64.
+/// Appends the number that a 1 and the digits after it write, which is below 2 to the 64.
 fn push_behind_one<const N: usize>(digits: &[u8], bits: u8, out: &mut BitBuf<N>)
     requires width { bits ≤ 64 }
     requires fits { decimal_value (49 ∷ digits.now) < 2 ^ bits }
@@ -133,9 +133,9 @@ fn push_words<const N: usize>(items: &[Item], values: &[Text], out: &mut BitBuf<
     }
 }
 
-/// Appends the written words of the values to the bits: one value for each item of an option of a bit level. `CannotHold` comes
-/// exactly where an item does not hold its value, and names the first; then the bits are as they were. It takes no memory, and
-/// never answers `Memory`. The option is one of bits, there are as many values as items, and the buffer has room for the
+/// Appends the written words of the values to the bits: one value for each item of an option of a bit level. `CannotHold` is
+/// returned if and only if an item does not hold its value, and names the first; then the bits are unchanged. Does not allocate,
+/// and never answers `Memory`. The option is one of bits, there are as many values as items, and the buffer has room for the
 /// longest words.
 pub fn write_bits<const N: usize>(
     option: &Opt,

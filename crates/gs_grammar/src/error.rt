@@ -10,7 +10,7 @@ pub enum OptFault {
 /// Why an item does not hold a value. The reasons are tried in this order.
 #[derive(Clone, Copy, Debug)]
 pub enum Why {
-    /// A character is no digit, or not in the set of 82.
+    /// A character is not a digit, or not in the set of 82.
     Char,
     /// The number of characters is not allowed, or packed they have no room in the bits; of a decimal text this is the empty
     /// one.

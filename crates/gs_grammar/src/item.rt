@@ -26,13 +26,13 @@ pub enum Item {
     /// On a bit level, 1 to `hi` digits, at most 12: the number of the digit 1 followed by them, in `bits` bits, at most 64. Twice
     /// 10 to the `hi` is at most 2 to the `bits`.
     NumStr { bits: u8, hi: u8 },
-    /// On a bit level, `lo` to `hi` characters of the set of 82, 7 bits of each, then zeros up to `bits` bits, at most 448.
+    /// On a bit level, `lo` to `hi` characters of the set of 82, 7 bits for each, then zeros up to `bits` bits, at most 448.
     Ascii7 { lo: u8, hi: u8, bits: u16 },
     /// On a bit level, `a` zeros or `b` zeros, 1 to 64. Its value is empty.
     Fill { a: u8, b: u8 },
 }
 
-/// Whether a symbol may stand in a literal of the level.
+/// Returns whether a symbol may be in a literal of the level.
 fn is_literal_symbol(bit_level: bool, symbol: u8) -> bool
     ensures { result ≡ is_symbol bit_level symbol }
 {
@@ -43,7 +43,7 @@ fn is_literal_symbol(bit_level: bool, symbol: u8) -> bool
     }
 }
 
-/// Whether each symbol may stand in a literal of the level.
+/// Returns whether each symbol may be in a literal of the level.
 fn are_literal_symbols(bit_level: bool, symbols: &[u8]) -> bool
     ensures { result ≡ list_all (is_symbol bit_level) symbols.now }
 {
@@ -52,42 +52,42 @@ fn are_literal_symbols(bit_level: bool, symbols: &[u8]) -> bool
         .all(|symbol| is_literal_symbol(bit_level, *symbol))
 }
 
-/// Whether the number is within the two bounds.
+/// Returns whether the number is within the two bounds.
 pub fn is_within(least: usize, most: usize, number: usize) -> bool
     ensures { result ≡ is_between least most number }
 {
     least <= number && number <= most
 }
 
-/// Whether the number has room in this many bits.
+/// Returns whether the number has room in this many bits.
 pub fn fits_bits(number: u64, bits: u8) -> bool
     ensures { result ≡ nat_lt number (2 ^ bits) }
 {
     bits >= 64 || number < 1 << bits
 }
 
-/// Whether these are two bounds from 1 to 64, the first at most the second.
+/// Returns whether these are two bounds from 1 to 64, the first at most the second.
 fn are_bounds(lo: u8, hi: u8) -> bool
     ensures { result ≡ (nat_le 1 lo && nat_le lo hi && nat_le hi 64) }
 {
     1 <= lo && lo <= hi && hi <= 64
 }
 
-/// Whether an item `Num` keeps its bounds.
+/// Returns whether an item `Num` is within its bounds.
 fn is_num(bits: u8, max: u64) -> bool
     ensures { result ≡ is_in_bounds true (Item.Num bits max) }
 {
     1 <= bits && bits <= 64 && fits_bits(max, bits)
 }
 
-/// Whether an item `Digits` keeps its bounds.
+/// Returns whether an item `Digits` is within its bounds.
 fn is_digits(lo: u8, hi: u8) -> bool
     ensures { result ≡ is_in_bounds false (Item.Digits lo hi) }
 {
     1 <= lo && lo <= hi && hi <= 18
 }
 
-/// Whether an item `NumStr` keeps its bounds.
+/// Returns whether an item `NumStr` is within its bounds.
 fn is_num_str(bits: u8, hi: u8) -> bool
     ensures { result ≡ is_in_bounds true (Item.NumStr bits hi) }
 {
@@ -97,7 +97,7 @@ fn is_num_str(bits: u8, hi: u8) -> bool
     bits <= 64 && fits_bits(2 * 10u64.pow(u32::from(hi)) - 1, bits)
 }
 
-/// Whether an item `Ascii7` keeps its bounds.
+/// Returns whether an item `Ascii7` is within its bounds.
 fn is_ascii7(lo: u8, hi: u8, bits: u16) -> bool
     ensures { result ≡ is_in_bounds true (Item.Ascii7 lo hi bits) }
 {
@@ -105,7 +105,7 @@ fn is_ascii7(lo: u8, hi: u8, bits: u16) -> bool
 }
 
 impl Item {
-    /// Whether the item is one of the level and keeps its bounds.
+    /// Returns whether the item is one of the level and is within its bounds.
     pub fn is_in_bounds(&self, bit_level: bool) -> bool
         ensures { result ≡ is_in_bounds bit_level self.now }
     {
@@ -130,7 +130,7 @@ impl Item {
         }
     }
 
-    /// The most symbols that a word of the item has.
+    /// Returns the most symbols that a word of the item has.
     pub fn size(&self) -> usize
         ensures size { result ≡ size_of self.now }
         ensures bound { result < 2 ^ 63 }
@@ -149,7 +149,7 @@ impl Item {
         }
     }
 
-    /// The fewest symbols that a word of the item has.
+    /// Returns the fewest symbols that a word of the item has.
     pub fn shortest(&self) -> usize
         ensures { result ≡ shortest_of self.now }
     {

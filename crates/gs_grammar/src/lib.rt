@@ -14,7 +14,7 @@
 //! 3074257BF7194E4000001A85
 //! ```
 //!
-//! # Where it differs from the standards
+//! # Differences from the standards
 //!
 //! - GS1 EPC Tag Data Translation describes a form by a pattern and a grammar with functions. Here an option is a list of
 //!   items, each with the words of its values, so that reading and writing are one relation.

@@ -9,7 +9,7 @@ use crate::wide::WideNumber;
 use gs_chars::{CharSet, Memory, Text};
 use std::alloc::Global;
 
-/// The number of decimal digits of a number behind the first.
+/// Returns the number of decimal digits of a number after the first.
 pub fn digits_behind(number: u64) -> u32
     ensures count { result + 1 ≡ length (decimal number) }
     ensures few { result ≤ 19 }
@@ -22,7 +22,7 @@ pub fn digits_behind(number: u64) -> u32
     }
 }
 
-/// The number of decimal digits of a number.
+/// Returns the number of decimal digits of a number.
 pub fn digit_count(number: u64) -> usize
     ensures count { result ≡ length (decimal number) }
     ensures few { result ≤ 20 }
@@ -30,7 +30,7 @@ pub fn digit_count(number: u64) -> usize
     digits_behind(number) as usize + 1
 }
 
-/// Whether a number has at most n digits. n is at most 18.
+/// Returns whether a number has at most n digits. n is at most 18.
 pub fn has_at_most_digits(number: u64, n: u8) -> bool
     requires { n ≤ 18 }
     ensures { IsTrue result ↔ (number < 10 ^ n) }
@@ -38,15 +38,15 @@ pub fn has_at_most_digits(number: u64, n: u8) -> bool
     number < 10u64.pow(u32::from(n))
 }
 
-/// Whether digits begin with a zero that is not the whole of them.
+/// Returns whether digits begin with a zero that is not the whole of them.
 pub fn has_leading_zero(symbols: &[u8]) -> bool
     ensures { result ≡ has_leading_zero symbols.now }
 {
     symbols.len() > 1 && symbols[0] == b'0'
 }
 
-/// How many digits stand behind the first of a number, where that is a 1. `None` comes exactly where the digits of the number are
-/// no 1 and from 1 to `most` behind it. `most` is at most 12.
+/// Returns the number of digits after the first of a number that begins with 1. Returns `None` if and only if the number is not a
+/// 1 followed by 1 to `most` digits. `most` is at most 12.
 pub fn digits_behind_one(number: u64, most: u8) -> Option<u8>
     requires { most ≤ 12 }
     ensures least { IfSome result (λ count. 1 ≤ count) }
@@ -64,7 +64,8 @@ pub fn digits_behind_one(number: u64, most: u8) -> Option<u8>
     Some(count as u8)
 }
 
-/// The number that a number and decimal digits behind it write. `None` comes exactly where it is not below 2 to the 64.
+/// Returns the number that a number and decimal digits after it write. `None` is returned if and only if it is not below 2 to the
+/// 64.
 pub fn decimal_number_behind(front: u64, digits: &[u8]) -> Option<u64>
     ensures { SomeIff result (number_behind front digits.now < 2 ^ 64) (number_behind front digits.now) }
 {
@@ -76,14 +77,15 @@ pub fn decimal_number_behind(front: u64, digits: &[u8]) -> Option<u64>
     Some(number)
 }
 
-/// The number that decimal digits write. `None` comes exactly where it is not below 2 to the 64.
+/// Returns the number that decimal digits write. `None` is returned if and only if it is not below 2 to the 64.
 pub fn decimal_number(digits: &[u8]) -> Option<u64>
     ensures { SomeIff result (decimal_value digits.now < 2 ^ 64) (decimal_value digits.now) }
 {
     decimal_number_behind(0, digits)
 }
 
-/// The number that a digit's number and decimal digits behind it write. `None` comes exactly where it is not below 2 to the 256.
+/// Returns the number that a digit's number and decimal digits after it write. `None` is returned if and only if it is not below
+/// 2 to the 256.
 fn wide_number_behind(front: u8, digits: &[u8]) -> Option<WideNumber>
     ensures { SomeIff result (number_behind front digits.now < 2 ^ 256) (number_behind front digits.now) }
 {
@@ -94,7 +96,7 @@ fn wide_number_behind(front: u8, digits: &[u8]) -> Option<WideNumber>
     Some(number)
 }
 
-/// Whether the number that a digit's number and decimal digits behind it write has room in this many bits.
+/// Returns whether the number that a digit's number and decimal digits after it write has room in this many bits.
 pub fn fits_wide_bits(front: u8, digits: &[u8], bits: u8) -> bool
     ensures { result ≡ nat_lt (number_behind front digits.now) (2 ^ bits) }
 {
@@ -104,7 +106,8 @@ pub fn fits_wide_bits(front: u8, digits: &[u8], bits: u8) -> bool
     }
 }
 
-/// The number that the symbols write. `None` comes exactly where one of them is no digit, or the number is not below 2 to the 64.
+/// Returns the number that the symbols write. `None` is returned if and only if one of them is not a digit, or the number is not
+/// below 2 to the 64.
 fn number_of_digits(symbols: &[u8]) -> Option<u64>
     ensures { SomeIff result (WritesSmall symbols.now) (decimal_value symbols.now) }
 {
@@ -119,8 +122,8 @@ fn number_of_digits(symbols: &[u8]) -> Option<u64>
     Some(number)
 }
 
-/// The number whose decimal text, without leading zeros, the symbols are. `None` comes exactly where they are the text of no
-/// number below 2 to the 64.
+/// Returns the number whose decimal text, without leading zeros, the symbols are. `None` is returned if and only if they are the
+/// text of no number below 2 to the 64.
 pub fn numeral(symbols: &[u8]) -> Option<u64>
     ensures some { IfSome result (λ number. symbols.now ≡ decimal number) }
     ensures none { IfNone result (NoNumeral symbols.now) }
@@ -134,7 +137,7 @@ pub fn numeral(symbols: &[u8]) -> Option<u64>
     number_of_digits(symbols)
 }
 
-/// The n digits of a number, leading zeros. n is at most 18, and the number has no more digits.
+/// Returns the n digits of a number, leading zeros. n is at most 18, and the number has no more digits.
 pub fn padded(alloc: Global, number: u64, n: u8) -> Result<Text, Memory>
     requires few { n ≤ 18 }
     requires fits { number < 10 ^ n }
@@ -152,7 +155,7 @@ pub fn padded(alloc: Global, number: u64, n: u8) -> Result<Text, Memory>
     Ok(text)
 }
 
-/// The decimal text of a number.
+/// Returns the decimal text of a number.
 pub fn decimal_text(alloc: Global, number: u64) -> Result<Text, Memory>
     ensures { IfOk result (λ text. text ≡ decimal number) }
 {

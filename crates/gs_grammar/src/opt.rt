@@ -12,7 +12,7 @@ use std::marker::Model;
 /// The most symbols that the words of an option have together.
 pub const MOST_SYMBOLS: usize = 512;
 
-/// An option of a level: items that stand one after the other, of at most `MOST_SYMBOLS` symbols.
+/// An option of a level: items one after another, of at most `MOST_SYMBOLS` symbols.
 #[derive(Drop)]
 pub struct Opt {
     bit_level: bool,
@@ -33,14 +33,14 @@ impl Model for Opt {
     ghost invariant = { λ a. IsOption a.bit_level a.items a.size };
 }
 
-/// The number of the first item that is not of the level or breaks a bound.
+/// Returns the number of the first item that is not of the level or breaks a bound.
 fn first_bad(bit_level: bool, items: &[Item]) -> Option<usize>
     ensures { result ≡ position (is_bad bit_level) items.now }
 {
     items.iter().position(|item| !item.is_in_bounds(bit_level))
 }
 
-/// The sizes of the items added up, where they are at most `MOST_SYMBOLS`.
+/// Returns the sum of the sizes of the items, if it is at most `MOST_SYMBOLS`.
 fn size_within_limit(items: &[Item]) -> Option<usize>
     ensures { SomeIff result (size_of_all items.now ≤ most_symbols) (size_of_all items.now) }
 {
@@ -55,8 +55,8 @@ fn size_within_limit(items: &[Item]) -> Option<usize>
 }
 
 impl Opt {
-    /// The option of these items. `BadItem(k)` comes exactly where item k is the first that is not of the level or breaks a
-    /// bound; `Size` exactly where no item does, and the sizes add up to more than `MOST_SYMBOLS`.
+    /// Returns the option of these items. `BadItem(k)` is returned if and only if item k is the first that is not of the level or
+    /// breaks a bound; `Size` if and only if no item does, and the sizes add up to more than `MOST_SYMBOLS`.
     pub fn new(_alloc: Global, bit_level: bool, items: Vec<Item>) -> Result<Opt, OptFault>
         ensures bit_level { IfOk result (λ option. option.bit_level ≡ bit_level) }
         ensures items { IfOk result (λ option. option.items ≡ items.items) }
@@ -76,7 +76,7 @@ impl Opt {
         })
     }
 
-    /// The option of these items, which keep every bound.
+    /// Returns the option of these items, which are within every bound.
     pub fn of_items(bit_level: bool, items: Vec<Item>) -> Opt
         requires { KeepBounds bit_level items.items }
         ensures { result ≡ record { bit_level = bit_level; items = items.items } }
@@ -91,7 +91,7 @@ impl Opt {
         }
     }
 
-    /// The items, in their order.
+    /// Returns the items, in their order.
     pub fn items(&self) -> &[Item]
         ensures items { result.now ≡ self.now.items }
         ensures in_bounds { KeepBounds self.now.bit_level self.now.items }
@@ -100,14 +100,14 @@ impl Opt {
         self.items.items()
     }
 
-    /// The most symbols that a text of the option has: the sizes of the items, added up.
+    /// Returns the most symbols that a text of the option has: the sizes of the items, added up.
     pub fn size(&self) -> usize
         ensures { result ≡ size_of_all self.now.items }
     {
         self.size
     }
 
-    /// Whether the option's symbols are bits.
+    /// Returns whether the option's symbols are bits.
     pub fn bit_level(&self) -> bool
         ensures { result ≡ self.now.bit_level }
     {

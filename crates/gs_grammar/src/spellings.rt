@@ -4,8 +4,8 @@ ghost use Rattle.gs_grammar.specs.Words.{SpellsEach};
 use gs_chars::read_escape;
 
 /// Writes the characters that the symbols spell, each in a spelling of EPC URIs, to the start of `out`, and gives their number.
-/// `None` comes exactly where they spell no value of at most 64 characters, which is the room of `out`. Each spelling is looked
-/// for once.
+/// `None` is returned if and only if they spell no value of at most 64 characters, which is the room of `out`. Each spelling is
+/// looked for once.
 pub fn spell(symbols: &[u8], out: &mut [u8]) -> Option<usize>
     requires { length out.old ≡ 64 }
     ensures within { IfSome result (λ count. count ≤ length out.new) }

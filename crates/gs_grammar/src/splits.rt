@@ -6,8 +6,8 @@ ghost use Rattle.gs_grammar.specs.Searches.{AtCut};
 use crate::item::Item;
 use crate::word_tests::is_word;
 
-/// Whether the items derive the symbols. It tries each split into a word of the first item and the rest, and stops at the first
-/// derivation. Each item keeps its bounds.
+/// Returns whether the items derive the symbols. It tries each split into a word of the first item and the rest, and stops at the
+/// first derivation. Each item is within its bounds.
 pub fn is_derived(items: &[Item], symbols: &[u8]) -> bool
     requires { All IsItem items.now }
     ensures { IsTrue result ↔ IsDerived items.now symbols.now }
@@ -31,8 +31,8 @@ pub fn is_derived(items: &[Item], symbols: &[u8]) -> bool
     false
 }
 
-/// The length of a word of the item with which the items derive the symbols. Each item keeps its bounds, and they derive the
-/// symbols.
+/// Returns the length of a word of the item with which the items derive the symbols. Each item is within its bounds, and they
+/// derive the symbols.
 pub fn first_cut(item: &Item, others: &[Item], symbols: &[u8]) -> usize
     requires item { IsItem item.now }
     requires others { All IsItem others.now }

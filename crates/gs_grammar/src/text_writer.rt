@@ -12,8 +12,8 @@ use crate::value_test::holds;
 use gs_chars::{Memory, Text, write_escape};
 use std::alloc::Global;
 
-/// The number of the first item that does not hold its value, and why. There are as many values as items. `None` comes exactly
-/// where each is held.
+/// Returns the number of the first item that does not hold its value, and why. There are as many values as items. `None` is
+/// returned if and only if each is held.
 pub fn first_rejection(items: &[Item], values: &[Text]) -> Option<(usize, Why)>
     requires { length values.now ≡ length items.now }
     ensures some { IfSome result (λ r. IsFirstRejection items.now values.now r.0 r.1) }
@@ -56,9 +56,9 @@ fn push_word(item: &Item, value: &[u8], text: &mut Vec<u8>) -> Result<(), Memory
     Ok(())
 }
 
-/// The written words of the values, joined: one value for each item of an option of a text level. `CannotHold` comes exactly
-/// where an item does not hold its value, and names the first. The option is one of text, and there are as many values as
-/// items.
+/// Returns the written words of the values, joined: one value for each item of an option of a text level. `CannotHold` is
+/// returned if and only if an item does not hold its value, and names the first. The option is one of text, and there are as many
+/// values as items.
 pub fn write_text(alloc: Global, option: &Opt, values: &[Text]) -> Result<Text, WriteFault>
     requires text_level { option.now.bit_level ≡ false }
     requires one_each { length values.now ≡ length option.now.items }

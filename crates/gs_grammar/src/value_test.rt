@@ -11,7 +11,7 @@ use crate::item::{Item, fits_bits, is_within};
 use crate::numerals::{decimal_number, decimal_number_behind, fits_wide_bits, has_leading_zero};
 use gs_chars::{CharSet, are_digits};
 
-/// The first reason that fits.
+/// Returns the first reason that applies.
 fn judge(char: bool, size: bool, zero: bool, large: bool) -> Result<(), Why>
     ensures { GivesReason result (first_reason char size zero large) }
 {
@@ -27,7 +27,7 @@ fn judge(char: bool, size: bool, zero: bool, large: bool) -> Result<(), Why>
     if large { Err(Why::Large) } else { Ok(()) }
 }
 
-/// Whether each character is one of the set of 82.
+/// Returns whether each character is one of the set of 82.
 fn all_in_set82(value: &[u8]) -> bool
     ensures { result ≡ are_in_set82 value.now }
 {
@@ -36,7 +36,7 @@ fn all_in_set82(value: &[u8]) -> bool
         .all(|character| CharSet::Set82.holds(*character))
 }
 
-/// Whether the number that the characters write is above the greatest.
+/// Returns whether the number that the characters write is above the greatest.
 fn is_above(value: &[u8], greatest: u64) -> bool
     ensures { result ≡ nat_lt greatest (decimal_value value.now) }
 {
@@ -46,7 +46,7 @@ fn is_above(value: &[u8], greatest: u64) -> bool
     }
 }
 
-/// Whether the number that a digit's number and the characters behind it write has no room in this many bits.
+/// Returns whether the number that a digit's number and the characters after it write has no room in this many bits.
 fn exceeds(front: u8, value: &[u8], bits: u8) -> bool
     ensures { result ≡ nat_le (2 ^ bits) (number_behind front value.now) }
 {
@@ -56,21 +56,21 @@ fn exceeds(front: u8, value: &[u8], bits: u8) -> bool
     }
 }
 
-/// Whether the number that the characters write has no room in this many bits.
+/// Returns whether the number that the characters write has no room in this many bits.
 fn is_too_wide(value: &[u8], bits: u8) -> bool
     ensures { result ≡ nat_le (2 ^ bits) (decimal_value value.now) }
 {
     exceeds(0, value, bits)
 }
 
-/// Whether the number that a 1 and the characters behind it write has no room in this many bits.
+/// Returns whether the number that a 1 and the characters after it write has no room in this many bits.
 fn is_too_wide_behind_one(value: &[u8], bits: u8) -> bool
     ensures { result ≡ nat_le (2 ^ bits) (decimal_value (49 ∷ value.now)) }
 {
     exceeds(1, value, bits)
 }
 
-/// Whether the number that the characters write is above the greatest, or has no room in this many bits.
+/// Returns whether the number that the characters write is above the greatest, or has no room in this many bits.
 fn is_too_large(value: &[u8], greatest: u64, bits: u8) -> bool
     ensures { result ≡ is_too_large bits greatest value.now }
 {
@@ -80,14 +80,14 @@ fn is_too_large(value: &[u8], greatest: u64, bits: u8) -> bool
     }
 }
 
-/// Whether the number of characters is within the two bounds, and 7 bits of each have room.
+/// Returns whether the number of characters is within the two bounds, and 7 bits of each have room.
 fn is_packable(lo: u8, hi: u8, bits: u16, count: usize) -> bool
     ensures { result ≡ (is_between lo hi count && nat_le (7 * count) bits) }
 {
     is_within(usize::from(lo), usize::from(hi), count) && count <= usize::from(bits / 7)
 }
 
-/// The first reason why the item has no word for the value. The greatest number of an item is one of 64 bits.
+/// Returns the first reason why the item has no word for the value. The greatest number of an item has at most 64 bits.
 fn reason_against(item: &Item, value: &[u8]) -> Result<(), Why>
     ensures greatest { greatest_of item.now < 2 ^ 64 }
     ensures reason { GivesReason result (why_not item.now value.now) }
@@ -141,8 +141,8 @@ fn reason_against(item: &Item, value: &[u8]) -> Result<(), Why>
     }
 }
 
-/// Whether some word of the item has the value, also where the item breaks its bounds. The reasons against are tried in the
-/// order of `Why`. An item `Lit` or `Fill` holds the empty value alone.
+/// Returns `Ok` if some word of the item has the value, even if the item is not within its bounds. The reasons against are tried
+/// in the order of `Why`. An item `Lit` or `Fill` holds only the empty value.
 pub fn holds(item: &Item, value: &[u8]) -> Result<(), Why>
     ensures reason { GivesReason result (why_not item.now value.now) }
     ensures word { IsOk result ↔ ((w : List ℕ) × Word item.now value.now w) }

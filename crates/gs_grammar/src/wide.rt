@@ -20,7 +20,7 @@ impl Model for WideNumber {
 }
 
 impl WideNumber {
-    /// The number of a digit.
+    /// Returns the number of a digit.
     pub fn from_digit(digit: u8) -> WideNumber
         ensures { result ≡ digit }
     {
@@ -30,7 +30,7 @@ impl WideNumber {
         }
     }
 
-    /// The sum. `None` comes exactly where it is not below 2 to the 256.
+    /// Returns the sum. `None` is returned if and only if it is not below 2 to the 256.
     fn plus(&self, other: &WideNumber) -> Option<WideNumber>
         ensures { SomeIff result (self.now + other.now < 2 ^ 256) (self.now + other.now) }
     {
@@ -44,8 +44,8 @@ impl WideNumber {
         }
     }
 
-    /// The number that one digit more writes: ten times this one, and the digit. `None` comes exactly where it is not below
-    /// 2 to the 256.
+    /// Returns the number that one digit more writes: ten times this one, and the digit. `None` is returned if and only if it is
+    /// not below 2 to the 256.
     pub fn with_digit(&self, digit: u8) -> Option<WideNumber>
         ensures { SomeIff result (10 * self.now + digit < 2 ^ 256) (10 * self.now + digit) }
     {
@@ -56,7 +56,7 @@ impl WideNumber {
             .plus(&WideNumber::from_digit(digit))
     }
 
-    /// Whether the number has room in this many bits.
+    /// Returns whether the number has room in this many bits.
     pub fn fits_bits(&self, bits: u8) -> bool
         ensures { result ≡ nat_lt self.now (2 ^ bits) }
     {

@@ -11,21 +11,21 @@ use crate::numerals::{digits_behind_one, has_at_most_digits, numeral};
 use crate::spellings::spell;
 use gs_chars::are_digits;
 
-/// Whether the symbols are this many digits.
+/// Returns whether the symbols are this many digits.
 pub fn are_n_digits(symbols: &[u8], n: usize) -> bool
     ensures { result ≡ ((length symbols.now == n) && are_digits symbols.now) }
 {
     symbols.len() == n && are_digits(symbols)
 }
 
-/// Whether the symbols are a word of the item `Digits`.
+/// Returns whether the symbols are a word of the item `Digits`.
 pub fn are_digits_within(symbols: &[u8], lo: u8, hi: u8) -> bool
     ensures { IsTrue result ↔ IsWord (Digits lo hi) symbols.now }
 {
     is_within(usize::from(lo), usize::from(hi), symbols.len()) && are_digits(symbols)
 }
 
-/// Whether the symbols are a word of the item `Int`.
+/// Returns whether the symbols are a word of the item `Int`.
 pub fn is_integer(symbols: &[u8], max: u64) -> bool
     requires { IsItem (Int max) }
     ensures { IsTrue result ↔ IsWord (Int max) symbols.now }
@@ -36,8 +36,8 @@ pub fn is_integer(symbols: &[u8], max: u64) -> bool
     }
 }
 
-/// Writes the characters that the symbols spell to the start of `out`, and gives their number, where the symbols are a word of
-/// the item `Esc`.
+/// Writes the characters that the symbols spell to the start of `out`, and returns their number, if the symbols are a word of the
+/// item `Esc`.
 pub fn spell_within(symbols: &[u8], lo: u8, hi: u8, out: &mut [u8]) -> Option<usize>
     requires few { hi ≤ 64 }
     requires room { length out.old ≡ 64 }
@@ -54,7 +54,7 @@ pub fn spell_within(symbols: &[u8], lo: u8, hi: u8, out: &mut [u8]) -> Option<us
     Some(count)
 }
 
-/// The number that the symbols are in bits, where they are a word of the item `NumPad`.
+/// Returns the number of the symbols in bits, if they are a word of the item `NumPad`.
 pub fn digits_in_bits(symbols: &[u8], bits: u8, n: u8) -> Option<u64>
     requires narrow { bits ≤ 64 }
     requires few { n ≤ 18 }
@@ -71,7 +71,7 @@ pub fn digits_in_bits(symbols: &[u8], bits: u8, n: u8) -> Option<u64>
     Some(number)
 }
 
-/// The number that the symbols are in bits, where they are a word of the item `Num`.
+/// Returns the number of the symbols in bits, if they are a word of the item `Num`.
 pub fn number_within(symbols: &[u8], bits: u8, max: u64) -> Option<u64>
     requires { bits ≤ 64 }
     ensures small { IfSome result (λ number. number ≤ max) }
@@ -87,7 +87,7 @@ pub fn number_within(symbols: &[u8], bits: u8, max: u64) -> Option<u64>
     Some(number)
 }
 
-/// The number that the symbols are in bits and the count of its digits behind the first, where they are a word of the item
+/// Returns the number of the symbols in bits and the count of its digits after the first, if they are a word of the item
 /// `NumStr`.
 pub fn number_behind_one(symbols: &[u8], bits: u8, hi: u8) -> Option<(u64, u8)>
     requires narrow { bits ≤ 64 }
@@ -103,7 +103,7 @@ pub fn number_behind_one(symbols: &[u8], bits: u8, hi: u8) -> Option<(u64, u8)>
     Some((number, count))
 }
 
-/// Whether the symbols are a word of the item `Ascii7`.
+/// Returns whether the symbols are a word of the item `Ascii7`.
 pub fn is_packed(symbols: &[u8], lo: u8, hi: u8, bits: u16) -> bool
     ensures { IsTrue result ↔ IsWord (Ascii7 lo hi bits) symbols.now }
 {
@@ -116,14 +116,14 @@ pub fn is_packed(symbols: &[u8], lo: u8, hi: u8, bits: u16) -> bool
     }
 }
 
-/// Whether the symbols are a word of the item `Fill`.
+/// Returns whether the symbols are a word of the item `Fill`.
 pub fn is_filling(symbols: &[u8], a: u8, b: u8) -> bool
     ensures { IsTrue result ↔ IsWord (Fill a b) symbols.now }
 {
     are_zeros(symbols, usize::from(a)) || are_zeros(symbols, usize::from(b))
 }
 
-/// Whether the symbols are a word of the item. The item keeps its bounds.
+/// Returns whether the symbols are a word of the item. The item is within its bounds.
 pub fn is_word(item: &Item, symbols: &[u8]) -> bool
     requires { IsItem item.now }
     ensures { IsTrue result ↔ IsWord item.now symbols.now }

@@ -13,7 +13,7 @@ use crate::word_tests::{
 use gs_chars::{Memory, Text};
 use std::alloc::Global;
 
-/// The empty value, where the symbols are the literal of an item `Lit`.
+/// Returns the empty value, if the symbols are the literal of an item `Lit`.
 fn read_literal(alloc: Global, symbols: &[u8], literal: &Text) -> Option<Text>
     ensures found { IfSome result (λ value. Word (Lit literal.now) value symbols.now) }
     ensures none { IfNone result (IsWord (Lit literal.now) symbols.now → ⊥) }
@@ -24,7 +24,7 @@ fn read_literal(alloc: Global, symbols: &[u8], literal: &Text) -> Option<Text>
     Some(Text::new(alloc))
 }
 
-/// The digits, where the symbols are a word of the item `Pad`.
+/// Returns the digits, if the symbols are a word of the item `Pad`.
 fn read_digits(alloc: Global, symbols: &[u8], n: u8) -> Result<Option<Text>, Memory>
     ensures found { IfOk result (λ found. IfSome found (λ value. Word (Pad n) value symbols.now)) }
     ensures none { IfOk result (λ found. IfNone found (IsWord (Pad n) symbols.now → ⊥)) }
@@ -36,7 +36,7 @@ fn read_digits(alloc: Global, symbols: &[u8], n: u8) -> Result<Option<Text>, Mem
     Ok(Some(text))
 }
 
-/// The digits, where the symbols are a word of the item `Digits`.
+/// Returns the digits, if the symbols are a word of the item `Digits`.
 fn read_digits_within(alloc: Global, symbols: &[u8], lo: u8, hi: u8) -> Result<Option<Text>, Memory>
     ensures found { IfOk result (λ found. IfSome found (λ value. Word (Digits lo hi) value symbols.now)) }
     ensures none { IfOk result (λ found. IfNone found (IsWord (Digits lo hi) symbols.now → ⊥)) }
@@ -48,7 +48,7 @@ fn read_digits_within(alloc: Global, symbols: &[u8], lo: u8, hi: u8) -> Result<O
     Ok(Some(text))
 }
 
-/// The symbols, where they are a word of the item `Int`.
+/// Returns the symbols, if they are a word of the item `Int`.
 fn read_integer(alloc: Global, symbols: &[u8], max: u64) -> Result<Option<Text>, Memory>
     requires { IsItem (Int max) }
     ensures found { IfOk result (λ found. IfSome found (λ value. Word (Int max) value symbols.now)) }
@@ -61,7 +61,7 @@ fn read_integer(alloc: Global, symbols: &[u8], max: u64) -> Result<Option<Text>,
     Ok(Some(text))
 }
 
-/// The characters that the symbols spell, where they are a word of the item `Esc`.
+/// Returns the characters that the symbols spell, if they are a word of the item `Esc`.
 fn read_escaped(alloc: Global, symbols: &[u8], lo: u8, hi: u8) -> Result<Option<Text>, Memory>
     requires { hi ≤ 64 }
     ensures found { IfOk result (λ found. IfSome found (λ value. Word (Esc lo hi) value symbols.now)) }
@@ -75,7 +75,7 @@ fn read_escaped(alloc: Global, symbols: &[u8], lo: u8, hi: u8) -> Result<Option<
     Ok(Some(text))
 }
 
-/// The digits of the number that the symbols are in bits, where they are a word of the item `NumPad`.
+/// Returns the digits of the number of the symbols in bits, if they are a word of the item `NumPad`.
 fn read_padded(alloc: Global, symbols: &[u8], bits: u8, n: u8) -> Result<Option<Text>, Memory>
     requires narrow { bits ≤ 64 }
     requires few { n ≤ 18 }
@@ -89,7 +89,7 @@ fn read_padded(alloc: Global, symbols: &[u8], bits: u8, n: u8) -> Result<Option<
     Ok(Some(digits))
 }
 
-/// The decimal text of the number that the symbols are in bits, where they are a word of the item `Num`.
+/// Returns the decimal text of the number of the symbols in bits, if they are a word of the item `Num`.
 fn read_number(alloc: Global, symbols: &[u8], bits: u8, max: u64) -> Result<Option<Text>, Memory>
     requires { bits ≤ 64 }
     ensures found { IfOk result (λ found. IfSome found (λ value. Word (Num bits max) value symbols.now)) }
@@ -102,7 +102,7 @@ fn read_number(alloc: Global, symbols: &[u8], bits: u8, max: u64) -> Result<Opti
     Ok(Some(text))
 }
 
-/// The digits behind a first 1 of the number that the symbols are in bits, where they are a word of the item `NumStr`.
+/// Returns the digits after a first 1 of the number of the symbols in bits, if they are a word of the item `NumStr`.
 fn read_behind_one(alloc: Global, symbols: &[u8], bits: u8, hi: u8) -> Result<Option<Text>, Memory>
     requires narrow { bits ≤ 64 }
     requires few { hi ≤ 12 }
@@ -116,7 +116,7 @@ fn read_behind_one(alloc: Global, symbols: &[u8], bits: u8, hi: u8) -> Result<Op
     Ok(Some(digits))
 }
 
-/// The characters that the symbols pack, where they are a word of the item `Ascii7`.
+/// Returns the characters that the symbols pack, if they are a word of the item `Ascii7`.
 fn read_packed(
     alloc: Global,
     symbols: &[u8],
@@ -134,7 +134,7 @@ fn read_packed(
     Ok(Some(text))
 }
 
-/// The empty value, where the symbols are a word of the item `Fill`.
+/// Returns the empty value, if the symbols are a word of the item `Fill`.
 fn read_filling(alloc: Global, symbols: &[u8], a: u8, b: u8) -> Option<Text>
     ensures found { IfSome result (λ value. Word (Fill a b) value symbols.now) }
     ensures none { IfNone result (IsWord (Fill a b) symbols.now → ⊥) }
@@ -145,8 +145,8 @@ fn read_filling(alloc: Global, symbols: &[u8], a: u8, b: u8) -> Option<Text>
     Some(Text::new(alloc))
 }
 
-/// The value of the symbols, where they are a word of the item. `None` comes exactly where they are none. The item keeps its
-/// bounds.
+/// Returns the value of the symbols, if they are a word of the item, and `None` if and only if they are not. The item is within
+/// its bounds.
 pub fn read_word(alloc: Global, item: &Item, symbols: &[u8]) -> Result<Option<Text>, Memory>
     requires { IsItem item.now }
     ensures found { IfOk result (λ found. IfSome found (λ value. Word item.now value symbols.now)) }
@@ -166,7 +166,7 @@ pub fn read_word(alloc: Global, item: &Item, symbols: &[u8]) -> Result<Option<Te
     }
 }
 
-/// The value of a word of the item. The item keeps its bounds.
+/// Returns the value of a word of the item. The item is within its bounds.
 pub fn value_of(alloc: Global, item: &Item, word: &[u8]) -> Result<Text, Memory>
     requires item { IsItem item.now }
     requires word { IsWord item.now word.now }
@@ -178,7 +178,7 @@ pub fn value_of(alloc: Global, item: &Item, word: &[u8]) -> Result<Text, Memory>
     }
 }
 
-/// The number that a list of bits is.
+/// Returns the number that a list of bits is.
 fn number_of_bits(word: &[u8], bits: u8) -> u64
     requires narrow { bits ≤ 64 }
     requires number { (number : ℕ) × WritesNumber bits number word.now }
@@ -190,8 +190,8 @@ fn number_of_bits(word: &[u8], bits: u8) -> u64
     }
 }
 
-/// The number that a whole word writes: its bits, where the item is a number in bits, and 0 of any other item. The item keeps
-/// its bounds, and the symbols are a word of it.
+/// Returns the number that a whole word writes: its bits if the item is a number in bits, and 0 for any other item. The item is
+/// within its bounds, and the symbols are a word of it.
 pub fn number_of_word(item: &Item, word: &[u8]) -> u64
     requires item { IsItem item.now }
     requires word { IsWord item.now word.now }

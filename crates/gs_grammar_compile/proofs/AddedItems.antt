@@ -11,9 +11,9 @@ use Rattle.std.proofs.lemmas.Fmt.{decimal_nonempty}
 use Rattle.gs_grammar_compile.proofs.InsideItems.{ascii_bounds}
 use Rattle.gs_grammar_machine.specs.declared.edge.Edge.{Edge}
 use Rattle.gs_grammar_machine.specs.Machines.{AutoForm, IsMachine, states_of}
-use Rattle.gs_grammar_compile.specs.Readers.{ReadsItems}
+use Rattle.gs_grammar_compile.specs.Readers.{ReadsItems, most_states}
 use Rattle.gs_grammar_compile.specs.OnesTables.{layer_states}
-use Rattle.gs_grammar_compile.specs.ItemTables.{item_states, item_table, items_table, items_borders, machine_of, most_states}
+use Rattle.gs_grammar_compile.specs.ItemTables.{item_states, item_table, items_table, items_borders, machine_of}
 use Rattle.gs_grammar_compile.proofs.WholeMachines.{item_count, machine_rules, machine_reads, some_states, total_states, table_count}
 
 item_end : (table new : List (List Edge)) (item : Item) → IsItem item → new ≡ table ++ item_table item (length table) → length new ≡ length table + item_states item
@@ -54,6 +54,9 @@ whole_machine table borders items e f = rw e (rw f refl)
 
 pub whole_rules : (table : List (List Edge)) (borders : List ℕ) (items : List Item) → All IsItem items → table ≡ items_table items 0 → borders ≡ 0 ∷ items_borders items 0 → IsMachine (record { table = table; borders = borders })
 whole_rules table borders items a e f = let r = machine_rules items a in rw e (rw f r)
+
+pub rules_of : (auto : AutoForm) (items : List Item) → All IsItem items → auto ≡ machine_of items → IsMachine auto
+rules_of auto items a m = rw m (machine_rules items a)
 
 pub reads_of : (auto : AutoForm) (items given : List Item) → given ≡ items → All IsItem given → auto ≡ machine_of given → ReadsItems auto items
 reads_of auto items given e a m = rw m (subst (λ (x : List Item). ReadsItems (machine_of given) x) e (machine_reads given a))

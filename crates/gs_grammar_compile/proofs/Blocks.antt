@@ -1,4 +1,4 @@
--- A block of rows that stands in a table.
+-- A block of rows that is in a table.
 use Rattle.std.proofs.Common.{◌≡◌, ℕ, ◌<◌, ◌+◌, List, [], ◌∷◌, ◌++◌, length, zero, suc, refl, ◌∙◌, ap, arith, length-append}
 use Rattle.gs_grammar_machine.specs.declared.edge.Edge.{Edge}
 use Rattle.gs_grammar_machine.specs.Walks.{edges_at}

@@ -86,7 +86,7 @@ hex_14 h e = grind (arith, nat_tests)
 hex_15 : (h : ℕ) → hex_value h ≡ Some 15 → (h ≡ 70) ⊎ (h ≡ 102)
 hex_15 h e = grind (arith, nat_tests)
 
--- the two digits behind a percent sign
+-- the two digits after a percent sign
 abbrev pub AreDigits : ℕ → ℕ → Type 0
 AreDigits h l = ((h ≡ 50) × InRanges two_ranges l) ⊎ ((h ≡ 51) × InRanges three_ranges l)
 
@@ -146,7 +146,7 @@ escape_digits c h l (inr (inr (inr (inr (inr (inr e)))))) a b =
 pub escaped_digits : (c h l : ℕ) → is_escaped c ≡ true → hex_value h ≡ Some (c / 16) → hex_value l ≡ Some (c % 16) → AreDigits h l
 escaped_digits c h l p a b = escape_digits c h l (escaped_one c p) a b
 
--- the character that two digits behind a percent sign spell
+-- the character that two digits after a percent sign spell
 abbrev pub Spelt : ℕ → ℕ → Type 0
 Spelt h l = (c : ℕ) × Spells c (37 ∷ h ∷ l ∷ [])
 

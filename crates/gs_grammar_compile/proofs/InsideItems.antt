@@ -105,7 +105,7 @@ inside_digits lo hi base end o s l =
     let tail = inside_at (base + length (run_table 48 57 (lo - 1) base)) (base + (lo - 1)) end (free_table (hi - (lo - 1)) (base + (lo - 1))) (omega arith) (inside_free (hi - (lo - 1)) (base + (lo - 1)) end (omega arith)) in
     inside_append base end (run_table 48 57 (lo - 1) base) (free_table (hi - (lo - 1)) (base + (lo - 1))) (inside_run 48 57 (lo - 1) base end (omega arith)) tail
 
--- the states of the next layer, and the end behind the last bit, are further on
+-- the states of the next layer, and the end after the last bit, are further on
 layer_on : (n base next end place hi : ℕ) → base < next → next + layer_states hi * n ≤ end → place < layer_states hi → (base < layer_state n next place) × (layer_state n next place ≤ end)
 layer_on zero base next end place hi a b c = (omega arith, omega arith)
 layer_on (suc n) base next end place hi a b c =

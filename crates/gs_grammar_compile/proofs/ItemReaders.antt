@@ -31,7 +31,7 @@ pub reads_pad : (table : List (List Edge)) (n base q : ℕ) → Has table base (
 reads_pad table n base q h a e =
     reads_as table base q (IsRun 48 57 n) (IsWord (Pad n)) (reads_run table 48 57 n base q h a e) (λ w r. (pad_word n w).1 (run_digits n w r)) (λ w i. let d = (pad_word n w).0 i in digits_run n w d.0 d.1)
 
--- more than n digits, and at most so many more
+-- more than n digits, and at most that many more
 record IsSome (n more : ℕ) (w : List ℕ) : Type 0 where
   digits : IsTrue (are_digits w)
   least : n < length w
@@ -114,7 +114,7 @@ reads_num table bits greatest base q h a e =
     (λ w b. (num_word bits greatest w).1 (bounded_number bits greatest w b))
     (λ w i. let n = (num_word bits greatest w).0 i in number_bounded bits greatest n.number w n.small n.written)
 
--- a number of at most n digits in so many bits is one up to the greatest such
+-- a number of at most n digits in that many bits is one up to the greatest such
 digits_small : (bits n number : ℕ) → number < 10 ^ n → number < 2 ^ bits → number ≤ digits_greatest bits n
 digits_small bits n number d f = omega arith
 
@@ -127,9 +127,9 @@ reads_numpad table bits n base q h a e =
     (λ w b. (numpad_word bits n w).1 (let m = bounded_number bits (digits_greatest bits n) w b in record { number = m.number; small = small_digits bits n m.number m.small; written = m.written }))
     (λ w i. let m = (numpad_word bits n w).0 i in number_bounded bits (digits_greatest bits n) m.number w (digits_small bits n m.number m.small m.written.fits) m.written)
 
--- digits behind a 1
+-- digits after a 1
 
--- the count of digits behind a 1, from 1 to so many
+-- the count of digits after a 1, from 1 to that many
 record SomeCount (hi number : ℕ) : Type 0 where
   count : ℕ
   least : 1 ≤ count

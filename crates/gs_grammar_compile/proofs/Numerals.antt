@@ -113,7 +113,7 @@ value_small n w d l = value_below w n d l
 value_cons : (n s : ℕ) (w : List ℕ) → length w ≡ n → decimal_value (s ∷ w) ≡ (s - 48) * 10 ^ n + decimal_value w
 value_cons n s w l = ap (λ (k : ℕ). (s - 48) * 10 ^ k + decimal_value w) l
 
--- the least first digit is 48, or 49 where it may be no zero unless it stands alone
+-- the least first digit is 48, or 49 where it may be not a zero unless it stands alone
 abbrev TightBy : ℕ → ℕ → ℕ → ℕ → ℕ → ℕ → ℕ → List ℕ → Type 0
 TightBy low n digit rest next end = Either (ByEdge (edge low (47 + digit) (end - suc n)) (IsFree (suc n))) (Either (ByEdge (edge (48 + digit) (48 + digit) next) (IsTight (suc n) rest)) (Either (ByEdge (edge (above_digit n digit) 57 (end - n)) (FreeOrEnd n)) (ByEdge (edge 48 57 end) IsEmpty)))
 

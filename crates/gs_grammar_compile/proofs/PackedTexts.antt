@@ -1,4 +1,4 @@
--- The table of packed characters reads what packs so many.
+-- The table of packed characters reads what packs that many.
 use Rattle.std.proofs.Common.{◌≡◌, ℕ, ◌<◌, ◌≤◌, ◌+◌, ◌-◌, ◌*◌, ◌^◌, true, List, [], ◌∷◌, ◌++◌, length, replicate, zero, suc, refl, sym, ◌∙◌, ap, subst, inl, inr, arith, length-append}
 use Rattle.std.specs.List.{flat_map}
 use Rattle.std.proofs.lemmas.Bool.{cases_eq}
@@ -23,7 +23,7 @@ use Rattle.gs_grammar_compile.proofs.Blocks.{Has, has_head, has_tail, has_left, 
 use Rattle.gs_grammar_compile.proofs.Runs.{IsRun, reads_run, zeros_run, run_zeros}
 use Rattle.gs_grammar_compile.proofs.Codes.{Code, Coded, Fork, arms_fork, reads_trie, length_trie, code_there, code_back}
 
--- the list packs from lo to n characters, and has so many bits
+-- the list packs from lo to n characters, and has that many bits
 pub record PacksIn (lo n bits : ℕ) (w : List ℕ) : Type 0 where
   pub value : List ℕ
   pub packed : IsPacked value w

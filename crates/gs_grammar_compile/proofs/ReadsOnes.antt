@@ -1,4 +1,4 @@
--- Numbers that are a 1 and digits behind it, in bits.
+-- Numbers that are a 1 and digits after it, in bits.
 use Rattle.std.proofs.Common.{◌≡◌, ◌⊎◌, ℕ, ◌<◌, ◌≤◌, ◌+◌, ◌-◌, ◌*◌, ◌%◌, ◌^◌, true, List, ◌∷◌, length, zero, suc, refl, subst, inl, inr, arith}
 use Rattle.std.specs.Prelude.{nat_lt, ◌&&◌}
 use Rattle.std.proofs.Math.Nat.{pow-succ', one-le-pow}
@@ -17,13 +17,13 @@ use Rattle.gs_grammar_compile.proofs.Spread.{arms_both}
 use Rattle.gs_grammar_compile.proofs.Blocks.{Has, has_head, has_tail, has_left, has_right}
 use Rattle.gs_grammar_compile.proofs.BitHalves.{IsBits, IsHalf, Any, From, UpTo, half_none, half_where, reads_halves, reads_from, reads_up_to, reads_free_bits}
 
--- numbers that are a 1 and digits behind it
+-- numbers that are a 1 and digits after it
 
 -- a number from another one on, below twice that
 abbrev pub IsWithinTwice : ℕ → ℕ → Type 0
 IsWithinTwice power y = (power ≤ y) × (y < 2 * power)
 
--- a 1 and from one to so many digits behind it
+-- a 1 and from one to that many digits after it
 abbrev pub IsOnes : ℕ → ℕ → Type 0
 IsOnes zero y = ⊥
 IsOnes (suc count) y = IsWithinTwice (10 ^ suc count) y ⊎ IsOnes count y
@@ -38,7 +38,7 @@ ones_above zero y h = absurd h
 ones_above (suc count) y (inl h) = let p = one-le-pow (suc count) 10 (omega arith) in let a = h.0 in omega arith
 ones_above (suc count) y (inr h) = ones_above count y h
 
--- the rest of a number behind its highest bit
+-- the rest of a number after its highest bit
 highest_rest : (n number : ℕ) → 2 ^ n ≤ number → number < 2 * 2 ^ n → number % 2 ^ n ≡ number - 2 ^ n
 highest_rest n number l h =
     let r = mod-mul-add 1 (2 ^ n) (number - 2 ^ n) (omega arith) in
@@ -101,7 +101,7 @@ lead_arms table q n next power count r u =
     let both = arms_both table (edge_where (is_highest n power) 1 (layer_state n next (2 * count))) (edge_where (nat_lt power (2 ^ n) && nat_lt (2 ^ n) (2 * power)) 1 (layer_state n next (2 * count + 1))) q (IsHalf 1 n (IsLow n power)) (IsHalf 1 n (IsHigh n power)) low high (lead_apart n power) in
     arms_as table (lead_edges n next power count) q (Either (IsHalf 1 n (IsLow n power)) (IsHalf 1 n (IsHigh n power))) (IsHalf 1 n (λ y. IsWithinTwice power (2 ^ n + y))) both (lead_there n power) (lead_back n power)
 
--- The states of a layer, where n bits are left, read what may follow: behind the last bit all are the end.
+-- The states of a layer, where n bits are left, read what may follow: after the last bit all are the end.
 pub record ReadsLayer (table : List (List Edge)) (n hi base q : ℕ) : Type 0 where
   pub zeros : 0 < n → Reads table base q (IsBits n (IsOnes hi))
   pub free : Reads table (layer_state n base 1) q (IsBits n Any)
@@ -135,7 +135,7 @@ leads_arms table q n next hi (suc count) l r =
     let both = arms_both table (lead_edges n next (10 ^ suc count) (suc count)) (leads_edges n next count) q (IsHalf 1 n (λ y. IsWithinTwice (10 ^ suc count) (2 ^ n + y))) (Ones n count) first others (leads_apart n count) in
     arms_as table (leads_edges n next (suc count)) q (Either (IsHalf 1 n (λ y. IsWithinTwice (10 ^ suc count) (2 ^ n + y))) (Ones n count)) (Ones n (suc count)) both (leads_there n count) (leads_back n count)
 
--- behind the last bit there are no more digits of zeros alone
+-- after the last bit there are no more digits of zeros alone
 no_ones : (n hi y : ℕ) → y < 2 ^ n → IsOnes hi y → nat_lt 0 n ≡ true
 no_ones zero hi y l h = absurd (let a = ones_above hi y h in omega arith)
 no_ones (suc n) hi y l h = grind (arith, nat_tests)
@@ -190,7 +190,7 @@ reads_layer table n hi base next q h l r =
       greatest = λ k a b. reads_up_to table (base + (2 * k + 1)) q n (2 * 10 ^ k - 1) (layer_state n next (2 * k + 1)) (layer_state n next 1) (has_bit n (2 * 10 ^ k - 1)) refl (count_at table base n next 1 hi k counts a (omega arith)).greatest (omega arith) (r.greatest k a b) r.free;
     }
 
--- behind the last bit
+-- after the last bit
 
 end_reads : (table : List (List Edge)) (p q : ℕ) (is_so : ℕ → Type 0) → Ascends table → p ≡ q → is_so 0 → Reads table p q (IsBits 0 is_so)
 end_reads table p q is_so a e z = reads_as table p q IsEmpty (IsBits 0 is_so) (reads_end table p q a e) (λ w h. rw h (refl, z)) (λ w h. h.0)
@@ -217,6 +217,6 @@ reads_layers table (suc n) hi base q h a e =
     let rest : Has table next (ones_table n hi next) = rw count at right in
     reads_layer table n hi base next q (has_left table base (layer_rows n next hi) (ones_table n hi next) h) (omega arith) (reads_layers table n hi next q rest a (omega arith))
 
--- the first state reads the numbers of so many bits that are a 1 and digits behind it
+-- the first state reads the numbers of that many bits that are a 1 and digits after it
 pub reads_ones : (table : List (List Edge)) (n hi base q : ℕ) → 0 < n → Has table base (ones_table n hi base) → Ascends table → q ≡ base + layer_states hi * n → Reads table base q (IsBits n (IsOnes hi))
 reads_ones table n hi base q some h a e = (reads_layers table n hi base q h a e).zeros some

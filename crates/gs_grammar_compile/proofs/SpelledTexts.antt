@@ -1,4 +1,4 @@
--- The table of characters in the spellings of EPC URIs reads what spells so many.
+-- The table of characters in the spellings of EPC URIs reads what spells that many.
 use Rattle.std.proofs.Common.{◌≡◌, ℕ, ◌<◌, ◌≤◌, ◌+◌, ◌-◌, ◌*◌, Bool, true, false, List, [], ◌∷◌, ◌++◌, length, zero, suc, refl, sym, ◌∙◌, ap, subst, inl, inr, arith}
 use Rattle.std.specs.Prelude.{nat_le}
 use Rattle.std.proofs.lemmas.Bool.{leb-true}
@@ -42,7 +42,7 @@ some_spelled value w no_more l e = absurd (omega arith)
 some_spelled value w (one_more c v s rest (inl p) t) l e = let f : c ∷ rest ≡ [] = sym (ap (λ (x : List ℕ). x ++ rest) p.1) ∙ e in cc
 some_spelled value w (one_more c v s rest (inr p) t) l e = let q = p.1 in let f : 37 ∷ q.high ∷ q.low ∷ rest ≡ [] = sym (ap (λ (x : List ℕ). x ++ rest) q.text) ∙ e in cc
 
--- the edges behind a character
+-- the edges after a character
 
 rest_end : (lo : ℕ) → lo ≤ 1 → (w : List ℕ) → IsEmpty w → (n : ℕ) → SpellsRest lo n w
 rest_end lo l w e n = record { value = []; spelled = rw e no_more; least = omega arith; most = omega arith }
@@ -99,7 +99,7 @@ behind_arms : (table : List (List Edge)) (lo more : ℕ) (ranges : List (ℕ × 
 behind_arms table lo zero ranges next q a r = last_arms table lo ranges next q r a
 behind_arms table lo (suc more) ranges next q a r = next_arms table lo more ranges next q (nat_le lo 1) refl a r
 
--- behind a percent sign
+-- after a percent sign
 abbrev BehindPercent : ℕ → ℕ → ℕ → ℕ → List ℕ → Type 0
 BehindPercent lo more two three = Begins (Either (ByEdge (edge 50 50 two) (Begins (ByRanges two_ranges (SpellsRest lo more)))) (ByEdge (edge 51 51 three) (Begins (ByRanges three_ranges (SpellsRest lo more)))))
 

@@ -46,7 +46,7 @@ pub record Parted (table : List (List Edge)) (p c q : ℕ) (ts w : List ℕ) : T
   pub walk : Walk table p front word c
   pub walk_on : Walk table c back rest q
 
--- a walk from below a border that no edge leads over to one not below it stands at the border
+-- a walk from below a border that no edge leads over to one not below it is at the border
 pub walk_split : (table : List (List Edge)) (p c q : ℕ) (ts w : List ℕ) → Uncrossed table c → Walk table p ts w q → p ≤ c → c ≤ q → Parted table p c q ts w
 walk_split table p c q [] [] u w l m = record { front = []; back = []; word = []; rest = []; states = refl; symbols = refl; walk = omega arith; walk_on = omega arith }
 walk_split table p c q [] (s ∷ v) u w l m = absurd w

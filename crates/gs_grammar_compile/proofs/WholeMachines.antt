@@ -1,4 +1,4 @@
--- The machine of a list of items keeps the rules, and reads the items one by one.
+-- The machine of a list of items satisfies the rules, and reads the items one by one.
 use Rattle.std.proofs.Common.{◌≡◌, ◌⊎◌, ℕ, ◌<◌, ◌≤◌, ◌+◌, ◌-◌, ◌*◌, ◌%◌, ◌^◌, ◌||◌, eqb, Bool, true, false, All, List, [], ◌∷◌, ◌++◌, length, get_or, zero, suc, Some, None, refl, sym, ◌∙◌, ap, subst, inl, inr, arith, add-one, length-append}
 use Rattle.std.specs.Prelude.{nat_le, nat_lt, ◌&&◌}
 use Rattle.std.specs.List.{list_all, slice_get}

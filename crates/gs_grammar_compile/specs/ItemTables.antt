@@ -2,7 +2,6 @@
 use Rattle.std.specs.Prelude.{ℕ, ◌+◌, ◌-◌, ◌*◌, List, [], ◌∷◌, ◌++◌, length, decimal}
 use Rattle.gs_grammar.specs.declared.item.Item.{Item}
 use Rattle.gs_grammar.specs.declared.item.Item.TheVariants.{Lit, Pad, Digits, Int, Esc, NumPad, Num, NumStr, Ascii7, Fill}
-use Rattle.gs_grammar.specs.Items.{size_of_all}
 use Rattle.gs_grammar_machine.specs.declared.edge.Edge.{Edge}
 use Rattle.gs_grammar_machine.specs.Machines.{AutoForm}
 use Rattle.gs_grammar_compile.specs.Tables.{lit_table, run_table, fill_table, bound_table, digits_greatest}
@@ -11,11 +10,11 @@ use Rattle.gs_grammar_compile.specs.EscapeTables.{esc_table}
 use Rattle.gs_grammar_compile.specs.CodeTables.{ascii_table}
 use Rattle.gs_grammar_compile.specs.OnesTables.{layer_states, ones_table}
 
--- trusted, own: the number of digits of the decimal text behind the first one
+-- the number of digits of the decimal text after the first one
 abbrev pub digits_behind : ℕ → ℕ
 digits_behind number = length (decimal number) - 1
 
--- trusted, own: how many states an item has
+-- how many states an item has
 abbrev pub item_states : Item → ℕ
 item_states (Lit literal) = length literal
 item_states (Pad n) = n
@@ -28,7 +27,7 @@ item_states (NumStr bits hi) = layer_states hi * bits
 item_states (Ascii7 lo hi bits) = 127 * hi + (bits - 7 * lo)
 item_states (Fill a b) = b
 
--- trusted, own: the edges of the states of an item, the first of which has this number; the state behind them is its end
+-- the edges of the states of an item, the first of which has this number; the state after them is its end
 abbrev pub item_table : Item → ℕ → List (List Edge)
 item_table (Lit literal) base = lit_table literal base
 item_table (Pad n) base = run_table 48 57 n base
@@ -41,21 +40,16 @@ item_table (NumStr bits hi) base = ones_table bits hi base
 item_table (Ascii7 lo hi bits) base = ascii_table lo hi bits base
 item_table (Fill a b) base = fill_table a (b - a) base
 
--- trusted, own: the states of the items one after the other, and the accepting state behind them
+-- the states of the items one after the other, and the accepting state after them
 abbrev pub items_table : List Item → ℕ → List (List Edge)
 items_table [] base = [] ∷ []
 items_table (item ∷ items) base = item_table item base ++ items_table items (base + item_states item)
 
--- trusted, own: the ends of the items
+-- the ends of the items
 abbrev pub items_borders : List Item → ℕ → List ℕ
 items_borders [] base = []
 items_borders (item ∷ items) base = (base + item_states item) ∷ items_borders items (base + item_states item)
 
--- trusted, own: the machine of a list of items
+-- the machine of a list of items
 abbrev pub machine_of : List Item → AutoForm
 machine_of items = record { table = items_table items 0; borders = 0 ∷ items_borders items 0 }
-
--- trusted, own: the most states of the machine of items: 32 for each symbol of their size, and one where there are no items
-abbrev pub most_states : List Item → ℕ
-most_states [] = 1
-most_states (item ∷ items) = 32 * size_of_all (item ∷ items)

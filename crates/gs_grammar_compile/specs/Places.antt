@@ -7,50 +7,51 @@ use Rattle.gs_grammar_machine.specs.Machines.{AutoForm, IsMachine}
 use Rattle.gs_grammar_machine.specs.MachinesSupport.{start_of, Accepts}
 use Rattle.gs_grammar_compile.specs.Readers.{ReadsItems}
 
--- a place, and the place after each of the words
+-- trusted, own: a place, and the place after each of the words
 abbrev pub cuts_from : ℕ → List (List ℕ) → List ℕ
 cuts_from place [] = place ∷ []
 cuts_from place (word ∷ words) = place ∷ cuts_from (place + length word) words
 
--- the cuts of a derivation: the place 0, and the place after each of its words
+-- trusted, own: the cuts of a derivation: the place 0, and the place after each of its words
 abbrev pub word_cuts : List (List ℕ) → List ℕ
 word_cuts words = cuts_from 0 words
 
--- the state is one of the borders
+-- trusted, own: the state is one of the borders
 abbrev pub is_border : List ℕ → ℕ → Bool
 is_border borders state = list_any (λ border. border == state) borders
 
--- the places of the states that are borders, where the first state stands at this place
+-- trusted, own: the places of the states that are borders, where the first state is at this place
 abbrev pub stands_from : List ℕ → ℕ → List ℕ → List ℕ
 stands_from borders place [] = []
 stands_from borders place (state ∷ states) =
     if is_border borders state then place ∷ stands_from borders (place + 1) states
     else stands_from borders (place + 1) states
 
--- the cuts of a run: the places at which it stands at a border
+-- trusted, own: the cuts of a run: the places at which it is at a border
 abbrev pub run_cuts : AutoForm → List ℕ → List ℕ
 run_cuts form run = stands_from form.borders 0 (start_of form ∷ run)
 
--- the list of symbols has an accepting run with the cuts of these words
+-- trusted, own: the list of symbols has an accepting run with the cuts of these words
 pub record RunOf (form : AutoForm) (symbols : List ℕ) (words : List (List ℕ)) : Type 0 where
   pub run : List ℕ
   pub accepts : Accepts form run symbols
   pub cuts : run_cuts form run ≡ word_cuts words
 
--- the list of symbols has a derivation with the cuts of this run
+-- trusted, own: the list of symbols has a derivation with the cuts of this run
 pub record DerivationOf (form : AutoForm) (items : List Item) (symbols run : List ℕ) : Type 0 where
   pub values : List (List ℕ)
   pub words : List (List ℕ)
   pub derives : Derives items symbols values words
   pub cuts : run_cuts form run ≡ word_cuts words
 
--- Of each list of symbols, a list of cuts is that of exactly one accepting run where it is that of a derivation, and of none
--- where it is not.
+-- trusted, own: Of each list of symbols, a list of cuts is that of exactly one accepting run where it is that of a derivation,
+-- and of none if it is not.
 pub record CutsAreThoseOfDerivations (form : AutoForm) (items : List Item) : Type 0 where
   pub run : (symbols : List ℕ) (values words : List (List ℕ)) → Derives items symbols values words → RunOf form symbols words
   pub only : (symbols run other : List ℕ) → Accepts form run symbols → Accepts form other symbols → run_cuts form run ≡ run_cuts form other → run ≡ other
   pub derivation : (symbols run : List ℕ) → Accepts form run symbols → DerivationOf form items symbols run
 
--- of each machine that reads the items one by one, the cuts of its accepting runs are those of the derivations by the items
+-- trusted, own: of each machine that reads the items one by one, the cuts of its accepting runs are those of the derivations by
+-- the items
 abbrev pub RunsAreDerivations : Type 0
 RunsAreDerivations = (form : AutoForm) (items : List Item) → IsMachine form → ReadsItems form items → CutsAreThoseOfDerivations form items

@@ -1,6 +1,7 @@
 -- Machines that read the items of an option one by one.
-use Rattle.std.specs.Prelude.{◌≡◌, ℕ, ◌+◌, List, Some, length, slice_get, slice_index}
+use Rattle.std.specs.Prelude.{◌≡◌, ℕ, ◌+◌, ◌*◌, List, [], ◌∷◌, Some, length, slice_get, slice_index}
 use Rattle.gs_grammar.specs.declared.item.Item.{Item}
+use Rattle.gs_grammar.specs.Items.{size_of_all}
 use Rattle.gs_grammar.specs.Words.{IsWord}
 use Rattle.gs_grammar_machine.specs.declared.edge.Edge.{Edge}
 use Rattle.gs_grammar_machine.specs.Walks.{Walk}
@@ -17,3 +18,8 @@ pub record Reads (table : List (List Edge)) (first last : ℕ) (language : List 
 pub record ReadsItems (form : AutoForm) (items : List Item) : Type 0 where
   pub count : length form.borders ≡ length items + 1
   pub reads : (k : ℕ) (item : Item) → slice_get items k ≡ Some item → Reads form.table (slice_index form.borders k) (slice_index form.borders (k + 1)) (IsWord item)
+
+-- trusted, own: the most states of a machine of the items: 32 for each symbol of their size, and one if there are no items
+abbrev pub most_states : List Item → ℕ
+most_states [] = 1
+most_states (item ∷ items) = 32 * size_of_all (item ∷ items)

@@ -1,4 +1,4 @@
-ghost use Rattle.std.specs.Prelude.{◌≡◌, ◌≤◌, ◌++◌, IfOk, length};
+ghost use Rattle.std.specs.Prelude.{◌≡◌, ◌≤◌, ◌++◌, OnOk, length};
 ghost use Rattle.gs_grammar.specs.Items.{IsItem};
 ghost use Rattle.gs_grammar_compile.specs.Tables.{digits_greatest};
 ghost use Rattle.gs_grammar_compile.specs.ItemTables.{item_table};
@@ -13,7 +13,7 @@ use gs_grammar::Item;
 use gs_grammar_machine::Table;
 use std::alloc::Global;
 
-/// The greatest number of at most n digits that has room in so many bits.
+/// Returns the greatest number of at most n digits that fits in the bits.
 fn greatest_number(bits: u8, n: u8) -> u64
     requires bits { bits ≤ 64 }
     requires digits { n ≤ 18 }
@@ -27,10 +27,10 @@ fn greatest_number(bits: u8, n: u8) -> u64
     }
 }
 
-/// Adds the states of an item that keeps its bounds.
-pub fn add_item(alloc: Global, table: Table, item: &Item) -> Result<Table, Memory>
+/// Adds the states of an item that is within its bounds.
+pub fn add_item(alloc: Global, table: &mut Table, item: &Item) -> Result<(), Memory>
     requires { IsItem item.now }
-    ensures { IfOk result (λ new. new ≡ table ++ item_table item.now (length table)) }
+    ensures { OnOk result (table.new ≡ table.old ++ item_table item.now (length table.old)) }
 {
     match item {
         Item::Lit(literal) => add_literal(table, literal.as_bytes()),

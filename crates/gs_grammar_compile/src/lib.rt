@@ -13,7 +13,7 @@
 //! 0 1
 //! ```
 //!
-//! # Where it differs from the standards
+//! # Differences from the standards
 //!
 //! - GS1 EPC Tag Data Translation tells the forms of an option by patterns; here they are items, and a machine of each option
 //!   reads them.
@@ -26,6 +26,7 @@ mod items;
 mod laws;
 mod numeral;
 mod ones;
+mod rooms;
 mod spelling_states;
 
 pub use compiler::compile;

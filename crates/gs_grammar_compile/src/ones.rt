@@ -7,7 +7,7 @@ use gs_chars::Memory;
 use gs_grammar_machine::{Edge, Table};
 use std::alloc::Global;
 
-/// The state of this place in the layer where so many bits are left, and the end where none is.
+/// Returns the state at this place of the layer with `left` bits left, and the end if no bits are left.
 fn layer_state(left: u8, next: usize, place: usize) -> Result<usize, Memory>
     ensures { IfOk result (λ state. state ≡ layer_state left next place) }
 {
@@ -20,7 +20,7 @@ fn layer_state(left: u8, next: usize, place: usize) -> Result<usize, Memory>
     }
 }
 
-/// Whether the number has the bit behind which there are so many more.
+/// Returns whether the number has the bit that `left` others follow.
 fn has_bit(left: u8, number: u64) -> bool
     requires { left < 64 }
     ensures { result ≡ has_bit left number }
@@ -28,7 +28,7 @@ fn has_bit(left: u8, number: u64) -> bool
     (number >> left) % 2 == 1
 }
 
-/// Whether the bit behind which there are so many more is the highest of the number.
+/// Returns whether the bit that `left` others follow is the highest of the number.
 fn is_highest(left: u8, number: u64) -> bool
     requires { left < 64 }
     ensures { result ≡ is_highest left number }
@@ -37,8 +37,7 @@ fn is_highest(left: u8, number: u64) -> bool
     half <= number && number - half < half
 }
 
-/// Whether the bit behind which there are so many more is above all of the number, and not above all of what is one less than its
-/// double.
+/// Returns whether the bit that `left` others follow is above the number, and not above one less than its double.
 fn is_highest_of_double(left: u8, number: u64) -> bool
     requires bit { left < 64 }
     requires small { number < 2 ^ 63 }
@@ -48,7 +47,7 @@ fn is_highest_of_double(left: u8, number: u64) -> bool
     number < half && half < 2 * number
 }
 
-/// Adds the edges with a first 1 to the states of a count of digits.
+/// Appends the edges with a first 1 to the states of a count of digits.
 fn push_lead(row: &mut Vec<Edge>, left: u8, next: usize, count: u8) -> Result<(), Memory>
     requires bit { left < 64 }
     requires few { count ≤ 12 }
@@ -62,7 +61,7 @@ fn push_lead(row: &mut Vec<Edge>, left: u8, next: usize, count: u8) -> Result<()
     push_where(row, is_highest_of_double(left, power), 1, greatest)
 }
 
-/// Adds such edges for each count of digits, the greatest count first.
+/// Appends such edges for each count of digits, the greatest count first.
 fn push_leads(row: &mut Vec<Edge>, left: u8, next: usize, hi: u8) -> Result<(), Memory>
     requires bit { left < 64 }
     requires few { hi ≤ 12 }
@@ -76,7 +75,7 @@ fn push_leads(row: &mut Vec<Edge>, left: u8, next: usize, hi: u8) -> Result<(), 
     Ok(())
 }
 
-/// The edges of the first state of a layer: with a zero, where more bits follow, and with the first 1.
+/// Makes the edges of the first state of a layer: with a zero, if more bits follow, and with the first 1.
 fn zeros_row(alloc: Global, left: u8, next: usize, hi: u8) -> Result<Vec<Edge>, Memory>
     requires bit { left < 64 }
     requires few { hi ≤ 12 }
@@ -89,81 +88,79 @@ fn zeros_row(alloc: Global, left: u8, next: usize, hi: u8) -> Result<Vec<Edge>, 
 }
 
 /// Adds a state at which the bits so far are those of the least number, by the next bit of that number.
-fn add_from(table: Table, one: bool, same: usize, free: usize) -> Result<Table, Memory>
-    ensures { IfOk result (λ new. new ≡ table ++ from_edges one same free ∷ []) }
+fn add_from(table: &mut Table, one: bool, same: usize, free: usize) -> Result<(), Memory>
+    ensures { OnOk result (table.new ≡ table.old ++ from_edges one same free ∷ []) }
 {
     if one {
-        return table.with_state(&[bit_edge(1, same)]);
+        return table.push_state(&[bit_edge(1, same)]);
     }
-    table.with_state(&[bit_edge(0, same), bit_edge(1, free)])
+    table.push_state(&[bit_edge(0, same), bit_edge(1, free)])
 }
 
 /// Adds a state at which the bits so far are those of the greatest number, by the next bit of that number.
-fn add_up_to(table: Table, one: bool, same: usize, free: usize) -> Result<Table, Memory>
-    ensures { IfOk result (λ new. new ≡ table ++ up_to_edges one same free ∷ []) }
+fn add_up_to(table: &mut Table, one: bool, same: usize, free: usize) -> Result<(), Memory>
+    ensures { OnOk result (table.new ≡ table.old ++ up_to_edges one same free ∷ []) }
 {
     if one {
-        return table.with_state(&[bit_edge(0, free), bit_edge(1, same)]);
+        return table.push_state(&[bit_edge(0, free), bit_edge(1, same)]);
     }
-    table.with_state(&[bit_edge(0, same)])
+    table.push_state(&[bit_edge(0, same)])
 }
 
 /// Adds the two states of a count of digits.
-fn add_count(table: Table, left: u8, next: usize, count: u8) -> Result<Table, Memory>
+fn add_count(table: &mut Table, left: u8, next: usize, count: u8) -> Result<(), Memory>
     requires bit { left < 64 }
     requires few { count ≤ 12 }
-    ensures { IfOk result (λ new. new ≡ table ++ count_rows left next (10 ^ count) count) }
+    ensures { OnOk result (table.new ≡ table.old ++ count_rows left next (10 ^ count) count) }
 {
     let power = 10u64.pow(u32::from(count));
     let place = 2 * usize::from(count);
     let least = layer_state(left, next, place)?;
     let greatest = layer_state(left, next, place + 1)?;
     let free = layer_state(left, next, 1)?;
-    let first = add_from(table, has_bit(left, power), least, free)?;
-    add_up_to(first, has_bit(left, 2 * power - 1), greatest, free)
+    add_from(table, has_bit(left, power), least, free)?;
+    add_up_to(table, has_bit(left, 2 * power - 1), greatest, free)
 }
 
 /// Adds the states of the counts of digits, from one on.
-fn add_counts(table: Table, left: u8, next: usize, hi: u8) -> Result<Table, Memory>
+fn add_counts(table: &mut Table, left: u8, next: usize, hi: u8) -> Result<(), Memory>
     requires bit { left < 64 }
     requires few { hi ≤ 12 }
-    ensures { IfOk result (λ new. new ≡ table ++ counts_rows left next 1 hi) }
+    ensures { OnOk result (table.new ≡ table.old ++ counts_rows left next 1 hi) }
 {
-    let mut whole = table;
     let mut count = 1;
     while count <= hi {
-        whole = add_count(whole, left, next, count)?;
+        add_count(table, left, next, count)?;
         count += 1;
     }
-    Ok(whole)
+    Ok(())
 }
 
-/// Adds the states of a layer, behind whose bit so many are left.
-fn add_layer(alloc: Global, table: Table, left: u8, next: usize, hi: u8) -> Result<Table, Memory>
+/// Adds the states of a layer whose bit `left` others follow.
+fn add_layer(alloc: Global, table: &mut Table, left: u8, next: usize, hi: u8) -> Result<(), Memory>
     requires bit { left < 64 }
     requires few { hi ≤ 12 }
-    ensures { IfOk result (λ new. new ≡ table ++ layer_rows left next hi) }
+    ensures { OnOk result (table.new ≡ table.old ++ layer_rows left next hi) }
 {
     let zeros = zeros_row(alloc, left, next, hi)?;
     let to = layer_state(left, next, 1)?;
-    let first = table.with_state(zeros.as_slice())?;
-    let second = first.with_state(&[Edge { lo: 0, hi: 1, to }])?;
-    add_counts(second, left, next, hi)
+    table.push_state(zeros.as_slice())?;
+    table.push_state(&[Edge { lo: 0, hi: 1, to }])?;
+    add_counts(table, left, next, hi)
 }
 
-/// Adds the states of a number in so many bits whose digits are a 1 and from 1 to `hi` behind it. There are at most 64 bits.
-pub fn add_ones(alloc: Global, table: Table, bits: u8, hi: u8) -> Result<Table, Memory>
+/// Adds the states of a number of at most 64 bits whose digits are a 1 and from 1 to `hi` others.
+pub fn add_ones(alloc: Global, table: &mut Table, bits: u8, hi: u8) -> Result<(), Memory>
     requires bits { bits ≤ 64 }
     requires few { hi ≤ 12 }
-    ensures { IfOk result (λ new. new ≡ table ++ ones_table bits hi (length table)) }
+    ensures { OnOk result (table.new ≡ table.old ++ ones_table bits hi (length table.old)) }
 {
     let states = 2 + 2 * usize::from(hi);
-    let mut whole = table;
     let mut left = bits;
     while left > 0 {
         left -= 1;
-        let next = state_ahead(&whole, states)?;
-        whole = add_layer(alloc, whole, left, next, hi)?;
+        let next = state_ahead(table, states)?;
+        add_layer(alloc, table, left, next, hi)?;
     }
-    Ok(whole)
+    Ok(())
 }

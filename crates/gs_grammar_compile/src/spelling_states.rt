@@ -6,7 +6,7 @@ use gs_chars::Memory;
 use gs_grammar_machine::{Edge, Table};
 use std::alloc::Global;
 
-/// Adds an edge to one state for each of the ranges.
+/// Appends an edge to one state for each of the ranges.
 fn push_ranges(row: &mut Vec<Edge>, ranges: &[(u8, u8)], to: usize) -> Result<(), Memory>
     ensures { OnOk result (row.new.items ≡ row.old.items ++ with_ranges ranges.now to) }
 {
@@ -20,8 +20,8 @@ fn push_ranges(row: &mut Vec<Edge>, ranges: &[(u8, u8)], to: usize) -> Result<()
     Ok(())
 }
 
-/// The edges of the last symbol of a character: to the end where this may be the last character, and to the next character
-/// where so many may follow.
+/// Makes the edges of the last symbol of a character: to the end if this may be the last character, and to the next character
+/// if `more` may follow.
 fn last_row(
     alloc: Global,
     lo: usize,
@@ -46,7 +46,7 @@ fn last_row(
     Ok(row)
 }
 
-/// The edges before a character.
+/// Makes the edges before a character.
 fn first_row(
     alloc: Global,
     lo: usize,
@@ -78,33 +78,32 @@ fn first_row(
 
 /// Adds four states.
 fn add_four(
-    table: Table,
+    table: &mut Table,
     first: &[Edge],
     second: &[Edge],
     third: &[Edge],
     fourth: &[Edge],
-) -> Result<Table, Memory>
-    ensures { IfOk result (λ new. new ≡ table ++ four_states first.now second.now third.now fourth.now) }
+) -> Result<(), Memory>
+    ensures { OnOk result (table.new ≡ table.old ++ four_states first.now second.now third.now fourth.now) }
 {
-    table
-        .with_state(first)?
-        .with_state(second)?
-        .with_state(third)?
-        .with_state(fourth)
+    table.push_state(first)?;
+    table.push_state(second)?;
+    table.push_state(third)?;
+    table.push_state(fourth)
 }
 
-/// Adds the four states of a character, of which with it at least `lo` are to come, and so many more may follow.
+/// Adds the four states of a character. At least `lo` characters are to come, with this one, and `more` may follow it.
 fn add_character(
     alloc: Global,
-    table: Table,
+    table: &mut Table,
     lo: usize,
     more: usize,
     end: usize,
-) -> Result<Table, Memory>
-    ensures { IfOk result (λ new. new ≡ table ++ character_states lo more (length table) end) }
+) -> Result<(), Memory>
+    ensures { OnOk result (table.new ≡ table.old ++ character_states lo more (length table.old) end) }
 {
     let base = table.len();
-    let next = state_ahead(&table, 4)?;
+    let next = state_ahead(table, 4)?;
     let front = first_row(alloc, lo, more, base, next, end)?;
     let two = last_row(
         alloc,
@@ -143,18 +142,17 @@ fn add_character(
     )
 }
 
-/// Adds the states of characters in the spellings of EPC URIs, at least `lo` and at most `hi`.
-pub fn add_spelled(alloc: Global, table: Table, lo: u8, hi: u8) -> Result<Table, Memory>
-    ensures { IfOk result (λ new. new ≡ table ++ esc_table lo hi (length table) (length table + 4 * hi)) }
+/// Adds the states of at least `lo` and at most `hi` characters in the spellings of EPC URIs.
+pub fn add_spelled(alloc: Global, table: &mut Table, lo: u8, hi: u8) -> Result<(), Memory>
+    ensures { OnOk result (table.new ≡ table.old ++ esc_table lo hi (length table.old) (length table.old + 4 * hi)) }
 {
-    let end = state_ahead(&table, 4 * usize::from(hi))?;
-    let mut whole = table;
+    let end = state_ahead(table, 4 * usize::from(hi))?;
     let mut least = usize::from(lo);
     let mut left = usize::from(hi);
     while left > 0 {
         left -= 1;
-        whole = add_character(alloc, whole, least, left, end)?;
+        add_character(alloc, table, least, left, end)?;
         least = least.saturating_sub(1);
     }
-    Ok(whole)
+    Ok(())
 }

@@ -9,7 +9,7 @@ use Rattle.gs_grammar_level.specs.declared.trail.Entry.{Entry}
 use Rattle.gs_grammar_level.specs.Trails.{entry_at, Came, IsTrail, with_cut, AreCuts}
 use Rattle.gs_grammar_level.proofs.FollowLemmas.{came_within}
 
--- the cuts from a place on, at which the run stands at this state
+-- the cuts from a place on, at which the run is at this state
 pub record CutsFrom (form : AutoForm) (symbols : List ℕ) (place state : ℕ) (cuts : List ℕ) : Type 0 where
   pub run : List ℕ
   pub walk : Walk form.table state run (drop place symbols) (accept_of form)

@@ -1,7 +1,7 @@
--- What is left of a list from a place on, and what stands before it.
+-- What is left of a list from a place on, and what is before it.
 use Rattle.std.proofs.Common.{◌≡◌, ℕ, ◌<◌, ◌≤◌, ◌+◌, List, [], ◌∷◌, length, get_or, take, drop, zero, suc, refl, ap, arith, add-one}
 
--- the first of what is left, and what is behind it
+-- the first of what is left, and what is after it
 pub record Parts {X : Type 0} (xs rest : List X) (x d : X) (n : ℕ) : Type 0 where
   pub within : n < length xs
   pub here : get_or xs n d ≡ x
@@ -19,7 +19,7 @@ part_at (y ∷ xs) rest x d (suc n) e =
     let r = part_at xs rest x d n e in
     record { within = let l = r.within in omega arith; here = r.here; others = rw add-one (rw add-one at r.others) }
 
--- nothing is left behind the end
+-- nothing is left after the end
 pub none_left : {X : Type 0} (xs : List X) (n : ℕ) → length xs ≤ n → drop n xs ≡ []
 none_left [] zero l = refl
 none_left [] (suc n) l = refl

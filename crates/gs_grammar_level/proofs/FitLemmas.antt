@@ -50,3 +50,6 @@ pub fits_here : {X : Type 0} (Fitting : X → OptionForm → Type 0) (xs : List 
 fits_here Fitting xs options n x h l e option f =
     let c = h.count in
     h.each n x option (read_at xs n x (omega arith) e) f
+
+pub found_at : {X : Type 0} (Fitting : X → OptionForm → Type 0) (xs : List X) (options : List OptionForm) (n : ℕ) (x : X) → FitEach Fitting xs options → n < length options → x ≡ get_or xs n x → slice_get xs n ≡ Some x
+found_at Fitting xs options n x h l e = let c = h.count in read_at xs n x (omega arith) e

@@ -8,11 +8,9 @@ mod BetweenCuts
 mod FitLemmas
 mod Literals
 mod Readers
-mod OneNext
-mod RunsAlone
-mod StartLemmas
 mod Measures
 mod FrontLemmas
+mod CuttingLemmas
 pub mod DecidedReadings
 pub mod BitSymbols
 pub mod SharedLists

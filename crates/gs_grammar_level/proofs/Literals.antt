@@ -1,4 +1,4 @@
--- Literals that stand at a place of each text of an option.
+-- Literals that are at a place of each text of an option.
 use Rattle.std.proofs.Common.{◌≡◌, ℕ, ◌<◌, ◌≤◌, ◌+◌, ◌==◌, not, Bool, false, IsTrue, List, [], ◌∷◌, ◌++◌, length, get_or, take, drop, refl, sym, ◌∙◌, ap, subst, inl, inr, arith}
 use Rattle.std.specs.Prelude.{bytes_eq}
 use Rattle.std.specs.List.{starts_with}
@@ -21,7 +21,7 @@ use Rattle.gs_grammar_level.specs.Guides.{StandsAt, HasLiteral, BeginAll, AreGro
 pub record Leads (items left : List Item) (place : ℕ) : Type 0 where
   pub leads : (w : List ℕ) → IsDerived items w → IsDerived left (drop place w)
 
--- the word of the first item, and what is behind it
+-- the word of the first item, and what is after it
 record Behind (item : Item) (others : List Item) (w : List ℕ) : Type 0 where
   first : List ℕ
   rest : List ℕ

@@ -16,7 +16,7 @@ use Rattle.gs_grammar_level.proofs.DecidedReadings.{share_of}
 use Rattle.gs_grammar_level.proofs.BoundedWords.{AreBelow, bounded_of}
 use Rattle.gs_grammar_level.proofs.DecidedShares.{derives_at, known_share}
 
--- a list that has the property, or that no list of so many symbols below the bound has it
+-- a list that has the property, or that no list of that many symbols below the bound has it
 abbrev Searched : (List ℕ → Type 0) → ℕ → ℕ → Type 0
 Searched P most bound = ((w : List ℕ) × P w) ⊎ ((w : List ℕ) → length w ≤ most → AreBelow bound w → P w → ⊥)
 

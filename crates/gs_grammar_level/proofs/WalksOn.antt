@@ -26,6 +26,6 @@ stays : (form : AutoForm) (state : ℕ) (rest left : List ℕ) → left ≡ [] �
 stays form state [] left e w = let f : Walk form.table state [] [] (accept_of form) = rw e at w in f
 stays form state (next ∷ rest) left e w = let f : Walk form.table state (next ∷ rest) [] (accept_of form) = rw e at w in absurd f
 
--- behind the last symbol it stands at the accepting state
+-- after the last symbol it is at the accepting state
 pub ends_at : (form : AutoForm) (symbols : List ℕ) (n state : ℕ) (rest : List ℕ) → length symbols ≤ n → Walk form.table state rest (drop n symbols) (accept_of form) → state ≡ accept_of form
 ends_at form symbols n state rest l w = stays form state rest (drop n symbols) (none_left symbols n l) w

@@ -1,5 +1,5 @@
--- The symbols that stand at fixed places in each list that the items of an option derive.
-use Rattle.std.specs.Prelude.{◌≡◌, ◌<◌, ◌≤◌, ◌*◌, ◌⊎◌, ℕ, List, [], ◌∷◌, Some, true, map, replicate, slice_get}
+-- The symbols that are at fixed places in each list that the items of an option derive.
+use Rattle.std.specs.Prelude.{◌≡◌, ◌<◌, ◌≤◌, ◌*◌, ◌⊎◌, ℕ, List, [], ◌∷◌, Some, map, replicate, slice_get}
 use Rattle.gs_grammar.specs.declared.item.Item.{Item}
 use Rattle.gs_grammar.specs.declared.item.Item.TheVariants.{Lit, Pad, Digits, Int, Esc, NumPad, Num, NumStr, Ascii7, Fill}
 use Rattle.gs_grammar.specs.Items.{size_of, shortest_of}
@@ -13,19 +13,19 @@ use Rattle.gs_grammar_level.specs.OptionMachines.{FitEach}
 abbrev pub place_of : ℕ → ℕ → Place
 place_of least most = record { least = least; most = most }
 
--- the symbol may stand at the place
+-- the symbol may be at the place
 pub record MayStand (place : Place) (symbol : ℕ) : Type 0 where
   pub least : place.least ≤ symbol
   pub most : symbol ≤ place.most
 
--- each symbol may stand at its place, as far as there are places, and there is one for each of them
+-- each symbol may be at its place, as far as there are places, and there is a symbol for each place
 abbrev pub StandWithin : List Place → List ℕ → Type 0
 StandWithin [] w = Unit {0}
 StandWithin (place ∷ places) [] = ⊥
 StandWithin (place ∷ places) (symbol ∷ w) = MayStand place symbol × StandWithin places w
 
--- the places of the words of an item, where its words have one length: those of a literal have one symbol each, those of digits
--- the digits, those of numbers and of packed characters the bits
+-- the places of the words of an item whose words have one length: those of a literal have one symbol each, those of digits the
+-- digits, those of numbers and of packed characters the bits
 abbrev pub places_of : Item → List Place
 places_of (Lit literal) = map (λ symbol. place_of symbol symbol) literal
 places_of (Pad n) = replicate n (place_of 48 57)
@@ -52,22 +52,19 @@ CutsAreFixed (item ∷ next ∷ others) = (shortest_of item ≡ size_of item) ×
 pub record ReadAlone (items : List Item) : Type 0 where
   pub only : (w : List ℕ) (values words others others' : List (List ℕ)) → Derives items w values words → Derives items w others others' → words ≡ others'
 
--- the front is that of the option: its places are at the start of each of its texts, and where it is fixed where each word
--- ends, no text has two derivations
-pub record IsFrontOf (front : Front) (option : OptionForm) : Type 0 where
-  pub places : HavePlaces option.items front.places
-  pub fixed : front.cuts_are_fixed ≡ true → CutsAreFixed option.items
-  pub alone : front.cuts_are_fixed ≡ true → ReadAlone option.items
+-- the front is that of the option: its places are at the start of each of its texts
+abbrev pub IsFrontOf : Front → OptionForm → Type 0
+IsFrontOf front option = HavePlaces option.items front.places
 
 -- the fronts are those of the options, one for each, in the same order
 abbrev pub AreFrontsOf : List Front → List OptionForm → Type 0
 AreFrontsOf fronts options = FitEach IsFrontOf fronts options
 
--- no symbol may stand at both places
+-- no symbol may be at both places
 abbrev pub ArePlacesApart : Place → Place → Type 0
 ArePlacesApart place other = (place.most < other.least) ⊎ (other.most < place.least)
 
--- at some place no symbol may stand at that of both
+-- at some place no symbol may be at that of both
 pub record AreApart (places others : List Place) : Type 0 where
   pub number : ℕ
   pub place : Place
@@ -75,10 +72,3 @@ pub record AreApart (places others : List Place) : Type 0 where
   pub place_at : slice_get places number ≡ Some place
   pub other_at : slice_get others number ≡ Some other
   pub apart : ArePlacesApart place other
-
--- the front of this number is apart from each other one, and no text of its option has two derivations
-pub record StandsAlone (fronts : List Front) (number : ℕ) : Type 0 where
-  pub front : Front
-  pub at : slice_get fronts number ≡ Some front
-  pub fixed : front.cuts_are_fixed ≡ true
-  pub apart : (j : ℕ) (other : Front) → (j ≡ number → ⊥) → slice_get fronts j ≡ Some other → AreApart front.places other.places

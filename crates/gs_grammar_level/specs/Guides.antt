@@ -7,15 +7,15 @@ use Rattle.gs_grammar_level.specs.declared.guides.Probe.{Probe}
 use Rattle.gs_grammar_level.specs.declared.guides.Group.{Group}
 use Rattle.gs_grammar_level.specs.OptionMachines.{FitEach}
 
--- the literal stands in the list at this place
+-- the literal is in the list at this place
 abbrev pub StandsAt : ℕ → List ℕ → List ℕ → Type 0
 StandsAt place literal w = take (length literal) (drop place w) ≡ literal
 
--- the literal stands at this place in each list that the items derive
+-- the literal is at this place in each list that the items derive
 pub record HasLiteral (items : List Item) (place : ℕ) (literal : List ℕ) : Type 0 where
   pub stands : (w : List ℕ) → IsDerived items w → StandsAt place literal w
 
--- the literal of the probe stands at its place in each text of the option
+-- the literal of the probe is at its place in each text of the option
 abbrev pub IsProbeOf : Probe → OptionForm → Type 0
 IsProbeOf probe option = HasLiteral option.items probe.place probe.literal
 
@@ -23,7 +23,7 @@ IsProbeOf probe option = HasLiteral option.items probe.place probe.literal
 abbrev pub AreProbesOf : List Probe → List OptionForm → Type 0
 AreProbesOf probes options = FitEach IsProbeOf probes options
 
--- the literal stands before each text of the options from one number up to another
+-- the literal is before each text of the options from one number up to another
 abbrev pub BeginAll : List OptionForm → ℕ → ℕ → List ℕ → Type 0
 BeginAll options from to literal = (k : ℕ) (option : OptionForm) → from ≤ k → k < to → slice_get options k ≡ Some option → HasLiteral option.items 0 literal
 

@@ -1,6 +1,5 @@
 pub mod Readings
 pub mod Trails
-pub mod SingleRuns
 pub mod OptionMachines
 pub mod Guides
 pub mod Whole
@@ -8,5 +7,5 @@ pub mod Finders
 pub mod Widths
 pub mod Fronts
 pub mod ShareSearches
-pub mod NeededMachines
+pub mod Cuttings
 pub mod FirstShares

@@ -7,10 +7,6 @@ use Rattle.gs_grammar.specs.Ambiguity.{ShareList}
 abbrev pub ShareNoList : List (List Item) → ℕ → ℕ → Type 0
 ShareNoList level i j = (w : List ℕ) → ShareList level i j w → ⊥
 
--- option i shares a list with no option of the level, and with itself neither
-abbrev pub SharesNoList : List (List Item) → ℕ → Type 0
-SharesNoList level i = (j : ℕ) → ShareNoList level i j
-
 -- option i shares a list with no option from itself on and before this one
 abbrev pub SharesNoneBefore : List (List Item) → ℕ → ℕ → Type 0
 SharesNoneBefore level i before = (j : ℕ) (w : List ℕ) → i ≤ j → j < before → ShareList level i j w → ⊥

@@ -1,4 +1,4 @@
--- Trails: the states that a machine can stand at after each symbol of a list, each with the one that it was reached from.
+-- Trails: the states that a machine can be at after each symbol of a list, each with the one that it was reached from.
 use Rattle.std.specs.Prelude.{◌≡◌, ℕ, ◌+◌, ◌<◌, ◌&&◌, ◌≤◌, nat_le, Bool, if◌then◌else◌, List, [], ◌∷◌, ◌++◌, length, drop, slice_index, slice_index_or, zero, suc}
 use Rattle.gs_grammar.specs.declared.item.Item.{Item}
 use Rattle.gs_grammar.specs.Derivations.{Derives}
@@ -26,7 +26,7 @@ layer table symbol number [] = []
 layer table symbol number (entry ∷ entries) =
     successors (edges_at table entry.state) symbol number ++ layer table symbol (number + 1) entries
 
--- the entries, and behind them those that the symbol leads to from the entries of the number `from` on
+-- the entries, and after them those that the symbol leads to from the entries of the number `from` on
 abbrev pub with_layer : AutoForm → ℕ → ℕ → List Entry → List Entry
 with_layer form symbol from trail = trail ++ layer form.table symbol from (drop from trail)
 
@@ -59,7 +59,7 @@ pub record IsTrail (form : AutoForm) (trail : List Entry) (symbols : List ℕ) (
   pub came : Came form trail symbols (length symbols) number
   pub accepting : (entry_at trail number).state ≡ accept_of form
 
--- the cuts, with the place before them where the state is a border
+-- the cuts, with the place before them if the state is a border
 abbrev pub with_cut : List ℕ → ℕ → ℕ → List ℕ → List ℕ
 with_cut borders state place cuts = if is_border borders state then place ∷ cuts else cuts
 

@@ -1,25 +1,19 @@
--- Readings by the widths of items: the word of each item before the last has one length.
-use Rattle.std.specs.Prelude.{◌≡◌, ℕ, List, ◌++◌, length}
+-- The lengths of words by the cuts of a list.
+use Rattle.std.specs.Prelude.{◌≡◌, ◌<◌, ◌≤◌, ◌-◌, ℕ, List, [], ◌∷◌, ◌++◌, length, slice_index}
 use Rattle.gs_grammar.specs.declared.item.Item.{Item}
 use Rattle.gs_grammar.specs.Words.{IsWord}
 use Rattle.gs_grammar.specs.Derivations.{IsDerived}
-use Rattle.gs_grammar.specs.DerivationsSupport.{HasValues}
-use Rattle.gs_grammar.specs.Items.{size_of, shortest_of}
-use Rattle.gs_grammar_level.specs.Fronts.{CutsAreFixed}
-use Rattle.gs_grammar_level.specs.declared.word_measures.Measured.{Measured}
-use Rattle.gs_grammar_level.specs.declared.word_measures.Measured.TheVariants.{Values, Rejected, SeveralWidths}
 
--- each word of the item that begins the list has this length, where the other items derive what is behind it
+-- each word of the item that begins the list has this length, if the other items derive the rest
 pub record HasWidth (item : Item) (others : List Item) (w : List ℕ) (width : ℕ) : Type 0 where
   pub is : (word rest : List ℕ) → w ≡ word ++ rest → IsWord item word → IsDerived others rest → length word ≡ width
 
--- the item is not the last, and has words of several lengths
-abbrev pub HasSeveralWidths : Item → List Item → Type 0
-HasSeveralWidths item others = (length others ≡ 0 → ⊥) × (shortest_of item ≡ size_of item → ⊥)
+-- if other items follow, there is a second cut, and it is not before the first
+abbrev pub HasNextCut : List ℕ → List Item → Type 0
+HasNextCut cuts [] = Unit {0}
+HasNextCut cuts (next ∷ others) = (1 < length cuts) × (slice_index cuts 0 ≤ slice_index cuts 1)
 
--- what the widths of the items say of a list of symbols; where nothing is said, an item before the last has words of several
--- lengths
-abbrev pub IsMeasured : List Item → List ℕ → Measured → Type 0
-IsMeasured items w (Values values) = HasValues items w values
-IsMeasured items w Rejected = IsDerived items w → ⊥
-IsMeasured items w SeveralWidths = CutsAreFixed items → ⊥
+-- the length of a word that other items follow: from the first cut to the second, and all that is left for the last item
+abbrev pub width_by : List ℕ → List Item → List ℕ → ℕ
+width_by cuts [] rest = length rest
+width_by cuts (next ∷ others) rest = slice_index cuts 1 - slice_index cuts 0

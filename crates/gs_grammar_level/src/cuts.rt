@@ -6,14 +6,14 @@ use crate::trail::Entry;
 use gs_chars::Memory;
 use gs_grammar_machine::Auto;
 
-/// Whether the state is one of the borders.
+/// Returns whether the state is one of the borders.
 fn is_border(borders: &[usize], state: usize) -> bool
     ensures { result ≡ is_border borders.now state }
 {
     borders.contains(&state)
 }
 
-/// Puts the place before the cuts where the state is a border.
+/// Inserts the place before the cuts if the state is a border.
 fn push_cut(
     cuts: &mut Vec<usize>,
     borders: &[usize],

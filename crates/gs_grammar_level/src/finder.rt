@@ -2,9 +2,11 @@ ghost use Rattle.std.specs.Prelude.{◌≡◌, ◌↔◌, ◌≤◌, ◌<◌, �
 ghost use Rattle.gs_grammar_level.specs.Guides.{StandsAt, BeginAll};
 ghost use Rattle.gs_grammar_level.specs.Finders.{IsFound, NoneFound, NoneReads, NothingFound};
 
+use crate::cuttings::Cutting;
 use crate::guides::Group;
 use crate::level::Level;
-use crate::one::{Scratch, read_items};
+use crate::one::{Scratch, read_by_machine};
+use crate::widths::read_by_widths;
 use gs_chars::{List, Memory, Text};
 use std::alloc::Global;
 
@@ -15,7 +17,7 @@ pub struct Found {
     pub values: List<Text>,
 }
 
-/// Whether the literal stands in the symbols at this place.
+/// Returns whether the literal is in the symbols at this place.
 fn stands_at(symbols: &[u8], place: usize, literal: &[u8]) -> bool
     ensures { IsTrue result ↔ StandsAt place literal.now symbols.now }
 {
@@ -25,7 +27,7 @@ fn stands_at(symbols: &[u8], place: usize, literal: &[u8]) -> bool
     }
 }
 
-/// Whether the first symbol of the literal stands at this place. An empty literal stands everywhere.
+/// Returns whether the first symbol of the literal is at this place. An empty literal stands everywhere.
 fn begins_at(symbols: &[u8], place: usize, literal: &[u8]) -> bool
     ensures { StandsAt place literal.now symbols.now → IsTrue result }
 {
@@ -35,7 +37,7 @@ fn begins_at(symbols: &[u8], place: usize, literal: &[u8]) -> bool
     }
 }
 
-/// Whether the probe of the option of this number stands in the symbols. Where it does not, the option reads nothing of them.
+/// Returns whether the probe of an option is in the symbols. The option derives them only if it does.
 fn is_probed(level: &Level, option: usize, symbols: &[u8]) -> bool
     requires { option < length level.now.options }
     ensures { result ≡ false → NoneReads level.now.options option (option + 1) symbols.now }
@@ -45,7 +47,7 @@ fn is_probed(level: &Level, option: usize, symbols: &[u8]) -> bool
     begins_at(symbols, probe.place, literal) && stands_at(symbols, probe.place, literal)
 }
 
-/// What the option of this number reads of the symbols.
+/// Reads the symbols by the option of this number.
 fn read_option(
     alloc: Global,
     level: &Level,
@@ -57,15 +59,21 @@ fn read_option(
     ensures found { IfOk result (λ found. IsFound level.now.options symbols.now found) }
     ensures none { IfOk result (λ found. NoneFound level.now.options option (option + 1) symbols.now found) }
 {
-    let machine = level.machines()[option].as_ref();
     let items = level.options()[option].items();
-    match read_items(alloc, machine, items, symbols, scratch)? {
+    let values = match &level.cuttings()[option] {
+        Cutting::Widths(places) => read_by_widths(alloc, places.items(), items, symbols)?,
+        Cutting::Machine => {
+            let machine = &level.machines()[option];
+            read_by_machine(alloc, machine, items, symbols, scratch)?
+        }
+    };
+    match values {
         Some(values) => Ok(Some(Found { option, values })),
         None => Ok(None),
     }
 }
 
-/// What the first option of the group reads of the symbols that reads them. The group has the options from this number on.
+/// Reads the symbols by the first option of the group that derives them. The group has the options from this number on.
 fn read_group(
     alloc: Global,
     level: &Level,
@@ -93,7 +101,7 @@ fn read_group(
     Ok(None)
 }
 
-/// What the first option of the level reads of the symbols that reads them.
+/// Reads the symbols by the first option of the level that derives them.
 pub fn find(alloc: Global, level: &Level, symbols: &[u8]) -> Result<Option<Found>, Memory>
     ensures found { IfOk result (λ found. IsFound level.now.options symbols.now found) }
     ensures none { IfOk result (λ found. NothingFound level.now.options symbols.now found) }

@@ -1,6 +1,6 @@
 ghost use Rattle.std.specs.Prelude.{◌≡◌, ◌↔◌, ◌++◌, All, IfOk, IsTrue, OnOk, map, replicate};
 ghost use Rattle.gs_grammar.specs.Items.{IsItem, size_of};
-ghost use Rattle.gs_grammar_level.specs.Fronts.{place_of, places_of, AreApart, ArePlacesApart, AreFrontsOf, CutsAreFixed, HavePlaces, IsFrontOf};
+ghost use Rattle.gs_grammar_level.specs.Fronts.{place_of, places_of, AreApart, ArePlacesApart, AreFrontsOf, HavePlaces, IsFrontOf};
 
 use crate::front_places::{Front, Place};
 use crate::widths::has_one_length;
@@ -8,7 +8,7 @@ use gs_chars::{List, Memory};
 use gs_grammar::{Item, Opt};
 use std::alloc::Global;
 
-/// Appends a place of one symbol alone for each symbol of a literal.
+/// Appends a place with only one symbol for each symbol of a literal.
 fn add_literal(places: &mut Vec<Place>, literal: &[u8]) -> Result<(), Memory>
     ensures { OnOk result (places.new.items ≡ places.old.items ++ map (λ symbol. place_of symbol symbol) literal.now) }
 {
@@ -51,7 +51,7 @@ fn add_item(places: &mut Vec<Place>, item: &Item, size: usize) -> Result<(), Mem
     }
 }
 
-/// The places of the items up to the first whose words have several lengths.
+/// Returns the places of the items up to the first whose words have several lengths.
 fn first_places(alloc: Global, items: &[Item]) -> Result<List<Place>, Memory>
     requires { All IsItem items.now }
     ensures { IfOk result (λ places. HavePlaces items.now places) }
@@ -69,35 +69,17 @@ fn first_places(alloc: Global, items: &[Item]) -> Result<List<Place>, Memory>
     Ok(List::from_vec(places))
 }
 
-/// Whether the words of each item before the last have one length.
-fn cuts_are_fixed(items: &[Item]) -> bool
-    ensures { IsTrue result → CutsAreFixed items.now }
-{
-    let mut left = items;
-    while let Some((item, others)) = left.split_first() {
-        if others.is_empty() {
-            return true;
-        }
-        if !has_one_length(item, item.size()) {
-            return false;
-        }
-        left = others;
-    }
-    true
-}
-
-/// The front of an option.
+/// Makes the front of an option.
 fn front_of(alloc: Global, option: &Opt) -> Result<Front, Memory>
     ensures { IfOk result (λ front. IsFrontOf front option.now) }
 {
     let items = option.items();
     Ok(Front {
         places: first_places(alloc, items)?,
-        cuts_are_fixed: cuts_are_fixed(items),
     })
 }
 
-/// The front of each option, in their order.
+/// Makes the front of each option, in their order.
 pub fn fronts_of(alloc: Global, options: &[Opt]) -> Result<List<Front>, Memory>
     ensures { IfOk result (λ fronts. AreFrontsOf fronts options.now) }
 {
@@ -108,14 +90,14 @@ pub fn fronts_of(alloc: Global, options: &[Opt]) -> Result<List<Front>, Memory>
     Ok(List::from_vec(fronts))
 }
 
-/// Whether no symbol may stand at both places.
+/// Returns whether no symbol may be at both places.
 fn are_places_apart(place: Place, other: Place) -> bool
     ensures { IsTrue result → ArePlacesApart place other }
 {
     place.most < other.least || other.most < place.least
 }
 
-/// Whether no symbol may stand at the same place of both.
+/// Returns whether no symbol may be at the same place of both.
 pub fn are_apart(places: &[Place], others: &[Place]) -> bool
     ensures { IsTrue result → AreApart places.now others.now }
 {

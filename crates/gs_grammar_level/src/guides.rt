@@ -1,13 +1,13 @@
 use gs_chars::Text;
 
-/// A literal that stands at a place in every text of an option. An empty one stands everywhere.
+/// A literal that is at a place in every text of an option. An empty one stands everywhere.
 #[derive(Drop)]
 pub struct Probe {
     pub place: usize,
     pub literal: Text,
 }
 
-/// Options one after the other whose texts all begin with a literal: those before the number `end`.
+/// Consecutive options whose texts all begin with a literal: those before the number `end`.
 #[derive(Drop)]
 pub struct Group {
     pub literal: Text,

@@ -7,7 +7,7 @@ ghost use Rattle.gs_grammar.specs.Derivations.{Derivation, OneDerivation};
 ghost use Rattle.gs_grammar_level.specs.declared.share.Shared.{Shared};
 ghost use Rattle.gs_grammar_level.specs.FirstShares.{HasShare, IsFirstShared};
 
-/// A level is ambiguous exactly where two of its options, or one with itself, share a list of symbols. So a level that has a
+/// A level is ambiguous if and only if two of its options, or one with itself, share a list of symbols. So a level that has a
 /// first such pair is ambiguous.
 pub fn ambiguous_exactly_where_options_share()
     ensures shared { (level : List (List Item)) → IsAmbiguous level ↔ HasShare level }
@@ -21,8 +21,8 @@ pub fn no_list_has_two_readings()
         (IsAmbiguous level → ⊥) → OneDerivation level w derivation.option derivation.values }
 {}
 
-/// Each level whose items keep their bounds has an answer: it is not ambiguous, or it has a first pair of options that shares
-/// a list. Only one pair can be the first, so that two answers differ at most in the text.
+/// Each level whose items are within their bounds has an answer: it is not ambiguous, or it has a first pair of options that
+/// shares a list. Only one pair can be the first, so that two answers differ at most in the text.
 pub fn each_level_has_an_answer()
     ensures some { (level : LevelForm) → All (All IsItem) (item_lists level.options) →
         (answer : Option Shared) × IsFirstShared level answer }

@@ -2,8 +2,10 @@ ghost use Rattle.std.specs.Prelude.{◌≡◌, IfOk};
 ghost use Rattle.gs_grammar.specs.Levels.{AreOfKind};
 ghost use Rattle.gs_grammar_level.specs.Fronts.{AreFrontsOf};
 ghost use Rattle.gs_grammar_level.specs.Guides.{AreProbesOf, AreGroupsFrom};
-ghost use Rattle.gs_grammar_level.specs.NeededMachines.{AreMachinesOf};
+ghost use Rattle.gs_grammar_level.specs.Cuttings.{AreCuttingsOf};
+ghost use Rattle.gs_grammar_level.specs.OptionMachines.{AreMachinesOf};
 
+use crate::cuttings::{Cutting, cuttings_of};
 use crate::front_places::Front;
 use crate::fronts::fronts_of;
 use crate::guides::{Group, Probe};
@@ -15,13 +17,13 @@ use gs_grammar_machine::Auto;
 use std::alloc::Global;
 use std::marker::Model;
 
-/// The options of one level, in the order of the table, with what is known of the texts of each, and a machine of each that may
-/// need it.
+/// The options of one level, in the order of the table, each with its machine and with what is known of its texts.
 pub struct Level {
     bit_level: bool,
     options: List<Opt>,
     fronts: List<Front>,
-    machines: List<Option<Auto>>,
+    machines: List<Auto>,
+    cuttings: List<Cutting>,
     probes: List<Probe>,
     groups: List<Group>,
 }
@@ -34,6 +36,7 @@ impl Drop for Level {
             options: _,
             fronts: _,
             machines: _,
+            cuttings: _,
             probes: _,
             groups: _,
         } = self;
@@ -49,19 +52,19 @@ impl Model for Level {
 
     ghost use Rattle.gs_grammar_level.specs.Whole.{IsLevel};
 
-    ghost invariant = { λ a. IsLevel a.bit_level a.options a.fronts a.machines a.probes a.groups };
+    ghost invariant = { λ a. IsLevel a.bit_level a.options a.fronts a.machines a.cuttings a.probes a.groups };
 }
 
 impl Level {
-    /// The level of these options. It compiles the machines of those that are not read by the widths of their items, or that may
-    /// share a list of symbols. The one error is out of memory.
+    /// Makes the level of these options, and compiles the machine of each. Fails only with `Memory`.
     pub fn new(alloc: Global, bit_level: bool, options: Vec<Opt>) -> Result<Level, Memory>
         requires { AreOfKind bit_level options.items }
         ensures bit_level { IfOk result (λ level. level.bit_level ≡ bit_level) }
         ensures options { IfOk result (λ level. level.options ≡ options.items) }
     {
         let fronts = fronts_of(alloc, options.as_slice())?;
-        let machines = machines_of(alloc, options.as_slice(), fronts.items())?;
+        let machines = machines_of(alloc, options.as_slice())?;
+        let cuttings = cuttings_of(alloc, options.as_slice())?;
         let probes = probes_of(alloc, options.as_slice())?;
         let groups = groups_of(alloc, options.as_slice())?;
         Ok(Level {
@@ -69,12 +72,13 @@ impl Level {
             options: List::from_vec(options),
             fronts,
             machines,
+            cuttings,
             probes,
             groups,
         })
     }
 
-    /// The options, in their order. Each is of the level's kind.
+    /// Returns the options, in their order. Each is of the level's kind.
     pub fn options(&self) -> &[Opt]
         ensures options { result.now ≡ self.now.options }
         ensures of_kind { AreOfKind self.now.bit_level self.now.options }
@@ -82,7 +86,7 @@ impl Level {
         self.options.items()
     }
 
-    /// Whether the level's symbols are bits.
+    /// Returns whether the level's symbols are bits.
     pub fn bit_level(&self) -> bool
         ensures is { result ≡ self.now.bit_level }
         ensures of_kind { AreOfKind self.now.bit_level self.now.options }
@@ -90,28 +94,36 @@ impl Level {
         self.bit_level
     }
 
-    /// The fronts of the options, one for each, in their order.
+    /// Returns the fronts of the options, one for each, in their order.
     pub(crate) fn fronts(&self) -> &[Front]
         ensures { AreFrontsOf result.now self.now.options }
     {
         self.fronts.items()
     }
 
-    /// The machines of the options, in their order. An option without one is read by the widths of its items, and shares no list.
-    pub(crate) fn machines(&self) -> &[Option<Auto>]
+    /// Returns the machines of the options, one for each, in their order. Each satisfies the rules of machines, reads its
+    /// option's items one by one, and has at most 32 states for each symbol of the option's size, and one if there are no items.
+    pub fn machines(&self) -> &[Auto]
         ensures { AreMachinesOf result.now self.now.options }
     {
         self.machines.items()
     }
 
-    /// The probes of the options, one for each, in their order.
+    /// Returns the ways in which the texts of the options are cut, one for each, in their order.
+    pub(crate) fn cuttings(&self) -> &[Cutting]
+        ensures { AreCuttingsOf result.now self.now.options }
+    {
+        self.cuttings.items()
+    }
+
+    /// Returns the probes of the options, one for each, in their order.
     pub(crate) fn probes(&self) -> &[Probe]
         ensures { AreProbesOf result.now self.now.options }
     {
         self.probes.items()
     }
 
-    /// The groups of the options, which are all of them.
+    /// Returns the groups of the options, which have all of them.
     pub(crate) fn groups(&self) -> &[Group]
         ensures { AreGroupsFrom 0 result.now self.now.options }
     {

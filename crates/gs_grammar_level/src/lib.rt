@@ -2,11 +2,11 @@
 //!
 //! A level is what Tag Data Translation calls one: the options in which one form of an EPC, as its tag bits, may be written.
 //!
-//! - `Level::new` compiles the machines of the options that may need one, once.
-//! - `read_text` and `read_bits` find the option that reads a text or bits, and the value of each of its items. Where each item before
-//!   the last has words of one length, these lie where the widths say; else the option's machine is followed.
-//! - `Level::first_share` gives the first two options of the level that share a list of symbols, and a text that shows it; `None` exactly
-//!   where no list of symbols has two readings by it.
+//! - `Level::new` compiles the machine of each option, once, and `Level::machines` lends the machines.
+//! - `read_text` and `read_bits` find the option that reads a text or bits, and the value of each of its items. If each item before
+//!   the last has words of one length, the words lie where these lengths say; else the option's machine finds them.
+//! - `Level::first_share` gives the first two options of the level that share a list of symbols, and a text that shows it. It gives
+//!   `None` if and only if no list of symbols has two readings by the level.
 //!
 //! # Example
 //!
@@ -18,14 +18,15 @@
 //! 1 \e 0614141 \e 812345 \e 6789
 //! ```
 //!
-//! # Where it differs from the standard
+//! # Differences from the standard
 //!
-//! - The items of options are this project's own, in place of the patterns and functions of GS1 EPC Tag Data Translation.
-//! - A level is read only where no text and no bits have two readings by it; the standard has no such condition.
+//! - The items of options are this project's own, instead of the patterns and functions of GS1 EPC Tag Data Translation.
+//! - A level is read only if no text and no bits have two readings by it; the standard has no such condition.
 //!   `Level::first_share` decides it of all texts and bits, once, when tables are loaded.
 #![tactic(auto)]
 
 mod cuts;
+mod cuttings;
 mod finder;
 mod front_places;
 mod fronts;
@@ -39,12 +40,9 @@ mod read;
 mod readings;
 mod share;
 mod share_search;
-mod single_run;
-mod starts;
 mod trail;
 mod values;
 mod widths;
-mod word_measures;
 
 pub use laws::{
     ambiguous_exactly_where_options_share, each_level_has_an_answer, no_list_has_two_readings,

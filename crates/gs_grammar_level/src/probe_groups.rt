@@ -8,7 +8,7 @@ use gs_chars::{List, Memory, Text};
 use gs_grammar::{Item, Opt};
 use std::alloc::Global;
 
-/// The literal that the items begin with, and an empty one where they begin with none.
+/// Returns the literal that the items begin with, and an empty one if they begin with none.
 fn first_literal(items: &[Item]) -> &[u8]
     ensures { HasLiteral items.now 0 result.now }
 {
@@ -18,8 +18,8 @@ fn first_literal(items: &[Item]) -> &[u8]
     }
 }
 
-/// The first literal that stands at one place in every text of the items, behind an item of more than one symbol: what follows
-/// a single symbol, such as a filter value, tells no options of one encoding apart.
+/// Returns the first literal that is at one place in every text of the items, after an item of more than one symbol. A literal
+/// after a single symbol, such as a filter value, does not tell the options of one encoding apart.
 fn probe_of(alloc: Global, items: &[Item]) -> Result<Probe, Memory>
     requires each { All IsItem items.now }
     requires small { size_of_all items.now ≤ most_symbols }
@@ -49,14 +49,14 @@ fn probe_of(alloc: Global, items: &[Item]) -> Result<Probe, Memory>
     })
 }
 
-/// The probe of an option.
+/// Makes the probe of an option.
 fn probe_of_option(alloc: Global, option: &Opt) -> Result<Probe, Memory>
     ensures { IfOk result (λ probe. HasLiteral option.now.items probe.place probe.literal) }
 {
     probe_of(alloc, option.items())
 }
 
-/// The probe of each option, in their order.
+/// Makes the probe of each option, in their order.
 pub fn probes_of(alloc: Global, options: &[Opt]) -> Result<List<Probe>, Memory>
     ensures { IfOk result (λ probes. AreProbesOf probes options.now) }
 {
@@ -67,7 +67,7 @@ pub fn probes_of(alloc: Global, options: &[Opt]) -> Result<List<Probe>, Memory>
     Ok(List::from_vec(probes))
 }
 
-/// The number of the first option behind the others that does not begin with the literal of the option `from`.
+/// Returns the number of the first option after `from` that does not begin with its literal.
 fn group_end(options: &[Opt], from: usize, literal: &[u8]) -> usize
     requires from { from < length options.now }
     requires first { BeginAll options.now from (from + 1) literal.now }
@@ -83,7 +83,7 @@ fn group_end(options: &[Opt], from: usize, literal: &[u8]) -> usize
     options.len()
 }
 
-/// The groups of the options.
+/// Makes the groups of the options.
 pub fn groups_of(alloc: Global, options: &[Opt]) -> Result<List<Group>, Memory>
     ensures { IfOk result (λ groups. AreGroupsFrom 0 groups options.now) }
 {

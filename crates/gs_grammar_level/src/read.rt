@@ -9,7 +9,7 @@ use gs_bits::BitBuf;
 use gs_grammar::{MOST_SYMBOLS, unpack};
 use std::alloc::Global;
 
-/// The reading of the symbols by the options.
+/// Reads the symbols by the options.
 fn read_symbols(alloc: Global, level: &Level, symbols: &[u8]) -> Reading
     requires { IsUnambiguous (item_lists level.now.options) }
     ensures { Reads (item_lists level.now.options) symbols.now result }
@@ -24,8 +24,8 @@ fn read_symbols(alloc: Global, level: &Level, symbols: &[u8]) -> Reading
     }
 }
 
-/// The reading of the text in a level that is not ambiguous: `One` exactly where the text has a derivation, with the number of
-/// its option and its values; `Nothing` exactly where it has none. Out of memory may come in place of either.
+/// Reads a text in a level that is not ambiguous. Returns `One`, with the number of an option and its values, if the text has a
+/// derivation, and `Nothing` if it has none. May return `Memory` instead.
 pub fn read_text(alloc: Global, level: &Level, text: &[u8]) -> Reading
     requires { IsUnambiguous (item_lists level.now.options) }
     ensures { Reads (item_lists level.now.options) text.now result }
@@ -33,7 +33,7 @@ pub fn read_text(alloc: Global, level: &Level, text: &[u8]) -> Reading
     read_symbols(alloc, level, text)
 }
 
-/// The reading of the bits in a level of bits that is not ambiguous, as `read_text` reads a text.
+/// Reads bits in a level of bits that is not ambiguous, as `read_text` reads a text.
 pub fn read_bits<const N: usize>(alloc: Global, level: &Level, bits: &BitBuf<N>) -> Reading
     requires { IsUnambiguous (item_lists level.now.options) }
     ensures { Reads (item_lists level.now.options) bits.now result }

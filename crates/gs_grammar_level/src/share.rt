@@ -5,7 +5,7 @@ use gs_chars::Text;
 pub struct Shared {
     /// The number of the first option.
     pub first: usize,
-    /// The number of the second option, which is the same one where an option shares a list with itself.
+    /// The number of the second option, which is the same one if an option shares a list with itself.
     pub second: usize,
     /// A list that they share: the bytes `0` and `1` for the numbers of a bit level, and the symbols of any other as they are.
     pub text: Text,

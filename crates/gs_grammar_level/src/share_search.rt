@@ -6,6 +6,7 @@ ghost use Rattle.gs_ambig.specs.Searches.{IfFound, IfNotFound};
 ghost use Rattle.gs_grammar_level.specs.FirstShares.{IsFirstShared};
 ghost use Rattle.gs_grammar_level.specs.ShareSearches.{IsFirstWith, ShareNoList, SharesNoneBefore};
 
+use crate::cuttings::Cutting;
 use crate::fronts::are_apart;
 use crate::level::Level;
 use crate::share::Shared;
@@ -13,7 +14,7 @@ use gs_ambig::PairSearch;
 use gs_chars::{Memory, Text};
 use std::alloc::Global;
 
-/// The digit of each bit.
+/// Returns the digit of each bit.
 fn digits_of(alloc: Global, bits: &[u8]) -> Result<Text, Memory>
     requires { AreBits bits.now }
     ensures { IfOk result (λ text. text ≡ map (λ bit. bit + 48) bits.now) }
@@ -25,7 +26,7 @@ fn digits_of(alloc: Global, bits: &[u8]) -> Result<Text, Memory>
     Ok(Text::from_vec(digits))
 }
 
-/// A text that shows the symbols.
+/// Returns a text that shows the symbols.
 fn shown(alloc: Global, bit_level: bool, symbols: Text) -> Result<Text, Memory>
     requires { bit_level ≡ true → AreBits symbols }
     ensures { IfOk result (λ text. text ≡ shown_symbols bit_level symbols) }
@@ -36,20 +37,23 @@ fn shown(alloc: Global, bit_level: bool, symbols: Text) -> Result<Text, Memory>
     Ok(symbols)
 }
 
-/// Whether the fronts of the options of these numbers tell that they share no list of symbols.
+/// Returns whether the options of these numbers share no list, if their first places tell so, or the fixed cuts of a single option.
 fn are_told_apart(level: &Level, i: usize, j: usize) -> bool
     requires first { i < length level.now.options }
     requires second { j < length level.now.options }
     ensures { IsTrue result → ShareNoList (item_lists level.now.options) i j }
 {
-    let fronts = level.fronts();
     if i == j {
-        return fronts[i].cuts_are_fixed;
+        return match &level.cuttings()[i] {
+            Cutting::Widths(_) => true,
+            Cutting::Machine => false,
+        };
     }
+    let fronts = level.fronts();
     are_apart(fronts[i].places.items(), fronts[j].places.items())
 }
 
-/// A list of symbols that the options of these numbers share. Their machines are searched where their fronts do not tell.
+/// Returns a list of symbols that the options of these numbers share. Searches their machines if nothing simpler tells.
 fn shared_list(
     alloc: Global,
     level: &Level,
@@ -66,19 +70,13 @@ fn shared_list(
         return Ok(None);
     }
     let machines = level.machines();
-    let Some(machine) = &machines[i] else {
-        return Ok(None);
-    };
     if i == j {
-        return search.word_of_one(alloc, machine);
+        return search.word_of_one(alloc, &machines[i]);
     }
-    let Some(other) = &machines[j] else {
-        return Ok(None);
-    };
-    search.word_of_two(alloc, machine, other)
+    search.word_of_two(alloc, &machines[i], &machines[j])
 }
 
-/// The first option, from this number on, that shares a list with the option of this number, and such a list.
+/// Returns the first option, from this number on, that shares a list with the option of this number, and such a list.
 fn first_with(
     alloc: Global,
     level: &Level,
@@ -89,9 +87,6 @@ fn first_with(
     ensures found { IfFound result (λ first. IsFirstWith (item_lists level.now.options) i first.0 first.1.items) }
     ensures none { IfNotFound result (SharesNoneBefore (item_lists level.now.options) i (length level.now.options)) }
 {
-    if level.machines()[i].is_none() {
-        return Ok(None);
-    }
     for j in i..level.options().len() {
         if let Some(list) = shared_list(alloc, level, i, j, search)? {
             return Ok(Some((j, list)));
@@ -100,7 +95,7 @@ fn first_with(
     Ok(None)
 }
 
-/// The two options of a first share, and the list.
+/// Makes the answer of a first share: the two options, and a text that shows the list.
 fn shared_text(
     alloc: Global,
     level: &Level,
@@ -111,7 +106,7 @@ fn shared_text(
     requires { IsFirstShare (item_lists level.now.options) first second list.items }
     ensures { IfOk result (λ shared. IsFirstShared level.now (Some shared)) }
 {
-    // The contract of `items` tells that they keep their bounds.
+    // The contract of `items` tells that they are within their bounds.
     let _items = level.options()[first].items();
     let text = shown(alloc, level.bit_level(), Text::from_vec(list))?;
     Ok(Shared {
@@ -122,9 +117,9 @@ fn shared_text(
 }
 
 impl Level {
-    /// The first two options of the level, or one with itself, that share a list of symbols, in the order of the first option and
-    /// then of the second, and a text that shows such a list. `None` comes exactly where the level is not ambiguous. The one
-    /// error is out of memory.
+    /// Returns the first two options of the level, or one with itself, that share a list of symbols, in the order of the first
+    /// option and then of the second, and a text that shows such a list. Returns `None` if and only if the level is not
+    /// ambiguous. Fails only with `Memory`.
     pub fn first_share(&self, alloc: Global) -> Result<Option<Shared>, Memory>
         ensures { IfOk result (IsFirstShared self.now) }
     {

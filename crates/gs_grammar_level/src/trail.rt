@@ -5,21 +5,21 @@ ghost use Rattle.gs_grammar_level.specs.Trails.{leads_with, successors, with_lay
 use gs_chars::Memory;
 use gs_grammar_machine::{Auto, Edge};
 
-/// A state that a machine can stand at after a symbol, and the number of the entry that it was reached from.
+/// A state that a machine can be at after a symbol, and the number of the entry that it was reached from.
 #[derive(Clone, Copy)]
 pub struct Entry {
     pub state: usize,
     pub back: usize,
 }
 
-/// Whether the edge leads with this symbol.
-pub fn leads_with(edge: &Edge, symbol: u8) -> bool
+/// Returns whether the edge leads with this symbol.
+fn leads_with(edge: &Edge, symbol: u8) -> bool
     ensures { result ≡ leads_with edge.now symbol }
 {
     edge.lo <= symbol && symbol <= edge.hi
 }
 
-/// Puts an entry for each edge that leads with this symbol behind the others.
+/// Appends an entry for each edge that leads with this symbol.
 fn push_successors(
     trail: &mut Vec<Entry>,
     edges: &[Edge],
@@ -40,7 +40,7 @@ fn push_successors(
     Ok(())
 }
 
-/// Puts the entries that the symbol leads to, from those of the number `from` on, behind the others.
+/// Appends the entries that the symbol leads to from those of the number `from` on.
 fn push_layer(machine: &Auto, trail: &mut Vec<Entry>, from: usize, symbol: u8) -> Result<(), Memory>
     requires { AreInside machine.now trail.old.items }
     ensures { OnOk result (trail.new.items ≡ with_layer machine.now symbol from trail.old.items) }
@@ -52,7 +52,7 @@ fn push_layer(machine: &Auto, trail: &mut Vec<Entry>, from: usize, symbol: u8) -
     Ok(())
 }
 
-/// The number of an entry, from the number `from` on, of this state.
+/// Returns the number of an entry of this state, from the number `from` on.
 fn entry_of(trail: &[Entry], from: usize, state: usize) -> Option<usize>
     ensures some { IfSome result (IsEntryOf trail.now from state) }
     ensures none { IfNone result (HasNoEntryOf trail.now from state) }
@@ -65,8 +65,8 @@ fn entry_of(trail: &[Entry], from: usize, state: usize) -> Option<usize>
     None
 }
 
-/// The number of the entry in which an accepting run on the symbols ends, once the trail is written anew. `None` comes exactly
-/// where the symbols have no accepting run.
+/// Writes the trail anew, and returns the number of the entry in which an accepting run on the symbols ends. Returns `None` if
+/// and only if the symbols have no accepting run.
 pub fn follow(
     machine: &Auto,
     symbols: &[u8],

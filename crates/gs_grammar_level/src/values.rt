@@ -7,7 +7,7 @@ use gs_chars::{List, Memory, Text};
 use gs_grammar::{Item, value_of};
 use std::alloc::Global;
 
-/// The values of the words between the cuts.
+/// Returns the values of the words between the cuts.
 pub fn values_of(
     alloc: Global,
     items: &[Item],
@@ -23,7 +23,7 @@ pub fn values_of(
     let mut rest = symbols;
     let mut number = 0;
     let mut place = 0;
-    // The number of the cuts is known to be small by it.
+    // Its contract bounds the number of the cuts.
     let _count = cuts.len();
     while let Some((item, others)) = left.split_first() {
         number += 1;

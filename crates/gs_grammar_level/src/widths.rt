@@ -1,13 +1,16 @@
 ghost use Rattle.std.specs.Prelude.{◌≡◌, ◌↔◌, All, IfOk, IfNone, IfSome, IsTrue};
 ghost use Rattle.gs_grammar.specs.Items.{IsItem, shortest_of, size_of};
-ghost use Rattle.gs_grammar_level.specs.Widths.{HasSeveralWidths, HasWidth, IsMeasured};
+ghost use Rattle.gs_grammar.specs.Derivations.{IsDerived};
+ghost use Rattle.gs_grammar.specs.DerivationsSupport.{HasValues};
+ghost use Rattle.gs_grammar_level.specs.Cuttings.{starts_of};
+ghost use Rattle.gs_grammar_level.specs.Fronts.{CutsAreFixed};
+ghost use Rattle.gs_grammar_level.specs.Widths.{HasNextCut, width_by};
 
-use crate::word_measures::Measured;
 use gs_chars::{List, Memory, Text};
 use gs_grammar::{Item, read_word};
 use std::alloc::Global;
 
-/// Whether each word of the item is as long as the longest.
+/// Returns whether each word of the item is as long as the longest.
 pub fn has_one_length(item: &Item, size: usize) -> bool
     requires { size ≡ size_of item.now }
     ensures { IsTrue result ↔ shortest_of item.now ≡ size }
@@ -25,60 +28,51 @@ pub fn has_one_length(item: &Item, size: usize) -> bool
     }
 }
 
-/// The length of the word of an item, where it has one: all that is left for the last item, and the size of an item whose words
-/// have one length.
-fn width_of(item: &Item, others: &[Item], rest: &[u8]) -> Option<usize>
-    requires { IsItem item.now }
-    ensures some { IfSome result (λ width. HasWidth item.now others.now rest.now width) }
-    ensures none { IfNone result (HasSeveralWidths item.now others.now) }
+/// Returns the length of a word that other items follow: from the first cut to the second, and all of the rest for the last item.
+pub fn width_by(cuts: &[usize], others: &[Item], rest: &[u8]) -> usize
+    requires { HasNextCut cuts.now others.now }
+    ensures { result ≡ width_by cuts.now others.now rest.now }
 {
     if others.is_empty() {
-        return Some(rest.len());
+        return rest.len();
     }
-    let size = item.size();
-    if has_one_length(item, size) {
-        Some(size)
-    } else {
-        None
-    }
+    cuts[1] - cuts[0]
 }
 
-/// What the widths of the items say of the symbols: each word lies where the widths before it end, so that no run is followed.
-pub fn measure(alloc: Global, items: &[Item], symbols: &[u8]) -> Result<Measured, Memory>
-    requires { All IsItem items.now }
-    ensures { IfOk result (λ measured. IsMeasured items.now symbols.now measured) }
+/// Returns the values of a derivation of the symbols by items that begin at these places. Returns `None` if and only if there is
+/// no derivation.
+pub fn read_by_widths(
+    alloc: Global,
+    places: &[usize],
+    items: &[Item],
+    symbols: &[u8],
+) -> Result<Option<List<Text>>, Memory>
+    requires each { All IsItem items.now }
+    requires fixed { CutsAreFixed items.now }
+    requires places { places.now ≡ starts_of 0 items.now }
+    ensures found { IfOk result (λ found. IfSome found (λ values. HasValues items.now symbols.now values)) }
+    ensures none { IfOk result (λ found. IfNone found (IsDerived items.now symbols.now → ⊥)) }
 {
     let mut values = Vec::with_capacity(alloc, items.len())?;
     let mut left = items;
+    let mut ahead = places;
     let mut rest = symbols;
     while let Some((item, others)) = left.split_first() {
-        let Some(width) = width_of(item, others, rest) else {
-            return Ok(Measured::SeveralWidths);
-        };
+        let width = width_by(ahead, others, rest);
         if rest.len() < width {
-            return Ok(Measured::Rejected);
+            return Ok(None);
         }
         let (word, behind) = rest.split_at(width);
-        // every second item is a literal, and its value needs no call
-        if let Item::Lit(literal) = item {
-            if literal.as_bytes() != word {
-                return Ok(Measured::Rejected);
-            }
-            values.push(Text::new(alloc))?;
-            left = others;
-            rest = behind;
-            continue;
-        }
         let Some(value) = read_word(alloc, item, word)? else {
-            return Ok(Measured::Rejected);
+            return Ok(None);
         };
         values.push(value)?;
         left = others;
+        ahead = &ahead[1..];
         rest = behind;
     }
-    if rest.is_empty() {
-        Ok(Measured::Values(List::from_vec(values)))
-    } else {
-        Ok(Measured::Rejected)
+    if !rest.is_empty() {
+        return Ok(None);
     }
+    Ok(Some(List::from_vec(values)))
 }

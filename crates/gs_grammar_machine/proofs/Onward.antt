@@ -76,7 +76,7 @@ pub goes_on : (form : AutoForm) (state symbol next : ℕ) → IsMachine form →
 goes_on form state symbol next m f =
     fits_onward (length form.table) form.borders state (edges_at form.table state) symbol next (list_all-from_AllPass (is_onward (length form.table) form.borders state) (edges_at form.table state) (m.onward state)) f
 
--- the first border is no higher than the last
+-- the first border is not a higher than the last
 first_low : (numbers : List ℕ) (i : ℕ) → AscendBefore numbers (length numbers) → i < length numbers → get_or numbers 0 0 ≤ get_or numbers i 0
 first_low numbers zero h l = omega arith
 first_low numbers (suc i) h l =

@@ -24,7 +24,7 @@ cut_at from [] edges k l = absurd (omega arith)
 cut_at from (end ∷ ends) edges zero l = refl
 cut_at from (end ∷ ends) edges (suc k) l = cut_at end ends edges k (omega arith)
 
--- a piece of the list is the same where more edges stand behind it
+-- a piece of the list is the same where more edges follow it
 same_piece : (from end : ℕ) (edges row : List Edge) → from ≤ end → end ≤ length edges → take (end - from) (drop from (edges ++ row)) ≡ take (end - from) (drop from edges)
 same_piece from end edges row h k =
     let d = drop-append-le from edges row (omega arith) in

@@ -4,18 +4,18 @@ use Rattle.gs_grammar_machine.specs.declared.edge.Edge.{Edge}
 use Rattle.gs_grammar_machine.specs.Walks.{Walk}
 use Rattle.gs_grammar_machine.specs.Machines.{AutoForm, accept_of, IsMachine}
 
--- the machine of a table and borders
+-- trusted, own: the machine of a table and borders
 abbrev pub auto_form : List (List Edge) → List ℕ → AutoForm
 auto_form table borders = record { table = table; borders = borders }
 
--- the start is the first border
+-- trusted, own: the start is the first border
 abbrev pub start_of : AutoForm → ℕ
 start_of form = slice_index form.borders 0
 
--- a table and borders that break one of these rules
+-- trusted, own: a table and borders that break one of these rules
 abbrev pub IsNoMachine : AutoForm → Type 0
 IsNoMachine form = IsMachine form → ⊥
 
--- a run on the list of symbols, given by the states after the start, that ends in the accepting state
+-- trusted, own: a run on the list of symbols, given by the states after the start, that ends in the accepting state
 abbrev pub Accepts : AutoForm → List ℕ → List ℕ → Type 0
 Accepts form run symbols = Walk form.table (start_of form) run symbols (accept_of form)

@@ -11,7 +11,7 @@ use std::alloc::Global;
 use std::marker::Model;
 
 /// A machine: states, which are the numbers below `states`, the edges that leave each, and borders, which are states. A run
-/// begins at the first border, and is accepting where it ends at the last.
+/// begins at the first border, and is accepting if it ends at the last.
 pub struct Auto {
     table: Table,
     borders: Vec<usize>,
@@ -37,18 +37,18 @@ impl Model for Auto {
     ghost invariant = { λ a. IsMachine (record { table = a.table; borders = a.borders.items }) };
 }
 
-/// The table of these rows.
+/// Makes the table of these rows.
 fn table_of(alloc: Global, rows: &[List<Edge>]) -> Result<Table, Memory>
     ensures { IfOk result (λ table. table ≡ rows.now) }
 {
-    let mut table = Table::new(alloc);
+    let mut table = Table::with_capacity(alloc, rows.len(), 0)?;
     for row in rows {
-        table = table.with_state(row.items())?;
+        table.push_state(row.items())?;
     }
     Ok(table)
 }
 
-/// Whether the rows and borders keep the rules of a machine.
+/// Returns whether the rows and borders satisfy the rules of a machine.
 fn is_machine(rows: &[List<Edge>], borders: &[usize]) -> bool
     ensures { IsTrue result ↔ IsMachine (auto_form rows.now borders.now) }
 {
@@ -59,8 +59,8 @@ fn is_machine(rows: &[List<Edge>], borders: &[usize]) -> bool
 }
 
 impl Auto {
-    /// The machine of these rows, one for each state, with these borders. `None` comes exactly where they break a rule: each
-    /// edge leads to a higher state, which is there, and over no border; there is a border, and the borders are states and
+    /// Makes the machine of these rows, one for each state, with these borders. Returns `None` if and only if they break a rule:
+    /// each edge leads to a higher state, which is there, and over no border; there is a border, and the borders are states and
     /// ascend strictly.
     pub fn new(
         alloc: Global,
@@ -78,7 +78,7 @@ impl Auto {
         Ok(Some(Auto::of_table(table, borders)))
     }
 
-    /// The machine of a table and borders that keep the rules. It takes no memory.
+    /// Makes the machine of a table and borders that satisfy the rules. Does not allocate.
     pub fn of_table(table: Table, borders: Vec<usize>) -> Auto
         requires { IsMachine (auto_form table borders.items) }
         ensures { result ≡ auto_form table borders.items }
@@ -86,7 +86,7 @@ impl Auto {
         Auto { table, borders }
     }
 
-    /// The number of states.
+    /// Returns the number of states.
     pub fn states(&self) -> usize
         ensures count { result ≡ states_of self.now }
         ensures rules { IsMachine self.now }
@@ -94,7 +94,7 @@ impl Auto {
         self.table.len()
     }
 
-    /// The start: the first border.
+    /// Returns the start: the first border.
     pub fn start(&self) -> usize
         ensures start { result ≡ start_of self.now }
         ensures inside { result < states_of self.now }
@@ -102,7 +102,7 @@ impl Auto {
         self.borders[0]
     }
 
-    /// The accepting state: the last border.
+    /// Returns the accepting state: the last border.
     pub fn accept(&self) -> usize
         ensures accept { result ≡ accept_of self.now }
         ensures inside { result < states_of self.now }
@@ -110,8 +110,7 @@ impl Auto {
         self.borders[self.borders.len() - 1]
     }
 
-    /// The edges that leave a state. Each leads to a higher state, which is there, and over no border. The state is one of the
-    /// machine.
+    /// Returns the edges that leave a state of the machine. Each leads to a higher state, which is there, and over no border.
     pub fn edges(&self, state: usize) -> &[Edge]
         requires { state < states_of self.now }
         ensures edges { result.now ≡ edges_at self.now.table state }
@@ -120,7 +119,7 @@ impl Auto {
         self.table.edges(state)
     }
 
-    /// The borders, which are states in ascending order.
+    /// Returns the borders, which are states in ascending order.
     pub fn borders(&self) -> &[usize]
         ensures { result.now ≡ self.now.borders }
     {

@@ -12,7 +12,7 @@
 //! 3 0
 //! ```
 //!
-//! # Where it differs from the standards
+//! # Differences from the standards
 //!
 //! - No standard has these machines. They are automata as textbooks have them, of which each edge leads to a later state, so
 //!   that each walk ends.

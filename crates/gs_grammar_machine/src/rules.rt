@@ -5,7 +5,7 @@ ghost use Rattle.gs_grammar_machine.specs.Machines.{AreOnward, AscendBefore, is_
 use crate::edge::Edge;
 use gs_chars::List;
 
-/// Whether no border stands between the two states.
+/// Returns whether no border stands between the two states.
 fn crosses_none(borders: &[usize], state: usize, to: usize) -> bool
     ensures { result ≡ list_all (λ border. nat_le border state || nat_le to border) borders.now }
 {
@@ -14,14 +14,14 @@ fn crosses_none(borders: &[usize], state: usize, to: usize) -> bool
         .all(|border| *border <= state || to <= *border)
 }
 
-/// Whether an edge from a state leads to a higher one, which is there, and over no border.
+/// Returns whether an edge from a state leads to a higher one, which is there, and over no border.
 fn is_onward(states: usize, borders: &[usize], state: usize, edge: &Edge) -> bool
     ensures { result ≡ is_onward states borders.now state edge.now }
 {
     state < edge.to && edge.to < states && crosses_none(borders, state, edge.to)
 }
 
-/// Whether all edges of a state do so.
+/// Returns whether all edges of a state are onward.
 fn is_row_onward(states: usize, borders: &[usize], state: usize, row: &[Edge]) -> bool
     ensures { result ≡ list_all (is_onward states borders.now state) row.now }
 {
@@ -29,7 +29,7 @@ fn is_row_onward(states: usize, borders: &[usize], state: usize, row: &[Edge]) -
         .all(|edge| is_onward(states, borders, state, edge))
 }
 
-/// Whether all edges of all states do so.
+/// Returns whether all edges of all states are onward.
 pub fn are_onward(borders: &[usize], rows: &[List<Edge>]) -> bool
     ensures { IsTrue result ↔ AreOnward borders.now rows.now }
 {
@@ -41,7 +41,7 @@ pub fn are_onward(borders: &[usize], rows: &[List<Edge>]) -> bool
     true
 }
 
-/// Whether the numbers ascend strictly.
+/// Returns whether the numbers ascend strictly.
 pub fn ascend(numbers: &[usize]) -> bool
     ensures { IsTrue result ↔ AscendBefore numbers.now (length numbers.now) }
 {

@@ -1,4 +1,4 @@
-ghost use Rattle.std.specs.Prelude.{◌≡◌, ◌-◌, ◌<◌, ◌≤◌, ◌++◌, ◌∷◌, [], IfOk, length, slice_index, take, drop};
+ghost use Rattle.std.specs.Prelude.{◌≡◌, ◌-◌, ◌<◌, ◌≤◌, ◌++◌, ◌∷◌, [], IfOk, OnOk, length, slice_index, take, drop};
 ghost use Rattle.gs_grammar_machine.specs.Walks.{edges_at};
 
 use crate::edge::Edge;
@@ -6,7 +6,7 @@ use gs_chars::Memory;
 use std::alloc::Global;
 use std::marker::Model;
 
-/// The edges that leave each state, in one array, one state after the other. Contracts see the list of the lists of edges.
+/// The edges that leave each state, in one array, state by state. Contracts see the list of the lists of edges.
 pub struct Table {
     edges: Vec<Edge>,
     ends: Vec<usize>,
@@ -31,7 +31,7 @@ impl Model for Table {
     ghost invariant = { λ a. Cuts 0 a.ends.items (length a.edges.items) };
 }
 
-/// Where the edges of a state begin: where those of the state before it end.
+/// Returns where the edges of a state begin: where those of the state before it end.
 fn start_of(ends: &[usize], state: usize) -> usize
     requires { state < length ends.now }
     ensures { result ≡ slice_index (0 ∷ ends.now) state }
@@ -39,7 +39,7 @@ fn start_of(ends: &[usize], state: usize) -> usize
     if state == 0 { 0 } else { ends[state - 1] }
 }
 
-/// The edges from one place up to another.
+/// Returns the edges from one place up to another.
 fn part(edges: &[Edge], from: usize, to: usize) -> &[Edge]
     requires ascend { from ≤ to }
     requires within { to ≤ length edges.now }
@@ -49,37 +49,35 @@ fn part(edges: &[Edge], from: usize, to: usize) -> &[Edge]
 }
 
 impl Table {
-    /// The table of no states.
-    pub fn new(alloc: Global) -> Table
-        ensures { result ≡ [] }
+    /// Returns a table without states, with room for this many states and edges.
+    pub fn with_capacity(alloc: Global, states: usize, edges: usize) -> Result<Table, Memory>
+        ensures { IfOk result (λ table. table ≡ []) }
     {
-        Table {
-            edges: Vec::new(alloc),
-            ends: Vec::new(alloc),
-        }
+        Ok(Table {
+            edges: Vec::with_capacity(alloc, edges)?,
+            ends: Vec::with_capacity(alloc, states)?,
+        })
     }
 
-    /// The table with one state more, behind the others, and the edges that leave it.
-    pub fn with_state(self, row: &[Edge]) -> Result<Table, Memory>
-        ensures { IfOk result (λ table. table ≡ self ++ row.now ∷ []) }
+    /// Appends a state with these edges.
+    pub fn push_state(&mut self, row: &[Edge]) -> Result<(), Memory>
+        ensures { OnOk result (self.new ≡ self.old ++ row.now ∷ []) }
     {
-        let Table {
-            mut edges,
-            mut ends,
-        } = self;
-        edges.extend_from_slice(row)?;
-        ends.push(edges.len())?;
-        Ok(Table { edges, ends })
+        self.ends.reserve(1)?;
+        self.edges.extend_from_slice(row)?;
+        let end = self.edges.len();
+        self.ends.push_reserved(end);
+        Ok(())
     }
 
-    /// The number of states.
+    /// Returns the number of states.
     pub fn len(&self) -> usize
         ensures { result ≡ length self.now }
     {
         self.ends.len()
     }
 
-    /// The edges that leave a state. The state is one of the table.
+    /// Returns the edges that leave a state of the table.
     pub fn edges(&self, state: usize) -> &[Edge]
         requires { state < length self.now }
         ensures { result.now ≡ edges_at self.now state }

@@ -1,4 +1,4 @@
--- What is wanted, wherever the name of the relation lies, and the answer by the links of chosen numbers.
+-- The request's wish, wherever the name of its relation is kept, and the answer by the links of the chosen numbers.
 use Rattle.std.proofs.Common.{Bool, ◌≡◌, ◌≢◌, ◌<◌, ◌≤◌, ℕ, zero, suc, List, [], ◌∷◌, length, slice_get, Some, false, inl, inr, refl, arith}
 use Rattle.std.specs.Prelude.{All, slice_index_or}
 use Rattle.std.specs.Option.{option_map_or}
@@ -56,7 +56,7 @@ module _ (templates : Bool) (identity : Elements) (links : List Link) where
       let a = there links i (all 0 0 (omega arith)) in
       rw a.1 refl
 
--- where there is nothing to choose, languages change nothing
+-- if there is nothing to choose, languages change nothing
 pub narrowed_few : (links : List Link) (numbers : List ℕ) (ranges : List (List ℕ)) → length numbers ≤ 1 → narrowed links numbers ranges ≡ numbers
 narrowed_few links numbers [] few = refl
 narrowed_few links [] (range ∷ ranges) few = narrowed_few links [] ranges few

@@ -20,11 +20,12 @@ use Rattle.gs_http.specs.Heads.{Asked}
 use Rattle.gs_http.specs.Replies.{reply_of}
 use Rattle.gs_http.specs.Turns.{Delivers, Outcome, Turned}
 use Rattle.gs_http.specs.ServedStreams.{IsServed, OnDone}
-use Rattle.gs_http.specs.Streams.{AreReplies, BeginsWith, IsReplyTo, all_bytes, bytes_of, front_of, has_closing, head_end, headless, heads_of, replies_of, with_front}
+use Rattle.gs_chars.specs.Answers.{BeginsWith}
+use Rattle.gs_http.specs.Streams.{AreReplies, IsReplyTo, all_bytes, bytes_of, front_of, has_closing, head_end, headless, heads_of, replies_of, with_front}
 use Rattle.gs_http.proofs.Fronts.{front_cut, front_ended, front_full, front_head}
 use Rattle.gs_http.proofs.StreamLaws.{all_append, are_append, bytes_append, closing_append, replies_append, some_replies}
 
--- what is left, and nothing where that is not known
+-- the bytes left, and no bytes if they are not known
 abbrev pub rest_of : Option (List ℕ) → List ℕ
 rest_of None = []
 rest_of (Some rest) = rest
@@ -37,7 +38,7 @@ nothing_left : (left : Option (List ℕ)) → NothingLeft left → rest_of left 
 nothing_left None h = refl
 nothing_left (Some rest) h = h
 
--- ---- the heads of what is left
+-- ---- the heads of the bytes left
 
 one_more : (n i : ℕ) → i < n → n - i ≡ suc (n - (i + 1))
 one_more n i low = omega arith
@@ -81,7 +82,7 @@ module _ (table : List AiRow) (links : List Link) (settings : Settings) where
 
   -- ---- the turns so far
 
-  -- So many heads of a stream were answered, and the connection stays; the bytes were read behind them.
+  -- That many heads of a stream were answered, and the connection stays; the bytes were read after them.
   pub record SoFar (n i : ℕ) (bytes : List ℕ) (left left' taken taken' held held' : Option (List ℕ)) : Type 0 where
     pub heads : List (Option (List ℕ))
     pub replies : List Reply
@@ -110,7 +111,7 @@ module _ (table : List AiRow) (links : List Link) (settings : Settings) where
     few = omega arith;
   }
 
-  -- more was read behind the heads
+  -- more was read after the heads
   module _ (n i : ℕ) (bytes grown : List ℕ) (l0 l1 l2 t0 t1 t2 h0 h1 : Option (List ℕ)) (x : SoFar n i bytes l0 l1 t0 t1 h0 h1) (r : Reads bytes grown l1 l2 t1 t2) where
     read_so_far : (bytes_of x.heads ++ bytes) ++ r.bytes ≡ bytes_of x.heads ++ grown
     read_so_far = append_assoc (bytes_of x.heads) bytes r.bytes ∙ ap (λ more. bytes_of x.heads ++ more) (sym r.grown)
@@ -164,7 +165,7 @@ module _ (table : List AiRow) (links : List Link) (settings : Settings) where
         few = let shorter = length-append head after in let whole = ap length split in omega arith;
       }
 
-  -- nothing more is done: the replies to what is left follow those so far, and a prefix of them was written
+  -- nothing more is done: the replies to the bytes left follow those so far, and a prefix of them was written
   pub finish : (n i : ℕ) (bytes grown : List ℕ) (l0 l1 l2 t0 t1 t2 h0 h1 h2 : Option (List ℕ)) (served : Served)
       → SoFar n i bytes l0 l1 t0 t1 h0 h1 → Reads bytes grown l1 l2 t1 t2 → length grown ≤ 12287
       → (tail : List Reply) → AreReplies table links settings (n - i) (heads_of (n - i) (grown ++ rest_of l2)) tail
@@ -210,7 +211,7 @@ module _ (table : List AiRow) (links : List Link) (settings : Settings) where
       done WriteFault a tail part replied stay h = tt
       done Memory a tail part replied stay h = tt
 
-  -- the first reply to what is left was written, or a prefix of it
+  -- the first reply to the bytes left was written, or a prefix of it
   module _ (n i : ℕ) (bytes grown : List ℕ) (l0 l1 l2 t0 t1 t2 h0 h1 h2 : Option (List ℕ)) (x : SoFar n i bytes l0 l1 t0 t1 h0 h1) (r : Reads bytes grown l1 l2 t1 t2) (few : length grown ≤ 12287) where
     end_with : (head : Option (List ℕ)) (heads : List (Option (List ℕ))) → heads_of (n - i) (grown ++ rest_of l2) ≡ head ∷ heads
         → (reply : Reply) → IsReplyTo table links settings head ((n - i) == 1) reply → (served : Served) → Delivers (Over served) reply h1 h2

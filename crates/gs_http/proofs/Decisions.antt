@@ -66,7 +66,7 @@ end_length lf text rest e = rw e (omega arith)
 
 -- ---- empty lines
 
--- behind no line end, the empty lines are none
+-- without a line end there are no empty lines
 no_lines : (text : List ℕ) → (Begins Newline text → ⊥) → (ends : List LineEnd) (rest : List ℕ) → Blank ends text rest → text ≡ rest
 no_lines text none [] rest x = x.0
 no_lines text none (end ∷ ends) rest x = absurd (none (end, print_blank ends ++ rest, x.0 ∙ append_assoc (print_end end) (print_blank ends) rest))
@@ -80,7 +80,7 @@ blank_here (c ∷ text) none = elim (true_or_false (is_newline c)) [
       false≢true (sym stops ∙ newline))
 ]
 
--- behind a line end, the empty lines are one more
+-- after a line end, the empty lines are one more
 blank_behind : (end : LineEnd) (text middle : List ℕ) → text ≡ print_end end ++ middle → (ends : List LineEnd) (rest : List ℕ) → Blank ends text rest → Begins Blank middle
 blank_behind end text middle e [] rest x = absurd (newline_not_stopped end middle rest (sym e ∙ x.0) x.1)
 blank_behind end text middle e (other ∷ ends) rest x =

@@ -1,4 +1,4 @@
--- Where a head ends, and what a stream goes on with.
+-- If a head ends, and what a stream goes on with.
 use Rattle.std.proofs.Common.{◌≡◌, ◌≢◌, ℕ, zero, suc, ◌+◌, ◌-◌, ◌<◌, ◌≤◌, min, true, false, List, [], ◌∷◌, ◌++◌, length, take, drop, Option, Some, None, refl, sym, ap, ◌∙◌, subst, arith, inl, inr, length-drop}
 use Rattle.std.specs.Prelude.{bytes_eq, option_map}
 use Rattle.std.proofs.lemmas.Bool.{cases_lt}
@@ -47,7 +47,7 @@ finds text (Some k) h =
     let first = h.0 in
     sym (ends_at text k (OccursAt-part text blank k h.1) (λ j low e. first.before j (omega arith) low (from_blank text j e)))
 
--- ---- more bytes behind
+-- ---- more bytes after
 
 grown : (o : Option ℕ) (p : ℕ) → option_map suc o ≡ Some p → (q : ℕ) × (o ≡ Some q) × (p ≡ suc q)
 grown None p e = absurd (let g : None ≡ Some p = e in cc)

@@ -38,7 +38,7 @@ asked_by_head head h reads = elim (cases_lt 64 (length h.fields)) [
   ]
 ]
 
--- bytes with more behind a head are none
+-- bytes after a head make it no head
 asked_by_front : (head : List ℕ) (h : RequestHead) (rest : List ℕ) → ReadsRequest head h rest → (asked : Option Asked) × IsAsked head asked
 asked_by_front head h [] reads = asked_by_head head h reads
 asked_by_front head h (b ∷ rest) reads = (

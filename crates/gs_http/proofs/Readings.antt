@@ -25,7 +25,7 @@ reads_further a b c la lb lc ta tb tc x y = record {
   took = y.took ∙ ap (λ known. append_known known y.bytes) x.took ∙ append_twice ta x.bytes y.bytes;
 }
 
--- ---- what two calls leave as it was, one after the other
+-- ---- the state that two calls in a row preserve
 
 module _ {S : Type 0} (a b c : S) where
   pub opens_on : (is_open : S → Bool) (aside : S → Aside) (ends : S → Option (GName × GName)) → StaysOpen is_open aside ends a b → StaysOpen is_open aside ends b c → StaysOpen is_open aside ends a c

@@ -7,7 +7,7 @@ use Rattle.gs_http.specs.Heads.{is_bare_line_feed}
 
 -- ---- from the start
 
--- what is left at a place within the text
+-- the bytes left at an offset within the text
 pub left_at : {X : Type 0} (xs : List X) (i : ℕ) (d : X) → i < length xs → drop i xs ≡ get_or xs i d ∷ drop (i + 1) xs
 left_at xs i d low = rw add-one (drop-cons xs i d low)
 
@@ -56,7 +56,7 @@ whole_text [] (suc n) e = refl
 whole_text (c ∷ text) zero e = absurd (omega arith)
 whole_text (c ∷ text) (suc n) e = ap (λ rest. c ∷ rest) (whole_text text n (omega arith))
 
--- the part before the first byte that separates, and those behind it
+-- the part before the first byte that separates, and those after it
 module _ (p : ℕ → Bool) (test : List ℕ → Bool) (text : List ℕ) (n : ℕ) (place : n ≡ position_or_len p text) where
   pub part_here : n ≤ length text → test (take n text) ≡ true → list_any test (slice_split p text) ≡ true
   part_here within passes = elim (cases_lt n (length text)) [

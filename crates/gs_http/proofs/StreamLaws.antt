@@ -63,7 +63,7 @@ pub closing_append : (a b : List Reply) → has_closing a ≡ false → has_clos
 closing_append [] b e = refl
 closing_append (r ∷ a) b e = rw (or_first r.close (has_closing a) e) (closing_append a b (or_second r.close (has_closing a) e))
 
--- behind replies that do not end the connection the others follow
+-- after replies that do not end the connection the others follow
 pub replies_append : (a b : List Reply) → has_closing a ≡ false → replies_of (a ++ b) ≡ all_bytes a ++ replies_of b
 replies_append [] b e = refl
 replies_append (r ∷ a) b e =

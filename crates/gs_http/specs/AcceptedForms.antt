@@ -7,14 +7,15 @@ use Rattle.gs_http_documents.specs.declared.forms.LinksetForm.{LinksetForm}
 use Rattle.gs_http_documents.specs.declared.forms.LinksetForm.TheVariants.{Json, Text}
 use Rattle.gs_http.specs.Fields.{is_comma, is_semicolon, is_word}
 
--- trusted, RFC 9264, sections 4.1 and 4.2: the form of a linkset that a media type names, in letters of either case
+-- trusted, RFC 9264, sections 4.1 and 4.2: the form of a linkset that a media type names, case-insensitively
 abbrev pub form_named : List ℕ → Option LinksetForm
 form_named name =
     if is_word (codes "application/linkset+json") name then Some Json
     else if is_word (codes "application/linkset") name then Some Text
     else None
 
--- trusted, RFC 9110, section 12.5.1: the form that a part of a value names: by what stands before its parameters, without white space around it
+-- trusted, RFC 9110, section 12.5.1: the form that a part of a value names, by the text before its parameters without surrounding
+-- white space
 abbrev pub part_form : List ℕ → Option LinksetForm
 part_form part = form_named (trim_ows (before_first is_semicolon part))
 
@@ -26,7 +27,7 @@ value_forms value = filter_map part_form (slice_split is_comma value)
 abbrev pub field_forms : List ℕ × List ℕ → List LinksetForm
 field_forms field = if is_word (codes "accept") field.0 then value_forms field.1 else []
 
--- trusted, own: the first of the forms, where there is one
+-- trusted, own: the first of the forms, if there is one
 abbrev pub first_form : List LinksetForm → Option LinksetForm
 first_form [] = None
 first_form (form ∷ forms) = Some form

@@ -28,8 +28,8 @@ use Rattle.gs_http.specs.Heads.{Asked}
 use Rattle.gs_http.specs.LanguageRanges.{accepted_ranges}
 use Rattle.gs_http.specs.Wishes.{Wish, for_linkset, for_relation, wish_of}
 
--- trusted, RFC 9110, section 15: what is answered: a document with the resolver's description, a linkset, several links to
--- choose from, the one link to go on to; or that the request is bad, that nothing is found, that the method is not allowed.
+-- trusted, RFC 9110, section 15: The answer to a request: the resolver description file; a linkset; several links to choose from;
+-- one link to redirect to; or that the request is bad, that nothing is found, or that the method is not allowed.
 pub data Answer : Type 0 where
   linkset : Rendered → Answer
   described choices redirect : List ℕ → Answer
@@ -47,7 +47,7 @@ is_head method = bytes_eq method (codes "HEAD")
 abbrev pub is_description : List ℕ → Bool
 is_description target = bytes_eq (path_of target) (codes "/.well-known/gs1resolver")
 
--- trusted, own: the answer for the resolver description file: its bytes, where there is one
+-- trusted, own: the answer for the resolver description file: its bytes, if there is one
 abbrev pub describe : Option (List ℕ) → Answer
 describe None = not_found
 describe (Some text) = described text
@@ -56,18 +56,19 @@ describe (Some text) = described text
 abbrev pub sent_document : Bool → Elements → List Link → List Context
 sent_document templates identity links = document_for templates identity (document_of links)
 
--- trusted, GS1-Conformant Resolver: for a linkset: its document in a form, where there is a link
+-- trusted, GS1-Conformant Resolver: the answer for a linkset: its document in a form, if there is a link
 abbrev pub by_linkset : Bool → LinksetForm → Elements → List Link → Answer
 by_linkset templates form identity [] = not_found
 by_linkset templates form identity (link ∷ links) = linkset (rendered_as form (sent_document templates identity (link ∷ links)))
 
--- trusted, GS1-Conformant Resolver: for a relation: the one link, or several to choose from, in JSON, where there is one at least
+-- trusted, GS1-Conformant Resolver: the answer for a relation: the one link, or several to choose from in JSON, if there is at
+-- least one
 abbrev pub by_relation : Bool → Elements → List Link → Answer
 by_relation templates identity [] = not_found
 by_relation templates identity (link ∷ []) = redirect (reference_for templates identity link.target.href)
 by_relation templates identity (link ∷ other ∷ links) = choices (written (sent_document templates identity (link ∷ other ∷ links)))
 
--- trusted, own: that the links of a relation are wanted; where its name lies does not matter
+-- trusted, own: the wish for the links of a relation; where its name is kept does not matter
 abbrev pub of_relation : List ℕ → Want
 of_relation name = RelationOf (record { ref_ptr = (0, 0); now = name })
 
@@ -78,7 +79,7 @@ by_elements templates links ranges identity (for_linkset form) = by_linkset temp
 by_elements templates links ranges identity (for_relation name) =
     by_relation templates identity (linked links (narrowed links (chosen links identity (of_relation name)) ranges))
 
--- trusted, own: by the identity of the pairs that the target names, where they have one
+-- trusted, own: the answer by the identity of the pairs that the target names, if they have one
 abbrev pub by_identity : Bool → List Link → List (List ℕ) → Wish → Result Elements IdentFault → Answer
 by_identity templates links ranges wish (Ok identity) = by_elements templates links ranges identity wish
 by_identity templates links ranges wish (Err error) = bad_request

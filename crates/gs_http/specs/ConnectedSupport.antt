@@ -1,4 +1,4 @@
--- What proofs and private functions say beside the definitions of Connected.antt.
+-- Definitions for proofs and private functions, in addition to Connected.antt.
 use Rattle.std.specs.Prelude.{◌≡◌, ◌≢◌, ◌<◌, ◌≤◌, ◌⊎◌, ⊤, ℕ, List, [], ◌++◌, length, take, Option, Some, None, IfSome}
 use Rattle.gs_port.specs.Contents.{append_known, prepend_known}
 use Rattle.gs_http.specs.declared.next_head.Filled.{Filled}
@@ -10,14 +10,14 @@ use Rattle.gs_http.specs.declared.output.Sent.TheVariants as sent
 use Rattle.gs_http.specs.Streams.{head_end}
 use Rattle.gs_port.specs.Counts.{counted}
 
--- bytes were read and stand behind those that were held
+-- bytes were read and follow those that were held
 pub record Reads (held held' : List ℕ) (left left' taken taken' : Option (List ℕ)) : Type 0 where
   pub bytes : List ℕ
   pub grown : held' ≡ held ++ bytes
   pub moved : left ≡ prepend_known bytes left'
   pub took : taken' ≡ append_known taken bytes
 
--- nothing is left, where that is known
+-- holds if nothing is left, if that is known
 abbrev pub NothingLeft : Option (List ℕ) → Type 0
 NothingLeft left = IfSome left (λ bytes. bytes ≡ [])
 

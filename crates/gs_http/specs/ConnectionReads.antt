@@ -4,7 +4,7 @@ use Rattle.gs_port.specs.Contents.{append_known}
 use Rattle.gs_http.specs.declared.output.Sent.{Sent}
 use Rattle.gs_http.specs.declared.output.Sent.TheVariants as sent
 
--- trusted, TDS 2.0, sections 6, 12 and 14; that the first writes is own: what was written of some bytes
+-- holds if these bytes were written as far as the result says
 abbrev pub Writes : Sent → List ℕ → Option (List ℕ) → Option (List ℕ) → Type 0
 Writes sent.Done bytes held held' = held' ≡ append_known held bytes
 Writes sent.Failed bytes held held' = (n : ℕ) × (held' ≡ append_known held (take n bytes))

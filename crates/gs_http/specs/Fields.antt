@@ -6,7 +6,7 @@ use Rattle.httparse.specs.Grammar.{trim_ows}
 use Rattle.gs_http.specs.declared.sign.Sign.{Sign}
 use Rattle.gs_http.specs.declared.sign.Sign.TheVariants.{Encoded, Sized, Closes}
 
--- trusted, RFC 9110, section 5.1: the text is the word, which has no capital letters, in letters of either case
+-- trusted, RFC 9110, section 5.1: the text is the word, which has no capital letters, case-insensitively
 abbrev pub is_word : List ℕ → List ℕ → Bool
 is_word word text = bytes_eq (map to_ascii_lowercase text) word
 

@@ -1,5 +1,5 @@
--- The head of a request: RFC 9112, sections 2 to 5, in the grammar that the crate `httparse` states. That it has at most 64
--- fields, that its lines end in CR LF, and that it has no body is this project's own.
+-- The head of a request: RFC 9112, sections 2 to 5, in the grammar of the crate `httparse`. That it has at most 64 fields, that
+-- its lines end in CR LF, and that it has no message body is this project's own rule.
 use Rattle.std.specs.Prelude.{◌≡◌, ◌≤◌, ℕ, ◌==◌, ◌&&◌, ◌||◌, not, Bool, false, List, [], ◌∷◌, map, length, Option, Some, None}
 use Rattle.std.specs.List.{list_any, zip}
 use Rattle.httparse.specs.Grammar.{ReadsRequest, RequestHead}
@@ -32,7 +32,7 @@ pub record IsWhole (head : List ℕ) (h : RequestHead) : Type 0 where
 abbrev pub is_bare_line_feed : ℕ × ℕ → Bool
 is_bare_line_feed pair = pair.1 == 10 && not (pair.0 == 13)
 
--- trusted, RFC 9112, section 2.2: some line feed stands without a carriage return before it
+-- trusted, RFC 9112, section 2.2: holds if some line feed has no carriage return before it
 abbrev pub has_bare_line_feed : List ℕ → Bool
 has_bare_line_feed head = list_any is_bare_line_feed (zip (0 ∷ head) head)
 
@@ -47,7 +47,7 @@ pub record IsAskedBy (head : List ℕ) (asked : Asked) : Type 0 where
   pub says : asked ≡ asked_of h
   pub taken : is_rejected head asked.fields ≡ false
 
--- trusted, own: what the head says, and nothing exactly where it is not that of a request that is answered
+-- trusted, own: what the head says, and nothing if and only if it is not that of a request that is answered
 abbrev pub IsAsked : List ℕ → Option Asked → Type 0
 IsAsked head (Some asked) = IsAskedBy head asked
 IsAsked head None = (asked : Asked) → ¬ (IsAskedBy head asked)

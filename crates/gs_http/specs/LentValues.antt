@@ -39,7 +39,7 @@ abbrev pub name_of : RelationName → List ℕ
 name_of (Made name) = name
 name_of (LentName name) = name.now
 
--- what is asked for, by a name that was made or is lent
+-- the wish, with a name that is owned or lent
 abbrev pub wished : LentWish → Wish
 wished (OfRelation name) = for_relation (name_of name)
 wished (OfLinkset form) = for_linkset form

@@ -1,5 +1,5 @@
--- The bytes of a reply: RFC 9112, sections 4 and 5, and RFC 9110, sections 8.3, 8.6, 10.2.1 and 10.2.2. Which fields stand
--- there, and their order, is this project's own.
+-- The bytes of a reply: RFC 9112, sections 4 and 5, and RFC 9110, sections 8.3, 8.6, 10.2.1 and 10.2.2. The choice of fields and
+-- their order is this project's own.
 use Rattle.std.specs.Prelude.{◌≡◌, ℕ, ◌==◌, ◌||◌, Bool, true, false, if◌then◌else◌, List, [], ◌∷◌, ◌++◌, codes, length, decimal, Option, Some, None}
 use Rattle.gs_ai.specs.declared.row.AiRow.{AiRow}
 use Rattle.gs_links.specs.declared.link.Link.{Link}
@@ -31,8 +31,8 @@ abbrev pub type_of : LinksetForm → List ℕ
 type_of Json = codes "application/linkset+json"
 type_of Text = codes "application/linkset"
 
--- trusted, RFC 9110, sections 8.3, 10.2.1 and 10.2.2: the field that only this answer has: where to go on, which methods are
--- allowed, or the type of the body
+-- trusted, RFC 9110, sections 8.3, 10.2.1 and 10.2.2: the field that only this answer has: the target URI, the allowed methods,
+-- or the type of the content
 abbrev pub own_field : Answer → List ℕ
 own_field (described _) = line (codes "Content-Type: application/json")
 own_field (linkset sent) = line (codes "Content-Type: " ++ type_of sent.form)
@@ -42,7 +42,7 @@ own_field bad_request = []
 own_field not_found = []
 own_field not_allowed = line (codes "Allow: GET, HEAD")
 
--- trusted, own: the bytes behind the head
+-- trusted, own: the bytes after the head
 abbrev pub body_of : Answer → List ℕ
 body_of (described text) = text
 body_of (linkset sent) = sent.text
@@ -60,7 +60,7 @@ length_field len = line (codes "Content-Length: " ++ decimal len)
 abbrev pub close_field : Bool → List ℕ
 close_field close = if close then line (codes "Connection: close") else []
 
--- trusted, RFC 9112, section 2.1: the bytes, without the body where only the head is asked for
+-- trusted, RFC 9112, section 2.1: the bytes of a reply, without the content if only the head is requested
 unfoldable pub reply_bytes : Bool → Bool → Answer → List ℕ
 reply_bytes head_only close answer =
     line (codes "HTTP/1.1 " ++ status_of answer)
@@ -74,8 +74,8 @@ reply_bytes head_only close answer =
 abbrev pub closes : Bool → Asked → Bool
 closes last asked = last || ((asked.minor == 0) || is_shown Closes asked.fields)
 
--- trusted, own: the reply to what a head says, where it is that of a request that is answered; `last` says that the
--- connection ends with it anyway.
+-- trusted, own: The reply to the facts of a head, or 400 if it is not the head of a request. `last` says that the connection ends
+-- with it anyway.
 unfoldable pub reply_of : List AiRow → List Link → Settings → Option Asked → Bool → Reply
 reply_of table links settings None last = record { bytes = reply_bytes false true bad_request; close = true }
 reply_of table links settings (Some asked) last = record {

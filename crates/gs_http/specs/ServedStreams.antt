@@ -1,4 +1,4 @@
--- How a connection is served: what was read of it and written to it, turn by turn and in all.
+-- How a connection is served: the bytes read from it and written to it, turn by turn and in all.
 use Rattle.std.specs.Prelude.{◌≡◌, ◌⊎◌, ◌≤◌, ⊤, ℕ, ◌+◌, true, List, [], ◌++◌, length, take, Option, IfSome}
 use Rattle.gs_ai.specs.declared.row.AiRow.{AiRow}
 use Rattle.gs_links.specs.declared.link.Link.{Link}
@@ -8,7 +8,8 @@ use Rattle.gs_http.specs.declared.outcomes.Served.{Served}
 use Rattle.gs_http.specs.declared.outcomes.Served.TheVariants.{Done, ReadFault, WriteFault, Memory}
 use Rattle.gs_http.specs.declared.replies.Reply.{Reply}
 use Rattle.gs_http.specs.declared.settings.Settings.{Settings}
-use Rattle.gs_http.specs.Streams.{AreReplies, BeginsWith, all_bytes, bytes_of, has_closing, heads_of, replies_of}
+use Rattle.gs_chars.specs.Answers.{BeginsWith}
+use Rattle.gs_http.specs.Streams.{AreReplies, all_bytes, bytes_of, has_closing, heads_of, replies_of}
 
 -- ---- counts
 
@@ -35,8 +36,8 @@ OnDone ReadFault fact = ⊤
 OnDone WriteFault fact = ⊤
 OnDone Memory fact = ⊤
 
--- trusted, own: what serving a connection read and wrote, where so many replies are the most. `rest` is what is left to read,
--- where that is known.
+-- trusted, own: Holds if serving a connection with at most `most` replies read and wrote these bytes. `rest` is the bytes left to
+-- read, if they are known.
 pub record IsServed (most : ℕ) (table : List AiRow) (links : List Link) (settings : Settings) (served : Served) (left left' taken taken' held held' : Option (List ℕ)) : Type 0 where
   pub read : List ℕ
   pub written : List ℕ
@@ -49,10 +50,10 @@ pub record IsServed (most : ℕ) (table : List AiRow) (links : List Link) (setti
   pub is_rest : IfSome left' (λ bytes. bytes ≡ rest)
   -- the replies are those of the stream, however it was cut
   pub are_replies : AreReplies table links settings most (heads_of most (read ++ rest)) replies
-  -- what was written is a prefix of them up to the first that ends the connection, and all of that where the call is done: then
-  -- nothing is left to read, or one of them ends the connection
+  -- the written bytes are a prefix of the replies up to the first that ends the connection, and all of them if the call is done:
+  -- then nothing is left to read, or one of them ends the connection
   pub begun : BeginsWith (replies_of replies) written
   pub whole : OnDone served ((written ≡ replies_of replies) × ((rest ≡ []) ⊎ (has_closing replies ≡ true)))
-  -- of so many heads the replies were written, and at most 12,288 bytes were read beyond these heads
+  -- of that many heads the replies were written, and at most 12,288 bytes were read beyond these heads
   pub front : BeginsWith written (all_bytes (take answered replies))
   pub few : length read ≤ length (bytes_of (take answered (heads_of most (read ++ rest)))) + 12288

@@ -14,18 +14,18 @@ use Rattle.gs_http.specs.Replies.{IsReply, reply_of}
 abbrev pub blank : List ℕ
 blank = 13 ∷ 10 ∷ 13 ∷ 10 ∷ []
 
--- trusted, RFC 9112, section 2.1: the place behind the first empty line
+-- trusted, RFC 9112, section 2.1: the place after the first empty line
 unfoldable pub head_end : List ℕ → Option ℕ
 head_end [] = None
 head_end (c ∷ text) = if bytes_eq (take 4 (c ∷ text)) blank then Some 4 else option_map suc (head_end text)
 
--- trusted, own: what a stream goes on with: nothing, a head and what is behind it, or bytes that are no head.
+-- trusted, own: The start of a stream: nothing, a head and the bytes after it, or bytes that are not a head.
 pub data Front : Type 0 where
   ended : Front
   headed : List ℕ → List ℕ → Front
   headless : Front
 
--- trusted, own: by the place where a head ends
+-- trusted, own: the start of a stream by the offset at which its head ends
 abbrev pub cut_at : List ℕ → Option ℕ → Front
 cut_at stream None = headless
 cut_at stream (Some place) = headed (take place stream) (drop place stream)
@@ -41,7 +41,7 @@ with_front ended later = []
 with_front headless later = None ∷ []
 with_front (headed head rest) later = Some head ∷ later rest
 
--- trusted, own: the heads of a stream, at most so many; `None` stands for bytes that are no head, and nothing follows them
+-- trusted, own: the heads of a stream, at most that many; `None` stands for bytes that are not head, and nothing follows them
 abbrev pub heads_of : ℕ → List ℕ → List (Option (List ℕ))
 heads_of zero stream = []
 heads_of (suc n) stream = with_front (front_of stream) (heads_of n)
@@ -54,12 +54,12 @@ bytes_of (Some head ∷ heads) = head ++ bytes_of heads
 
 -- ---- replies
 
--- trusted, own: the reply to a head, or to bytes that are none; `last` says that the connection ends with it anyway
+-- trusted, own: the reply to a head, or to bytes that are not a head; `last` says that the connection ends with it anyway
 abbrev pub IsReplyTo : List AiRow → List Link → Settings → Option (List ℕ) → Bool → Reply → Type 0
 IsReplyTo table links settings (Some head) last reply = IsReply table links settings head last reply
 IsReplyTo table links settings None last reply = reply ≡ reply_of table links settings None last
 
--- trusted, own: the replies to heads, one each, where so many may come; the last that may come ends the connection
+-- trusted, own: the replies to heads, one each, up to a number of them; the last one allowed ends the connection
 abbrev pub AreReplies : List AiRow → List Link → Settings → ℕ → List (Option (List ℕ)) → List Reply → Type 0
 AreReplies table links settings n [] [] = ⊤
 AreReplies table links settings n [] (reply ∷ replies) = ⊥
@@ -80,13 +80,9 @@ replies_of (reply ∷ replies) = reply.bytes ++ (if reply.close then [] else rep
 abbrev pub all_bytes : List Reply → List ℕ
 all_bytes replies = flat_map (λ (reply : Reply). reply.bytes) replies
 
--- trusted, own: the bytes are the replies of a stream: of its heads, at most so many, up to and including the first that ends
+-- trusted, own: the bytes are the replies of a stream: of its heads, at most that many, up to and including the first that ends
 -- the connection.
 pub record IsReplies (table : List AiRow) (links : List Link) (settings : Settings) (most : ℕ) (stream output : List ℕ) : Type 0 where
   pub replies : List Reply
   pub are_replies : AreReplies table links settings most (heads_of most stream) replies
   pub is_output : output ≡ replies_of replies
-
--- trusted, own: the bytes are a prefix of others
-abbrev pub BeginsWith : List ℕ → List ℕ → Type 0
-BeginsWith whole front = (rest : List ℕ) × (whole ≡ front ++ rest)

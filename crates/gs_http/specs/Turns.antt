@@ -24,7 +24,7 @@ abbrev pub writes_at : Turn → ℕ → ℕ
 writes_at Stays count = count
 writes_at (Over served) count = writes_when served count
 
--- what was written of a reply
+-- holds if this much of a reply was written
 abbrev pub Delivers : Turn → Reply → Option (List ℕ) → Option (List ℕ) → Type 0
 Delivers Stays reply held held' = (held' ≡ append_known held reply.bytes) × (reply.close ≡ false)
 Delivers (Over Done) reply held held' = (held' ≡ append_known held reply.bytes) × (reply.close ≡ true)
@@ -32,18 +32,18 @@ Delivers (Over ReadFault) reply held held' = ⊥
 Delivers (Over WriteFault) reply held held' = (n : ℕ) × (held' ≡ append_known held (take n reply.bytes))
 Delivers (Over Memory) reply held held' = (n : ℕ) × (held' ≡ append_known held (take n reply.bytes))
 
--- the reply to a head, or to bytes that are none, was written, or a prefix of it
+-- holds if the reply to a head, or to bytes that are not a head, was written, or a prefix of it
 pub record Answered (table : List AiRow) (links : List Link) (settings : Settings) (turn : Turn) (head : Option (List ℕ)) (last : Bool) (held held' : Option (List ℕ)) : Type 0 where
   pub reply : Reply
   pub is_reply : IsReplyTo table links settings head last reply
   pub delivers : Delivers turn reply held held'
 
--- the head is gone where the connection stays
+-- holds if the head is let go of when the connection stays open
 abbrev pub LetsGo : Turn → ℕ → List ℕ → List ℕ → Type 0
 LetsGo Stays len bytes bytes' = bytes' ≡ drop len bytes
 LetsGo (Over served) len bytes bytes' = ⊤
 
--- what was done by what the bytes begin with
+-- holds if the turn did this, by the bytes' start
 abbrev pub Outcome : Filled → List AiRow → List Link → Settings → Turn → Bool → List ℕ → List ℕ → Option (List ℕ) → Option (List ℕ) → Type 0
 Outcome filled.Ended table links settings turn last bytes bytes' held held' = (turn ≡ Over Done) × (held' ≡ held)
 Outcome filled.Failed table links settings turn last bytes bytes' held held' = (turn ≡ Over ReadFault) × (held' ≡ held)

@@ -1,12 +1,12 @@
--- What a call leaves as it was of a connection, and the counts of its failed reads and writes. A connection is given by what its
--- trait tells of it: each fact takes the members that it speaks of, and the connection before and after the call.
+-- The state of a connection that a call preserves, and the counts of its failed reads and writes. The trait's ghost members
+-- describe a connection: each fact takes the members that it needs, and the connection before and after the call.
 use Rattle.std.specs.Prelude.{◌≡◌, ◌≤◌, ℕ, Bool, true, List, Option}
 use Rattle.std.specs.Borrow.{GName}
 use Rattle.gs_port.specs.Connections.{Aside}
 use Rattle.gs_http.specs.declared.outcomes.Turn.{Turn}
 use Rattle.gs_http.specs.Turns.{reads_at, writes_at}
 
--- the connection is open, and what no read and no write changes is as it was
+-- the connection is open, and what no read and no write changes is unchanged
 pub record StaysOpen {S : Type 0} (is_open : S → Bool) (aside : S → Aside) (ends : S → Option (GName × GName)) (before now : S) : Type 0 where
   pub open_now : is_open now ≡ true
   pub same_aside : aside now ≡ aside before

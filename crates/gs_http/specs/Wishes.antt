@@ -2,7 +2,8 @@
 use Rattle.std.specs.Prelude.{ℕ, ◌||◌, if◌then◌else◌, Bool, List, codes, Option, Some, None, option_map, bytes_eq}
 use Rattle.std.specs.List.{after_first, before_first, find, slice_split}
 use Rattle.percent_encoding.specs.Percent.{percent_decode}
-use Rattle.gs_dlink.specs.Uris.{is_byte, query_of, separates_parts}
+use Rattle.gs_chars.specs.Characters.{is_byte}
+use Rattle.gs_dlink.specs.Uris.{query_of, separates_parts}
 use Rattle.gs_http_documents.specs.declared.forms.LinksetForm.{LinksetForm}
 use Rattle.gs_http_documents.specs.declared.forms.LinksetForm.TheVariants.{Json}
 use Rattle.gs_links.specs.Loads.{expanded}
@@ -15,7 +16,7 @@ pub data Wish : Type 0 where
   for_relation : List ℕ → Wish
   for_linkset : LinksetForm → Wish
 
--- trusted, GS1-Conformant Resolver: a part of a query is a link type where its name is `linkType`
+-- trusted, GS1-Conformant Resolver: holds if the name of the query parameter is `linkType`
 abbrev pub is_link_type : List ℕ → Bool
 is_link_type part = bytes_eq (before_first (is_byte 61) part) (codes "linkType")
 
@@ -23,7 +24,7 @@ is_link_type part = bytes_eq (before_first (is_byte 61) part) (codes "linkType")
 abbrev pub link_type : List ℕ → Option (List ℕ)
 link_type target = option_map (after_first (is_byte 61)) (find is_link_type (slice_split separates_parts (query_of target)))
 
--- trusted, own: a linkset is JSON where no form is accepted
+-- trusted, own: the accepted form of a linkset, and JSON if none is accepted
 abbrev pub form_or_json : Option LinksetForm → LinksetForm
 form_or_json None = Json
 form_or_json (Some form) = form
@@ -35,16 +36,16 @@ wish_named voc accepted value =
     if bytes_eq value (codes "linkset") || bytes_eq value (codes "all") then for_linkset (form_or_json accepted)
     else for_relation (expanded voc value)
 
--- trusted, GS1-Conformant Resolver: the relation that is meant where a request names none is `gs1:defaultLink`
+-- trusted, GS1-Conformant Resolver: the relation of a request that names none: `gs1:defaultLink`
 abbrev pub default_relation : List ℕ → List ℕ
 default_relation voc = expanded voc (codes "gs1:defaultLink")
 
--- trusted, own: without a link type a linkset is asked for where a form of one is accepted, and else the default relation
+-- trusted, own: the wish without a link type: a linkset if a form of one is accepted, otherwise the default relation
 abbrev pub wish_unnamed : List ℕ → Option LinksetForm → Wish
 wish_unnamed voc None = for_relation (default_relation voc)
 wish_unnamed voc (Some form) = for_linkset form
 
--- trusted, own: a link type decides, and what is accepted does where there is none
+-- trusted, own: the wish by the link type, or by the accepted form if there is no link type
 abbrev pub wish_by : List ℕ → Option LinksetForm → Option (List ℕ) → Wish
 wish_by voc accepted None = wish_unnamed voc accepted
 wish_by voc accepted (Some value) = wish_named voc accepted (percent_decode value)

@@ -6,11 +6,11 @@ ghost use Rattle.gs_http.specs.LentValues.{asked_by};
 use crate::cuts::{after, before};
 use crate::fields::{is_word, trimmed};
 use crate::request::Request;
-use gs_dlink::place_of;
+use gs_chars::place_of;
 use gs_http_documents::LinksetForm;
 use httparse::spans::HeaderSpan;
 
-/// The form of a linkset that a media type names.
+/// Returns the form of a linkset that a media type names.
 fn form_named(name: &[u8]) -> Option<LinksetForm>
     ensures { result ≡ form_named name.now }
 {
@@ -23,14 +23,14 @@ fn form_named(name: &[u8]) -> Option<LinksetForm>
     None
 }
 
-/// The form that a part of a value names by what stands before its parameters.
+/// Returns the form that a part of a value names by the text before its parameters.
 fn part_form(part: &[u8]) -> Option<LinksetForm>
     ensures { result ≡ part_form part.now }
 {
     form_named(trimmed(before(part, b';')))
 }
 
-/// The first form that one of the parts between commas names.
+/// Returns the first form that one of the parts between commas names.
 fn value_form(value: &[u8]) -> Option<LinksetForm>
     ensures { result ≡ first_form (value_forms value.now) }
 {
@@ -47,7 +47,7 @@ fn value_form(value: &[u8]) -> Option<LinksetForm>
     }
 }
 
-/// The first form that the field which lies there accepts.
+/// Returns the first form that the field which lies there accepts.
 fn field_form(head: &[u8], field: &HeaderSpan) -> Option<LinksetForm>
     requires { IsHeaderWithin (length head.now) field.now }
     ensures { result ≡ first_form (field_forms (header_bytes head.now field.now)) }
@@ -58,7 +58,7 @@ fn field_form(head: &[u8], field: &HeaderSpan) -> Option<LinksetForm>
     None
 }
 
-/// The form of a linkset that a request accepts first.
+/// Returns the form of a linkset that a request accepts first.
 pub(crate) fn accepted_form(request: &Request<'_>) -> Option<LinksetForm>
     ensures { result ≡ accepted_form (asked_by request.now).fields }
 {

@@ -1,7 +1,7 @@
 use gs_chars::Text;
 use gs_http_documents::{Reference, Rendered};
 
-/// What is answered to a request.
+/// The answer to a request.
 #[derive(Drop)]
 pub(crate) enum Answer<'a> {
     /// The resolver's description.

@@ -8,8 +8,8 @@ use gs_port::Conn;
 use std::alloc::Global;
 use std::marker::Model;
 
-/// What was read of a connection, which contracts see as the bytes that were not let go of. These are moved only before
-/// more is read, and not for each head.
+/// The bytes that were read from a connection. Contracts see those that are still held. They are moved only before more is read,
+/// and not for each head.
 #[derive(Drop)]
 pub(crate) struct Buffer {
     bytes: Vec<u8>,
@@ -28,7 +28,7 @@ impl Model for Buffer {
 }
 
 impl Buffer {
-    /// No bytes.
+    /// Returns an empty buffer.
     pub(crate) fn new(alloc: Global) -> Buffer
         ensures { result ≡ [] }
     {
@@ -38,14 +38,14 @@ impl Buffer {
         }
     }
 
-    /// The bytes.
+    /// Returns the bytes.
     pub(crate) fn as_slice(&self) -> &[u8]
         ensures { result.now ≡ self.now }
     {
         &self.bytes.as_slice()[self.gone..]
     }
 
-    /// The number of bytes.
+    /// Returns the number of bytes.
     pub(crate) fn len(&self) -> usize
         ensures { result ≡ length self.now }
     {
@@ -60,7 +60,7 @@ impl Buffer {
         self.gone += len;
     }
 
-    /// Moves the next bytes of a connection behind these, at most 4,096 of them.
+    /// Moves the next bytes of a connection after these, at most 4,096 of them.
     pub(crate) fn read_more<C: Conn>(&mut self, conn: &mut C) -> More
         requires current { C.is_open conn.old ≡ true }
         requires few { length self.old < 8192 }

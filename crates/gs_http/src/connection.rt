@@ -16,7 +16,7 @@ use std::alloc::Global;
 /// The most replies that are made of a connection.
 const MOST: usize = 1000;
 
-/// Whether the reply of a turn is the last that may come.
+/// Returns whether the reply of a turn is the last that may come.
 fn is_last(turn: usize) -> bool
     requires { turn < 1000 }
     ensures { result ≡ (1000 - turn == 1) }
@@ -24,7 +24,7 @@ fn is_last(turn: usize) -> bool
     turn + 1 == MOST
 }
 
-/// Answers the heads of the current connection as `serve_one` does, with room for the numbers of links that `Resolver::room`
+/// Answers the heads of the current connection as `serve_one` does, with the room for numbers of links that `Resolver::room`
 /// makes.
 pub fn serve_with<C: Conn>(
     alloc: Global,
@@ -56,11 +56,10 @@ pub fn serve_with<C: Conn>(
     unreachable!()
 }
 
-/// Answers the heads of the current connection in their order, up to the end of the stream or to the first reply that ends the
-/// connection; the 1,000th does. Bytes that are no head, since none ends within 8,192 bytes or before the end of the
-/// stream, have one such reply. The connection stays open. `Done`: the replies were written, all and nothing else. After
-/// the other answers a prefix of them was written; `ReadFault` and `WriteFault` come only where a read, or a write, failed
-/// and was counted.
+/// Answers the heads of the current connection in order, up to the end of the stream or to the first reply that ends the
+/// connection; the 1,000th does. Bytes without a head within 8,192 bytes or before the end of the stream have one such reply. The
+/// connection stays open. `Done`: all replies were written, and nothing else. After the other results a prefix of them was
+/// written. Returns `ReadFault` or `WriteFault` only if a read or a write failed and was counted.
 pub fn serve_one<C: Conn>(
     alloc: Global,
     conn: &mut C,

@@ -1,17 +1,18 @@
 ghost use Rattle.std.specs.Prelude.{◌≡◌, ◌+◌, ◌≤◌, drop, length};
 ghost use Rattle.std.specs.List.{after_first, before_first};
-ghost use Rattle.gs_dlink.specs.Uris.{is_byte, path_of, query_of};
+ghost use Rattle.gs_chars.specs.Characters.{is_byte};
+ghost use Rattle.gs_dlink.specs.Uris.{path_of, query_of};
 
-use gs_dlink::place_of;
+use gs_chars::place_of;
 
-/// What stands before the first such byte, or all of the text.
+/// Returns the text before the first such byte, or all of the text.
 pub(crate) fn before(text: &[u8], byte: u8) -> &[u8]
     ensures { result.now ≡ before_first (is_byte byte) text.now }
 {
     &text[..place_of(text, byte)]
 }
 
-/// What stands behind a place of the text, and nothing where the text ends there.
+/// Returns the text after a place, and the empty text if it ends there.
 pub(crate) fn after(text: &[u8], place: usize) -> &[u8]
     requires { place ≤ length text.now }
     ensures { result.now ≡ drop (place + 1) text.now }
@@ -19,21 +20,21 @@ pub(crate) fn after(text: &[u8], place: usize) -> &[u8]
     text.get(place + 1..).unwrap_or(&[])
 }
 
-/// What stands behind the first such byte, or nothing.
+/// Returns the text after the first such byte, or the empty text.
 pub(crate) fn behind(text: &[u8], byte: u8) -> &[u8]
     ensures { result.now ≡ after_first (is_byte byte) text.now }
 {
     after(text, place_of(text, byte))
 }
 
-/// The path of a target.
+/// Returns the path of a target.
 pub(crate) fn path_of(target: &[u8]) -> &[u8]
     ensures { result.now ≡ path_of target.now }
 {
     before(before(target, b'#'), b'?')
 }
 
-/// The query of a target.
+/// Returns the query of a target.
 pub(crate) fn query_of(target: &[u8]) -> &[u8]
     ensures { result.now ≡ query_of target.now }
 {

@@ -9,10 +9,10 @@ ghost use Rattle.gs_http.specs.LentValues.{asked_by};
 use crate::cuts::after;
 use crate::request::Request;
 use crate::sign::Sign;
-use gs_dlink::place_of;
+use gs_chars::place_of;
 use httparse::spans::HeaderSpan;
 
-/// Whether the text is the word, which has no capital letters, in letters of either case.
+/// Returns whether the text is the word, which has no capital letters, case-insensitively.
 pub(crate) fn is_word(text: &[u8], word: &[u8]) -> bool
     requires { map to_ascii_lowercase word.now ≡ word.now }
     ensures { result ≡ is_word word.now text.now }
@@ -20,14 +20,14 @@ pub(crate) fn is_word(text: &[u8], word: &[u8]) -> bool
     text.eq_ignore_ascii_case(word)
 }
 
-/// Whether a byte is a space or a tab.
+/// Returns whether a byte is a space or a tab.
 fn is_blank(c: u8) -> bool
     ensures { result ≡ is_ows c }
 {
     c == b' ' || c == b'\t'
 }
 
-/// The text without the spaces and tabs at its start.
+/// Returns the text without the spaces and tabs at its start.
 fn without_front(text: &[u8]) -> &[u8]
     ensures { result.now ≡ skip_ows text.now }
 {
@@ -39,7 +39,7 @@ fn without_front(text: &[u8]) -> &[u8]
     &[]
 }
 
-/// The text without the spaces and tabs at its end.
+/// Returns the text without the spaces and tabs at its end.
 fn without_end(text: &[u8]) -> &[u8]
     ensures { result.now ≡ reverse (skip_ows (reverse text.now)) }
 {
@@ -53,7 +53,7 @@ fn without_end(text: &[u8]) -> &[u8]
     &[]
 }
 
-/// The text without the spaces and tabs at both ends.
+/// Returns the text without the spaces and tabs at both ends.
 #[tactic(auto, unfolding(httparse::specs::Grammar::trim_ows))]
 pub(crate) fn trimmed(text: &[u8]) -> &[u8]
     ensures { result.now ≡ trim_ows text.now }
@@ -61,14 +61,14 @@ pub(crate) fn trimmed(text: &[u8]) -> &[u8]
     without_end(without_front(text))
 }
 
-/// Whether a part of a value is the word `close`.
+/// Returns whether a part of a value is the word `close`.
 fn is_close(part: &[u8]) -> bool
     ensures { result ≡ is_close part.now }
 {
     is_word(trimmed(part), b"close")
 }
 
-/// Whether one of the parts between commas is the word `close`.
+/// Returns whether one of the parts between commas is the word `close`.
 fn has_close(value: &[u8]) -> bool
     ensures { result ≡ has_close value.now }
 {
@@ -85,7 +85,7 @@ fn has_close(value: &[u8]) -> bool
     }
 }
 
-/// Whether a field of this name and value shows the sign.
+/// Returns whether a field of this name and value shows the sign.
 fn shows(name: &[u8], value: &[u8], sign: Sign) -> bool
     ensures { result ≡ shows sign (name.now, value.now) }
 {
@@ -96,7 +96,7 @@ fn shows(name: &[u8], value: &[u8], sign: Sign) -> bool
     }
 }
 
-/// Whether the field that lies there shows the sign.
+/// Returns whether the field that lies there shows the sign.
 fn shows_at(head: &[u8], field: &HeaderSpan, sign: Sign) -> bool
     requires { IsHeaderWithin (length head.now) field.now }
     ensures { result ≡ shows sign (header_bytes head.now field.now) }
@@ -104,7 +104,7 @@ fn shows_at(head: &[u8], field: &HeaderSpan, sign: Sign) -> bool
     shows(field.name.of(head), field.value.of(head), sign)
 }
 
-/// Whether some field of the request shows the sign.
+/// Returns whether some field of the request shows the sign.
 pub(crate) fn is_shown(request: &Request<'_>, sign: Sign) -> bool
     ensures { result ≡ is_shown sign (asked_by request.now).fields }
 {

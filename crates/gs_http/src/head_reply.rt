@@ -23,7 +23,7 @@ use gs_links::Store;
 use httparse::spans::EMPTY_HEADER_SPAN;
 use std::alloc::Global;
 
-/// The reply to a head that is not that of a request which is answered.
+/// Returns the reply to a head that is not that of a request which is answered.
 #[tactic(auto, unfolding(crate::specs::Replies::reply_of))]
 pub(crate) fn rejection(alloc: Global) -> Result<Reply, Memory>
     ensures { (table : List AiRow) (links : List Link) (settings : How) (last : Bool)
@@ -35,14 +35,14 @@ pub(crate) fn rejection(alloc: Global) -> Result<Reply, Memory>
     })
 }
 
-/// Whether the connection ends with the reply to a request.
+/// Returns whether the connection ends with the reply to a request.
 fn closes(last: bool, request: &Request<'_>) -> bool
     ensures { result ≡ closes last (asked_by request.now) }
 {
     last || request.minor == 0 || is_shown(request, Sign::Closes)
 }
 
-/// The reply to a request.
+/// Returns the reply to a request.
 #[tactic(auto, unfolding(crate::specs::Replies::reply_of))]
 fn reply_to(
     alloc: Global,
@@ -61,7 +61,7 @@ fn reply_to(
     Ok(Reply { bytes, close })
 }
 
-/// The reply of a resolver to a head: as `reply`, with room for the numbers of links that `Resolver::room` makes.
+/// Returns the reply of a resolver to a head: as `reply`, with room for the numbers of links that `Resolver::room` makes.
 pub fn reply_with(
     alloc: Global,
     resolver: &Resolver<'_>,
@@ -83,12 +83,12 @@ pub fn reply_with(
     reply_to(alloc, resolver, room, &request, last)
 }
 
-/// The reply to the head of a request (RFC 9112, section 2.1), whose bytes are all of `head`. The first case that fits decides:
-/// 400 that closes the connection, where they are no head of the grammar with at most 64 fields, or have a bare line feed,
-/// or announce a body; 405 for methods other than `GET` and `HEAD`; 400 for a target that does not begin with a
-/// slash; the resolver description file, or 404 without one; 404 for a path that names no key; 400 for any other error of
-/// the target; and else the chosen links: a linkset where that is asked for, 404 without a link, 307 to the one, and 300 with
-/// the document of more. `last` says that the connection ends with this reply. The one error is out of memory.
+/// Returns the reply to the head of a request (RFC 9112, section 2.1), whose bytes are all of `head`. The first case that applies
+/// decides. 400 that closes the connection: the bytes are not a head of the grammar with at most 64 fields, or have a bare line
+/// feed, or announce a message body. 405: the method is neither `GET` nor `HEAD`. 400: the target does not begin with a slash.
+/// The resolver description file, or 404 without one. 404: the path names no key. 400: any other error of the target. Otherwise
+/// the chosen links: a linkset if it is requested, 404 without a link, 307 to the only one, and 300 with the document of several.
+/// `last` says that the connection ends with this reply. Fails only with `Memory`.
 pub fn reply(
     alloc: Global,
     table: &AiTable,

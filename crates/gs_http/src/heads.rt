@@ -13,7 +13,7 @@ use httparse::spans::{HeaderSpan, RequestSpans, parse_request};
 /// The most fields of a head.
 pub(crate) const MOST_FIELDS: usize = 64;
 
-/// Where the parts of a head lie, where the bytes are a head and nothing else, with as many fields at most as there are spans.
+/// Returns the places of the parts of a head, if the bytes are a head and nothing else, with at most as many fields as spans.
 pub(crate) fn whole_head(head: &[u8], spans: &mut [HeaderSpan]) -> Option<RequestSpans>
     requires { length spans.old ≡ most_fields }
     ensures within { IfSome result (IsRequestWithin head.now spans.new) }
@@ -32,7 +32,7 @@ pub(crate) fn whole_head(head: &[u8], spans: &mut [HeaderSpan]) -> Option<Reques
     }
 }
 
-/// The request whose parts lie there.
+/// Returns the request whose parts lie there.
 pub(crate) fn request_at<'a>(
     head: &'a [u8],
     spans: &'a [HeaderSpan],
@@ -51,14 +51,14 @@ pub(crate) fn request_at<'a>(
     }
 }
 
-/// Whether a byte is a line feed without a carriage return before it.
+/// Returns whether a byte is a line feed without a carriage return before it.
 fn is_bare_line_feed(before: u8, c: u8) -> bool
     ensures { result ≡ is_bare_line_feed (before, c) }
 {
     c == b'\n' && before != b'\r'
 }
 
-/// Whether some line feed stands without a carriage return before it.
+/// Returns whether some line feed has no carriage return before it.
 fn has_bare_line_feed(head: &[u8]) -> bool
     ensures { result ≡ has_bare_line_feed head.now }
 {
@@ -72,7 +72,7 @@ fn has_bare_line_feed(head: &[u8]) -> bool
     false
 }
 
-/// Whether the request is not answered: for a bare line feed, or a body.
+/// Returns whether the request is not answered: for a bare line feed, or a body.
 #[tactic(auto, unfolding(crate::specs::Heads::is_rejected))]
 pub(crate) fn is_rejected(request: &Request<'_>) -> bool
     ensures { result ≡ is_rejected request.now.head.now (asked_by request.now).fields }

@@ -6,7 +6,7 @@ ghost use Rattle.gs_http.specs.Streams.{IsReplies};
 ghost use Rattle.gs_http.specs.declared.replies.Reply.{Reply as Answered};
 ghost use Rattle.gs_http.specs.declared.settings.Settings.{Settings as How};
 
-/// A head has exactly one reply, by whatever table, links and settings.
+/// States that a head has exactly one reply, by any table, links and settings.
 pub fn one_reply()
     ensures some { (table : List AiRow) (links : List Link) (settings : How) (head : List ℕ) (last : Bool)
         → (reply : Answered) × IsReply table links settings head last reply }
@@ -15,7 +15,7 @@ pub fn one_reply()
         → a ≡ b }
 {}
 
-/// A stream has exactly one answer, the bytes of its replies, however many may come.
+/// States that a stream has exactly one answer, the bytes of its replies, for any number of allowed replies.
 pub fn one_answer_to_a_stream()
     ensures some { (table : List AiRow) (links : List Link) (settings : How) (most : ℕ) (stream : List ℕ)
         → (output : List ℕ) × IsReplies table links settings most stream output }

@@ -1,23 +1,23 @@
-//! Replies to requests of HTTP/1 (RFC 9110, RFC 9112) by the links of a store, as a GS1-conformant resolver gives them.
+//! Replies to requests of HTTP/1 (RFC 9110, RFC 9112) by the links of a store, as a GS1-conformant resolver sends them.
 //!
-//! - `reply` answers one head: a redirect, several links to choose from, a linkset, the resolver description file, or a status
-//!   alone.
+//! - `reply` answers one head: with a redirect, several links to choose from, a linkset, the resolver description file, or only a
+//!   status.
 //! - `serve_one` answers the heads of one connection in order, however their bytes come, and says how that ended.
 //! - `Resolver` has what both make of a `Site` once for many requests; `reply_with` and `serve_with` are lent it.
 //!
 //! # Example
 //!
-//! A lot that has a link of its own. The gate runs this case, for which crates/vectors_replies/src/heads.rt makes the call; the
-//! head of crates/vectors_cases/src/lib.rt says how bytes are written, and `lots` is a linkset of that file.
+//! A lot that has its own link. The gate runs this case, for which crates/vectors_replies/src/heads.rt makes the call; the head
+//! of crates/vectors_cases/src/lib.rt describes how bytes are written, and `lots` is a linkset of that file.
 //!
 //! ```text
 //! gs_http::reply lots - - GET\x20/01/09506000134352/10/ABC/21/X1\x20HTTP/1.1\x0D\x0AHost:\x20r\x0D\x0A\x0D\x0A
 //! HTTP/1.1\x20307\x20Temporary\x20Redirect\x0D\x0ALocation:\x20https://example.com/lot\x0D\x0AContent-Length:\x200\x0D\x0A\x0D\x0A stays
 //! ```
 //!
-//! # Where it differs from the standards
+//! # Differences from the standards
 //!
-//! - The cases of a reply, their order and the choice of the links are a profile of this project (docs/FORMATS.md, 'Replies').
+//! - The cases of a reply, their order and the choice of the links are a profile of this project (docs/REPLIES.md).
 //! - A head has at most 8,192 bytes and 64 fields, and a connection at most 1,000 replies.
 //! - A head with a body is rejected, and so is one with a line feed that has no carriage return before it.
 //! - The methods are GET and HEAD. The query is not passed on, weights of `Accept` are not looked at, and no field is sent for

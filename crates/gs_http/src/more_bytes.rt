@@ -20,7 +20,7 @@ pub(crate) enum More {
     NoRoom,
 }
 
-/// Moves the next bytes of the connection behind those that were read, at most 4,096 of them.
+/// Moves the next bytes of the connection after those that were read, at most 4,096 of them.
 pub(crate) fn read_more<C: Conn>(conn: &mut C, bytes: &mut Vec<u8>) -> More
     requires current { C.is_open conn.old ≡ true }
     requires few { length bytes.old.items < 8192 }

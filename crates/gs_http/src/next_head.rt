@@ -26,7 +26,7 @@ pub(crate) enum Filled {
     Memory,
 }
 
-/// The place behind the first empty line.
+/// Returns the place after the first empty line.
 #[tactic(auto, using(crate::proofs::Fronts::finds))]
 fn head_end(text: &[u8]) -> Option<usize>
     ensures end { result ≡ head_end text.now }
@@ -38,7 +38,7 @@ fn head_end(text: &[u8]) -> Option<usize>
     }
 }
 
-/// The length of the head with which the bytes begin.
+/// Returns the length of the head with which the bytes begin.
 fn head_len(bytes: &[u8]) -> Option<usize>
     ensures len { result ≡ head_end (take 8192 bytes.now) }
     ensures within { IfSome result (λ len. len ≤ length bytes.now) }
@@ -46,7 +46,7 @@ fn head_len(bytes: &[u8]) -> Option<usize>
     head_end(&bytes[..bytes.len().min(LONGEST)])
 }
 
-/// What the bytes are where nothing is left behind them and they begin with no head.
+/// Classifies the bytes if nothing is left after them and they do not begin with a head.
 fn at_end(bytes: &[u8]) -> Filled
     requires { head_end (take 8192 bytes.now) ≡ None }
     ensures begins { (left : Option (List ℕ)) → NothingLeft left → Begins result bytes.now left }

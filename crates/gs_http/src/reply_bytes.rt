@@ -8,7 +8,7 @@ use gs_chars::{Memory, Text};
 use gs_http_documents::LinksetForm;
 use std::alloc::Global;
 
-/// The line with the status code and its phrase.
+/// Returns the line with the status code and its phrase.
 fn status_line<'b>(answer: &'b Answer<'_>) -> &'b [u8]
     ensures { result.now ≡ line (codes "HTTP/1.1 " ++ status_of (said answer.now)) }
 {
@@ -23,7 +23,7 @@ fn status_line<'b>(answer: &'b Answer<'_>) -> &'b [u8]
     }
 }
 
-/// The body, which is empty where there is none.
+/// Returns the body, which is empty if there is none.
 fn body_of<'b>(answer: &'b Answer<'_>) -> &'b [u8]
     ensures { result.now ≡ body_of (said answer.now) }
 {
@@ -38,7 +38,7 @@ fn body_of<'b>(answer: &'b Answer<'_>) -> &'b [u8]
     }
 }
 
-/// The media type of a linkset in a form.
+/// Returns the media type of a linkset in a form.
 fn type_of(form: LinksetForm) -> &'static [u8]
     ensures { result.now ≡ type_of form }
 {
@@ -48,7 +48,7 @@ fn type_of(form: LinksetForm) -> &'static [u8]
     }
 }
 
-/// The field that only this answer has: its name, its value and the end of its line.
+/// Returns the field that only this answer has: its name, its value and the end of its line.
 fn own_field<'b>(answer: &'b Answer<'_>) -> (&'b [u8], &'b [u8], &'b [u8])
     ensures { result.0.now ++ (result.1.now ++ result.2.now) ≡ own_field (said answer.now) }
 {
@@ -63,7 +63,7 @@ fn own_field<'b>(answer: &'b Answer<'_>) -> (&'b [u8], &'b [u8], &'b [u8])
     }
 }
 
-/// The end of the head, with the field by which the connection ends, where it does.
+/// Returns the end of the head, with the field that ends the connection, if it ends.
 fn head_end(close: bool) -> &'static [u8]
     ensures { result.now ≡ close_field close ++ line [] }
 {
@@ -74,21 +74,21 @@ fn head_end(close: bool) -> &'static [u8]
     }
 }
 
-/// The body, but nothing where only the head is asked for.
+/// Returns the content, and nothing if only the head is requested.
 fn sent_body(head_only: bool, body: &[u8]) -> &[u8]
     ensures { result.now ≡ (if head_only then [] else body.now) }
 {
     if head_only { &[] } else { body }
 }
 
-/// The bytes of the parts, one behind the other.
+/// Returns the bytes of the parts, one after the other.
 fn joined(alloc: Global, parts: &[&[u8]]) -> Result<Text, Memory>
     ensures { IfOk result (λ text. text ≡ flat_map (λ part. part.now) parts.now) }
 {
     Ok(Text::from_vec(parts.concat(alloc)?))
 }
 
-/// The bytes of a reply, with its field of the length, the end of its head and what is sent of its body at hand.
+/// Returns the bytes of a reply, given its length field, the end of its head and the sent part of its content.
 fn written<'p>(
     alloc: Global,
     answer: &'p Answer<'_>,
@@ -105,7 +105,7 @@ fn written<'p>(
     joined(alloc, &parts)
 }
 
-/// The bytes of a reply.
+/// Returns the bytes of a reply.
 pub(crate) fn reply_bytes(
     alloc: Global,
     head_only: bool,

@@ -14,7 +14,7 @@ pub(crate) struct Request<'a> {
     pub minor: u8,
     /// The head.
     pub head: &'a [u8],
-    /// Where its fields lie.
+    /// The places of its fields.
     pub fields: &'a [HeaderSpan],
     ghost within: { All (IsHeaderWithin (length head.now)) fields.now },
 }

@@ -10,13 +10,13 @@ use gs_links::{Store, expand};
 use std::alloc::Global;
 use std::marker::Model;
 
-/// A site with what is made of it once, and not for each request. Contracts see it as the site.
+/// A site, with values that are made once for all requests. Contracts see the site.
 #[derive(Drop)]
 pub struct Resolver<'a> {
     table: &'a AiTable,
     store: &'a Store,
     settings: &'a Settings,
-    /// The relation that is meant where a request names none.
+    /// The relation of a request that names none.
     default_relation: Text,
 }
 
@@ -33,7 +33,7 @@ impl<'a> Model for Resolver<'a> {
 }
 
 impl<'a> Resolver<'a> {
-    /// The resolver of a site. The one error is out of memory.
+    /// Returns the resolver of a site. Fails only with `Memory`.
     pub fn new(alloc: Global, site: &Site<'a>) -> Result<Resolver<'a>, Memory>
         ensures { IfOk result (λ resolver. resolver ≡ site.now) }
     {
@@ -47,7 +47,7 @@ impl<'a> Resolver<'a> {
         })
     }
 
-    /// The resolver of a site, and its room. The one error is out of memory.
+    /// Returns the resolver of a site, and its room. Fails only with `Memory`.
     pub fn with_room(alloc: Global, site: &Site<'a>) -> Result<(Resolver<'a>, Vec<u32>), Memory>
         ensures site { IfOk result (λ made. made.0 ≡ site.now) }
         ensures room { IfOk result (λ made. vec_len made.1 ≡ room_for site.now.links) }
@@ -58,12 +58,12 @@ impl<'a> Resolver<'a> {
     }
 
     /// Room for the numbers of links that answering needs, two for each link: made once for all requests, since answering need
-    /// not find it empty. The one error is out of memory.
+    /// not find it empty. Fails only with `Memory`.
     pub fn room(&self, alloc: Global) -> Result<Vec<u32>, Memory>
         ensures { IfOk result (λ room. vec_len room ≡ room_for self.now.links) }
     {
         let len = self.store.len();
-        // no memory has so many numbers where their count is no number
+        // no memory has that many numbers if their count overflows
         let Some(count) = len.checked_add(len) else {
             return Err(Memory);
         };
@@ -71,28 +71,28 @@ impl<'a> Resolver<'a> {
         Ok(room)
     }
 
-    /// The application identifiers.
+    /// Returns the application identifiers.
     pub(crate) fn table(&self) -> &'a AiTable
         ensures { result.now ≡ self.now.table }
     {
         self.table
     }
 
-    /// The links.
+    /// Returns the links.
     pub(crate) fn store(&self) -> &'a Store
         ensures { result.now ≡ self.now.links }
     {
         self.store
     }
 
-    /// How requests are answered.
+    /// Returns the settings of replies.
     pub(crate) fn settings(&self) -> &'a Settings
         ensures { result.now ≡ self.now.settings }
     {
         self.settings
     }
 
-    /// The relation that is meant where a request names none.
+    /// Returns the relation of a request that names none.
     pub(crate) fn default_relation(&self) -> &[u8]
         ensures { result.now ≡ default_relation self.now.settings.voc }
     {

@@ -30,28 +30,28 @@ use gs_links::{Link, Store, Want};
 use gs_linkset::LinkDoc;
 use std::alloc::Global;
 
-/// Whether the method asks for the head of the reply alone.
+/// Returns whether the method requests only the head of the reply.
 pub(crate) fn is_head(method: &[u8]) -> bool
     ensures { result ≡ is_head method.now }
 {
     method == b"HEAD".as_slice()
 }
 
-/// Whether the method is allowed.
+/// Returns whether the method is allowed.
 fn is_allowed(method: &[u8]) -> bool
     ensures { result ≡ (is_get method.now || is_head method.now) }
 {
     method == b"GET".as_slice() || is_head(method)
 }
 
-/// Whether the target is that of the resolver description file.
+/// Returns whether the target is that of the resolver description file.
 fn is_description(target: &[u8]) -> bool
     ensures { result ≡ is_description target.now }
 {
     path_of(target) == b"/.well-known/gs1resolver".as_slice()
 }
 
-/// The answer with the resolver description file, where there is one.
+/// Returns the answer with the resolver description file, if there is one.
 fn describe(settings: &Settings) -> Answer<'_>
     ensures { said result ≡ describe settings.now.describe }
 {
@@ -61,7 +61,7 @@ fn describe(settings: &Settings) -> Answer<'_>
     }
 }
 
-/// The document of chosen links that is sent for an identity.
+/// Returns the document of chosen links that is sent for an identity.
 fn sent_document(
     alloc: Global,
     resolver: &Resolver<'_>,
@@ -78,14 +78,14 @@ fn sent_document(
     document_for(alloc, resolver.settings().templates, identity, document)
 }
 
-/// Whether one link alone is chosen.
+/// Returns whether only one link is chosen.
 fn is_single(chosen: &[u32]) -> bool
     ensures { result ≡ (length chosen.now == 1) }
 {
     chosen.len() == 1
 }
 
-/// The answer to go on to a link.
+/// Returns the answer to go on to a link.
 fn redirect_to<'a>(
     alloc: Global,
     templates: bool,
@@ -99,7 +99,7 @@ fn redirect_to<'a>(
     Ok(Answer::Redirect(reference_for(alloc, templates, identity, href)?))
 }
 
-/// The answer for a relation, by the links that are chosen for the identity.
+/// Returns the answer for a relation, by the links that are chosen for the identity.
 fn by_count<'a>(
     alloc: Global,
     resolver: &Resolver<'a>,
@@ -123,8 +123,8 @@ fn by_count<'a>(
     Ok(Answer::Choices(sent.text))
 }
 
-/// Of chosen links those in the first language that the request accepts and one of them has, or all where there is none. Where
-/// there is nothing to choose, the languages are not looked at.
+/// Keeps the chosen links in the first language that the request accepts and one of them has, or all if there is none. With
+/// nothing to choose, the languages are not read.
 fn narrow<'n>(
     alloc: Global,
     store: &Store,
@@ -146,7 +146,7 @@ fn narrow<'n>(
     Ok(&out[..count])
 }
 
-/// The answer for a relation.
+/// Returns the answer for a relation.
 fn by_relation<'a>(
     alloc: Global,
     resolver: &Resolver<'a>,
@@ -166,7 +166,7 @@ fn by_relation<'a>(
     by_count(alloc, resolver, identity, chosen)
 }
 
-/// The answer for a linkset in a form.
+/// Returns the answer for a linkset in a form.
 fn by_linkset<'a>(
     alloc: Global,
     resolver: &Resolver<'a>,
@@ -186,7 +186,7 @@ fn by_linkset<'a>(
     Ok(Answer::Linkset(render(alloc, form, &document)?))
 }
 
-/// The answer by the links that are chosen for an identity.
+/// Returns the answer by the links that are chosen for an identity.
 fn by_identity<'a>(
     alloc: Global,
     resolver: &Resolver<'a>,
@@ -207,7 +207,7 @@ fn by_identity<'a>(
     }
 }
 
-/// The answer by the pairs that a target names.
+/// Returns the answer by the pairs that a target names.
 fn by_pairs<'a>(
     alloc: Global,
     resolver: &Resolver<'a>,
@@ -229,7 +229,7 @@ fn by_pairs<'a>(
     }
 }
 
-/// The answer by the target of a request, for what it asks for.
+/// Returns the answer by the target of a request, for what it asks for.
 fn by_target<'a>(
     alloc: Global,
     resolver: &Resolver<'a>,
@@ -250,7 +250,7 @@ fn by_target<'a>(
     }
 }
 
-/// The answer to a request, by the first case that fits.
+/// Returns the answer to a request, by the first case that fits.
 #[tactic(auto, unfolding(crate::specs::Answers::answer_of))]
 pub(crate) fn answer_to<'a>(
     alloc: Global,

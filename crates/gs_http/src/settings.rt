@@ -5,7 +5,7 @@ use gs_chars::Text;
 pub struct Settings {
     /// What `gs1:` stands for in the relation that a request asks for.
     pub voc: Text,
-    /// The bytes of the resolver description file, where there is one.
+    /// The bytes of the resolver description file, if there is one.
     pub describe: Option<Text>,
     /// Whether references are templates, whose places the identity of a request fills.
     pub templates: bool,

@@ -36,7 +36,7 @@ fn deliver<C: Conn>(conn: &mut C, reply: &Reply) -> Turn
     }
 }
 
-/// Answers bytes that are no head, whatever follows.
+/// Answers bytes that are not a head, whatever follows.
 fn reject<C: Conn>(alloc: Global, conn: &mut C) -> Turn
     requires current { C.is_open conn.old ≡ true }
     ensures answered { (table : List AiRow) (links : List Link) (settings : How) (last : Bool)
@@ -51,7 +51,7 @@ fn reject<C: Conn>(alloc: Global, conn: &mut C) -> Turn
     }
 }
 
-/// Answers the head with which the bytes begin, where it lies, and lets go of it where the connection stays.
+/// Answers the head with which the bytes begin, in place, and lets go of it if the connection stays open.
 fn answer_head<C: Conn>(
     alloc: Global,
     conn: &mut C,
@@ -84,7 +84,7 @@ fn answer_head<C: Conn>(
     }
 }
 
-/// Reads on up to the end of a head, and answers it.
+/// Reads on to the end of a head, and answers it.
 pub(crate) fn answer_next<C: Conn>(
     alloc: Global,
     conn: &mut C,

@@ -6,7 +6,7 @@ use crate::cuts::{before, behind};
 use crate::fields::{is_word, trimmed};
 use gs_chars::are_digits;
 
-/// The digit at a place, and 0 behind the last.
+/// Returns the digit at a place, and 0 after the last.
 fn digit_at(digits: &[u8], place: usize) -> u16
     ensures digit { result ≡ digit_at digits.now place }
     ensures few { result ≤ 255 }
@@ -17,14 +17,14 @@ fn digit_at(digits: &[u8], place: usize) -> u16
     }
 }
 
-/// Digits behind the point of a weight, in thousandths.
+/// Digits after the point of a weight, in thousandths.
 fn thousandths(digits: &[u8]) -> u16
     ensures { result ≡ thousandths digits.now }
 {
     100 * digit_at(digits, 0) + 10 * digit_at(digits, 1) + digit_at(digits, 2)
 }
 
-/// What follows the first digit of a weight, in thousandths.
+/// Returns the text after the first digit of a weight, in thousandths.
 fn fraction_of(rest: &[u8]) -> Option<u16>
     ensures { result ≡ fraction_of rest.now }
 {
@@ -38,7 +38,7 @@ fn fraction_of(rest: &[u8]) -> Option<u16>
     }
 }
 
-/// The weight that begins with this digit and has this fraction, 0 where it is none.
+/// Returns the weight that begins with this digit and has this fraction, and 0 if it is not a weight.
 fn weight_by(digit: u8, fraction: Option<u16>) -> u16
     ensures { result ≡ weight_by digit fraction }
 {
@@ -56,7 +56,7 @@ fn weight_by(digit: u8, fraction: Option<u16>) -> u16
     }
 }
 
-/// A weight in thousandths, 0 where the text is none.
+/// Returns a weight in thousandths, and 0 if the text is not a weight.
 fn weight_in(text: &[u8]) -> u16
     ensures { result ≡ weight_in text.now }
 {
@@ -66,7 +66,7 @@ fn weight_in(text: &[u8]) -> u16
     }
 }
 
-/// The weight of a parameter, 0 where it has none.
+/// Returns the weight of a parameter, 0 if it has none.
 fn parameter_weight(text: &[u8]) -> u16
     ensures { result ≡ parameter_weight text.now }
 {
@@ -77,7 +77,7 @@ fn parameter_weight(text: &[u8]) -> u16
     }
 }
 
-/// The weight of a part of a field's value, in thousandths.
+/// Returns the weight of a part of a field's value, in thousandths.
 pub(crate) fn part_weight(part: &[u8]) -> u16
     ensures { result ≡ part_weight part.now }
 {

@@ -44,7 +44,7 @@ pub(crate) enum Wish<'a> {
     Linkset(LinksetForm),
 }
 
-/// The form in which a request wants a linkset that it asks for: that which it accepts first, else JSON.
+/// Returns the form in which a request wants a linkset that it asks for: that which it accepts first, otherwise JSON.
 fn wanted_form(request: &Request<'_>) -> LinksetForm
     ensures { result ≡ form_or_json (accepted_form (asked_by request.now).fields) }
 {
@@ -54,7 +54,7 @@ fn wanted_form(request: &Request<'_>) -> LinksetForm
     }
 }
 
-/// What a decoded link type asks for.
+/// Returns the wish of a decoded link type.
 fn wish_named<'a>(
     alloc: Global,
     voc: &[u8],
@@ -71,7 +71,7 @@ fn wish_named<'a>(
     Ok(Wish::Relation(RelationName::Made(expand(alloc, voc, value)?)))
 }
 
-/// What a link type asks for.
+/// Returns the wish of a link type.
 fn by_link_type<'a>(
     alloc: Global,
     voc: &[u8],
@@ -86,7 +86,7 @@ fn by_link_type<'a>(
     wish_named(alloc, voc, request, Text::from_vec(decoded))
 }
 
-/// What is asked for without a link type, by the form that is accepted.
+/// Returns the wish without a link type, by the accepted form.
 fn wish_unnamed<'r>(resolver: &'r Resolver<'_>, accepted: Option<LinksetForm>) -> Wish<'r>
     ensures { wished result ≡ wish_unnamed resolver.now.settings.voc accepted }
 {
@@ -96,7 +96,7 @@ fn wish_unnamed<'r>(resolver: &'r Resolver<'_>, accepted: Option<LinksetForm>) -
     }
 }
 
-/// What a request asks for.
+/// Returns the wish of a request.
 #[tactic(auto, unfolding(crate::specs::Wishes::wish_of))]
 pub(crate) fn wish_of<'r>(
     alloc: Global,

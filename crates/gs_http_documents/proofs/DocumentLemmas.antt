@@ -1,4 +1,4 @@
--- What filling the references of a document leaves as it was.
+-- The parts of a document that filling its target URIs leaves unchanged.
 use Rattle.std.proofs.Common.{◌≡◌, List, [], ◌∷◌, map, refl, ap}
 use Rattle.gs_ident.specs.Elements.{Elements}
 use Rattle.gs_linkset.specs.LinkShapes.{relation_names}

@@ -1,4 +1,4 @@
--- The form in which a linkset is sent: RFC 9264, sections 4.1 and 4.2. That JSON stands in for a text that cannot be is this
+-- The form in which a linkset is sent: RFC 9264, sections 4.1 and 4.2. That JSON is in for a text that cannot be is this
 -- project's own.
 use Rattle.std.specs.Prelude.{List, position, ℕ, Option, Some, None}
 use Rattle.gs_linkset.specs.LinkShapes.{links_of_document}
@@ -13,16 +13,16 @@ use Rattle.gs_http_documents.specs.declared.forms.Rendered.{Rendered}
 abbrev pub in_json : List Context → Rendered
 in_json contexts = record { form = Json; text = written contexts }
 
--- trusted, RFC 9264, section 4.1, and own: a document as text where no link of it cannot be spelled, else as JSON
+-- trusted, RFC 9264, section 4.1, and own: the document as text if each link of it can be spelled, otherwise as JSON
 abbrev pub by_unspellable : Option ℕ → List Context → Rendered
 by_unspellable None contexts = record { form = Text; text = spelled contexts }
 by_unspellable (Some i) contexts = in_json contexts
 
--- trusted, own: a document as text, or as JSON where text cannot hold one of its links
+-- trusted, own: the document as text, or as JSON if text cannot hold one of its links
 abbrev pub text_or_json : List Context → Rendered
 text_or_json contexts = by_unspellable (position cannot_spell (links_of_document contexts)) contexts
 
--- trusted, RFC 9264, section 4: a document in the form that is asked for
+-- trusted, RFC 9264, section 4: the document in the requested form
 abbrev pub rendered_as : LinksetForm → List Context → Rendered
 rendered_as Json contexts = in_json contexts
 rendered_as Text contexts = text_or_json contexts

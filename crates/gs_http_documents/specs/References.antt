@@ -1,5 +1,5 @@
--- What is sent of the references of links. Where they are templates, the values of the request's identity fill their places
--- (RFC 6570, section 3.2.2). That a resolver has templates or has none, and that attributes have none, is this project's own.
+-- The target URIs that are sent. If they are templates, the values of the request's identity fill their places (RFC 6570, section
+-- 3.2.2). That a resolver has templates or not, and that attributes have none, is this project's own rule.
 use Rattle.std.specs.Prelude.{ℕ, Bool, if◌then◌else◌, List, map}
 use Rattle.gs_ident.specs.Elements.{Elements}
 use Rattle.gs_linkset.specs.declared.link_types.Context.{Context}
@@ -14,7 +14,7 @@ abbrev pub reference_of : Reference → List ℕ
 reference_of (Made text) = text
 reference_of (Lent bytes) = bytes.now
 
--- trusted, own: a reference for an identity: with its places filled where it is a template, else as it stands
+-- trusted, own: the target URI for an identity: with its places filled if it is a template, otherwise unchanged
 abbrev pub reference_for : Bool → Elements → List ℕ → List ℕ
 reference_for templates identity href = if templates then filled href identity else href
 
@@ -30,6 +30,6 @@ relation_for identity relation = record { name = relation.name; targets = map (t
 abbrev pub context_for : Elements → Context → Context
 context_for identity context = record { anchor = context.anchor; relations = map (relation_for identity) context.relations }
 
--- trusted, own: a document for an identity, context by context where references are templates, else as it stands
+-- trusted, own: the document for an identity, with all target URIs filled if they are templates, otherwise unchanged
 abbrev pub document_for : Bool → Elements → List Context → List Context
 document_for templates identity contexts = if templates then map (context_for identity) contexts else contexts

@@ -8,24 +8,24 @@ use gs_linkset::{Context, LinkDoc, Relation, Target};
 use gs_template::expand;
 use std::alloc::Global;
 
-/// What has references that an identity's values fill.
+/// A value with target URIs that an identity's values fill.
 trait Template: Drop {
     ghost use Rattle.std.specs.Prelude.{Bool};
     ghost use Rattle.gs_ident.specs.Elements.{Elements};
 
-    /// What it is with its references filled.
+    /// The value with its target URIs filled.
     ghost filled: { Elements → Self → Self };
 
     /// Whether it has the shape of a linkset's part.
     ghost shape: { Self → Bool };
 
-    /// What it is with its references filled.
+    /// Returns the value with its target URIs filled.
     fn fill(self, alloc: Global, identity: &Identity) -> Result<Self, Memory>
         ensures value { IfOk result (λ made. made ≡ filled identity.now self) }
         ensures shape { IfOk result (λ made. shape self ≡ true → shape made ≡ true) };
 }
 
-/// A list of things with their references filled.
+/// Returns a list of things with their references filled.
 fn fill_all<T: Template>(
     alloc: Global,
     identity: &Identity,
@@ -89,9 +89,9 @@ impl Template for Context {
     }
 }
 
-/// A document for an identity. Where references are templates, the reference of each target has its places filled by the
-/// identity's values, as `gs_template::expand` fills them, and all else stays; else the document is the one that was given. What
-/// stays is moved, so that nothing of the document is copied. The one error is out of memory.
+/// Returns the document for an identity. If target URIs are templates, each has its places filled by the identity's values, as
+/// `gs_template::expand` fills them, and everything else is unchanged. Otherwise returns the given document. Moves unchanged
+/// parts, so that it copies nothing of the document. Fails only with `Memory`.
 pub fn document_for(
     alloc: Global,
     templates: bool,

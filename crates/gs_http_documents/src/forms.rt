@@ -15,7 +15,7 @@ pub enum LinksetForm {
     Text,
 }
 
-/// A linkset as it is sent.
+/// A linkset in the form that is sent.
 #[derive(Drop)]
 pub struct Rendered {
     /// Its form.
@@ -24,7 +24,7 @@ pub struct Rendered {
     pub text: Text,
 }
 
-/// A document as JSON.
+/// Returns a document as JSON.
 fn in_json(alloc: Global, doc: &LinkDoc) -> Result<Rendered, Memory>
     ensures { IfOk result (λ made. made ≡ in_json doc.now) }
 {
@@ -34,7 +34,7 @@ fn in_json(alloc: Global, doc: &LinkDoc) -> Result<Rendered, Memory>
     })
 }
 
-/// A document as text where each of its links can be spelled, else as JSON.
+/// Returns a document as text if each of its links can be spelled, otherwise as JSON.
 fn text_or_json(alloc: Global, doc: &LinkDoc) -> Result<Rendered, Memory>
     ensures { IfOk result (λ made. made ≡ text_or_json doc.now) }
 {
@@ -48,8 +48,8 @@ fn text_or_json(alloc: Global, doc: &LinkDoc) -> Result<Rendered, Memory>
     }
 }
 
-/// The text of a document in the form that is asked for, or in JSON where that is text and some link cannot be spelled
-/// (`gs_linktext::write` says which cannot). Each form is written once, and only where it is sent. The one error is out of memory.
+/// Returns the document in the requested form, or in JSON if that is text and some link cannot be spelled (`gs_linktext::write`
+/// defines which). Writes each form once, and only if it is sent. Fails only with `Memory`.
 pub fn render(alloc: Global, form: LinksetForm, doc: &LinkDoc) -> Result<Rendered, Memory>
     ensures { IfOk result (λ made. made ≡ rendered_as form doc.now) }
 {

@@ -11,7 +11,7 @@ use std::alloc::Global;
 pub enum Reference<'a> {
     /// One that was made of a template.
     Made(Text),
-    /// One that stands so in the link.
+    /// The link's own target URI, unchanged.
     Lent(&'a [u8]),
 }
 
@@ -27,8 +27,8 @@ impl Reference<'_> {
     }
 }
 
-/// The reference of a link for an identity. Where references are templates, its places are filled by the identity's values, as
-/// `gs_template::expand` fills them; else it is the reference as it stands, which takes no memory. The one error is out of memory.
+/// Returns the target URI of a link for an identity. If target URIs are templates, its places are filled by the identity's
+/// values, as `gs_template::expand` fills them. Otherwise it is the link's own, which needs no memory. Fails only with `Memory`.
 pub fn reference_for<'a>(
     alloc: Global,
     templates: bool,

@@ -1,4 +1,4 @@
--- The identity of pairs, and the identity of its own pairs.
+-- The identity of pairs, and the identity of its pairs.
 use Rattle.std.proofs.Common.{◌≡◌, ℕ, suc, ◌+◌, Bool, true, false, not, ◌&&◌, List, ◌∷◌, ◌++◌, take, filter, Option, Some, None, Ok, Err, slice_get, bytes_eq, All, refl, sym, ap, ◌∙◌, inl, inr, true≢false, zero-add, subst}
 use Rattle.std.specs.List.{filter_map, list_any}
 use Rattle.std.proofs.lemmas.List.Elements.{All-filter, filter_passes}
@@ -97,7 +97,7 @@ module _ (table : List AiRow) (pairs : List Pair) (key : Pair) (first : first_ke
   pub out_each : (P : Pair → Type 0) → Each P pairs → Each P out
   out_each P a j pair at = found_each P (λ other. bytes_eq pair.code other.code) pairs pair (out_own j pair at) a
 
-  -- the look-up by a code gives the same, where the identity has the pair
+  -- the look-up by a code gives the same, if the identity has the pair
   same_look_up : (code : List ℕ) → ((pair : Pair) → pair_with pairs code ≡ Some pair → (j : ℕ) × (slice_get out j ≡ Some pair)) → pair_with out code ≡ pair_with pairs code
   same_look_up code there = elim (find_by_cases (λ pair. bytes_eq code pair.code) out) [
     | inl found ↦

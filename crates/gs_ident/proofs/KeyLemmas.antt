@@ -19,7 +19,7 @@ use Rattle.gs_ident.specs.KeysSupport.{is_none_text}
 use Rattle.gs_ident.proofs.PairLemmas.{filter_all, find_by_cases, find_nothing, not_found}
 use Rattle.gs_ident.proofs.MovedPairs.{any_at}
 
--- ---- one item more behind a list
+-- ---- one item more after a list
 
 last_at : {X : Type 0} (xs : List X) (x : X) (n : ℕ) → length xs ≡ n → slice_get (xs ++ x ∷ []) n ≡ Some x
 last_at [] x zero e = refl
@@ -38,7 +38,7 @@ lacking_more p xs x e h = find-append p xs (x ∷ []) ∙ rw (e, h) refl
 
 -- ---- rows and codes
 
--- two pairs have one row exactly where they have one code
+-- two pairs have one row if and only if they have one code
 one_row : (table : List AiRow) (a b : Pair) (i j : ℕ) → IsRowOf table a i → IsRowOf table b j → i ≡ j → a.code ≡ b.code
 one_row table a b i j at_a at_b same =
     let there = position_some (has_code a.code) table i at_a in
@@ -52,7 +52,7 @@ other_row table a b i j at_a at_b apart = false_from (bytes_eq a.code b.code) (�
     let e : Some i ≡ Some j = sym at_a ∙ ap (λ (code : List ℕ). position (has_code code) table) same ∙ at_b in
     apart (let f : i ≡ j = cc in f))
 
--- whether the value stands for none, by the row
+-- whether the value means none, by the row
 pub by_row : (table : List AiRow) (pair : Pair) (i : ℕ) (row : AiRow) → IsRowOf table pair i → row ≡ get_or table i row → stands_for_none table pair ≡ is_none_text row pair.value
 by_row table pair i row at read = let found = find_read (has_code pair.code) table i row at read in rw found refl
 
@@ -157,7 +157,7 @@ module _ (table : List AiRow) (before : List Pair) (pair : Pair) where
       and_false true = refl
       and_false false = refl
 
-  -- a pair behind that of another key
+  -- a pair after that of another key
   pub with_known_keys : (keys : Keys) (first : KeyPlace) (place : ℕ) (t n : Bool) → keys.first ≡ Some first → keys.other ≡ Some place → stands_for_none table pair ≡ t → n ≡ (keys.with_none || t) → AreKeys table before keys → AreKeys table more (record { with_none = n; first = keys.first; other = keys.other })
   with_known_keys keys first place t n is known_other s e a =
       let known : IsFirstKey table before (Some first) = rw is at a.first in
@@ -185,7 +185,7 @@ module _ (table : List AiRow) (before : List Pair) (pair : Pair) where
             rw (← key_is) (pair, last_at before pair place at, found_last (of_other known.0) before pair lacks passes);
       }
 
--- ---- pairs of which none stands for none
+-- ---- pairs whose values do not mean none
 
 pub all_counted : (table : List AiRow) (pairs : List Pair) → list_any (stands_for_none table) pairs ≡ false → counted table pairs ≡ pairs
 all_counted table pairs none = filter_all (λ pair. not (stands_for_none table pair)) pairs (λ j pair at. not_false (stands_for_none table pair) (false_from (stands_for_none table pair) (λ h. true≢false (sym (any_at (stands_for_none table) pairs j pair at h) ∙ none))))

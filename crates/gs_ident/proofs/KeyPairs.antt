@@ -1,5 +1,5 @@
 -- The identity of a key, and of a key and one pair that its row lists.
-use Rattle.std.proofs.Common.{◌≡◌, ℕ, ◌||◌, Bool, true, false, List, [], ◌∷◌, All, Option, Some, None, Ok, bytes_eq, find, slice_get, suc, refl, sym, ap, ◌∙◌, inl, inr, true≢false}
+use Rattle.std.proofs.Common.{◌≡◌, ℕ, ◌||◌, Bool, true, false, List, [], ◌∷◌, Option, Some, None, Ok, bytes_eq, find, slice_get, suc, refl, sym, ap, ◌∙◌, inl, inr, true≢false}
 use Rattle.std.proofs.lemmas.List.Elements.{All-head}
 use Rattle.std.specs.List.{filter_map, list_any}
 use Rattle.gs_chars.proofs.TruthsAndLists.{false_from_not}
@@ -13,7 +13,7 @@ use Rattle.gs_ai.proofs.RowLemmas.{and_left, and_right}
 use Rattle.gs_ai.proofs.Searches.{equal_bytes, false_from, same_bytes}
 use Rattle.gs_ai.proofs.TableLemmas.{key_by_row}
 use Rattle.gs_ident.specs.Elements.{Elements}
-use Rattle.gs_ident.specs.Identities.{IsInOrder, IsMadeWith, contradiction, counted, elements_of, first_key, identity_of_counted, identity_of_pairs, listed, other_key, pair_with, stands_for_none}
+use Rattle.gs_ident.specs.Identities.{IsMadeWith, contradiction, counted, elements_of, first_key, identity_of_counted, identity_of_pairs, listed, other_key, pair_with, stands_for_none}
 use Rattle.gs_ident.proofs.CodeOrder.{none_ascending}
 use Rattle.gs_ident.proofs.IdentityLemmas.{made_answer, made_with}
 use Rattle.gs_chars.proofs.TruthsAndLists.{true_or_false}
@@ -33,7 +33,7 @@ or_right : (a b : Bool) → (a || b) ≡ false → b ≡ false
 or_right true b h = absurd (let e : true ≡ false = h in cc)
 or_right false b h = h
 
--- a code that passes is not one of those of which none passes
+-- a code that passes the test is not in a list of which none passes
 absent : (p : List ℕ → Bool) (code : List ℕ) (codes : List (List ℕ)) → p code ≡ true → list_any p codes ≡ false → list_any (bytes_eq code) codes ≡ false
 absent p code [] passes none = refl
 absent p code (other ∷ codes) passes none =
@@ -42,7 +42,7 @@ absent p code (other ∷ codes) passes none =
     true≢false (sym passes ∙ ap p e ∙ or_left (p other) (list_any p codes) none)) in
     rw differs (absent p code codes passes (or_right (p other) (list_any p codes) none))
 
--- one of those of which none passes does not pass
+-- a code in a list of which none passes does not pass
 fails : (p : List ℕ → Bool) (code : List ℕ) (codes : List (List ℕ)) → list_any (bytes_eq code) codes ≡ true → list_any p codes ≡ false → p code ≡ false
 fails p code codes there none = false_from (p code) (λ passes. true≢false (sym there ∙ absent p code codes passes none))
 
@@ -62,7 +62,7 @@ none_of_both key serial (code ∷ codes) no_key no_serial =
     let second = other_way serial.code code (or_left (bytes_eq serial.code code) (list_any (bytes_eq serial.code) codes) no_serial) in
     rw (first, second) (none_of_both key serial codes (or_right (bytes_eq key.code code) (list_any (bytes_eq key.code) codes) no_key) (or_right (bytes_eq serial.code code) (list_any (bytes_eq serial.code) codes) no_serial))
 
--- the serial's code is one of distinct codes, and the key's is none
+-- the serial's code is one of distinct codes, and the key's is not
 serial_alone : (key serial : Pair) (codes : List (List ℕ)) → list_any (bytes_eq key.code) codes ≡ false → are_distinct codes ≡ true → list_any (bytes_eq serial.code) codes ≡ true → filter_map (pair_with (key ∷ serial ∷ [])) codes ≡ serial ∷ []
 serial_alone key serial [] no_key distinct there = absurd (let e : false ≡ true = there in cc)
 serial_alone key serial (code ∷ codes) no_key distinct there =

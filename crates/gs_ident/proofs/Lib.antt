@@ -1,4 +1,5 @@
 pub mod AgreementLemmas
+pub mod BeginLemmas
 pub mod CodeOrder
 pub mod IdentityLemmas
 pub mod KeyLemmas

@@ -1,4 +1,4 @@
--- Two identities of one table have one link only where they are one identity.
+-- Two identities of one table have one link only if they are one identity.
 use Rattle.std.proofs.Common.{◌≡◌, ℕ, zero, suc, ◌/◌, ◌%◌, ◌<◌, ◌≤◌, ◌==◌, ◌||◌, not, nat_lt, Bool, true, false, List, [], ◌∷◌, ◌++◌, Some, None, refl, sym, ap, subst, ◌∙◌, arith, ◌⊎◌, inl, inr, true≢false, append_assoc, ◌↔◌}
 use Rattle.std.specs.List.{flat_map, list_all}
 use Rattle.std.proofs.lemmas.List.{append_cancel_left}
@@ -15,7 +15,7 @@ use Rattle.gs_ai.proofs.RowLemmas.{row_code, code_digits}
 use Rattle.gs_ident.specs.Elements.{Elements, pairs_of}
 use Rattle.gs_ident.specs.Identities.{IsInOrder, IsMadeWith}
 use Rattle.gs_ident.specs.Links.{is_unescaped, escaped_byte, percent_encoded, path_step, query_part, query_of, spelled, canonical_stem, canonical_link}
-use Rattle.gs_ident.proofs.PairLemmas.{two_ways, Each, each_from_all, found_passes, found_each, find_by_cases, place_left, place_right}
+use Rattle.gs_ident.proofs.PairLemmas.{two_ways, Each, each_from_all, found_passes, found_each, find_by_cases, place_left, place_right, pair_same}
 
 -- ---- the four bytes that separate the pieces of a link
 
@@ -44,7 +44,7 @@ cut (c ∷ a) (d ∷ b) x y fa fb cx cy e =
     let same = rest.0 in
     (cc, rest.1)
 
--- ---- what is free of them
+-- ---- bytes that are not separators
 
 digit_free : (c : ℕ) → is_digit c ≡ true → separates c ≡ false
 digit_free c h = grind (arith, nat_tests)
@@ -159,9 +159,6 @@ value_known (c ∷ a) (d ∷ b) e =
     cc
 
 -- ---- a pair is given by its code and its escaped value
-
-pair_same : (p q : Pair) → p.code ≡ q.code → p.value ≡ q.value → p ≡ q
-pair_same p q e f = λ i. record { code = e i; value = f i }
 
 -- a code, a byte that separates, and the escaped value
 abbrev unit : ℕ → Pair → List ℕ

@@ -9,6 +9,9 @@ pub use Rattle.gs_chars.proofs.TruthsAndLists.{true_or_false as two_ways, place_
 use Rattle.gs_chars.proofs.TruthsAndLists.{false_from, read_at}
 use Rattle.gs_ident.specs.Identities.{contradicts, contradiction}
 
+pub pair_same : (p q : Pair) → p.code ≡ q.code → p.value ≡ q.value → p ≡ q
+pair_same p q e f = λ i. record { code = e i; value = f i }
+
 -- ---- the first place at which a test passes
 
 place_at : {X : Type 0} (p : ℕ × X → Bool) (n : ℕ) (xs : List X) (i : ℕ) (x : X) → slice_get xs i ≡ Some x → find p (enumerate_from n (take i xs)) ≡ None → p (n + i, x) ≡ true → find p (enumerate_from n xs) ≡ Some (n + i, x)

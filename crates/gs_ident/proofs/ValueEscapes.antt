@@ -42,7 +42,7 @@ digits_unescaped (c ∷ cs) h =
     let both = and_parts (is_digit c) (list_all is_digit cs) h in
     and_from (is_unescaped c) (list_all is_unescaped cs) (digit_unescaped c both.0) (digits_unescaped cs both.1)
 
--- a value of which each byte stands for itself
+-- a value without a byte that is escaped
 pub plain_text : (value : List ℕ) → list_all is_unescaped value ≡ true → percent_encoded value ≡ value
 unfolding percent_encoded
 plain_text [] h = refl

@@ -5,11 +5,13 @@ use Rattle.gs_ai.specs.declared.row.AiRow.{AiRow}
 use Rattle.gs_ident.specs.declared.errors.IdentFault.{IdentFault}
 use Rattle.gs_ident.specs.declared.errors.IdentFault.TheVariants.{Memory}
 use Rattle.gs_ident.specs.declared.keys.KeyPlace.{KeyPlace}
+use Rattle.gs_ident.specs.Agreement.{Agree}
 use Rattle.gs_ident.specs.Identities.{elements_of, identity_of_counted}
 use Rattle.gs_ident.specs.Keys.{HasFirstKey}
 
--- The first key stands at this place, and has this row. The pairs have an identity, and it is that of this key.
+-- The pairs agree. The first key is at this place, and has this row. The pairs have an identity, and it is that of this key.
 pub record HasOnlyKey (table : List AiRow) (pairs : List Pair) (place : KeyPlace) : Type 0 where
+  pub agree : Agree pairs
   pub first : HasFirstKey table pairs place
   pub only : (key : Pair) → slice_get pairs place.pair ≡ Some key → identity_of_counted table pairs ≡ Ok (elements_of table pairs key)
 

@@ -18,7 +18,7 @@ pairs_of identity = identity.key ∷ (identity.qualifiers ++ identity.attributes
 abbrev pub first_qualifiers : ℕ → Elements → Elements
 first_qualifiers k identity = record { key = identity.key; qualifiers = take k identity.qualifiers; attributes = [] }
 
--- trusted, own: the key alone
+-- trusted, own: the identity with only the key
 abbrev pub key_alone : Elements → Elements
 key_alone identity = record { key = identity.key; qualifiers = []; attributes = [] }
 
@@ -26,6 +26,6 @@ key_alone identity = record { key = identity.key; qualifiers = []; attributes = 
 abbrev pub is_coded : List ℕ → Pair → Bool
 is_coded code pair = bytes_eq code pair.code
 
--- trusted, own: the key with its qualifier of this code, where it has one
+-- trusted, own: the key with its qualifier of this code, if it has one
 abbrev pub with_qualifier : List ℕ → Elements → Elements
 with_qualifier code identity = record { key = identity.key; qualifiers = filter (is_coded code) identity.qualifiers; attributes = [] }

@@ -1,4 +1,4 @@
--- What proofs and private functions say beside the definitions of Elements.antt.
+-- Definitions for proofs and private functions, in addition to Elements.antt.
 use Rattle.std.specs.Prelude.{List}
 use Rattle.gs_ai.specs.declared.pair.Pair.{Pair}
 use Rattle.gs_ident.specs.Elements.{Elements}

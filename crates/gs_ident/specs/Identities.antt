@@ -1,6 +1,5 @@
--- The identity of a list of elements: GS1 Digital Link URI Syntax, section 3 (keys, qualifiers and attributes), and GS1
--- General Specifications, section 4.14 (elements that stand together). The treatment of repeated elements is this
--- project's own.
+-- The identity of a list of elements: GS1 Digital Link URI Syntax, section 3 (keys, qualifiers and attributes), and GS1 General
+-- Specifications, section 4.14 (elements used together). The treatment of repeated elements is this project's own.
 use Rattle.std.specs.Prelude.{◌≡◌, ℕ, Bool, false, not, ◌&&◌, List, [], All, take, map, filter, find, Option, Some, None, Result, Ok, Err, bytes_eq}
 use Rattle.std.specs.Cmp.Lexicographic.{slice_cmp}
 use Rattle.std.specs.FinMap.{from_entries, values}
@@ -19,7 +18,7 @@ use Rattle.gs_ident.specs.Elements.{Elements, pairs_of}
 abbrev pub pair_with : List Pair → List ℕ → Option Pair
 pair_with pairs code = find (λ pair. bytes_eq code pair.code) pairs
 
--- trusted, own: the value is the text that stands for none in the row of its code
+-- trusted, own: holds if the value is the text that means none in the row of its code
 abbrev pub stands_for_none : List AiRow → Pair → Bool
 stands_for_none table pair =
     option_map_or (λ row. not (is_empty row.none) && bytes_eq row.none pair.value) (find (has_code pair.code) table) false
@@ -32,7 +31,7 @@ counted table pairs = filter (λ pair. not (stands_for_none table pair)) pairs
 abbrev pub contradicts : List Pair → Pair → Bool
 contradicts earlier pair = list_any (λ other. bytes_eq other.code pair.code && not (bytes_eq other.value pair.value)) earlier
 
--- trusted, own: the first pair whose code stood before with another value
+-- trusted, own: the first pair whose code occurred before with another value
 unfoldable pub contradiction : List Pair → Option Pair
 contradiction pairs =
     option_map (λ place. place.1) (find (λ place. contradicts (take place.0 pairs) place.1) (enumerate_from 0 pairs))
@@ -53,7 +52,7 @@ listed table key = option_map_or (λ row. row.qualifiers) (find (has_code key.co
 abbrev pub is_other : List (List ℕ) → Pair → Pair → Bool
 is_other codes key pair = not (bytes_eq key.code pair.code) && not (list_any (bytes_eq pair.code) codes)
 
--- trusted, own: each pair beside its code
+-- trusted, own: each pair with its code
 abbrev pub keyed : List Pair → List (List ℕ × Pair)
 keyed pairs = map (λ pair. (pair.code, pair)) pairs
 
@@ -70,7 +69,7 @@ elements_of table pairs key = record {
   attributes = ascending (filter (is_other (listed table key) key) pairs);
 }
 
--- trusted, own: the answer where no pair contradicts another
+-- trusted, own: the identity if no pair contradicts another
 abbrev pub by_other_key : List AiRow → List Pair → Pair → Option Pair → Result Elements IdentFault
 by_other_key table pairs key (Some other) = Err (TwoKeys other.code)
 by_other_key table pairs key None = Ok (elements_of table pairs key)
@@ -97,7 +96,7 @@ identity_of_pairs table pairs = identity_of_counted table (counted table pairs)
 pub record IsInOrder (table : List AiRow) (pair : Pair) : Type 0 where
   pub fits : value_error table pair.code pair.value ≡ None
 
--- trusted, own: The identity was made with the table: each of its pairs is in order, and its pairs have this identity.
+-- trusted, own: The identity was made with the table: each of its pairs is valid, and its pairs have this identity.
 pub record IsMadeWith (table : List AiRow) (identity : Elements) : Type 0 where
   pub in_order : All (IsInOrder table) (pairs_of identity)
   pub given_back : identity_of_pairs table (pairs_of identity) ≡ Ok identity

@@ -19,11 +19,11 @@ is_unescaped c = is_letter c || is_digit c || list_any (λ x. x == c) (codes "-.
 abbrev pub percent_escape : ℕ → List ℕ
 percent_escape c = 37 ∷ hex_digit (c / 16) ∷ hex_digit (c % 16) ∷ []
 
--- trusted, own: a byte of a value as it is written
+-- trusted, own: the written form of a byte of a value
 abbrev pub escaped_byte : ℕ → List ℕ
 escaped_byte c = if is_unescaped c then c ∷ [] else percent_escape c
 
--- trusted, RFC 3986, sections 2.1 and 2.3: a value as it is written in a link
+-- trusted, RFC 3986, sections 2.1 and 2.3: the written form of a value in a link
 unfoldable pub percent_encoded : List ℕ → List ℕ
 percent_encoded value = flat_map escaped_byte value
 

@@ -7,13 +7,13 @@ use Rattle.gs_ai.specs.Tables.{is_key}
 use Rattle.gs_ai.specs.Values.{has_code}
 use Rattle.gs_ident.specs.Identities.{IsInOrder}
 
--- trusted, own: the pair, where there is one
+-- trusted, own: the pair, if there is one
 abbrev pub pairs_in : Option Pair → List Pair
 pairs_in None = []
 pairs_in (Some pair) = pair ∷ []
 
--- trusted, GS1 Digital Link URI Syntax, section 3: Both pairs are in order. The row of the first is that of a key, and lists
--- the code of the second, where there is one, as a qualifier.
+-- trusted, GS1 Digital Link URI Syntax, section 3: Holds if both pairs are valid, and the row of the first is that of a key that
+-- lists the code of the second, if there is one, as a qualifier.
 pub record IsQualifiedKey (table : List AiRow) (key : Pair) (qualifier : Option Pair) : Type 0 where
   pub in_order : All (IsInOrder table) (key ∷ pairs_in qualifier)
   pub row : AiRow

@@ -3,7 +3,7 @@ use Rattle.std.specs.Prelude.{ℕ, ◌+◌, List, length}
 use Rattle.std.specs.List.{sum_by}
 use Rattle.gs_ai.specs.declared.pair.Pair.{Pair}
 
--- trusted, own: the bytes of code and value, with two for what stands around the code
+-- trusted, own: the number of bytes of code and value, and two for the separators of the code
 abbrev pub room_of_pair : Pair → ℕ
 room_of_pair pair = length pair.code + length pair.value + 2
 

@@ -5,7 +5,7 @@ use gs_chars::{Memory, Text};
 /// Why a list of pairs has no identity.
 #[derive(Drop)]
 pub enum IdentFault {
-    /// The code stands a second time with another value.
+    /// The code occurs a second time with another value.
     Repeat(Text),
     /// No pair has the code of a key.
     NoKey,

@@ -37,7 +37,7 @@ impl Model for Identity {
 }
 
 impl Identity {
-    /// The identity of these pairs.
+    /// Returns the identity of these pairs.
     pub(crate) fn from_pairs(key: Pair, qualifiers: Vec<Pair>, attributes: Vec<Pair>) -> Identity
         ensures { result ≡ elements_with key qualifiers.items attributes.items }
     {
@@ -48,9 +48,9 @@ impl Identity {
         }
     }
 
-    /// The identity of a key, and of the one element that qualifies it, where there is one: what `make` gives of the two. A
-    /// qualifier whose value stands for none is dropped. The one error is out of memory. Key and qualifier are in order by the
-    /// table; the row of the key is that of a key, and lists the qualifier's code.
+    /// Returns the identity of a key and its one qualifier, if there is one, as `make` does. Drops a qualifier whose value means
+    /// none. Fails only with `Memory`. Key and qualifier are valid by the table; the row of the key is that of a key, and lists
+    /// the qualifier's code.
     pub fn of_key(
         alloc: Global,
         table: &AiTable,
@@ -61,14 +61,14 @@ impl Identity {
         ensures made { IfOk result (λ identity. identity_of_pairs table.now (key ∷ pairs_in qualifier) ≡ Ok identity) }
         ensures with_table { IfOk result (λ identity. IsMadeWith table.now identity) }
     {
-        // for the proof alone: the rows keep the rules
+        // only for the proof: the rows satisfy the rules
         let _ = table.rows();
         let qualifiers = counted_pairs(alloc, table, qualifier)?;
         Ok(Identity::from_pairs(key, qualifiers, Vec::new(alloc)))
     }
 
-    /// The identity of the key and the first `k` qualifiers. The one error is out of memory. `k`, how many qualifiers are
-    /// kept, is at most their number.
+    /// Returns the identity of the key and the first `k` qualifiers. Fails only with `Memory`. `k`, how many qualifiers are kept,
+    /// is at most their number.
     pub fn prefix(&self, alloc: Global, k: usize) -> Result<Identity, Memory>
         requires { k ≤ length self.now.qualifiers }
         ensures { IfOk result (λ identity. identity ≡ first_qualifiers k self.now) }
@@ -78,7 +78,7 @@ impl Identity {
         Ok(Identity::from_pairs(key, qualifiers, Vec::new(alloc)))
     }
 
-    /// The key alone. All other pairs are dropped; no pair is copied.
+    /// Returns only the key. Drops all other pairs and copies none.
     pub fn key_alone(self) -> Identity
         ensures { result ≡ key_alone self }
     {
@@ -94,7 +94,7 @@ impl Identity {
         Identity::from_pairs(key, qualifiers, attributes)
     }
 
-    /// The key with its qualifier of the code, where it has one. All other pairs are dropped; no pair is copied.
+    /// Returns the key with its qualifier of the code, if it has one. Drops all other pairs and copies none.
     pub fn with_qualifier(self, code: &[u8]) -> Identity
         ensures { result ≡ with_qualifier code.now self }
     {
@@ -110,21 +110,21 @@ impl Identity {
         Identity::from_pairs(key, qualifiers, attributes)
     }
 
-    /// The pair of the key.
+    /// Returns the pair of the key.
     pub fn key(&self) -> &Pair
         ensures { result.now ≡ self.now.key }
     {
         &self.key
     }
 
-    /// The pairs that qualify the key, in the order of the key's path.
+    /// Returns the pairs that qualify the key, in the order of the key's path.
     pub fn qualifiers(&self) -> &[Pair]
         ensures { result.now ≡ self.now.qualifiers }
     {
         self.qualifiers.items()
     }
 
-    /// All other pairs.
+    /// Returns all other pairs.
     pub fn attributes(&self) -> &[Pair]
         ensures { result.now ≡ self.now.attributes }
     {
@@ -132,7 +132,7 @@ impl Identity {
     }
 }
 
-/// The pair, where there is one that counts.
+/// Returns the pair, if there is one that counts.
 fn counted_pairs(alloc: Global, table: &AiTable, pair: Option<Pair>) -> Result<Vec<Pair>, Memory>
     ensures { IfOk result (λ pairs. pairs.items ≡ counted table.now (pairs_in pair)) }
 {
@@ -147,7 +147,7 @@ fn counted_pairs(alloc: Global, table: &AiTable, pair: Option<Pair>) -> Result<V
     Ok(pairs)
 }
 
-/// Whether the pair has the code.
+/// Returns whether the pair has the code.
 pub fn is_coded(code: &[u8], pair: &Pair) -> bool
     ensures { result ≡ is_coded code.now pair.now }
 {

@@ -12,7 +12,7 @@ pub struct KeyPlace {
     pub row: usize,
 }
 
-/// The keys among pairs, and whether the value of one stands for none: what one look at the row of each pair tells.
+/// The keys among pairs, and whether a value means none, by one look at the row of each pair.
 #[derive(Clone, Copy)]
 pub struct Keys {
     pub with_none: bool,
@@ -22,7 +22,7 @@ pub struct Keys {
     pub other: Option<usize>,
 }
 
-/// Whether the value is the text of the row that stands for none.
+/// Returns whether the value is the text of the row that means none.
 pub fn is_none_text(row: &AiRow, value: &[u8]) -> bool
     ensures { result ≡ is_none_text row.now value.now }
 {
@@ -30,14 +30,14 @@ pub fn is_none_text(row: &AiRow, value: &[u8]) -> bool
     !none.is_empty() && none == value
 }
 
-/// Whether there was a text that stands for none before, or the value is one.
+/// Returns whether an earlier value meant none, or this one does.
 fn or_none_text(before: bool, row: &AiRow, value: &[u8]) -> bool
     ensures { result ≡ (before || is_none_text row.now value.now) }
 {
     before || is_none_text(row, value)
 }
 
-/// The keys with one pair more, which stands at this place behind the others and has the row with this index.
+/// Returns the keys with one pair more, which is at this place after the others and has the row with this index.
 fn with_pair(table: &AiTable, keys: Keys, place: usize, pair: &Pair, row: usize) -> Keys
     requires { IsRowOf table.now pair.now row }
     ensures { (before : List Pair) → length before ≡ place
@@ -64,7 +64,7 @@ fn with_pair(table: &AiTable, keys: Keys, place: usize, pair: &Pair, row: usize)
     }
 }
 
-/// The keys among the pairs. The row of each is looked up once.
+/// Returns the keys among the pairs. The row of each is looked up once.
 pub fn keys_among(table: &AiTable, pairs: &[Pair]) -> Keys
     ensures { AreKeys table.now pairs.now result }
 {

@@ -5,19 +5,19 @@
 //!
 //! # Example
 //!
-//! A trade item with a lot, a serial number, a variant and an expiry date: the qualifiers stand in the order of the standard,
-//! the attribute in the query. The gate runs this case, for which crates/vectors_texts/src/identities.rt makes the calls.
+//! A trade item with a lot, a serial number, a variant and an expiry date: the qualifiers are in the order of the standard, the
+//! attribute in the query. The gate runs this case, for which crates/vectors_texts/src/identities.rt makes the calls.
 //!
 //! ```text
 //! gs_ident::spell https://r.example/g 01 09506000134352 10 ABC 21 X/1 22 2 17 261231
 //! https://r.example/g/01/09506000134352/22/2/10/ABC/21/X%2F1?17=261231
 //! ```
 //!
-//! # Where it differs from the standard
+//! # Differences from the standard
 //!
 //! - The attributes of a canonical link ascend by code, so that one identity has one link.
-//! - A code that stands twice with one value counts once; with two values it is an error.
-//! - A value that stands for none, as 0 of 254, is left out.
+//! - A code that occurs twice with one value counts once; with two values it is an error.
+//! - A value that means none, such as 0 for 254, is left out.
 #![tactic(auto)]
 
 mod errors;

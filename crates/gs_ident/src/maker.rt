@@ -1,6 +1,7 @@
 ghost use Rattle.std.specs.Prelude.{◌≡◌, ◌≢◌, ◌<◌, All, Ok, Err, IfOk, IfErr, false, length, true};
 ghost use Rattle.std.specs.List.{list_any};
 ghost use Rattle.gs_ai.specs.Tables.{are_distinct, is_key_of};
+ghost use Rattle.gs_ident.specs.Agreement.{Agree};
 ghost use Rattle.gs_ident.specs.Identities.{counted, identity_of_pairs, IsInOrder, IsMadeWith};
 ghost use Rattle.gs_ident.specs.Answers.{IsOnlyKey};
 ghost use Rattle.gs_ident.specs.Keys.{AreKeys, HasFirstKey, IsList};
@@ -15,7 +16,7 @@ use gs_ai::{AiTable, Pair};
 use gs_chars::{Memory, Text};
 use std::alloc::Global;
 
-/// The codes that the row lists as qualifiers. The row is one of the table.
+/// Returns the codes that the row lists as qualifiers. The row is one of the table.
 fn listed_codes(table: &AiTable, row: usize) -> &[Text]
     requires { row < length table.now }
     ensures codes { IsList table.now row result.now }
@@ -25,7 +26,7 @@ fn listed_codes(table: &AiTable, row: usize) -> &[Text]
     table.rows()[row].qualifiers.items()
 }
 
-/// The identity of the first key and of the pairs around it. The pairs are moved.
+/// Makes the identity of the first key and of the pairs around it, which agree. The pairs are moved.
 #[tactic(auto, unfolding(crate::specs::Identities::elements_of))]
 fn elements_of(
     alloc: Global,
@@ -33,11 +34,12 @@ fn elements_of(
     pairs: Vec<Pair>,
     first: KeyPlace,
 ) -> Result<Identity, Memory>
-    requires { HasFirstKey table.now pairs.items first }
+    requires agree { Agree pairs.items }
+    requires first { HasFirstKey table.now pairs.items first }
     ensures { IfOk result (HasElements table.now pairs.items first.pair) }
 {
     let mut others = pairs;
-    let key = others.remove(first.pair);
+    let key = others.swap_remove(first.pair);
     let listed = listed_codes(table, first.row);
     let qualifiers = move_listed(alloc, &mut others, listed)?;
     keep_others(&mut others, listed, &key);
@@ -45,14 +47,14 @@ fn elements_of(
     Ok(Identity::from_pairs(key, qualifiers, attributes))
 }
 
-/// Drops the pairs whose value stands for none.
+/// Drops the pairs whose value means none.
 fn keep_counted(table: &AiTable, pairs: &mut Vec<Pair>)
     ensures { pairs.new.items ≡ counted table.now pairs.old.items }
 {
     pairs.retain(|pair| !stands_for_none(table, pair));
 }
 
-/// The keys among the pairs that count. The others, of which there are none as a rule, are dropped.
+/// Returns the keys among the pairs that count, and drops the others. Usually there are no others.
 fn keys_of_counted(table: &AiTable, pairs: &mut Vec<Pair>) -> Keys
     ensures counted { pairs.new.items ≡ counted table.now pairs.old.items }
     ensures keys { AreKeys table.now pairs.new.items result }
@@ -65,7 +67,8 @@ fn keys_of_counted(table: &AiTable, pairs: &mut Vec<Pair>) -> Keys
     keys_among(table, pairs.as_slice())
 }
 
-/// The key of pairs that agree and have no other: each of them counts, and these are the keys among them by the table.
+/// Returns the key of pairs that agree and have no other key. Each of them counts, and `keys` are the keys among them by the
+/// table.
 fn only_key(
     alloc: Global,
     table: &AiTable,
@@ -87,10 +90,11 @@ fn only_key(
     }
 }
 
-/// The identity of the pairs. Pairs whose value stands for none are dropped first; equal repeats count once. A rejection is the
-/// first that fits: `Repeat` with the code of the first pair whose code stood before with another value, `NoKey`, `TwoKeys`
-/// with the code of the second key. `Memory` is out of memory, and may come in place of any answer. Each pair has a code of
+/// Makes the identity of the pairs. First drops pairs whose value means none; equal repeats count once. Each pair has a code of
 /// the table, and a value that its row allows.
+///
+/// Returns the first error that applies: `Repeat` with the code of the first pair whose code occurred before with another value,
+/// `NoKey`, `TwoKeys` with the code of the second key. May return `Memory` instead.
 pub fn make(alloc: Global, table: &AiTable, pairs: Vec<Pair>) -> Result<Identity, IdentFault>
     requires { All (IsInOrder table.now) pairs.items }
     ensures made { IfOk result (λ identity. identity_of_pairs table.now pairs.items ≡ Ok identity) }

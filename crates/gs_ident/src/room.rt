@@ -5,7 +5,7 @@ ghost use Rattle.gs_ident.specs.Room.{room_of_pair, room_of_pairs};
 use crate::identity::Identity;
 use gs_ai::Pair;
 
-/// The number of bytes of a pair, with two for what stands around its code.
+/// Returns the number of bytes of a pair, and two for the separators of its code.
 fn pair_room(pair: &Pair) -> usize
     ensures { result ≡ min (room_of_pair pair.now) (2 ^ 64 - 1) }
 {
@@ -14,7 +14,7 @@ fn pair_room(pair: &Pair) -> usize
         .saturating_add(2)
 }
 
-/// The number of bytes of pairs behind others, whose number is given.
+/// Returns the number of bytes of pairs after others, whose number is given.
 fn add_room(before: usize, pairs: &[Pair]) -> usize
     ensures { result ≡ min (before + room_of_pairs pairs.now) (2 ^ 64 - 1) }
 {
@@ -26,8 +26,8 @@ fn add_room(before: usize, pairs: &[Pair]) -> usize
 }
 
 impl Identity {
-    /// The number of bytes of the codes and values of the pairs, with two more for each pair: the memory that is taken for a text
-    /// of them. It is 2 to the 64 less 1 where they are more.
+    /// Returns the number of bytes of the codes and values of the pairs, with two more for each pair: the memory that is taken
+    /// for a text of them. It is 2 to the 64 less 1 if they are more.
     pub fn room(&self) -> usize
         ensures { result ≡ min (room_of_pairs (pairs_of self.now)) (2 ^ 64 - 1) }
     {

@@ -1,5 +1,6 @@
-ghost use Rattle.std.specs.Prelude.{◌≡◌, ◌↔◌, ◌++◌, ◌∷◌, IfOk};
+ghost use Rattle.std.specs.Prelude.{◌≡◌, ◌↔◌, ◌++◌, ◌∷◌, IfOk, OnErr};
 ghost use Rattle.std.specs.List.{flat_map, list_all};
+ghost use Rattle.gs_chars.specs.Answers.{BeginsWith};
 ghost use Rattle.gs_ident.specs.Elements.{Elements};
 ghost use Rattle.gs_ident.specs.Identities.{IsMadeWith};
 ghost use Rattle.gs_ident.specs.Links.{canonical_link, is_unescaped, percent_encoded, query_of, spelled};
@@ -10,12 +11,12 @@ use gs_chars::{Memory, Text, are_digits};
 use percent_encoding::{AsciiSet, NON_ALPHANUMERIC, percent_encode};
 use std::alloc::Global;
 
-/// The ASCII bytes that a value escapes: all but letters, digits, `-`, `.` and `_`.
+/// ASCII bytes that a value escapes: all but letters, digits, `-`, `.` and `_`.
 const ESCAPED: AsciiSet = percent_encoding::ascii_set!(
     NON_ALPHANUMERIC.remove(b'-').remove(b'.').remove(b'_')
 );
 
-/// Whether the byte stands for itself in a value: letters, digits, `-`, `.` and `_`.
+/// Returns whether the byte stands for itself in a value: letters, digits, `-`, `.` and `_`.
 #[tactic(auto, unfolding(crate::specs::Links::is_unescaped))]
 fn is_unescaped(c: u8) -> bool
     ensures { result ≡ is_unescaped c }
@@ -23,20 +24,21 @@ fn is_unescaped(c: u8) -> bool
     c.is_ascii_digit() || c.is_ascii_alphabetic() || c == b'-' || c == b'.' || c == b'_'
 }
 
-/// Whether no byte of the value is escaped.
+/// Returns whether no byte of the value is escaped.
 fn is_plain(value: &[u8]) -> bool
     ensures { result ≡ list_all is_unescaped value.now }
 {
-    // most values are digits alone, which one comparison a byte tells
+    // most values are only digits, which take one comparison a byte
     if are_digits(value) {
         return true;
     }
     value.iter().all(|c| is_unescaped(*c))
 }
 
-/// Appends the value, whichever of its bytes are escaped.
+/// Appends the value with its escapes.
 fn append_pieces(out: &mut Vec<u8>, value: &[u8]) -> Result<(), Memory>
-    ensures { IfOk result (λ _. out.new.items ≡ out.old.items ++ percent_encoded value.now) }
+    ensures written { IfOk result (λ _. out.new.items ≡ out.old.items ++ percent_encoded value.now) }
+    ensures begun { OnErr result (BeginsWith out.new.items out.old.items) }
 {
     for piece in percent_encode(value, ESCAPED) {
         out.extend_from_slice(piece.as_bytes())?;
@@ -44,12 +46,13 @@ fn append_pieces(out: &mut Vec<u8>, value: &[u8]) -> Result<(), Memory>
     Ok(())
 }
 
-/// Appends the value as it is written in a link: letters, digits, `-`, `.` and `_` as they are, any other byte as `%` and two
-/// upper-case hexadecimal digits (RFC 3986, section 2.1). The one error is out of memory.
+/// Appends the written form of a value in a link: letters, digits, `-`, `.` and `_` unchanged, any other byte as `%` and two
+/// upper-case hexadecimal digits (RFC 3986, section 2.1). Fails only with `Memory`; `out` then begins with its old contents.
 pub fn append_escaped(out: &mut Vec<u8>, value: &[u8]) -> Result<(), Memory>
-    ensures { IfOk result (λ _. out.new.items ≡ out.old.items ++ percent_encoded value.now) }
+    ensures written { IfOk result (λ _. out.new.items ≡ out.old.items ++ percent_encoded value.now) }
+    ensures begun { OnErr result (BeginsWith out.new.items out.old.items) }
 {
-    // most values have no byte to escape, and are copied whole
+    // most values have no byte to escape, so they are copied whole
     if is_plain(value) {
         return Ok(out.extend_from_slice(value)?);
     }
@@ -58,8 +61,9 @@ pub fn append_escaped(out: &mut Vec<u8>, value: &[u8]) -> Result<(), Memory>
 
 /// Appends the byte `before`, the pair's code, the byte `between` and the value with its escapes.
 fn write_pair(out: &mut Vec<u8>, before: u8, pair: &Pair, between: u8) -> Result<(), Memory>
-    ensures { IfOk result (λ _. out.new.items
+    ensures written { IfOk result (λ _. out.new.items
         ≡ out.old.items ++ (before ∷ (pair.now.code ++ between ∷ percent_encoded pair.now.value))) }
+    ensures begun { OnErr result (BeginsWith out.new.items out.old.items) }
 {
     out.push(before)?;
     out.extend_from_slice(pair.code.as_bytes())?;
@@ -69,9 +73,10 @@ fn write_pair(out: &mut Vec<u8>, before: u8, pair: &Pair, between: u8) -> Result
 
 /// Appends each pair as `write_pair` does.
 fn write_pairs(out: &mut Vec<u8>, before: u8, pairs: &[Pair], between: u8) -> Result<(), Memory>
-    ensures { IfOk result (λ _. out.new.items
+    ensures written { IfOk result (λ _. out.new.items
         ≡ out.old.items
         ++ flat_map (λ p. before ∷ (p.code ++ between ∷ percent_encoded p.value)) pairs.now) }
+    ensures begun { OnErr result (BeginsWith out.new.items out.old.items) }
 {
     for pair in pairs {
         write_pair(out, before, pair, between)?;
@@ -79,9 +84,10 @@ fn write_pairs(out: &mut Vec<u8>, before: u8, pairs: &[Pair], between: u8) -> Re
     Ok(())
 }
 
-/// Appends the query of the attributes, and nothing where there are none.
+/// Appends the query of the attributes, or nothing if there are none.
 fn write_query(out: &mut Vec<u8>, pairs: &[Pair]) -> Result<(), Memory>
-    ensures { IfOk result (λ _. out.new.items ≡ out.old.items ++ query_of pairs.now) }
+    ensures written { IfOk result (λ _. out.new.items ≡ out.old.items ++ query_of pairs.now) }
+    ensures begun { OnErr result (BeginsWith out.new.items out.old.items) }
 {
     let Some((first, rest)) = pairs.split_first() else {
         return Ok(());
@@ -90,15 +96,16 @@ fn write_query(out: &mut Vec<u8>, pairs: &[Pair]) -> Result<(), Memory>
     write_pairs(out, b'&', rest, b'=')
 }
 
-/// The number of bytes of a link under the stem, but for its escapes: the memory that is taken for it.
+/// Returns the number of bytes of a link under the stem without its escapes: the memory that is reserved for it.
 fn room_for(stem: &[u8], identity: &Identity) -> usize {
     stem.len().saturating_add(identity.room())
 }
 
-/// Appends the link of the identity under the stem, as `spell` gives it. The one error is out of memory; `out` may then have a
-/// part of the link more.
+/// Appends the link of the identity under the stem, as `spell` returns it. Fails only with `Memory`; `out` then begins with its
+/// old contents.
 pub fn append_link(out: &mut Vec<u8>, stem: &[u8], identity: &Identity) -> Result<(), Memory>
-    ensures { IfOk result (λ _. out.new.items ≡ out.old.items ++ spelled stem.now identity.now) }
+    ensures written { IfOk result (λ _. out.new.items ≡ out.old.items ++ spelled stem.now identity.now) }
+    ensures begun { OnErr result (BeginsWith out.new.items out.old.items) }
 {
     out.extend_from_slice(stem)?;
     write_pair(out, b'/', identity.key(), b'/')?;
@@ -106,8 +113,8 @@ pub fn append_link(out: &mut Vec<u8>, stem: &[u8], identity: &Identity) -> Resul
     write_query(out, identity.attributes())
 }
 
-/// The link of the identity under the stem: the key's pair and those of the qualifiers as the path, the attributes as the
-/// query (GS1 Digital Link URI Syntax, section 4). The one error is out of memory.
+/// Returns the link of the identity under the stem: the key's pair and those of the qualifiers as the path, the attributes as
+/// the query (GS1 Digital Link URI Syntax, section 4). Fails only with `Memory`.
 pub fn spell(alloc: Global, stem: &[u8], identity: &Identity) -> Result<Text, Memory>
     ensures { IfOk result (λ text. text ≡ spelled stem.now identity.now) }
 {
@@ -116,30 +123,31 @@ pub fn spell(alloc: Global, stem: &[u8], identity: &Identity) -> Result<Text, Me
     Ok(Text::from_vec(out))
 }
 
-/// The stem of GS1's own resolver, which canonical links have (GS1 Digital Link URI Syntax, section 5).
+/// Stem of GS1's own resolver, which canonical links have (GS1 Digital Link URI Syntax, section 5).
 pub const CANONICAL_STEM: &str = "https://id.gs1.org";
 
-/// Appends the canonical link of the identity, as `canonical` gives it. The one error is out of memory; `out` may then have a part
-/// of the link more.
+/// Appends the canonical link of the identity, as `canonical` returns it. Fails only with `Memory`; `out` then begins with its
+/// old contents.
 pub fn append_canonical(out: &mut Vec<u8>, identity: &Identity) -> Result<(), Memory>
-    ensures { IfOk result (λ _. out.new.items ≡ out.old.items ++ canonical_link identity.now) }
+    ensures written { IfOk result (λ _. out.new.items ≡ out.old.items ++ canonical_link identity.now) }
+    ensures begun { OnErr result (BeginsWith out.new.items out.old.items) }
 {
     append_link(out, CANONICAL_STEM.as_bytes(), identity)
 }
 
-/// The canonical link of the identity, which has the stem `CANONICAL_STEM` (GS1 Digital Link URI Syntax, section 5).
-/// The one error is out of memory.
+/// Returns the canonical link of the identity, which has the stem `CANONICAL_STEM` (GS1 Digital Link URI Syntax, section 5).
+/// Fails only with `Memory`.
 pub fn canonical(alloc: Global, identity: &Identity) -> Result<Text, Memory>
     ensures { IfOk result (λ text. text ≡ canonical_link identity.now) }
 {
     spell(alloc, CANONICAL_STEM.as_bytes(), identity)
 }
 
-/// Two identities that were made with one table are equal exactly where their canonical links are equal bytes.
+/// Shows that two identities made with one table are equal if and only if their canonical links are equal bytes.
 pub fn one_link_each(table: &AiTable)
     ensures { (a b : Elements) → IsMadeWith table.now a → IsMadeWith table.now b
         → (a ≡ b) ↔ (canonical_link a ≡ canonical_link b) }
 {
-    // For the proof alone: the rows of the table keep its rules.
+    // only for the proof: the rows of the table satisfy its rules
     let _ = table.rows();
 }

@@ -5,3 +5,5 @@ pub mod JudgementLemmas
 pub mod LookUpLemmas
 pub mod WalkLemmas
 pub mod Pointers
+pub mod NumeralLemmas
+pub mod ValueLoops

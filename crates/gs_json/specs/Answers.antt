@@ -1,5 +1,4 @@
--- The answers of look-ups, by the words of `serde_json` for the tree that a text is. Out of memory may come in place of
--- each of them.
+-- The answers of look-ups, in `serde_json`'s words for the tree of a text. `Memory` may come instead of each.
 use Rattle.std.specs.Prelude.{ℕ, List, [], ◌∷◌, map, Option, Some, None, option_and_then, option_map, unwrap_or, Result, Ok, Err}
 use Rattle.std.specs.Borrow.{Bor}
 use Rattle.std.specs.Cmp.Lexicographic.{slice_cmp}
@@ -15,71 +14,71 @@ use Rattle.gs_json.specs.Places.{member_place}
 use Rattle.gs_json.specs.declared.error.JsonFault.{JsonFault}
 use Rattle.gs_json.specs.declared.error.JsonFault.TheVariants.{Lacks, Kind, Memory}
 
--- trusted, own: the answer, or out of memory
+-- trusted, own: holds if the result is `answer` or `Memory`
 abbrev pub OrMemory : {X : Type 0} → Result X JsonFault → Result X JsonFault → Type 0
 OrMemory result answer = OrError Memory result answer
 
--- trusted, own: a result whose value is seen by a function
+-- trusted, own: the result with `f` of its value
 abbrev pub result_map : {X Y : Type 0} → (X → Y) → Result X JsonFault → Result Y JsonFault
 result_map f (Ok x) = Ok (f x)
 result_map f (Err error) = Err error
 
--- trusted, own: what was asked of a part, which is of another kind where there is no such thing
+-- trusted, own: the value asked of a part, or `Kind place` if there is none
 abbrev pub asked : {X : Type 0} → List ℕ → Option X → Result X JsonFault
 asked place (Some x) = Ok x
 asked place None = Err (Kind place)
 
--- trusted, own: what stands at a part of a document, and its place
+-- trusted, own: the value and the place of `part`
 abbrev pub seen : Part → Data × List ℕ
 seen part = (view part.tree, part.place)
 
--- trusted, own: the member of a name, with its place
+-- trusted, own: the member `name` of `members`, with its place
 abbrev pub member_at : List ℕ → List ℕ → Members → Option (Data × List ℕ)
 member_at place name members = option_map (λ d. (d, member_place place name)) (get_member name members)
 
--- trusted, own: the member of a name, of which an object may have none
+-- trusted, own: the member `name` of `part`, if it has one, or `Kind` if `part` is not an object
 abbrev pub maybe_of : Part → List ℕ → Result (Option (Data × List ℕ)) JsonFault
 maybe_of part name = asked part.place (option_map (member_at part.place name) (as_object (view part.tree)))
 
--- trusted, own: something that must be there
+-- trusted, own: the value that must be there, or `Lacks place` if it is missing
 abbrev pub must_be : {X : Type 0} → List ℕ → Result (Option X) JsonFault → Result X JsonFault
 must_be place (Ok (Some x)) = Ok x
 must_be place (Ok None) = Err (Lacks place)
 must_be place (Err error) = Err error
 
--- trusted, own: the member of a name, which the object must have
+-- trusted, own: the member `name` that `part` must have
 abbrev pub member_of : Part → List ℕ → Result (Data × List ℕ) JsonFault
 member_of part name = must_be (member_place part.place name) (maybe_of part name)
 
--- trusted, own: the number, where it is written in digits alone and is at most 2 ^ 64 - 1
+-- trusted, own: the number `d`, if it has only digits and is at most 2 ^ 64 - 1
 abbrev pub number_of : Data → Option ℕ
 number_of d = option_and_then as_u64 (as_number d)
 
--- trusted, own: the number of items of an array
+-- trusted, own: the number of items of `d`, if it is an array
 abbrev pub count_of : Data → Option ℕ
 count_of d = option_map items_len (as_array d)
 
--- trusted, own: the number of items, which is 0 where there is no array
+-- trusted, own: the number of items of `d`, or 0 if it is not an array
 abbrev pub items_count : Data → ℕ
 items_count d = unwrap_or (count_of d) 0
 
--- trusted, own: the names of the members, in ascending order
+-- trusted, own: the names of `members`, in ascending order
 abbrev pub names_of_members : Members → List (List ℕ)
 names_of_members no_members = []
 names_of_members (member name d members) = name ∷ names_of_members members
 
--- trusted, own: the names that are lent
+-- trusted, own: the texts of the lent `names`
 abbrev pub names_lent : List (Bor (List ℕ)) → List (List ℕ)
 names_lent names = map (λ name. name.now) names
 
--- trusted, own: names ascend strictly by their bytes
+-- trusted, own: holds if `names` ascend strictly by their bytes
 abbrev pub AscendByBytes : List (List ℕ) → Type 0
 AscendByBytes names = IsStrictlySortedBy (slice_cmp nat_cmp) names
 
--- trusted, own: the names of an object's members
+-- trusted, own: the names of the members of `d`, if it is an object
 abbrev pub names_of : Data → Option (List (List ℕ))
 names_of d = option_map names_of_members (as_object d)
 
--- trusted, own: the names of the members of a part, which only an object has
+-- trusted, own: the names of the members of `part`, or `Kind` if it is not an object
 abbrev pub names_at : Part → Result (List (List ℕ)) JsonFault
 names_at part = asked part.place (names_of (view part.tree))

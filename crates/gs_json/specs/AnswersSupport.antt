@@ -1,8 +1,8 @@
--- What proofs and private functions say beside the definitions of Answers.antt.
+-- Definitions that proofs and private functions use with those of Answers.antt.
 use Rattle.std.specs.Prelude.{◌≡◌, ◌⊎◌}
 use Rattle.gs_json.specs.declared.error.JsonFault.{JsonFault}
 use Rattle.gs_json.specs.declared.error.JsonFault.TheVariants.{Memory}
 
--- this error, or out of memory
+-- holds if `error` is `wanted` or `Memory`
 abbrev pub IsError : JsonFault → JsonFault → Type 0
 IsError error wanted = (error ≡ Memory) ⊎ (error ≡ wanted)

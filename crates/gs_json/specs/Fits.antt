@@ -1,4 +1,4 @@
--- The answer to a member by how it fits. No contract of a public call names it.
+-- The answer for a member by how it fits. No contract of a public call names it.
 use Rattle.std.specs.Prelude.{◌≡◌, ℕ, Bool, if◌then◌else◌, List, Option, Some, None, Result, Ok, Err}
 use Rattle.serde_json.specs.Data.{Data}
 use Rattle.gs_json.specs.Places.{item_place}
@@ -9,21 +9,21 @@ use Rattle.gs_json.specs.declared.fit.Fit.{Fit}
 use Rattle.gs_json.specs.declared.fit.Fit.TheVariants as fit
 use Rattle.gs_json.specs.declared.plan.Sort.{Sort}
 
--- the answer by how a member fits: it fits whole, not at all, or all but an item
+-- the answer at `place` for a member that fits wholly, not at all, or but for one item
 abbrev pub fit_answer : List ℕ → Fit → Result Unit JsonFault
 fit_answer place fit.Whole = Ok tt
 fit_answer place fit.Not = Err (Kind place)
 fit_answer place (fit.AllBut i) = Err (Kind (item_place place i))
 
--- wherever a part stands, its first error by the sort is the answer by how it fits
+-- holds if, at each place, the first error of `d` by `sort` is the answer for `fits`
 abbrev pub FitsAs : Sort → Data → Fit → Type 0
 FitsAs sort d fits = (place : List ℕ) → first_error (sort_errors place sort d) ≡ fit_answer place fits
 
--- fits whole where the test holds, else not at all
+-- fits wholly if `fits` is true, otherwise not at all
 abbrev pub fit_if : Bool → Fit
 fit_if fits = if fits then fit.Whole else fit.Not
 
--- fits but for the item of this number, or whole where there is none
+-- fits but for the item at the index, or wholly if there is none
 abbrev pub fit_but : Option ℕ → Fit
 fit_but (Some i) = fit.AllBut i
 fit_but None = fit.Whole

@@ -1,5 +1,5 @@
--- What an object must have and may have, and what is read of its members: a member that is not there, or is of another kind,
--- reads as empty, 0 or false.
+-- Members that an object must or may have, and their values. A member that is missing or of another kind reads as empty, 0
+-- or false.
 use Rattle.std.specs.Prelude.{ℕ, Bool, true, false, if◌then◌else◌, List, [], Option, None, option_map, option_and_then, unwrap_or}
 use Rattle.std.specs.Str.{is_utf8}
 use Rattle.serde_json.specs.Data.{Data}
@@ -9,38 +9,38 @@ use Rattle.gs_json.specs.Shapes.{items_list}
 use Rattle.gs_json.specs.declared.plan.Entry.{Entry}
 use Rattle.gs_json.specs.declared.plan.Sort.{Sort}
 
--- trusted, RFC 8259: the document that the bytes are, where they are one
+-- trusted, RFC 8259: the document of `bytes`, if they are one
 unfoldable pub document_of : List ℕ → Option Data
 document_of bytes = if is_utf8 bytes then read_text bytes else None
 
--- trusted, own: a member of this name and sort that an object must have
+-- trusted, own: the entry of a member that an object must have
 abbrev pub must : List ℕ → Sort → Entry
 must name sort = record { name = name; required = true; sort = sort }
 
--- trusted, own: a member of this name and sort that an object may have
+-- trusted, own: the entry of a member that an object may have
 abbrev pub may : List ℕ → Sort → Entry
 may name sort = record { name = name; required = false; sort = sort }
 
--- trusted, RFC 8259, 5: the items of an array, where this is one
+-- trusted, RFC 8259, 5: the items of `d`, if it is an array
 abbrev pub array_in : Data → Option (List Data)
 array_in d = option_map items_list (as_array d)
 
--- trusted, RFC 8259, 5: the items of an array, and none of what is no array
+-- trusted, RFC 8259, 5: the items of `d`, or none if it is not an array
 abbrev pub items_of : Data → List Data
 items_of d = unwrap_or (array_in d) []
 
--- trusted, RFC 8259, 4: the items of the array that is the member of a name, and none where there is no such array
+-- trusted, RFC 8259, 4: the items of the array at the member `name`, or none if there is no such array
 abbrev pub items_in : List ℕ → Data → List Data
 items_in name d = unwrap_or (option_and_then array_in (get name d)) []
 
--- trusted, RFC 8259, 4: the text of the member of a name, empty where there is none
+-- trusted, RFC 8259, 4: the text of the member `name`, or the empty text if there is none
 abbrev pub text_in : List ℕ → Data → List ℕ
 text_in name d = unwrap_or (option_and_then as_str (get name d)) []
 
--- trusted, RFC 8259, 4: the number of the member of a name, 0 where there is none
+-- trusted, RFC 8259, 4: the number of the member `name`, or 0 if there is none
 abbrev pub number_in : List ℕ → Data → ℕ
 number_in name d = unwrap_or (option_and_then as_u64 (option_and_then as_number (get name d))) 0
 
--- trusted, RFC 8259, 4: the truth value of the member of a name, false where there is none
+-- trusted, RFC 8259, 4: the truth value of the member `name`, or false if there is none
 abbrev pub truth_in : List ℕ → Data → Bool
 truth_in name d = unwrap_or (option_and_then as_bool (get name d)) false

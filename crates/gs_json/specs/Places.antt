@@ -5,26 +5,26 @@ use Rattle.std.specs.Fmt.{decimal}
 use Rattle.serde_json.specs.Data.{Data}
 use Rattle.serde_json.specs.Find.{at, get, pointer}
 
--- trusted, own: `~` and `/` are written as `~0` and `~1`
+-- trusted, RFC 6901, section 3: the escape of a byte: `~0` for `~` and `~1` for `/`
 abbrev pub escaped_byte : ℕ → List ℕ
 escaped_byte c = if c == 126 then codes "~0" else if c == 47 then codes "~1" else c ∷ []
 
--- trusted, RFC 6901, sections 3 and 4: a name as a part of a place
+-- trusted, RFC 6901, sections 3 and 4: the reference token of `name`
 abbrev pub escaped : List ℕ → List ℕ
 escaped name = flat_map escaped_byte name
 
--- trusted, RFC 6901, sections 3 and 4: the place of the member of a name, in the object at a place
+-- trusted, RFC 6901, sections 3 and 4: the place of the member `name` of the object at `place`
 abbrev pub member_place : List ℕ → List ℕ → List ℕ
 member_place place name = place ++ 47 ∷ escaped name
 
--- trusted, RFC 6901, sections 3 and 4: the place of an item, in the array at a place
+-- trusted, RFC 6901, sections 3 and 4: the place of the item at index `i` of the array at `place`
 abbrev pub item_place : List ℕ → ℕ → List ℕ
 item_place place i = place ++ 47 ∷ decimal i
 
--- trusted, own: the place of a member leads from the whole document to it, where that of the object leads to the object
+-- trusted, own: holds if a member's place leads to the member whenever the object's place leads to the object
 abbrev pub LeadsToMembers : Type 0
 LeadsToMembers = (place name : List ℕ) (d part e : Data) → pointer place d ≡ Some part → get name part ≡ Some e → pointer (member_place place name) d ≡ Some e
 
--- trusted, own: the place of an item leads from the whole document to it, where that of the array leads to the array
+-- trusted, own: holds if an item's place leads to the item whenever the array's place leads to the array
 abbrev pub LeadsToItems : Type 0
 LeadsToItems = (place : List ℕ) (i : ℕ) (d part e : Data) → i < 2 ^ 64 → pointer place d ≡ Some part → at i part ≡ Some e → pointer (item_place place i) d ≡ Some e

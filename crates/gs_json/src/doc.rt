@@ -27,9 +27,9 @@ impl Model for Doc {
 }
 
 impl Doc {
-    /// The document that the bytes are (RFC 8259). `Syntax` comes exactly where they are no JSON text that `serde_json`
-    /// reads: also where they are no UTF-8, where a number is beyond a double, and where arrays and objects nest more than
-    /// 127 deep. Of members with one name the last one stays.
+    /// Reads a document (RFC 8259). Returns `Syntax` only if the bytes are not JSON that `serde_json` reads. This includes
+    /// bytes that are not valid UTF-8, a number beyond a double, and arrays and objects nested more than 127 deep. The last
+    /// of the members with one name counts.
     pub fn parse(alloc: Global, bytes: &[u8]) -> Result<Doc, JsonFault>
         ensures read { IfOk result (λ doc. IsUtf8 bytes.now × (read_text bytes.now ≡ Some (view doc))) }
         ensures syntax { result ≡ Err (JsonFault.Syntax) → IsUtf8 bytes.now → read_text bytes.now ≡ None }
@@ -42,7 +42,7 @@ impl Doc {
         }
     }
 
-    /// The whole document, at the empty place.
+    /// Returns the whole document, whose place is the empty JSON Pointer.
     pub fn root(&self, alloc: Global) -> Node<'_>
         ensures tree { result.tree ≡ self.now }
         ensures place { result.place ≡ [] }

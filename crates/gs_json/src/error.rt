@@ -1,15 +1,15 @@
 use gs_chars::{Memory, Text};
 
-/// Why a document is not read as it is asked for. The places are JSON Pointers (RFC 6901).
+/// Why a document is not read as asked. The places are JSON Pointers (RFC 6901).
 #[derive(Debug, Drop)]
 pub enum JsonFault {
-    /// The bytes are no JSON text.
+    /// The bytes are invalid JSON.
     Syntax,
-    /// The object has no member at this place.
+    /// The object lacks the member at this place.
     Lacks(Text),
-    /// What stands at this place is of another kind.
+    /// The value at this place is of another kind.
     Kind(Text),
-    /// The object has a member at this place that it must not have.
+    /// The object must not have the member at this place.
     Unknown(Text),
     /// Out of memory.
     Memory,

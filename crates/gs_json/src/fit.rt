@@ -6,18 +6,18 @@ ghost use Rattle.gs_json.specs.Shapes.{failing_from, is_array, is_text, items_li
 use crate::plan::Sort;
 use serde_json::Value;
 
-/// How a part fits what it must be.
+/// How a part fits a sort.
 #[derive(Clone, Copy)]
 pub(crate) enum Fit {
-    /// It does.
+    /// It fits.
     Whole,
     /// It is of another kind.
     Not,
-    /// It is an array, and its item of this number is the first of another kind.
+    /// It is an array, whose first item of another kind has this index.
     AllBut(usize),
 }
 
-/// How a part fits a sort.
+/// Returns how a part fits a sort.
 pub(crate) fn fit_of(value: &Value, sort: Sort) -> Fit
     ensures { FitsAs sort (view value.now) result }
 {

@@ -11,14 +11,14 @@ use serde_json::Value;
 use std::alloc::Global;
 
 impl<'a> Node<'a> {
-    /// What stands here, as `serde_json` has it, lent by the document.
+    /// Returns the value of `serde_json` here, which the document lends.
     pub fn value(&self) -> &'a Value
         ensures { result.now ≡ self.now.tree }
     {
         self.value
     }
 
-    /// The member of a name, where this is an object that has it. The one error is out of memory.
+    /// Looks up the member of a name. Returns `None` if this is not an object or lacks it. Fails only with `Memory`.
     pub fn find(&self, alloc: Global, name: &str) -> Result<Option<Node<'a>>, Memory>
         ensures part { IfOk result (λ member. option_map (λ part. view part.tree) member
             ≡ get name.now (view self.now.tree)) }
@@ -38,7 +38,7 @@ impl<'a> Node<'a> {
         }
     }
 
-    /// The number of items, where this is an array.
+    /// Returns the number of items, or `None` if this is not an array.
     pub fn items_len(&self) -> Option<usize>
         ensures { result ≡ count_of (view self.now.tree) }
     {

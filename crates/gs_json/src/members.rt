@@ -4,7 +4,7 @@ ghost use Rattle.gs_json.specs.Members.{items_in, items_of, number_in, text_in, 
 
 use serde_json::Value;
 
-/// The text of the member of a name, and the empty one where there is no such text.
+/// Returns the text of the member of a name, or the empty text if there is none.
 pub fn text_in<'a>(object: &'a Value, name: &str) -> &'a str
     ensures { result.now ≡ text_in name.now (view object.now) }
 {
@@ -14,7 +14,7 @@ pub fn text_in<'a>(object: &'a Value, name: &str) -> &'a str
     }
 }
 
-/// The number of the member of a name, and 0 where there is no number of digits alone that is at most 2^64 - 1.
+/// Returns the number of the member of a name, or 0 if it is not only digits and at most 2^64 - 1.
 pub fn number_in(object: &Value, name: &str) -> u64
     ensures { result ≡ number_in name.now (view object.now) }
 {
@@ -24,7 +24,7 @@ pub fn number_in(object: &Value, name: &str) -> u64
     }
 }
 
-/// The truth value of the member of a name, and false where there is none.
+/// Returns the truth value of the member of a name, or false if there is none.
 pub fn truth_in(object: &Value, name: &str) -> bool
     ensures { result ≡ truth_in name.now (view object.now) }
 {
@@ -34,7 +34,7 @@ pub fn truth_in(object: &Value, name: &str) -> bool
     }
 }
 
-/// The items of an array, and none of what is no array.
+/// Returns the items of an array, or none if the value is not an array.
 pub fn items_of(array: &Value) -> &[Value]
     ensures { map view result.now ≡ items_of (view array.now) }
 {
@@ -44,7 +44,7 @@ pub fn items_of(array: &Value) -> &[Value]
     }
 }
 
-/// The items of the array that is the member of a name, and none where there is no such array.
+/// Returns the items of the array that is the member of a name, or none if there is no such array.
 pub fn items_in<'a>(object: &'a Value, name: &str) -> &'a [Value]
     ensures { map view result.now ≡ items_in name.now (view object.now) }
 {

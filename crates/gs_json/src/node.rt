@@ -14,7 +14,7 @@ use serde_json::{Map, Value};
 use std::alloc::Global;
 use std::marker::Model;
 
-/// A part of a document, lent by it, with its place. Contracts see the tree of the part and its JSON Pointer (RFC 6901).
+/// A part of a document, which lends it, with its place. Contracts see the part's tree and its JSON Pointer (RFC 6901).
 pub struct Node<'a> {
     pub(crate) value: &'a Value,
     pub(crate) place: Place<'a>,
@@ -44,7 +44,7 @@ impl<'a> Node<'a> {
     ghost use Rattle.gs_json.specs.Shapes.{IsFirst, shape_errors};
     ghost use Rattle.std.specs.Prelude.{[]};
 
-    /// The whole of a tree.
+    /// Returns the whole of a tree as a part.
     pub(crate) fn of_root(alloc: Global, value: &'a Value) -> Node<'a>
         ensures tree { result.tree ≡ value.now }
         ensures place { result.place ≡ [] }
@@ -55,8 +55,24 @@ impl<'a> Node<'a> {
         }
     }
 
-    /// The member of a name, which the object must have: `Kind` exactly where this is no object, `Lacks` with the
-    /// member's place exactly where it has no such member.
+    /// Returns a tree as the item at an index of the array that is the document's member of a name. Fails only with `Memory`.
+    pub fn of_item(
+        alloc: Global,
+        value: &'a Value,
+        name: &'a str,
+        i: usize,
+    ) -> Result<Node<'a>, Memory>
+        ensures tree { IfOk result (λ node. node.tree ≡ value.now) }
+        ensures place { IfOk result (λ node. node.place ≡ item_place (member_place [] name.now) i) }
+    {
+        let root = Place::root(alloc);
+        let array = root.then(alloc, Step::Member(name))?;
+        let place = array.then(alloc, Step::Item(i))?;
+        Ok(Node { value, place })
+    }
+
+    /// Looks up the member of a name, which the object must have. Returns `Kind` if and only if this is not an object, and
+    /// `Lacks` with the member's place if and only if the object lacks it. May return `Memory` instead.
     pub fn member(&self, alloc: Global, name: &str) -> Result<Node<'a>, JsonFault>
         ensures { OrMemory (result_map seen result) (member_of self.now name.now) }
     {
@@ -66,7 +82,8 @@ impl<'a> Node<'a> {
         }
     }
 
-    /// The member of a name, where the object has it: `Kind` exactly where this is no object.
+    /// Looks up the member of a name. Returns `None` if the object lacks it, and `Kind` if and only if this is not an
+    /// object. May return `Memory` instead.
     pub fn maybe(&self, alloc: Global, name: &str) -> Result<Option<Node<'a>>, JsonFault>
         ensures { OrMemory (result_map (option_map seen) result) (maybe_of self.now name.now) }
     {
@@ -77,7 +94,7 @@ impl<'a> Node<'a> {
         }
     }
 
-    /// The text: `Kind` exactly where this is no text.
+    /// Returns the text, or `Kind` if this is not a text. May return `Memory` instead.
     pub fn text(&self, alloc: Global) -> Result<Text, JsonFault>
         ensures { OrMemory result (asked self.now.place (as_str (view self.now.tree))) }
     {
@@ -87,7 +104,8 @@ impl<'a> Node<'a> {
         }
     }
 
-    /// The number: `Kind` exactly where this is no number that is written in digits alone and is at most 2^64 - 1.
+    /// Returns the number, or `Kind` if this is not a number of only digits and at most 2^64 - 1. May return `Memory`
+    /// instead of `Kind`.
     pub fn number(&self, alloc: Global) -> Result<u64, JsonFault>
         ensures { OrMemory result (asked self.now.place (number_of (view self.now.tree))) }
     {
@@ -97,7 +115,7 @@ impl<'a> Node<'a> {
         }
     }
 
-    /// The truth value: `Kind` exactly where this is none.
+    /// Returns the truth value, or `Kind` if this is not one. May return `Memory` instead of `Kind`.
     pub fn truth(&self, alloc: Global) -> Result<bool, JsonFault>
         ensures { OrMemory result (asked self.now.place (as_bool (view self.now.tree))) }
     {
@@ -107,7 +125,7 @@ impl<'a> Node<'a> {
         }
     }
 
-    /// The number of items of an array: `Kind` exactly where this is no array.
+    /// Returns the number of items, or `Kind` if this is not an array. May return `Memory` instead of `Kind`.
     pub fn count(&self, alloc: Global) -> Result<usize, JsonFault>
         ensures answer { OrMemory result (asked self.now.place (count_of (view self.now.tree))) }
         ensures items { IfOk result (λ count. count ≡ items_count (view self.now.tree)) }
@@ -118,8 +136,8 @@ impl<'a> Node<'a> {
         }
     }
 
-    /// The item of an array at a number, counted from 0. The one error is out of memory. This is an array, and the number is
-    /// below the number of its items.
+    /// Returns the item of an array at an index, counted from 0. Fails only with `Memory`. This must be an array with more
+    /// items than the index.
     pub fn item(&self, alloc: Global, i: usize) -> Result<Node<'a>, JsonFault>
         requires { i < items_count (view self.now.tree) }
         ensures item { IfOk result (λ node. Some (view node.tree) ≡ at i (view self.now.tree)) }
@@ -136,8 +154,8 @@ impl<'a> Node<'a> {
         })
     }
 
-    /// The names of an object's members, which ascend strictly by their bytes and are lent by the document: `Kind` exactly
-    /// where this is no object.
+    /// Returns the names of an object's members, which ascend strictly by their bytes. The document lends them. Returns
+    /// `Kind` if and only if this is not an object. May return `Memory` instead.
     pub fn names(&self, alloc: Global) -> Result<List<&'a str>, JsonFault>
         ensures answer { OrMemory (result_map names_lent result) (names_at self.now) }
         ensures ascending { IfOk result (λ names. AscendByBytes (names_lent names)) }
@@ -149,18 +167,20 @@ impl<'a> Node<'a> {
         Ok(List::from_vec(keys_of(alloc, map)?))
     }
 
-    /// Judges an object by a plan, and answers the first error in this order. `Kind` with this place, where this is no
-    /// object. Then entry by entry of the plan: `Lacks` with the member's place where a required member is absent, `Kind`
-    /// with the member's place where it is not of the entry's sort, and for texts and arrays in an array the place of the
-    /// first item of another kind. Last `Unknown` with the place of the first member, in ascending order, that the plan
-    /// does not name.
+    /// Checks an object against a plan and returns the first error in this order. May return `Memory` instead.
+    ///
+    /// 1. `Kind` with this place, if this is not an object.
+    /// 2. For each entry of the plan: `Lacks` with the member's place, if a required member is missing; `Kind` with the
+    ///    member's place, if it is not of the entry's sort. An array of texts or arrays gives the place of its first item of
+    ///    another kind.
+    /// 3. `Unknown` with the place of the first member, in ascending order, that the plan does not name.
     pub fn shaped(&self, alloc: Global, plan: &[Entry]) -> Result<(), JsonFault>
         ensures { IsFirst result (shape_errors self.now plan.now) }
     {
         judge(alloc, self.value, &self.place, plan)
     }
 
-    /// The error that this is of another kind.
+    /// Returns the error that this is of another kind.
     fn other_kind(&self, alloc: Global) -> JsonFault
         ensures { IsError result (JsonFault.Kind self.now.place) }
     {
@@ -170,7 +190,7 @@ impl<'a> Node<'a> {
         }
     }
 
-    /// The error that there is no member of this name.
+    /// Returns the error that the member of this name is missing.
     fn no_member(&self, alloc: Global, name: &str) -> JsonFault
         ensures { IsError result (JsonFault.Lacks (member_place self.now.place name.now)) }
     {
@@ -181,12 +201,12 @@ impl<'a> Node<'a> {
     }
 }
 
-/// The keys of a map, in ascending order and lent by it.
+/// Returns the keys of a map in ascending order. The map lends them.
 fn keys_of<'v>(alloc: Global, members: &'v Map<String, Value>) -> Result<Vec<&'v str>, Memory>
     ensures names { IfOk result (λ names. names_lent names.items ≡ map string_bytes (keys members.now)) }
     ensures ascending { IfOk result (λ names. AscendByBytes (names_lent names.items)) }
 {
-    let mut names = Vec::new(alloc);
+    let mut names = Vec::with_capacity(alloc, members.len())?;
     for name in members.keys() {
         names.push(name.as_str())?;
     }

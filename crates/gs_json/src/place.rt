@@ -2,6 +2,7 @@ ghost use Rattle.std.specs.Prelude.{◌≡◌, ℕ, [], ◌++◌, List, IfOk, On
 ghost use Rattle.gs_json.specs.Places.{escaped, escaped_byte, item_place, member_place};
 
 use gs_chars::{Memory, Text};
+use smallvec::SmallVec;
 use std::alloc::{AllocError, Global};
 use std::marker::Model;
 
@@ -10,14 +11,21 @@ use std::marker::Model;
 pub(crate) enum Step<'a> {
     /// To the member of this name.
     Member(&'a str),
-    /// To the item of this number, counted from 0.
+    /// To the item at this index, counted from 0.
     Item(usize),
 }
 
-/// A place in a document, kept as its steps, whose names are lent by the document. Contracts see its JSON Pointer.
+impl Default for Step<'_> {
+    fn default() -> Self {
+        Step::Item(0)
+    }
+}
+
+/// A place in a document, kept as its steps, whose names the document lends. Up to eight steps need no allocation. Contracts
+/// see the JSON Pointer.
 #[derive(Drop)]
 pub(crate) struct Place<'a> {
-    steps: Vec<Step<'a>>,
+    steps: SmallVec<Step<'a>, 8>,
 }
 
 impl<'a> Model for Place<'a> {
@@ -33,23 +41,23 @@ impl<'a> Model for Place<'a> {
 impl<'a> Place<'a> {
     ghost use Rattle.gs_json.specs.Steps.{step_text};
 
-    /// The place of the whole document. It takes no memory.
+    /// Returns the place of the whole document. Does not allocate.
     pub(crate) fn root(alloc: Global) -> Place<'a>
         ensures { result ≡ [] }
     {
         Place {
-            steps: Vec::new(alloc),
+            steps: SmallVec::new(alloc),
         }
     }
 
-    /// The JSON Pointer of the place.
+    /// Returns the JSON Pointer of the place.
     pub(crate) fn text(&self, alloc: Global) -> Result<Text, Memory>
         ensures { IfOk result (λ text. text ≡ self.now) }
     {
         Ok(Text::from_vec(self.pointer(alloc)?))
     }
 
-    /// The JSON Pointer of the member of this name, which need not be lent by the document.
+    /// Returns the JSON Pointer of the member of this name, which the document need not lend.
     pub(crate) fn member_text(&self, alloc: Global, name: &[u8]) -> Result<Text, Memory>
         ensures { IfOk result (λ text. text ≡ member_place self.now name.now) }
     {
@@ -58,7 +66,7 @@ impl<'a> Place<'a> {
         Ok(Text::from_vec(text))
     }
 
-    /// The JSON Pointer of an item of the member of this name.
+    /// Returns the JSON Pointer of an item of the member of this name.
     pub(crate) fn member_item_text(
         &self,
         alloc: Global,
@@ -73,11 +81,11 @@ impl<'a> Place<'a> {
         Ok(Text::from_vec(text))
     }
 
-    /// The place of the part to which a step leads from the one here.
+    /// Returns the place one step further.
     pub(crate) fn then(&self, alloc: Global, step: Step<'a>) -> Result<Place<'a>, Memory>
         ensures { IfOk result (λ place. place ≡ self.now ++ step_text step.entry) }
     {
-        let mut steps = Vec::from_slice(alloc, self.steps.as_slice())?;
+        let mut steps = SmallVec::from_slice(alloc, self.steps.as_slice())?;
         steps.push(step)?;
         Ok(Place { steps })
     }
@@ -86,7 +94,7 @@ impl<'a> Place<'a> {
         ensures { IfOk result (λ text. text.items ≡ self.now) }
     {
         let mut text = Vec::new(alloc);
-        for step in self.steps.iter() {
+        for step in self.steps.as_slice().iter() {
             match *step {
                 Step::Member(name) => push_member(&mut text, name.as_bytes())?,
                 Step::Item(i) => push_item(alloc, &mut text, i)?,

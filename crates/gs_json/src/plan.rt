@@ -9,11 +9,11 @@ use std::alloc::Global;
 pub enum Sort {
     /// A text.
     Text,
-    /// A number of digits alone, at most 2^64 - 1.
+    /// A number of only digits, at most 2^64 - 1.
     Number,
     /// `true` or `false`.
     Truth,
-    /// An array, of whatever items.
+    /// An array of any items.
     Array,
     /// An array of texts.
     Texts,
@@ -21,7 +21,7 @@ pub enum Sort {
     Arrays,
 }
 
-/// A member that an object may have, and what it must be.
+/// A member that an object must or may have, and its sort.
 #[derive(Drop)]
 pub struct Entry {
     /// The member's name.
@@ -32,12 +32,11 @@ pub struct Entry {
     pub sort: Sort,
 }
 
-/// The plan of these members: the name of each, whether the object must have it, and what it must be. The one rejection is
-/// out of memory.
+/// Makes a plan of members, each with its name, whether the object must have it, and its sort. Fails only with `Memory`.
 pub fn plan_of(alloc: Global, members: &[(&[u8], bool, Sort)]) -> Result<List<Entry>, Memory>
     ensures { IfOk result (λ plan. plan ≡ map entry_of members.now) }
 {
-    let mut plan = Vec::new(alloc);
+    let mut plan = Vec::with_capacity(alloc, members.len())?;
     for (name, required, sort) in members {
         plan.push(Entry {
             name: Text::from_bytes(alloc, name)?,

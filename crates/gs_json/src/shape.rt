@@ -10,7 +10,7 @@ use crate::plan::Entry;
 use serde_json::{Map, Value};
 use std::alloc::Global;
 
-/// Judges what stands at a place by a plan, and answers its first error.
+/// Checks the value at a place against a plan and returns the first error.
 pub(crate) fn judge(
     alloc: Global,
     value: &Value,
@@ -29,7 +29,7 @@ pub(crate) fn judge(
     Ok(())
 }
 
-/// Judges the member of an entry's name.
+/// Checks the member that an entry names.
 fn judge_member(
     alloc: Global,
     map: &Map<String, Value>,
@@ -50,7 +50,7 @@ fn judge_member(
     }
 }
 
-/// The member of a name. The names of members are UTF-8, so that there is none of another name.
+/// Looks up the member of a name. No member has a name that is not valid UTF-8.
 fn member_named<'v>(map: &'v Map<String, Value>, name: &[u8]) -> Option<&'v Value>
     ensures { option_map (λ v. view v.now) result ≡ get_member name.now (members_view map.now.entries) }
 {
@@ -60,7 +60,7 @@ fn member_named<'v>(map: &'v Map<String, Value>, name: &[u8]) -> Option<&'v Valu
     }
 }
 
-/// Judges the names of the members, of which the plan must name each.
+/// Checks that the plan names each member.
 fn judge_names(
     alloc: Global,
     map: &Map<String, Value>,
@@ -77,7 +77,7 @@ fn judge_names(
     Ok(())
 }
 
-/// Whether a plan names a member.
+/// Returns whether a plan names a member.
 fn names(plan: &[Entry], name: &[u8]) -> bool
     ensures { result ≡ is_named plan.now name.now }
 {

@@ -264,7 +264,7 @@ by_prefix anchor identity depth deep (k, few, is) =
     let level : k ≡ depth = sym taken ∙ deep in
     is ∙ ap (λ n. first_qualifiers n identity) level
 
--- the anchor of a candidate with so many qualifiers: the identity's key with its first
+-- the anchor of a candidate with that many qualifiers: the identity's key with its first
 pub chosen_anchor : (identity : Elements) (want : Want) (depth : ℕ) (link : Link) → is_chosen identity want depth link ≡ true → link.anchor ≡ first_qualifiers depth identity
 chosen_anchor identity want depth link passed =
     let candidate = and_first (is_candidate identity want link) (depth_of link == depth) passed in

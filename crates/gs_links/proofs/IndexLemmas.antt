@@ -83,7 +83,7 @@ module _ (index : Index) (links : List Link) (own : IsIndexOf index links) (numb
   pub listed_few : length numbers ≤ length links
   listed_few = rw (is, own number) (numbers_few (has_number number) 0 links)
 
-  -- the chosen links with so many qualifiers are all at the number of the prefix with so many
+  -- the chosen links with that many qualifiers are all at the number of the prefix with that many
   pub listed_chosen : (identity : Elements) (want : Want) (depth : ℕ) → number ≡ anchor_number (first_qualifiers depth identity) → passing links (is_chosen identity want depth) numbers ≡ numbers_from 0 (is_chosen identity want depth) links
   listed_chosen identity want depth e =
       rw (is, own number) (passed links (is_chosen identity want depth) (has_number number) ∙ numbers_same (λ link. has_number number link && is_chosen identity want depth link) (is_chosen identity want depth) each links)

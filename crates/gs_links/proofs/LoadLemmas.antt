@@ -243,7 +243,7 @@ made_by errors x z (inl h) = absurd (let g : Ok z ≡ Err Memory = h in cc)
 made_by [] x z (inr h) = let g : Ok z ≡ Ok x = h in cc
 made_by (f ∷ errors) x z (inr h) = absurd (let g : Ok z ≡ Err f = h in cc)
 
--- what is made of an answer that is no error
+-- what is made of an answer that is not an error
 pub stored : {X : Type 0} (r answer : Result X StoreFault) (x : X) → OrMemory r (Ok x) → OrMemory (Ok x) answer → OrMemory r answer
 stored r answer x (inl h) own = inl h
 stored r answer x (inr h) own = rw h own

@@ -15,7 +15,7 @@ use Rattle.gs_links.specs.declared.error.AnchorWhy.{AnchorWhy}
 use Rattle.gs_links.specs.declared.error.StoreFault.{StoreFault}
 use Rattle.gs_links.specs.declared.link.Link.{Link}
 
--- a link at an anchor, none where it is no anchor
+-- a link at an anchor, none if it is not an anchor
 abbrev link_at : List ℕ → List ℕ → Target → Result Elements AnchorWhy → List Link
 link_at voc name target (Ok anchor) = link_with anchor (expanded voc name) target ∷ []
 link_at voc name target (Err why) = []

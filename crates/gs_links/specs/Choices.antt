@@ -14,7 +14,7 @@ use Rattle.gs_links.specs.declared.link.Want.TheVariants.{All, Relation}
 abbrev pub is_same_pair : Pair → Pair → Bool
 is_same_pair a b = bytes_eq a.code b.code && bytes_eq a.value b.value
 
--- trusted, own: pairs stand before others
+-- trusted, own: pairs are before others
 abbrev pub are_first : List Pair → List Pair → Bool
 are_first [] pairs = true
 are_first (a ∷ first) [] = false
@@ -53,7 +53,7 @@ deepest (link ∷ links) = max (depth_of link) (deepest links)
 abbrev pub chosen_depth : List Link → Elements → Want → ℕ
 chosen_depth links identity want = deepest (candidates links identity want)
 
--- trusted, own: a candidate with so many qualifiers
+-- trusted, own: a candidate with that many qualifiers
 abbrev pub is_chosen : Elements → Want → ℕ → Link → Bool
 is_chosen identity want depth link = is_candidate identity want link && (depth_of link == depth)
 
@@ -61,7 +61,7 @@ is_chosen identity want depth link = is_candidate identity want link && (depth_o
 abbrev pub numbers_from : ℕ → (Link → Bool) → List Link → List ℕ
 numbers_from n test links = map (λ row. row.0) (filter (λ row. test row.1) (enumerate_from n links))
 
--- trusted, own: the numbers of the candidates with so many qualifiers, ascending
+-- trusted, own: the numbers of the candidates with that many qualifiers, ascending
 abbrev pub chosen_at : List Link → Elements → Want → ℕ → List ℕ
 chosen_at links identity want depth = numbers_from 0 (is_chosen identity want depth) links
 

@@ -10,11 +10,11 @@ use Rattle.gs_links.specs.declared.index.Index.{Index}
 use Rattle.gs_links.specs.declared.link.Link.{Link}
 use Rattle.gs_links.specs.declared.link.Want.{Want}
 
--- the hash of bytes behind others, which have the hash h
+-- the hash of bytes after others, which have the hash h
 abbrev pub hash_with : ℕ → List ℕ → ℕ
 hash_with h bytes = fold (λ h c. bit_xor h c * 1099511628211 % 2 ^ 64) h bytes
 
--- the number of pairs and one more behind those with the number n: the hash of its code's and its value's bytes
+-- the number of pairs and one more after those with the number n: the hash of its code's and its value's bytes
 unfoldable pub number_with : ℕ → Pair → ℕ
 number_with n pair = hash_with (hash_with n pair.code) pair.value
 
@@ -38,6 +38,6 @@ IsIndexOf index links = (n : ℕ) → listed index n ≡ numbers_from 0 (has_num
 abbrev pub with_last : List ℕ → ℕ → ℕ → ℕ → List ℕ
 with_last numbers m i n = if m == n then numbers ++ i ∷ [] else numbers
 
--- of numbers those of candidates with so many qualifiers
+-- of numbers those of candidates with that many qualifiers
 abbrev pub chosen_among : List Link → Elements → Want → ℕ → List ℕ → List ℕ
 chosen_among links identity want depth numbers = passing links (is_chosen identity want depth) numbers

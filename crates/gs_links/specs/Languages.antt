@@ -16,7 +16,7 @@ texts_of (Many texts) = texts
 texts_of (One text) = []
 texts_of (Tagged pairs) = []
 
--- trusted, RFC 9264, section 4.2.4.1: the tags of attributes are those of `hreflang`, and none where it is not there
+-- trusted, RFC 9264, section 4.2.4.1: the tags of attributes are those of `hreflang`, and none if it is not there
 abbrev pub tags_among : List Attr → List (List ℕ)
 tags_among [] = []
 tags_among (attr ∷ attrs) = if bytes_eq attr.name (codes "hreflang") then texts_of attr.value else tags_among attrs
@@ -34,7 +34,7 @@ abbrev pub is_cut : List ℕ → Bool
 is_cut [] = true
 is_cut (c ∷ rest) = c == 45
 
--- trusted, RFC 4647, section 3.3.1: a tag is in a range that it begins with, where nothing or a hyphen comes behind it
+-- trusted, RFC 4647, section 3.3.1: a tag is in a range that it begins with, where nothing or a hyphen comes after it
 abbrev pub is_in_range : List ℕ → List ℕ → Bool
 is_in_range range tag = bytes_eq (lowered (take (length range) tag)) (lowered range) && is_cut (drop (length range) tag)
 

@@ -29,7 +29,7 @@ use Rattle.gs_links.specs.declared.link.Link.{Link}
 abbrev pub is_path : List ℕ → Bool
 is_path text = starts_with (λ a b. a == b) text (codes "/")
 
--- trusted, own: the pairs that an anchor names: as the target of a request where it begins with a slash, else as a link
+-- trusted, own: the pairs that an anchor names: as the target of a request where it begins with a slash, otherwise as a link
 unfoldable pub pairs_answer : List AiRow → List ℕ → Result (List Pair) LinkFault
 pairs_answer table text = if is_path text then target_answer table 0 text else link_answer table text
 
@@ -37,12 +37,12 @@ pairs_answer table text = if is_path text then target_answer table 0 text else l
 abbrev pub without_attributes : Elements → Result Elements AnchorWhy
 without_attributes identity = if is_empty identity.attributes then Ok identity else Err Attributes
 
--- trusted, own: an identity without attributes, or why it is no anchor
+-- trusted, own: an identity without attributes, or why it is not an anchor
 abbrev pub by_identity : Result Elements IdentFault → Result Elements AnchorWhy
 by_identity (Ok identity) = without_attributes identity
 by_identity (Err error) = Err (Ident error)
 
--- trusted, own: the identity of the pairs of a link, or why they are no anchor
+-- trusted, own: the identity of the pairs of a link, or why they are not anchor
 abbrev pub by_pairs : List AiRow → Result (List Pair) LinkFault → Result Elements AnchorWhy
 by_pairs table (Ok pairs) = by_identity (identity_of_pairs table pairs)
 by_pairs table (Err error) = Err (NoLink error)
@@ -62,7 +62,7 @@ is_reference text = nat_le 1 (length text) && (nat_le (length text) 2048 && list
 abbrev pub bad_target : Relation → Option ℕ
 bad_target relation = position (λ target. not (is_reference target.href)) relation.targets
 
--- trusted, own: the error of a relation: its first target whose `href` is no reference
+-- trusted, own: the error of a relation: its first target whose `href` is not a reference
 abbrev pub relation_errors : ℕ → ℕ → Relation → List StoreFault
 relation_errors i r relation = option_map_or (λ t. BadHref i r t ∷ []) (bad_target relation) []
 
@@ -94,7 +94,7 @@ store_errors table contexts =
 
 -- ---- links
 
--- trusted, own: a relation that begins with `gs1:` stands for the vocabulary and what comes behind
+-- trusted, own: a relation that begins with `gs1:` stands for the vocabulary and what comes after
 unfoldable pub expanded : List ℕ → List ℕ → List ℕ
 expanded voc name = if starts_with (λ a b. a == b) name (codes "gs1:") then voc ++ drop 4 name else name
 
@@ -111,7 +111,7 @@ link_with anchor relation target = record { anchor = anchor; relation = relation
 abbrev pub relation_links : List ℕ → Elements → Relation → List Link
 relation_links voc anchor relation = map (link_with anchor (expanded voc relation.name)) relation.targets
 
--- trusted, own: the links of relations at an anchor, none where it is no anchor
+-- trusted, own: the links of relations at an anchor, none if it is not an anchor
 abbrev pub links_by : List ℕ → List Relation → Result Elements AnchorWhy → List Link
 links_by voc relations (Ok anchor) = flat_map (relation_links voc anchor) relations
 links_by voc relations (Err why) = []

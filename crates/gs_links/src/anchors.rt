@@ -10,7 +10,7 @@ use gs_dlink::{LinkFault, read_link, read_target};
 use gs_ident::{IdentFault, Identity, make};
 use std::alloc::Global;
 
-/// The pairs that an anchor names.
+/// Returns the pairs that an anchor names.
 #[tactic(auto, unfolding(crate::specs::Loads::pairs_answer))]
 fn read_pairs(alloc: Global, table: &AiTable, text: &[u8]) -> Result<Vec<Pair>, LinkFault>
     ensures pairs { IfOk result (λ pairs. pairs_answer table.now text.now ≡ Ok pairs.items) }
@@ -24,7 +24,7 @@ fn read_pairs(alloc: Global, table: &AiTable, text: &[u8]) -> Result<Vec<Pair>, 
     }
 }
 
-/// An identity that has no attributes.
+/// Returns an identity that has no attributes.
 fn without_attributes(identity: Identity) -> Result<Identity, AnchorWhy>
     ensures answer { result ≡ without_attributes identity }
     ensures same { IfOk result (λ anchor. anchor ≡ identity) }
@@ -36,7 +36,7 @@ fn without_attributes(identity: Identity) -> Result<Identity, AnchorWhy>
     }
 }
 
-/// Why an anchor that is no link is none.
+/// Why an anchor that is not a link is none.
 fn no_link(error: LinkFault) -> Result<AnchorWhy, Memory>
     ensures { IfOk result (λ why. (why ≡ NoLink error) × (error ≢ LinkFault.Memory)) }
 {
@@ -60,7 +60,7 @@ fn no_identity(error: IdentFault) -> Result<AnchorWhy, Memory>
     }
 }
 
-/// The identity of an anchor, or why it has none.
+/// Returns the identity of an anchor, or why it has none.
 pub(crate) fn read_anchor(
     alloc: Global,
     table: &AiTable,

@@ -6,14 +6,14 @@ use crate::link::{Link, Want};
 use gs_ai::Pair;
 use gs_ident::Identity;
 
-/// Whether two pairs have one code and one value.
+/// Returns whether two pairs have one code and one value.
 fn is_same_pair(a: &Pair, b: &Pair) -> bool
     ensures { result ≡ is_same_pair a.now b.now }
 {
     a.code.as_bytes() == b.code.as_bytes() && a.value.as_bytes() == b.value.as_bytes()
 }
 
-/// Whether pairs stand before others.
+/// Returns whether pairs are before others.
 fn are_first(first: &[Pair], pairs: &[Pair]) -> bool
     ensures { result ≡ are_first first.now pairs.now }
 {
@@ -29,7 +29,7 @@ fn are_first(first: &[Pair], pairs: &[Pair]) -> bool
     true
 }
 
-/// Whether an identity is a prefix of another.
+/// Returns whether an identity is a prefix of another.
 #[tactic(auto, unfolding(crate::specs::Choices::is_prefix))]
 fn is_prefix(prefix: &Identity, identity: &Identity) -> bool
     ensures { result ≡ is_prefix prefix.now identity.now }
@@ -39,7 +39,7 @@ fn is_prefix(prefix: &Identity, identity: &Identity) -> bool
         && are_first(prefix.qualifiers(), identity.qualifiers())
 }
 
-/// Whether the relation is wanted.
+/// Returns whether the relation is wanted.
 fn is_wanted(want: Want<'_>, relation: &[u8]) -> bool
     ensures { result ≡ is_wanted want.entry relation.now }
 {
@@ -49,7 +49,7 @@ fn is_wanted(want: Want<'_>, relation: &[u8]) -> bool
     }
 }
 
-/// Whether a link is a candidate.
+/// Returns whether a link is a candidate.
 #[tactic(auto, unfolding(crate::specs::Choices::is_candidate))]
 fn is_candidate(identity: &Identity, want: Want<'_>, link: &Link) -> bool
     ensures { result ≡ is_candidate identity.now want.entry link.now }
@@ -57,14 +57,14 @@ fn is_candidate(identity: &Identity, want: Want<'_>, link: &Link) -> bool
     is_prefix(&link.anchor, identity) && is_wanted(want, link.relation.as_bytes())
 }
 
-/// Whether a link is a candidate with so many qualifiers.
+/// Returns whether a link is a candidate with that many qualifiers.
 fn is_chosen(identity: &Identity, want: Want<'_>, depth: usize, link: &Link) -> bool
     ensures { result ≡ is_chosen identity.now want.entry depth link.now }
 {
     is_candidate(identity, want, link) && link.anchor.qualifiers().len() == depth
 }
 
-/// Puts at the start, of the numbers, those of candidates with so many qualifiers, and gives how many they are.
+/// Puts at the start, of the numbers, those of candidates with that many qualifiers, and gives their number.
 pub(crate) fn put_chosen(
     links: &[Link],
     numbers: &[u32],

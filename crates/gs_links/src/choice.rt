@@ -8,7 +8,7 @@ use crate::index::{Index, number_with};
 use crate::link::{Chosen, Link, Want};
 use gs_ident::Identity;
 
-/// The links that are chosen for an identity at its prefix with so many qualifiers, which has the number: their numbers
+/// Returns the links that are chosen for an identity at its prefix with that many qualifiers, which has the number: their numbers
 /// are put before `out`.
 fn choose_at(
     links: &[Link],
@@ -30,9 +30,9 @@ fn choose_at(
     Chosen { depth, count }
 }
 
-/// The links that are chosen for an identity of those at its prefixes with so many qualifiers or more, the longest prefix
-/// first: their numbers are put before `out`. The prefix with so many has the number. Where none is chosen, the depth
-/// is that many.
+/// Returns the links that are chosen for an identity of those at its prefixes with that many qualifiers or more, the longest
+/// prefix first: their numbers are put before `out`. The prefix with that many has the number. If none is chosen, the depth is
+/// that many.
 pub(crate) fn choose_from(
     links: &[Link],
     index: &Index,

@@ -8,7 +8,7 @@ use gs_linkset::{Context, Relation};
 /// The most links that a store has: one for each target.
 const MOST_LINKS: usize = 65_536;
 
-/// The sum of a count and the number of the relations' targets, up to one more than a store has.
+/// Returns the sum of a count and the number of the relations' targets, up to one more than a store has.
 fn count_relations(before: usize, relations: &[Relation]) -> usize
     requires { before ≤ suc most_links }
     ensures { result ≡ min (before + relations_count relations.now) (suc most_links) }
@@ -20,7 +20,7 @@ fn count_relations(before: usize, relations: &[Relation]) -> usize
     count
 }
 
-/// Whether the contexts have more targets than a store has links: more than 65,536.
+/// Returns whether the contexts have more targets than a store has links: more than 65,536.
 pub fn is_over(contexts: &[Context]) -> bool
     ensures { result ≡ nat_lt most_links (targets_count contexts.now) }
 {

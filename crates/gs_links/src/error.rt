@@ -5,7 +5,7 @@ use gs_ident::IdentFault;
 /// Why an anchor is none.
 #[derive(Drop)]
 pub enum AnchorWhy {
-    /// It is no link, or no target of a link where it begins with a slash.
+    /// It is not a link, or no target of a link where it begins with a slash.
     Link(LinkFault),
     /// Its pairs have no identity.
     Ident(IdentFault),
@@ -13,7 +13,7 @@ pub enum AnchorWhy {
     Attributes,
 }
 
-/// Why a linkset is no store. Contexts, the relations of a context and the targets of a relation are counted from 0.
+/// Why a linkset is not a store. Contexts, the relations of a context and the targets of a relation are counted from 0.
 #[derive(Drop)]
 pub enum StoreFault {
     /// It has more than 65,536 targets.

@@ -14,7 +14,7 @@ pub(crate) const OFFSET: u64 = 14_695_981_039_346_656_037;
 /// The number by which a hash is multiplied at each byte.
 pub(crate) const PRIME: u64 = 1_099_511_628_211;
 
-/// The hash of bytes behind others with a hash.
+/// Returns the hash of bytes after others with a hash.
 fn hash_with(before: u64, bytes: &[u8]) -> u64
     ensures { result ≡ hash_with before bytes.now }
 {
@@ -25,7 +25,7 @@ fn hash_with(before: u64, bytes: &[u8]) -> u64
     hash
 }
 
-/// The number of pairs and one more, behind those with a number.
+/// Returns the number of pairs and one more, after those with a number.
 #[tactic(auto, unfolding(crate::specs::Index::number_with))]
 pub(crate) fn number_with(before: u64, pair: &Pair) -> u64
     ensures { result ≡ number_with before pair.now }
@@ -36,14 +36,14 @@ pub(crate) fn number_with(before: u64, pair: &Pair) -> u64
     )
 }
 
-/// The number of a key without qualifiers.
+/// Returns the number of a key without qualifiers.
 pub(crate) fn key_number(key: &Pair) -> u64
     ensures { result ≡ number_with 14695981039346656037 key.now }
 {
     number_with(OFFSET, key)
 }
 
-/// The number of an anchor.
+/// Returns the number of an anchor.
 fn number_of(anchor: &Identity) -> u64
     ensures { result ≡ anchor_number anchor.now }
 {
@@ -61,7 +61,7 @@ pub struct Index {
 }
 
 impl Index {
-    /// No number.
+    /// Returns no number.
     fn new(alloc: Global) -> Index
         ensures { (n : ℕ) → listed result n ≡ [] }
     {
@@ -83,7 +83,7 @@ impl Index {
         Ok(())
     }
 
-    /// The numbers of the links whose anchors have the number.
+    /// Returns the numbers of the links whose anchors have the number.
     pub(crate) fn list(&self, number: u64) -> &[u32]
         ensures { result.now ≡ listed self.now number }
     {
@@ -94,7 +94,7 @@ impl Index {
     }
 }
 
-/// The index of links.
+/// Returns the index of links.
 pub(crate) fn index_of(alloc: Global, links: &[Link]) -> Result<Index, Memory>
     requires { length links.now ≤ 2 ^ 32 }
     ensures { IfOk result (λ index. IsIndexOf index links.now) }

@@ -6,7 +6,7 @@ use crate::link::Link;
 use gs_chars::Text;
 use gs_linkset::AttrValue;
 
-/// The language tags of a value of `hreflang`.
+/// Returns the language tags of a value of `hreflang`.
 fn texts_of(value: &AttrValue) -> &[Text]
     ensures { result.now ≡ texts_of value.now }
 {
@@ -17,14 +17,14 @@ fn texts_of(value: &AttrValue) -> &[Text]
     }
 }
 
-/// Whether an attribute tells the languages of its target.
+/// Returns whether an attribute tells the languages of its target.
 fn is_hreflang(name: &[u8]) -> bool
     ensures { result ≡ bytes_eq name.now (codes "hreflang") }
 {
     name == b"hreflang".as_slice()
 }
 
-/// The language tags of a link.
+/// Returns the language tags of a link.
 pub(crate) fn tags_of(link: &Link) -> &[Text]
     ensures { result.now ≡ tags_of link.now }
 {
@@ -37,7 +37,7 @@ pub(crate) fn tags_of(link: &Link) -> &[Text]
     &[]
 }
 
-/// Whether a tag may end where these bytes come next.
+/// Returns whether a tag may end where these bytes come next.
 fn is_cut(rest: &[u8]) -> bool
     ensures { result ≡ is_cut rest.now }
 {
@@ -47,7 +47,7 @@ fn is_cut(rest: &[u8]) -> bool
     }
 }
 
-/// Whether a tag is in a range.
+/// Returns whether a tag is in a range.
 fn is_in_range(range: &[u8], tag: &[u8]) -> bool
     ensures { result ≡ is_in_range range.now tag.now }
 {
@@ -58,14 +58,14 @@ fn is_in_range(range: &[u8], tag: &[u8]) -> bool
     front.eq_ignore_ascii_case(range) && is_cut(rest)
 }
 
-/// Whether a range is that of every language.
+/// Returns whether a range is that of every language.
 pub(crate) fn is_any(range: &[u8]) -> bool
     ensures { result ≡ is_any range.now }
 {
     range == b"*".as_slice()
 }
 
-/// Whether one of the tags is in a range.
+/// Returns whether one of the tags is in a range.
 fn is_one_in_range(range: &[u8], tags: &[Text]) -> bool
     ensures { result ≡ list_any (is_in_range range.now) tags.now }
 {
@@ -77,7 +77,7 @@ fn is_one_in_range(range: &[u8], tags: &[Text]) -> bool
     false
 }
 
-/// Whether a link matches a range.
+/// Returns whether a link matches a range.
 #[tactic(auto, unfolding(crate::specs::Languages::matches))]
 pub(crate) fn matches(range: &[u8], link: &Link) -> bool
     ensures { result ≡ matches range.now link.now }

@@ -4,6 +4,7 @@ ghost use Rattle.gs_ident.specs.Elements.{Elements, first_qualifiers};
 ghost use Rattle.gs_linkset.specs.LinkShapes.{links_of_document};
 ghost use Rattle.gs_linkset.specs.declared.link_types.Context.{Context};
 ghost use Rattle.gs_links.specs.Choices.{IsAmong, chosen, chosen_depth, depth_of, is_candidate, is_prefix};
+ghost use Rattle.gs_links.specs.Documents.{AreNamesOf, names_of};
 ghost use Rattle.gs_links.specs.Loads.{expanded, keeps_names, load_answer};
 ghost use Rattle.gs_links.specs.declared.link.Link.{Link};
 ghost use Rattle.gs_links.specs.declared.link.Want.{Want};
@@ -21,8 +22,8 @@ pub fn by_key_and_qualifiers()
         × (chosen_depth links a want ≡ chosen_depth links b want) }
 {}
 
-/// A candidate hides every candidate with fewer qualifiers, and nothing else: the link of a number is chosen exactly where it
-/// is a candidate and no candidate has more qualifiers.
+/// A candidate hides every candidate with fewer qualifiers, and nothing else: the link of a number is chosen if and only if it is
+/// a candidate and no candidate has more qualifiers.
 pub fn deeper_hides()
     ensures { (links : List Link) (identity : Elements) (want : Want) (i : ℕ) (link : Link)
         → slice_get links i ≡ Some link
@@ -50,4 +51,9 @@ pub fn same_links_same_store()
     ensures { (table : List AiRow) (voc : List ℕ) (a b : List Context) (x y : List Link)
         → links_of_document a ≡ links_of_document b → load_answer table voc a ≡ Ok x
         → load_answer table voc b ≡ Ok y → x ≡ y }
+{}
+
+/// The names of the links' relations are the one ascending list of these names without `anchor`.
+pub fn names_of_relations()
+    ensures { (links : List Link) (names : List (List ℕ)) → (names ≡ names_of links) ↔ AreNamesOf links names }
 {}

@@ -17,7 +17,7 @@
 //! BadAnchor(0,\x20Link(NoKeyPath))
 //! ```
 //!
-//! # Where it differs from the standards
+//! # Differences from the standards
 //!
 //! - Each context has an `anchor`, which RFC 9264 leaves optional: a link has to belong to an identity.
 //! - An anchor is a Digital Link, with its host or without, and has no attributes, since links are chosen by keys and qualifiers.
@@ -47,8 +47,8 @@ mod vocabulary;
 pub use counts::is_over;
 pub use error::{AnchorWhy, StoreFault};
 pub use laws::{
-    by_key_and_qualifiers, deeper_hides, expanded_once, one_anchor, prefixes_of,
-    same_links_same_store,
+    by_key_and_qualifiers, deeper_hides, expanded_once, names_of_relations, one_anchor,
+    prefixes_of, same_links_same_store,
 };
 pub use link::{Chosen, Link, Want};
 pub use store::Store;

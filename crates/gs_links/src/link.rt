@@ -35,7 +35,7 @@ pub enum Want<'a> {
 /// What a choice gave.
 #[derive(Clone, Copy)]
 pub struct Chosen {
-    /// The number of qualifiers in the anchors of the chosen links, and 0 where none is chosen.
+    /// The number of qualifiers in the anchors of the chosen links, and 0 if none is chosen.
     pub depth: usize,
     /// How many links are chosen.
     pub count: usize,

@@ -19,7 +19,7 @@ use gs_ident::Identity;
 use gs_linkset::{Context, Relation, Target};
 use std::alloc::Global;
 
-/// Whether a text is 1 to 2,048 visible characters.
+/// Returns whether a text is 1 to 2,048 visible characters.
 #[tactic(auto, unfolding(crate::specs::Loads::is_reference))]
 fn is_reference(text: &[u8]) -> bool
     ensures { result ≡ is_reference text.now }
@@ -27,7 +27,7 @@ fn is_reference(text: &[u8]) -> bool
     1 <= text.len() && text.len() <= 2048 && are_visible(text)
 }
 
-/// The number of the first target whose `href` is no reference.
+/// Returns the number of the first target whose `href` is not a reference.
 fn bad_target(targets: &[Target]) -> Option<usize>
     ensures { result ≡ position (λ target. not (is_reference target.href)) targets.now }
 {
@@ -48,7 +48,7 @@ fn judge_relations(i: usize, relations: &[Relation]) -> Result<(), StoreFault>
     Ok(())
 }
 
-/// The link of an anchor by a relation to a target.
+/// Returns the link of an anchor by a relation to a target.
 fn link_with(
     alloc: Global,
     anchor: &Identity,
@@ -117,7 +117,7 @@ fn push_relations(
     Ok(())
 }
 
-/// The anchor of the context at an index, or the context's first rejection.
+/// Returns the anchor of the context at an index, or the context's first rejection.
 fn judge_context(
     alloc: Global,
     table: &AiTable,
@@ -153,14 +153,14 @@ fn push_context(
         ≡ links.old.items ++ context_links table.now voc.now context) }
     ensures shape { IfOk result (λ _. list_all is_link (context_links table.now voc.now context) ≡ true) }
 {
-    // For the proof alone: the rows keep the rules.
+    // For the proof alone: the rows satisfy the rules.
     let _ = table.rows();
     let anchor = judge_context(alloc, table, i, &context)?;
     push_relations(alloc, voc, &anchor, context.relations, links)?;
     Ok(())
 }
 
-/// The links of contexts, in their order, or the first rejection, context by context.
+/// Returns the links of contexts, in their order, or the first rejection, context by context.
 pub(crate) fn links_of(
     alloc: Global,
     table: &AiTable,

@@ -10,14 +10,14 @@ use gs_chars::Text;
 /// The number of places of a table of marks.
 pub(crate) const PLACES: usize = 65_536;
 
-/// The hash of one letter more, without regard to its case.
+/// Returns the hash of one letter more, without regard to its case.
 fn hash_on(hash: u64, byte: u8) -> u64
     ensures { result ≡ bit_xor hash (to_ascii_lowercase byte) * 1099511628211 % 2 ^ 64 }
 {
     (hash ^ (byte.to_ascii_lowercase() as u64)).wrapping_mul(PRIME)
 }
 
-/// The hash of a text without regard to case.
+/// Returns the hash of a text without regard to case.
 fn hash_of(text: &[u8]) -> u64
     ensures { result ≡ hash_with 14695981039346656037 (lowered text.now) }
 {
@@ -28,7 +28,7 @@ fn hash_of(text: &[u8]) -> u64
     hash
 }
 
-/// What stands at the place of a text with the hash.
+/// What is at the place of a text with the hash.
 fn mark_at(marks: &[u16], hash: u64) -> usize
     requires { length marks.now ≡ 65536 }
     ensures { result ≡ slice_index marks.now (hash % 65536) }
@@ -36,7 +36,7 @@ fn mark_at(marks: &[u16], hash: u64) -> usize
     marks[(hash % 65_536) as usize] as usize
 }
 
-/// Puts the number of a range at its place, where no lower one stands there.
+/// Puts the number of a range at its place, where no lower one is there.
 fn put_mark(marks: &mut [u16], place: usize, number: usize)
     requires { place < length marks.old }
     ensures lower { (p : ℕ) → slice_index marks.new p ≤ slice_index marks.old p }
@@ -56,7 +56,7 @@ pub(crate) fn put_marks(marks: &mut [u16], ranges: &[Text])
     }
 }
 
-/// The lower of a number and the mark of a prefix with the hash, where this byte lets a range end behind it.
+/// Returns the lower of a number and the mark of a prefix with the hash, where this byte lets a range end after it.
 fn least_before(marks: &[u16], least: usize, hash: u64, byte: u8) -> usize
     requires { length marks.now ≡ 65536 }
     ensures less { result ≤ least }
@@ -69,7 +69,7 @@ fn least_before(marks: &[u16], least: usize, hash: u64, byte: u8) -> usize
     }
 }
 
-/// No more than the number of a range that a tag is in.
+/// Returns no more than the number of a range that a tag is in.
 fn least_of_tag(marks: &[u16], tag: &[u8]) -> usize
     requires { length marks.now ≡ 65536 }
     ensures { IsLeast marks.now tag.now result }
@@ -83,7 +83,7 @@ fn least_of_tag(marks: &[u16], tag: &[u8]) -> usize
     least.min(mark_at(marks, hash))
 }
 
-/// No more than the number of a range that one of the tags is in.
+/// Returns no more than the number of a range that one of the tags is in.
 pub(crate) fn least_of_tags(marks: &[u16], tags: &[Text]) -> usize
     requires { length marks.now ≡ 65536 }
     ensures { (t : ℕ) (tag : List ℕ) → slice_get tags.now t ≡ Some tag → IsLeast marks.now tag result }

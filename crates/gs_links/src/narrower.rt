@@ -8,7 +8,7 @@ use crate::link::Link;
 use crate::marks::{PLACES, least_of_tags, put_marks};
 use gs_chars::Text;
 
-/// Puts at the start, of the numbers, those of links that match a range, and gives how many they are.
+/// Puts at the start, of the numbers, those of links that match a range, and gives their number.
 fn put_matching(links: &[Link], numbers: &[u32], range: &[u8], out: &mut [u32]) -> usize
     requires known { All (λ i. i < length links.now) numbers.now }
     requires room { length numbers.now ≤ length out.now }
@@ -26,7 +26,7 @@ fn put_matching(links: &[Link], numbers: &[u32], range: &[u8], out: &mut [u32]) 
     count
 }
 
-/// The number of the first range that is that of every language, or how many there are.
+/// Returns the number of the first range that is that of every language, or their number.
 fn first_any(ranges: &[Text]) -> usize
     ensures most { result ≤ length ranges.now }
     ensures before { (k : ℕ) (range : List ℕ) → k < result → slice_get ranges.now k ≡ Some range
@@ -41,7 +41,7 @@ fn first_any(ranges: &[Text]) -> usize
     ranges.len()
 }
 
-/// The number of the first range from a place to another that the link matches, or that other.
+/// Returns the number of the first range from a place to another that the link matches, or that other.
 fn first_of_link(ranges: &[Text], link: &Link, from: usize, to: usize) -> usize
     requires { to ≤ length ranges.now }
     ensures most { result ≤ to }
@@ -58,7 +58,7 @@ fn first_of_link(ranges: &[Text], link: &Link, from: usize, to: usize) -> usize
     to
 }
 
-/// The number of the first range that the link of one of the numbers matches, or how many ranges there are. None is `*`.
+/// Returns the number of the first range that the link of one of the numbers matches, or how many ranges there are. None is `*`.
 /// By the marks of the ranges a link is compared with those that it may match alone.
 fn first_marked(links: &[Link], numbers: &[u32], ranges: &[Text], marks: &[u16]) -> usize
     requires known { All (λ i. i < length links.now) numbers.now }
@@ -80,7 +80,7 @@ fn first_marked(links: &[Link], numbers: &[u32], ranges: &[Text], marks: &[u16])
     first
 }
 
-/// The number of the first range that the link of one of the numbers matches, or how many ranges there are. None is `*`.
+/// Returns the number of the first range that the link of one of the numbers matches, or how many ranges there are. None is `*`.
 fn first_matched(links: &[Link], numbers: &[u32], ranges: &[Text]) -> usize
     requires known { All (λ i. i < length links.now) numbers.now }
     requires other { (k : ℕ) (range : List ℕ) → slice_get ranges.now k ≡ Some range → is_any range ≡ false }
@@ -95,8 +95,8 @@ fn first_matched(links: &[Link], numbers: &[u32], ranges: &[Text]) -> usize
     first_marked(links, numbers, ranges, &marks)
 }
 
-/// Puts at the start, of the numbers, those of links that match the first range that one of them matches, or all where none
-/// does, and gives how many they are. The marks of the ranges are made.
+/// Puts at the start, of the numbers, those of links that match the first range that one of them matches, or all where none does,
+/// and gives their number. The marks of the ranges are made.
 fn put_by_ranges(links: &[Link], numbers: &[u32], ranges: &[Text], out: &mut [u32]) -> usize
     requires known { All (λ i. i < length links.now) numbers.now }
     requires room { length numbers.now ≤ length out.now }
@@ -111,7 +111,7 @@ fn put_by_ranges(links: &[Link], numbers: &[u32], ranges: &[Text], out: &mut [u3
     }
 }
 
-/// Puts all of the numbers at the start, and gives how many they are.
+/// Puts all of the numbers at the start, and gives their number.
 fn put_all(numbers: &[u32], out: &mut [u32]) -> usize
     requires { length numbers.now ≤ length out.old }
     ensures count { result ≡ length numbers.now }
@@ -121,8 +121,8 @@ fn put_all(numbers: &[u32], out: &mut [u32]) -> usize
     numbers.len()
 }
 
-/// Puts at the start, of the numbers, those of links that match the first range that one of them matches, or all where none
-/// does, and gives how many they are. Without a range, as for most requests, no marks are made.
+/// Puts at the start, of the numbers, those of links that match the first range that one of them matches, or all where none does,
+/// and gives their number. Without a range, as for most requests, no marks are made.
 pub(crate) fn put_narrowed(
     links: &[Link],
     numbers: &[u32],

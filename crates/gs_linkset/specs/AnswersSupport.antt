@@ -1,4 +1,4 @@
--- What proofs and private functions say beside the definitions of Answers.antt.
+-- Definitions that proofs and private functions use with those of Answers.antt.
 use Rattle.std.specs.Prelude.{◌≡◌, ◌⊎◌, ℕ, List, [], map, Option, Some, option_map, Result, Err}
 use Rattle.std.specs.List.{filter_map, flat_map}
 use Rattle.std.specs.Option.{option_map_or}
@@ -18,45 +18,45 @@ use Rattle.gs_linkset.specs.declared.link_types.Context.{Context}
 use Rattle.gs_linkset.specs.declared.link_types.Relation.{Relation}
 use Rattle.gs_linkset.specs.declared.link_types.Target.{Target}
 
--- the answers of reading what stands at a place: the first of its errors, or what it is read as
+-- the text of a member that the object `d` must have, or its error
 abbrev pub text_answer : List ℕ → List ℕ → Data → Result (List ℕ) JsonFault
 text_answer name place d = first_or (member_errors Text name place d) (text_in name d)
 
--- the number of items of a member that is an array
+-- the number of items of the array that `d` must have at `name`, or the error
 abbrev pub count_answer : List ℕ → List ℕ → Data → Result ℕ JsonFault
 count_answer name place d = first_or (member_errors Array name place d) (count_in name d)
 
--- the answer to the item of an array at a number, or out of memory
+-- holds if the result is the answer to the item of `whole` at index `i`, or `Memory`
 abbrev pub ItemAnswer : {X : Type 0} → (List ℕ → Data → Result X JsonFault) → List ℕ → ℕ → Data → Result X JsonFault → Type 0
 ItemAnswer answer place i whole result =
     (result ≡ Err Memory) ⊎ ((d : Data) × (Some d ≡ at i whole) × OrMemory result (answer (item_place place i) d))
 
--- a target
+-- the target `d` at `place`, or its first error
 abbrev pub target_answer : List ℕ → Data → Result Target JsonFault
 target_answer place d = first_or (target_errors place d) (target_of d)
 
--- the targets of an array
+-- the targets of the array `d`, or the first error
 abbrev pub targets_answer : List ℕ → Data → Result (List Target) JsonFault
 targets_answer place d = first_or (item_errors target_errors place (items_of d)) (map target_of (items_of d))
 
--- the relation of a member, or none where the member is no relation
+-- the relation at the member `name` of `d`, if it is one, or its first error
 abbrev pub relation_answer : List ℕ → Data → List ℕ → Result (Option Relation) JsonFault
 relation_answer place d name = first_or (relation_errors place d name) (relation_of d name)
 
--- the relation of a name whose member stands at a place, or none where the member is no array
+-- the relation of the member `d`, if it is an array, or its first error
 abbrev pub member_answer : List ℕ → List ℕ → Data → Result (Option Relation) JsonFault
 member_answer name place d =
     first_or (option_map_or (item_errors target_errors place) (array_in d) []) (option_map (relation_with name) (array_in d))
 
--- the relations of a context
+-- the relations of the context `d`, or the first error
 abbrev pub relations_answer : List ℕ → Data → Result (List Relation) JsonFault
 relations_answer place d =
     first_or (flat_map (relation_errors place d) (names_in d)) (filter_map (relation_of d) (names_in d))
 
--- a context
+-- the context `d` at `place`, or its first error
 abbrev pub context_answer : List ℕ → Data → Result Context JsonFault
 context_answer place d = first_or (context_errors place d) (context_of d)
 
--- the contexts of an array
+-- the contexts of the array `d`, or the first error
 abbrev pub contexts_answer : List ℕ → Data → Result (List Context) JsonFault
 contexts_answer place d = first_or (item_errors context_errors place (items_of d)) (map context_of (items_of d))

@@ -1,4 +1,4 @@
--- The tokens of a document's tree, which json's `Writer` prints one after another. They are no part of what its text means.
+-- The tokens of a document's tree, which json's `Writer` prints one at a time. No contract of a public call names them.
 use Rattle.std.specs.Prelude.{◌≡◌, ℕ, suc, Bool, not, if◌then◌else◌, List, [], ◌∷◌, ◌++◌, codes}
 use Rattle.std.specs.List.{flat_map}
 use Rattle.std.specs.Str.{bytes_eq}
@@ -9,11 +9,11 @@ use Rattle.serde_json.specs.Data.{Data}
 use Rattle.serde_json.specs.Written.{outline}
 use Rattle.gs_linkset.specs.LinkShapes.{is_below}
 
--- the tokens of a tree
+-- the tokens of the tree `d`
 abbrev pub tokens_of : Data → List Token
 tokens_of d = json_tokens (outline d)
 
--- the tokens stand behind those that were written before, and what the buffer held at the start stays
+-- holds if the buffer keeps its start and its tokens, followed by `ts`
 pub record Adds (old new : Written) (ts : List Token) : Type 0 where
   pub before : new.before ≡ old.before
   pub tokens : new.tokens ≡ old.tokens ++ ts
@@ -34,16 +34,16 @@ members_tokens name tree things = flat_map (member_tokens name tree) things
 abbrev pub text_tokens : List ℕ → List ℕ → List Token
 text_tokens name text = key name ∷ string_token text ∷ []
 
--- the tokens of a language, which is left out where it is empty
+-- the tokens of a language, or none if it is empty
 abbrev pub language_tokens : List ℕ → List Token
 language_tokens [] = []
 language_tokens (c ∷ language) = text_tokens (codes "language") (c ∷ language)
 
--- a name is not the other
+-- whether `name` is not `other`
 abbrev pub is_other : List ℕ → List ℕ → Bool
 is_other other name = not (bytes_eq name other)
 
--- how many of the first names are below the other
+-- the number of first names below `other`
 abbrev pub count_below : List ℕ → List (List ℕ) → ℕ
 count_below other [] = 0
 count_below other (name ∷ names) = if is_below name other then suc (count_below other names) else 0

@@ -1,5 +1,5 @@
--- The text of a linkset: RFC 9264, section 4.2, as JSON with no space (RFC 8259), the members of each object in
--- ascending order of name. The order is this project's own rule.
+-- The text of a linkset (RFC 9264, section 4.2): JSON (RFC 8259) with no space, and the members of each object in ascending
+-- order of name, which is this project's own rule.
 use Rattle.std.specs.Prelude.{ℕ, List, [], ◌∷◌, map, codes}
 use Rattle.serde_json.specs.Data.{Data, string, array, object, Members, no_members, member, put}
 use Rattle.serde_json.specs.View.{items_of as listed}
@@ -11,21 +11,21 @@ use Rattle.gs_linkset.specs.declared.link_types.Context.{Context}
 use Rattle.gs_linkset.specs.declared.link_types.Relation.{Relation}
 use Rattle.gs_linkset.specs.declared.link_types.Target.{Target}
 
--- trusted, own: an array of what each thing is written as
+-- trusted, own: the array of the trees of the things
 abbrev pub array_by : {X : Type 0} → (X → Data) → List X → Data
 array_by tree things = array (listed (map tree things))
 
--- trusted, own: the members of things that have names in ascending order
+-- trusted, own: the members of things whose names ascend
 abbrev pub members_by : {X : Type 0} → (X → List ℕ) → (X → Data) → List X → Members
 members_by name tree [] = no_members
 members_by name tree (x ∷ things) = member (name x) (tree x) (members_by name tree things)
 
--- trusted, own: a language is left out where it is empty (section 4.2.4.2)
+-- trusted, own: the members with the language, unless it is empty (section 4.2.4.2)
 abbrev pub with_language : List ℕ → Members → Members
 with_language [] members = members
 with_language (c ∷ language) members = put (codes "language") (string (c ∷ language)) members
 
--- trusted, own: an object of a tagged value
+-- trusted, own: the object of a text and its language
 abbrev pub tagged_tree : List ℕ × List ℕ → Data
 tagged_tree pair = object (with_language pair.1 (member (codes "value") (string pair.0) no_members))
 
@@ -43,7 +43,8 @@ attr_members attrs = members_by (λ attr. attr.name) (λ attr. value_tree attr.v
 abbrev pub target_tree : Target → Data
 target_tree target = object (put (codes "href") (string target.href) (attr_members target.attrs))
 
--- trusted, RFC 9264, section 4.2.3: the text of a target is its object in JSON, with no space and the members in ascending order of name
+-- trusted, RFC 9264, section 4.2.3: the text of a target: its object in JSON with no space, its members in ascending order of
+-- name
 unfoldable pub target_text : Target → List ℕ
 target_text target = compact_text (target_tree target)
 
@@ -60,6 +61,6 @@ context_tree context = object (put (codes "anchor") (string context.anchor) (rel
 abbrev pub tree_of : List Context → Data
 tree_of contexts = object (member (codes "linkset") (array_by context_tree contexts) no_members)
 
--- trusted, RFC 9264, section 4.2; RFC 8259; the order of the members is own: the document as compact text
+-- trusted, RFC 9264, section 4.2; RFC 8259; the order of the members is own: the document of the contexts as compact text
 unfoldable pub written : List Context → List ℕ
 written contexts = compact_text (tree_of contexts)

@@ -4,18 +4,18 @@ use crate::link_types::{Attr, AttrValue, Target};
 use gs_chars::{List, Memory, Text};
 use std::alloc::Global;
 
-/// What can be copied.
+/// A thing that can be copied.
 trait Copied: Drop {
-    /// An equal value.
+    /// Returns an equal value.
     fn copied(&self, alloc: Global) -> Result<Self, Memory>
         ensures { IfOk result (λ copy. copy ≡ self.now) };
 }
 
-/// A list of equal items.
+/// Returns a list of equal items.
 fn copy_list<T: Copied>(alloc: Global, items: &[T]) -> Result<List<T>, Memory>
     ensures { IfOk result (λ copies. copies ≡ items.now) }
 {
-    let mut copies = Vec::new(alloc);
+    let mut copies = Vec::with_capacity(alloc, items.len())?;
     for item in items {
         copies.push(item.copied(alloc)?)?;
     }
@@ -43,7 +43,7 @@ impl Copied for Attr {
     }
 }
 
-/// An equal value.
+/// Returns an equal value.
 fn copy_value(alloc: Global, value: &AttrValue) -> Result<AttrValue, Memory>
     ensures { IfOk result (λ copy. copy ≡ value.now) }
 {
@@ -55,7 +55,7 @@ fn copy_value(alloc: Global, value: &AttrValue) -> Result<AttrValue, Memory>
 }
 
 impl Target {
-    /// An equal target. The one error is out of memory.
+    /// Returns an equal target. Fails only with `Memory`.
     pub fn copy(&self, alloc: Global) -> Result<Target, Memory>
         ensures { IfOk result (λ target. target ≡ self.now) }
     {

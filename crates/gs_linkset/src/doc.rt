@@ -7,18 +7,17 @@ use crate::link_types::Context;
 use gs_chars::List;
 use std::marker::Model;
 
-/// Why contexts are no linkset. Contexts are counted from 0.
+/// Why contexts are not a linkset. Contexts are counted from 0.
 #[derive(Debug, Drop)]
 pub enum DocFault {
-    /// The context at this index has a text that is no UTF-8, names of relations or attributes that do not ascend
-    /// strictly, a relation `anchor`, an attribute `href`, or a value that is not of the kind that the attribute's
-    /// name has.
+    /// The context at this index has a text that is not valid UTF-8, names of relations or attributes that do not ascend
+    /// strictly, a relation `anchor`, an attribute `href`, or a value that is not of the kind of its attribute's name.
     Shape(usize),
 }
 
-/// A linkset (RFC 9264), which contracts see as its contexts in their order. In each context all texts are UTF-8,
-/// the names of relations and of attributes ascend strictly, no relation is `anchor` and no attribute `href`, and
-/// each attribute has a value of the kind that its name has.
+/// A linkset (RFC 9264). Contracts see its contexts in their order. In each context all texts are UTF-8, the names of relations
+/// and of attributes ascend strictly, no relation is `anchor`, no attribute is `href`, and each attribute's value is of the kind
+/// of its name.
 #[derive(Drop)]
 pub struct LinkDoc {
     contexts: List<Context>,
@@ -38,8 +37,8 @@ impl Model for LinkDoc {
 }
 
 impl LinkDoc {
-    /// The linkset of the contexts. `Shape` names the first context that breaks the shape of a linkset. It takes no
-    /// memory.
+    /// Makes a linkset of contexts. Returns `Shape` with the index of the first context that breaks the shape of a linkset.
+    /// Does not allocate.
     #[tactic(auto, unfolding(crate::specs::LinkShapes::new_answer))]
     pub fn new(contexts: List<Context>) -> Result<LinkDoc, DocFault>
         ensures { result ≡ new_answer contexts }
@@ -50,7 +49,7 @@ impl LinkDoc {
         }
     }
 
-    /// The linkset of contexts that have the shape. It takes no memory.
+    /// Makes a linkset of contexts that have the shape. Does not allocate.
     pub fn of_contexts(contexts: List<Context>) -> LinkDoc
         requires { list_all is_context contexts ≡ true }
         ensures { result ≡ contexts }
@@ -58,7 +57,7 @@ impl LinkDoc {
         LinkDoc { contexts }
     }
 
-    /// The contexts, in their order.
+    /// Returns the contexts in their order.
     pub fn contexts(&self) -> &[Context]
         ensures value { result.now ≡ self.now }
         ensures shape { list_all is_context self.now ≡ true }
@@ -66,7 +65,7 @@ impl LinkDoc {
         self.contexts.items()
     }
 
-    /// Gives the list of the contexts back. It takes no memory.
+    /// Returns the list of the contexts. Does not allocate.
     pub fn into_contexts(self) -> List<Context>
         ensures value { result ≡ self }
         ensures shape { list_all is_context self ≡ true }

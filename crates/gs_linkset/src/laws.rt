@@ -6,13 +6,13 @@ ghost use Rattle.gs_linkset.specs.WrittenTrees.{target_text, written};
 ghost use Rattle.gs_linkset.specs.declared.link_types.Context.{Context};
 ghost use Rattle.gs_linkset.specs.declared.link_types.Target.{Target};
 
-/// What is written of a document is read as that document.
+/// States that a written document reads as itself.
 pub fn written_is_read()
     ensures { (contexts : List Context) → list_all is_context contexts ≡ true
         → read_answer (written contexts) ≡ Ok contexts }
 {}
 
-/// Two targets of the shape that have one text are one target.
+/// States that two targets of the shape with one text are equal.
 pub fn one_text_each()
     ensures { (a b : Target) → is_target a ≡ true → is_target b ≡ true → target_text a ≡ target_text b → a ≡ b }
 {}

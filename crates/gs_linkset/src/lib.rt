@@ -1,22 +1,22 @@
-//! Linksets (RFC 9264) in JSON: contexts with an anchor, their relations and the targets of these, read and written.
+//! Reads and writes linksets (RFC 9264) in JSON: contexts with an anchor, their relations and these relations' targets.
 //!
-//! - `read` reads a linkset from a document, or gives its first error; `write` writes one.
+//! - `read` reads a linkset from a document, or returns its first error. `write` writes one.
 //! - `LinkDoc` gives the parts of a linkset that is built from links.
 //!
 //! # Example
 //!
-//! A linkset of one context with two targets. The gate runs this case, for which crates/vectors_values/src/linksets.rt makes
-//! the calls.
+//! A linkset of one context with two targets. The gate runs this case, and crates/vectors_values/src/linksets.rt makes the
+//! calls.
 //!
 //! ```text
 //! gs_linkset::new /414/0614141000012 gs1:defaultLink https://a.example/1 https://a.example/2
 //! {"linkset":[{"anchor":"/414/0614141000012","gs1:defaultLink":[{"href":"https://a.example/1"},{"href":"https://a.example/2"}]}]}
 //! ```
 //!
-//! # Where it differs from the standard
+//! # Differences from the standard
 //!
 //! - Each context has an `anchor`, which RFC 9264 leaves optional.
-//! - Members of other kinds than the RFC has are ignored where they are read.
+//! - `read` ignores members of other kinds than the RFC has.
 //! - Relations and attributes are in ascending order of their names, so one linkset has one text.
 #![tactic(auto)]
 

@@ -8,45 +8,45 @@ use crate::link_types::{Attr, AttrValue, Context, Relation, Target};
 use gs_chars::Text;
 use std::str;
 
-/// What has a shape in a linkset.
+/// A part of a linkset that has a shape.
 pub(crate) trait Shaped {
     ghost use Rattle.std.specs.Prelude.{Bool};
 
     /// Whether it has the shape.
     ghost shape: { Self → Bool };
 
-    /// Whether it has the shape.
+    /// Returns whether it has the shape.
     fn is_shaped(&self) -> bool
         ensures { result ≡ shape self.now };
 }
 
-/// What has a name, by which it is ordered.
+/// A part of a linkset that is ordered by name.
 pub(crate) trait Named: Shaped {
     ghost use Rattle.std.specs.Prelude.{List, ℕ};
 
     /// The name.
     ghost name_of: { Self → List ℕ };
 
-    /// The name.
+    /// Returns the name.
     fn name(&self) -> &Text
         ensures { result.now ≡ name_of self.now };
 }
 
-/// Whether all have their shape.
+/// Returns whether all have their shape.
 fn are_shaped<T: Shaped>(things: &[T]) -> bool
     ensures { result ≡ list_all T.shape things.now }
 {
     things.iter().all(|thing| thing.is_shaped())
 }
 
-/// Whether a name is below another by its bytes.
+/// Returns whether a name is below another by its bytes.
 fn is_below(a: &Text, b: &Text) -> bool
     ensures { result ≡ is_below a.now b.now }
 {
     a.cmp(b).is_lt()
 }
 
-/// Whether the names ascend strictly.
+/// Returns whether the names ascend strictly.
 fn names_ascend<T: Named>(things: &[T]) -> bool
     ensures { result ≡ ascend (map T.name_of things.now) }
 {
@@ -60,14 +60,14 @@ fn names_ascend<T: Named>(things: &[T]) -> bool
     true
 }
 
-/// Whether the name is that of an internationalized attribute.
+/// Returns whether the name is that of an internationalized attribute.
 pub(crate) fn is_tagged(name: &[u8]) -> bool
     ensures { result ≡ is_tagged name.now }
 {
     name.ends_with(b"*")
 }
 
-/// Whether the name is that of an attribute with one text.
+/// Returns whether the name is that of an attribute with one text.
 pub(crate) fn is_single(name: &[u8]) -> bool
     ensures { result ≡ is_single name.now }
 {
@@ -95,7 +95,7 @@ impl Shaped for (Text, Text) {
     }
 }
 
-/// Whether the value is of the kind that the name has.
+/// Returns whether the value is of the kind that the name has.
 fn is_value(name: &[u8], value: &AttrValue) -> bool
     ensures { result ≡ is_value name.now value.now }
 {
@@ -169,7 +169,7 @@ impl Shaped for Context {
     }
 }
 
-/// The number of the first context that has not the shape of one.
+/// Returns the index of the first context without its shape, if there is one.
 pub(crate) fn first_broken(contexts: &[Context]) -> Option<usize>
     ensures { result ≡ position (λ context. not (is_context context)) contexts.now }
 {

@@ -3,11 +3,11 @@ use gs_chars::{List, Text};
 /// The value of an attribute of a link target (RFC 9264, section 4.2.4).
 #[derive(Drop)]
 pub enum AttrValue {
-    /// A text: of `type`, `title` and `media`.
+    /// A text, of `type`, `title` and `media`.
     One(Text),
-    /// Texts: of `hreflang`, and of every other name that does not end in `*`.
+    /// Texts, of `hreflang` and every other name that does not end in `*`.
     Many(List<Text>),
-    /// Texts, each with its language, which is empty where none is said: of a name that ends in `*`.
+    /// Texts, each with its language or the empty text, of a name that ends in `*`.
     Tagged(List<(Text, Text)>),
 }
 
@@ -28,7 +28,7 @@ impl Drop for Attr {
 
 /// The target of a link (RFC 9264, section 4.2.3).
 pub struct Target {
-    /// The reference to the target (RFC 3986), as it is written.
+    /// The reference to the target (RFC 3986), as written.
     pub href: Text,
     /// The attributes, in ascending order of their names.
     pub attrs: List<Attr>,
@@ -44,7 +44,7 @@ impl Drop for Target {
 /// The links of one relation type (RFC 9264, section 4.2.2).
 #[derive(Drop)]
 pub struct Relation {
-    /// The relation type, as it is written.
+    /// The relation type, as written.
     pub name: Text,
     /// The targets, in the order of the document.
     pub targets: List<Target>,
@@ -53,7 +53,7 @@ pub struct Relation {
 /// The links of one link context (RFC 9264, section 4.2.2).
 #[derive(Drop)]
 pub struct Context {
-    /// The reference to the link context (RFC 3986), as it is written.
+    /// The reference to the link context (RFC 3986), as written.
     pub anchor: Text,
     /// The relations, in ascending order of their names.
     pub relations: List<Relation>,

@@ -8,7 +8,7 @@ use gs_chars::Text;
 use gs_json::{JsonFault, Node};
 use std::alloc::Global;
 
-/// The text of a member that the object must have.
+/// Reads the text of a member that the object must have.
 pub(crate) fn must_text(alloc: Global, object: &Node<'_>, name: &str) -> Result<Text, JsonFault>
     ensures answer { OrMemory result (text_answer name.now object.now.place (view object.now.tree)) }
     ensures utf8 { IfOk result (λ text. is_utf8 text ≡ true) }
@@ -17,7 +17,7 @@ pub(crate) fn must_text(alloc: Global, object: &Node<'_>, name: &str) -> Result<
     member.text(alloc)
 }
 
-/// The number of items of an array that the object must have.
+/// Returns the number of items of an array that the object must have.
 pub(crate) fn must_array(alloc: Global, object: &Node<'_>, name: &str) -> Result<usize, JsonFault>
     ensures { OrMemory result (count_answer name.now object.now.place (view object.now.tree)) }
 {

@@ -15,26 +15,26 @@ use gs_json::{JsonFault, Node};
 use serde_json::Value;
 use std::alloc::Global;
 
-/// What is read of the items of an array, where each of them is one.
+/// An item of an attribute's array.
 trait ReadEntry: Shaped + Drop {
     ghost use Rattle.std.specs.Prelude.{Option};
     ghost use Rattle.serde_json.specs.Data.{Data};
 
-    /// What an item is read as, where it is read as something.
+    /// The entry of an item, if it is one.
     ghost known: { Data → Option Self };
 
-    /// What an item is read as.
+    /// Reads an item. Returns `None` if it is not an entry.
     fn read(alloc: Global, item: &Value) -> Result<Option<Self>, Memory>
         ensures known { IfOk result (λ entry. entry ≡ known (view item.now)) }
         ensures shape { IfOk result (λ entry. IfSome entry (λ entry. Self.shape entry ≡ true)) };
 }
 
-/// What is read of the items, where all are read as something.
+/// Reads the items. Returns `None` if one is not an entry.
 fn all_entries<T: ReadEntry>(alloc: Global, items: &[Value]) -> Result<Option<List<T>>, Memory>
     ensures entries { IfOk result (λ entries. entries ≡ every T.known (map view items.now)) }
     ensures shape { IfOk result (λ entries. IfSome entries (λ entries. list_all T.shape entries ≡ true)) }
 {
-    let mut entries = Vec::new(alloc);
+    let mut entries = Vec::with_capacity(alloc, items.len())?;
     for item in items {
         let Some(entry) = T::read(alloc, item)? else {
             return Ok(None);
@@ -44,7 +44,7 @@ fn all_entries<T: ReadEntry>(alloc: Global, items: &[Value]) -> Result<Option<Li
     Ok(Some(List::from_vec(entries)))
 }
 
-/// What is read of the items of an array, where it is one of such items alone.
+/// Reads an array. Returns `None` if it is not an array of only entries.
 fn read_entries<T: ReadEntry>(alloc: Global, part: &Value) -> Result<Option<List<T>>, Memory>
     ensures entries { IfOk result (λ entries.
         entries ≡ option_and_then (every T.known) (array_in (view part.now))) }
@@ -69,7 +69,7 @@ impl ReadEntry for Text {
     }
 }
 
-/// The language that an object says, which is empty where it says none.
+/// Returns the language of an object, or the empty text if it has none.
 fn language_of(object: &Value) -> Option<&str>
     ensures { option_map (λ language. language.now) result ≡ language_of (view object.now) }
 {
@@ -79,7 +79,7 @@ fn language_of(object: &Value) -> Option<&str>
     }
 }
 
-/// The text and the language that an object says.
+/// Returns the text and the language of an object.
 fn tagged_text(object: &Value) -> Option<(&str, &str)>
     ensures { option_map (λ pair. (pair.0.now, pair.1.now)) result ≡ tagged_text (view object.now) }
 {
@@ -102,7 +102,7 @@ impl ReadEntry for (Text, Text) {
     }
 }
 
-/// The value of an attribute, where it is of the kind that the name has.
+/// Reads the value of an attribute. Returns `None` if it is not of the kind that the name has.
 #[tactic(auto, unfolding(crate::specs::Attributes::value_of))]
 fn read_value(alloc: Global, name: &[u8], part: &Value) -> Result<Option<AttrValue>, Memory>
     ensures value { IfOk result (λ value. value ≡ value_of name.now (view part.now)) }
@@ -126,14 +126,14 @@ fn read_value(alloc: Global, name: &[u8], part: &Value) -> Result<Option<AttrVal
     Ok(Some(AttrValue::Many(texts)))
 }
 
-/// Whether the name is that of the member that is no attribute.
+/// Returns whether the name is `href`, the member that is not an attribute.
 fn is_href(name: &[u8]) -> bool
     ensures { result ≡ bytes_eq name.now (codes "href") }
 {
     name == b"href".as_slice()
 }
 
-/// The attribute of a name, where the member's value is of its kind.
+/// Reads the attribute of a name. Returns `None` if the member's value is not of its kind.
 #[tactic(auto, unfolding(crate::specs::LinkShapes::is_attr))]
 fn attr_at(alloc: Global, member: &Value, name: &str) -> Result<Option<Attr>, Memory>
     requires { bytes_eq name.now (codes "href") ≡ false }

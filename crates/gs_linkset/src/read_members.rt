@@ -7,12 +7,12 @@ ghost use Rattle.gs_linkset.specs.Documents.{names_in};
 ghost use Rattle.gs_linkset.specs.LinkShapes.{ascend};
 
 use crate::link_shapes::Named;
-use crate::pushes::push_some;
+use crate::pushes::{push_some, with_room};
 use gs_chars::List;
 use gs_json::{JsonFault, Node};
 use std::alloc::Global;
 
-/// What is read of the members of an object, name by name.
+/// A member of an object.
 pub(crate) trait ReadMember: Named + Drop {
     ghost use Rattle.std.specs.Prelude.{List, Option, Some, ℕ};
     ghost use Rattle.serde_json.specs.Data.{Data};
@@ -21,22 +21,22 @@ pub(crate) trait ReadMember: Named + Drop {
     /// The errors of the member of a name, in an object at a place.
     ghost errors: { List ℕ → Data → List ℕ → List JsonFault };
 
-    /// What the member of a name is read as, where it is read as something.
+    /// The thing that the member of a name is, if it is one.
     ghost made: { Data → List ℕ → Option Self };
 
-    /// What the member of a name is read as.
+    /// Reads the member of a name. Returns `None` if it is not such a thing.
     fn read(alloc: Global, object: &Node<'_>, name: &str) -> Result<Option<Self>, JsonFault>
         ensures answer { OrMemory result (first_or
             (errors object.now.place (view object.now.tree) name.now)
             (made (view object.now.tree) name.now)) }
         ensures shape { IfOk result (λ read. IfSome read (λ read. Self.shape read ≡ true)) };
 
-    /// What is read of the member of a name has that name.
+    /// A thing that is read of the member of a name has that name.
     ghost has_name: { (d : Data) (name : List ℕ) (read : Self) → made d name ≡ Some read
         → Self.name_of read ≡ name };
 }
 
-/// What is read of the members of an object, in ascending order of their names.
+/// Reads the members of an object in ascending order of their names.
 pub(crate) fn read_members<M: ReadMember>(
     alloc: Global,
     object: &Node<'_>,
@@ -54,7 +54,7 @@ pub(crate) fn read_members<M: ReadMember>(
     }
 }
 
-/// What is read of the members of an object, whose names these are, in the order of the names.
+/// Reads the members of an object, which have these names, in the order of the names.
 fn named_members<M: ReadMember>(
     alloc: Global,
     object: &Node<'_>,
@@ -68,7 +68,8 @@ fn named_members<M: ReadMember>(
     ensures shape { IfOk result (λ all. list_all M.shape all ≡ true) }
     ensures ascending { IfOk result (λ all. ascend (map M.name_of all) ≡ true) }
 {
-    let mut all = Vec::new(alloc);
+    // one name is that of the `href` or the `anchor`
+    let mut all = with_room(alloc, names.len().saturating_sub(1))?;
     for i in 0..names.len() {
         let read = M::read(alloc, object, names[i])?;
         push_some(&mut all, read)?;

@@ -14,13 +14,13 @@ use crate::doc::LinkDoc;
 use crate::link_shapes::Shaped;
 use crate::link_types::{Context, Relation, Target};
 use crate::members::{must_array, must_text};
-use crate::pushes::push;
+use crate::pushes::{push, with_room};
 use crate::read_members::{ReadMember, read_members};
 use gs_chars::{List, Text};
 use gs_json::{Doc, JsonFault, Node};
 use std::alloc::Global;
 
-/// What is read of each item of an array.
+/// An item of an array.
 trait ReadItem: Shaped + Drop {
     ghost use Rattle.std.specs.Prelude.{List, ℕ};
     ghost use Rattle.serde_json.specs.Data.{Data};
@@ -29,17 +29,17 @@ trait ReadItem: Shaped + Drop {
     /// The errors of an item at a place.
     ghost errors: { List ℕ → Data → List JsonFault };
 
-    /// What an item without error is read as.
+    /// The thing that an item without error is.
     ghost made: { Data → Self };
 
-    /// What an item is read as.
+    /// Reads an item, or returns its first error.
     fn read(alloc: Global, item: &Node<'_>) -> Result<Self, JsonFault>
         ensures answer { OrMemory result
             (first_or (errors item.now.place (view item.now.tree)) (made (view item.now.tree))) }
         ensures shape { IfOk result (λ read. Self.shape read ≡ true) };
 }
 
-/// What is read of the item of an array at a number.
+/// Reads the item of an array at an index.
 fn item_at<T: ReadItem>(alloc: Global, array: &Node<'_>, i: usize) -> Result<T, JsonFault>
     requires { i < items_count (view array.now.tree) }
     ensures answer { ItemAnswer (λ place d. first_or (T.errors place d) (T.made d))
@@ -52,7 +52,7 @@ fn item_at<T: ReadItem>(alloc: Global, array: &Node<'_>, i: usize) -> Result<T, 
     }
 }
 
-/// What is read of the items of an array, in their order.
+/// Reads the items of an array in their order.
 fn read_items<T: ReadItem>(
     alloc: Global,
     array: &Node<'_>,
@@ -64,7 +64,7 @@ fn read_items<T: ReadItem>(
         (map T.made (items_of (view array.now.tree)))) }
     ensures shape { IfOk result (λ read. list_all T.shape read ≡ true) }
 {
-    let mut items = Vec::new(alloc);
+    let mut items = with_room(alloc, count)?;
     for i in 0..count {
         let item = item_at(alloc, array, i)?;
         push(&mut items, item)?;
@@ -86,14 +86,14 @@ impl ReadItem for Target {
     }
 }
 
-/// Whether the name is that of the member that is no relation.
+/// Returns whether the name is `anchor`, the member that is not a relation.
 fn is_anchor(name: &[u8]) -> bool
     ensures { result ≡ bytes_eq name.now (codes "anchor") }
 {
     name == b"anchor".as_slice()
 }
 
-/// The relation of a name, where the member is one.
+/// Reads the relation of a name. Returns `None` if the member is not one.
 fn relation_at(alloc: Global, member: &Node<'_>, name: &str) -> Result<Option<Relation>, JsonFault>
     requires { bytes_eq name.now (codes "anchor") ≡ false }
     ensures answer { OrMemory result (member_answer name.now member.now.place (view member.now.tree)) }
@@ -145,7 +145,7 @@ impl ReadItem for Context {
     }
 }
 
-/// The contexts of a document.
+/// Reads the contexts of a document.
 fn read_document(alloc: Global, root: &Node<'_>) -> Result<List<Context>, JsonFault>
     requires { root.now.place ≡ [] }
     ensures answer { OrMemory result (document_answer (view root.now.tree)) }
@@ -158,12 +158,16 @@ fn read_document(alloc: Global, root: &Node<'_>) -> Result<List<Context>, JsonFa
     }
 }
 
-/// The linkset that a document in JSON is (RFC 9264, section 4.2): an object with the array `linkset` of objects
-/// with the text `anchor`, whose other arrays are relations of objects with the text `href`. Members of other kinds
-/// are ignored. Of the errors the first in the order of the document is the answer, depth first, `anchor` before
-/// the relations, and these in ascending order of name. `Syntax`: the bytes are no JSON text. `Lacks`: the document
-/// has no `linkset`, a context no `anchor`, or a target no `href`. `Kind`: one of these, the document, a context or
-/// a target is of another kind. `Unknown` never comes. `Memory` may come in place of any answer.
+/// Reads a linkset from a document in JSON (RFC 9264, section 4.2): an object with the array `linkset` of objects with the text
+/// `anchor`, whose other arrays are relations of objects with the text `href`. Ignores members of other kinds. Returns the first
+/// error in this order, or `Memory` instead of any answer.
+///
+/// 1. `Syntax`: the bytes are not JSON that `serde_json` reads.
+/// 2. `Kind`: the document is not an object. `Lacks` or `Kind`: it has no `linkset`, or one of another kind.
+/// 3. Context by context, depth first, `anchor` before the relations, and these in ascending order of name. `Lacks`: a context has
+///    no `anchor` or a target no `href`. `Kind`: one of these, a context or a target is of another kind.
+///
+/// Never returns `Unknown`.
 pub fn read(alloc: Global, bytes: &[u8]) -> Result<LinkDoc, JsonFault>
     ensures { OrMemory result (read_answer bytes.now) }
 {
@@ -173,7 +177,7 @@ pub fn read(alloc: Global, bytes: &[u8]) -> Result<LinkDoc, JsonFault>
     }
 }
 
-/// The linkset of the document of this tree, or its first error.
+/// Reads the linkset of the document of this tree.
 fn read_root(alloc: Global, root: &Node<'_>) -> Result<LinkDoc, JsonFault>
     requires { root.now.place ≡ [] }
     ensures { OrMemory result (document_answer (view root.now.tree)) }

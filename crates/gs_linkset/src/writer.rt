@@ -17,23 +17,23 @@ use json::{Token, Writer};
 use std::alloc::Global;
 use std::str;
 
-/// The bytes that a text has room for from the start, so that a short one is not moved as it grows.
+/// The bytes that a new text has room for, so that a short one is not moved as it grows.
 const ROOM: usize = 128;
 
-/// What is written as a value.
+/// A thing that is written as a value.
 trait ToJson: Shaped {
     ghost use Rattle.serde_json.specs.Data.{Data};
 
-    /// What it is written as.
+    /// Its value.
     ghost tree: { Self → Data };
 
-    /// Appends what it is written as.
+    /// Appends its value.
     fn append(&self, out: &mut Writer) -> Result<(), Memory>
         requires { Self.shape self.now ≡ true }
         ensures { OnOk result (Adds out.old out.new (tokens_of (tree self.now))) };
 }
 
-/// What is written as a member of an object.
+/// A thing that is written as a member of an object.
 trait Member: ToJson {
     ghost use Rattle.std.specs.Prelude.{List, ℕ};
 
@@ -46,7 +46,7 @@ trait Member: ToJson {
         ensures { result.now ≡ key_of self.now };
 }
 
-/// Appends a token. It is inlined, so that a bracket costs no look at the kind of token.
+/// Appends a token. Inlined, so that a bracket needs no test of the token's kind.
 #[inline(always)]
 fn put(out: &mut Writer, token: Token<'_>) -> Result<(), Memory>
     requires { IsPrintable (token_of token) }
@@ -64,7 +64,7 @@ fn put_text(out: &mut Writer, name: &str, text: &Text) -> Result<(), Memory>
     text.append(out)
 }
 
-/// Appends things one after another.
+/// Appends things one at a time.
 fn put_items<T: ToJson>(out: &mut Writer, things: &[T]) -> Result<(), Memory>
     requires { list_all T.shape things.now ≡ true }
     ensures { OnOk result (Adds out.old out.new (item_tokens T.tree things.now)) }
@@ -94,7 +94,7 @@ fn put_member<T: Member>(out: &mut Writer, thing: &T) -> Result<(), Memory>
     thing.append(out)
 }
 
-/// Appends things as members one after another.
+/// Appends things as members one at a time.
 fn put_members<T: Member>(out: &mut Writer, things: &[T]) -> Result<(), Memory>
     requires { list_all T.shape things.now ≡ true }
     ensures { OnOk result (Adds out.old out.new (members_tokens T.key_of T.tree things.now)) }
@@ -105,14 +105,14 @@ fn put_members<T: Member>(out: &mut Writer, things: &[T]) -> Result<(), Memory>
     Ok(())
 }
 
-/// Whether a name is below another by its bytes.
+/// Returns whether a name is below another by its bytes.
 fn is_below(a: &str, b: &str) -> bool
     ensures { result ≡ is_below a.now b.now }
 {
     a.as_bytes().cmp(b.as_bytes()).is_lt()
 }
 
-/// How many of the first things have names below this one.
+/// Returns the number of first things whose names are below this one.
 fn count_below<T: Member>(things: &[T], name: &str) -> usize
     requires { list_all T.shape things.now ≡ true }
     ensures count { result ≡ count_below name.now (map T.key_of things.now) }
@@ -127,7 +127,8 @@ fn count_below<T: Member>(things: &[T], name: &str) -> usize
     things.len()
 }
 
-/// Appends an object of things, whose names ascend, and of one text more, at its place among them. None of the things has its name.
+/// Appends an object of things, whose names ascend, and of one more text in its order among them. None of the things has its
+/// name.
 fn put_object<T: Member>(
     out: &mut Writer,
     things: &[T],
@@ -148,7 +149,7 @@ fn put_object<T: Member>(
     put(out, Token::EndObject)
 }
 
-/// The characters of a text.
+/// Returns the characters of a text.
 fn characters(text: &Text) -> &str
     requires { is_utf8 text.now ≡ true }
     ensures { result.now ≡ text.now }
@@ -164,7 +165,7 @@ impl ToJson for Text {
     }
 }
 
-/// Appends the language, where there is one.
+/// Appends the language, if there is one.
 fn put_language(out: &mut Writer, language: &Text) -> Result<(), Memory>
     requires { is_utf8 language.now ≡ true }
     ensures { OnOk result (Adds out.old out.new (language_tokens language.now)) }
@@ -219,9 +220,9 @@ impl ToJson for Target {
 }
 
 impl Target {
-    /// The text of the target in JSON (RFC 9264, section 4.2.3): no space, and the members of each object in ascending order
-    /// of name. Two targets with one text are equal. The target has the shape that a linkset's targets have. The one rejection
-    /// is out of memory.
+    /// Writes the target in JSON (RFC 9264, section 4.2.3), with no space and the members of each object in ascending order of
+    /// name. Two targets with one text are equal. The target must have the shape of a linkset's targets. Fails only with
+    /// `Memory`.
     #[tactic(auto, unfolding(crate::specs::WrittenTrees::target_text))]
     pub fn text(&self, alloc: Global) -> Result<Text, Memory>
         requires { is_target self.now ≡ true }
@@ -272,8 +273,8 @@ fn put_document(out: &mut Writer, contexts: &[Context]) -> Result<(), Memory>
     put(out, Token::EndObject)
 }
 
-/// The text of a linkset in JSON (RFC 9264, section 4.2): no space, the members of each object in ascending order of
-/// name, and a language left out where it is empty. The one error is out of memory.
+/// Writes a linkset in JSON (RFC 9264, section 4.2), with no space, the members of each object in ascending order of name, and no
+/// empty language. Fails only with `Memory`.
 pub fn write(alloc: Global, doc: &LinkDoc) -> Result<Text, Memory>
     ensures { IfOk result (λ text. text ≡ written doc.now) }
 {

@@ -87,7 +87,7 @@ module _ {E X : Type 0} (h : E → Option X) where
     given_ascends [] s = refl
     given_ascends (e ∷ es) s = given_by e es (h e) refl (first_given (key e) es s.0) (given_ascends es s.1)
 
--- ---- an attribute has the name that it is asked for, and no values give none
+-- ---- an attribute has the given name, and no values give no attribute
 
 pub attr_name : (name : List ℕ) (values : List (List ℕ)) (attr : Attr) → attr_with name values ≡ Some attr → attr.name ≡ name
 attr_name name values attr h = by (is_reserved name) refl

@@ -1,4 +1,4 @@
--- The bytes of a language at the start of a text, and what is behind them.
+-- The bytes of a language at the start of a text, and the rest.
 use Rattle.std.proofs.Common.{◌≡◌, ℕ, List, take, drop}
 use Rattle.std.specs.List.{prefix_len}
 use Rattle.gs_linktext.specs.Links.{is_language_byte}

@@ -1,4 +1,4 @@
--- Links have one cut into contexts: the one that puts each link before the contexts of those behind it.
+-- Links have one cut into contexts: the one that puts each link before the contexts of those after it.
 use Rattle.std.proofs.Common.{◌≡◌, ℕ, ◌||◌, ◌&&◌, not, Bool, true, false, List, [], ◌∷◌, ◌++◌, if◌then◌else◌, map, bytes_eq, refl, ap, sym, ◌∙◌, Ordering, Less, Equal, Greater}
 use Rattle.std.specs.Cmp.Lexicographic.{nat_list_cmp_total, slice_cmp}
 use Rattle.std.specs.List.{flat_map, list_all}
@@ -24,7 +24,7 @@ put_target name target (r ∷ rs) =
 abbrev alone : List ℕ → List ℕ → Target → Context
 alone anchor name target = record { anchor = anchor; relations = record { name = name; targets = target ∷ [] } ∷ [] }
 
--- a context goes on with what is behind a link
+-- the link after a link belongs to the same context
 abbrev is_on : List ℕ → List ℕ → Context → Bool
 is_on anchor name c = bytes_eq anchor c.anchor && not (is_below (first_name c.relations) name)
 

@@ -1,4 +1,4 @@
--- A text has one answer of reading, beside that memory ran out.
+-- Reading a text has one result, apart from `Memory`.
 use Rattle.std.proofs.Common.{◌≡◌, ℕ, zero, suc, true, false, List, [], ◌∷◌, ◌++◌, Some, None, codes, map, slice_get, refl, ap, subst, sym, ◌∙◌, inl, inr, Less, unwrap_or}
 use Rattle.std.specs.Cmp.Lexicographic.{nat_list_cmp_total, slice_cmp}
 use Rattle.std.specs.Ordering.{nat_cmp}

@@ -1,4 +1,4 @@
--- Where an item is in a list, and in the list of what its items are seen as.
+-- If an item is in a list, and in the list of what its items are seen as.
 use Rattle.std.proofs.Common.{◌≡◌, ◌+◌, not, Bool, List, [], ◌∷◌, cond, length, map, position, refl, ap, suc}
 use Rattle.std.specs.List.{prefix_len}
 use Rattle.gs_linktext.specs.Lent.{seen}

@@ -78,7 +78,7 @@ syntax_rejected bytes (Anchor i) h = absurd h
 syntax_rejected bytes (Rel i) h = absurd h
 syntax_rejected bytes Memory h = tt
 
--- ---- relation types, as they are lent
+-- ---- relation types that are lent
 
 any_seen : (test : List ℕ → Bool) (types : List (Bor (List ℕ))) → list_any (λ type. test type.now) types ≡ list_any test (map (λ type. type.now) types)
 any_seen test [] = refl

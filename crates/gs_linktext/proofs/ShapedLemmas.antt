@@ -1,4 +1,4 @@
--- What is read has the shape of a linkset.
+-- A document that is read has the shape of a linkset.
 use Rattle.std.proofs.Common.{◌≡◌, ℕ, suc, ◌+◌, ◌/◌, ◌%◌, ◌<◌, ◌≤◌, ◌==◌, ◌||◌, ◌&&◌, nat_lt, not, Bool, true, false, List, [], ◌∷◌, ◌++◌, Option, Some, None, codes, drop, filter, map, slice_get, take, bytes_eq, refl, ap, subst, sym, ◌∙◌, inl, inr, arith, unwrap_or}
 use Rattle.std.specs.Char.{to_ascii_lowercase}
 use Rattle.std.specs.List.{flat_map, filter_map, list_all, list_any, slice_split, AllByRecursion}

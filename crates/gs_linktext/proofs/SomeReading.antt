@@ -54,7 +54,7 @@ lexed_or_not text = lexed_in (suc (length text)) text (omega arith)
 
 -- ---- documents
 
--- a text is a document, or is none
+-- a text is a document, or it is not
 abbrev IsDocumentOrNot : List ℕ → Type 0
 IsDocumentOrNot text = ((links : List WrittenLink) × IsDocument text links) ⊎ ((links : List WrittenLink) → IsDocument text links → ⊥)
 

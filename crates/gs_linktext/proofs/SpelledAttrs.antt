@@ -94,7 +94,7 @@ no_values_of : (n name : List ℕ) (xs : List Lexeme) → bytes_eq n name ≡ fa
 no_values_of n name [] h = refl
 no_values_of n name (x ∷ xs) h = rw h (no_values_of n name xs h)
 
--- the parameters of attributes, as they are read
+-- the parameters of attributes, in the form in which they are read
 abbrev read_attrs : List Attr → List Param
 read_attrs attrs = map read_param (flat_map attr_params attrs)
 
@@ -120,7 +120,7 @@ below_at name [] i attr below at = absurd (not_some attr at)
 below_at name (a ∷ attrs) zero attr below at = rw (← some_is a attr at) below.0
 below_at name (a ∷ attrs) (suc i) attr below at = below_at name attrs i attr below.1 at
 
--- the names of attributes ascend, each below those behind it
+-- the names of attributes ascend, each below those after it
 abbrev pub AreSorted : List Attr → Type 0
 AreSorted [] = Unit {0}
 AreSorted (attr ∷ attrs) = IsBelowAll attr.name attrs × AreSorted attrs

@@ -31,11 +31,11 @@ said (Word w) = w
 said (Angled h) = []
 said (Quoted v) = v
 
--- a parameter, as it is read
+-- a parameter, in the form in which it is read
 abbrev pub read_param : Spelt → Param
 read_param p = record { name = p.0; value = said p.1 }
 
--- a link, as it is read
+-- a link, in the form in which it is read
 abbrev pub read_link : Link → WrittenLink
 read_link link = record { href = link.2.href; params = map read_param (link_params link) }
 
@@ -90,7 +90,7 @@ params_read link good =
 
 -- ---- a parameter is read as itself
 
--- the lexemes of a parameter behind its semicolon
+-- the lexemes of a parameter after its semicolon
 abbrev part_of : Spelt → List Lexeme
 part_of p = Word p.0 ∷ Equals ∷ p.1 ∷ []
 

@@ -19,7 +19,7 @@ use Rattle.gs_chars.proofs.TruthsAndLists.{and_first, and_second, and_true, not_
 abbrev pub Link : Type 0
 Link = List ℕ × List ℕ × Target
 
--- a parameter as it is spelled: its name, and the lexeme of its value
+-- a spelled parameter: its name, and the lexeme of its value
 abbrev pub Spelt : Type 0
 Spelt = List ℕ × Lexeme
 
@@ -40,7 +40,7 @@ lexeme_text (Quoted v) = quoted v
 abbrev pub text_of : Spelt → List ℕ
 text_of p = codes "; " ++ (p.0 ++ 61 ∷ lexeme_text p.1)
 
--- a lexeme is a word, or a quoted string of bytes that may stand in one
+-- a lexeme is a word, or a quoted string of bytes that may be in one
 abbrev pub is_spelt_value : Lexeme → Bool
 is_spelt_value Comma = false
 is_spelt_value Semicolon = false
@@ -83,7 +83,7 @@ link_lexemes link = Angled link.2.href ∷ flat_map lexemes_of (link_params link
 abbrev pub link_text : Link → List ℕ
 link_text link = 60 ∷ (link.2.href ++ 62 ∷ flat_map text_of (link_params link))
 
--- the lexemes of a link behind another
+-- the lexemes of a link after another
 abbrev pub behind_lexemes : Link → List Lexeme
 behind_lexemes link = Comma ∷ link_lexemes link
 
@@ -92,7 +92,7 @@ abbrev pub links_lexemes : List Link → List Lexeme
 links_lexemes [] = []
 links_lexemes (link ∷ links) = link_lexemes link ++ flat_map behind_lexemes links
 
--- ---- the text of a link is what is spelled of it
+-- ---- the text of a link is its spelling
 
 attr_text : (attr : Attr) → spelled_attr attr ≡ flat_map text_of (attr_params attr)
 attr_text attr = by attr.value
@@ -123,7 +123,7 @@ link_is link =
     ap (λ (xs : List ℕ). 60 ∷ (link.2.href ++ (codes ">; rel=" ++ xs)))
     (append_assoc types anchor (flat_map spelled_attr link.2.attrs) ∙ ap (λ (xs : List ℕ). types ++ (anchor ++ xs)) (attrs_text link.2.attrs))
 
--- the text of a link behind another
+-- the text of a link after another
 abbrev behind_text : Link → List ℕ
 behind_text link = 44 ∷ 10 ∷ link_text link
 

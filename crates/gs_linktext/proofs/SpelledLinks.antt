@@ -1,4 +1,4 @@
--- A spelled link is in order: what is known of its parts.
+-- A spelled link is valid: the facts about its parts.
 use Rattle.std.proofs.Common.{◌≡◌, ℕ, ◌+◌, ◌==◌, ◌||◌, ◌&&◌, not, Bool, true, false, List, [], ◌∷◌, Some, None, codes, length, map, position, bytes_eq, refl, sym, ◌∙◌}
 use Rattle.std.specs.List.{flat_map, list_all, list_any, position_from}
 use Rattle.std.specs.Str.{is_utf8}
@@ -22,7 +22,7 @@ use Rattle.gs_linktext.proofs.SpelledLexemes.{attr_params, is_spelt, is_spelt_li
 use Rattle.gs_linktext.proofs.Utf8Bytes.{utf8_bytes}
 use Rattle.gs_chars.proofs.TruthsAndLists.{and_first, and_second, and_true, false_from_not, not_false, or_first, or_second, true_from_not}
 
--- ---- what is known of an attribute and of a link that can be spelled
+-- ---- the facts about an attribute and a link that can be spelled
 
 pub record IsGoodAttr (attr : Attr) : Type 0 where
   pub token : are_some is_token attr.name ≡ true
@@ -164,7 +164,7 @@ pub good_links : (contexts : List Context) → list_all is_context contexts ≡ 
 good_links contexts shaped none =
     good_each (links_of_document contexts) (shaped_links contexts shaped) (none_from (links_of_document contexts) 0 (sym (position_from-zero cannot_spell (links_of_document contexts)) ∙ none))
 
--- ---- the lexemes of a good link are in order
+-- ---- the lexemes of a good link are valid
 
 texts_spelt : (texts : List (List ℕ)) → list_any is_unspellable_text texts ≡ false → list_all is_spelt_value (map (λ t. Quoted t) texts) ≡ true
 texts_spelt [] h = refl

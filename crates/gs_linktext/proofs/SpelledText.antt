@@ -1,4 +1,4 @@
--- What is spelled of a document of which each link can be spelled.
+-- The spelling of a document of which each link can be spelled.
 use Rattle.std.proofs.Common.{◌≡◌, List, None, map, position, true, ◌∙◌}
 use Rattle.std.specs.List.{list_all}
 use Rattle.gs_linkset.specs.LinkShapes.{is_context, links_of_document}

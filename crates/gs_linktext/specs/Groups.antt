@@ -15,7 +15,7 @@ use Rattle.gs_linktext.specs.Links.{attr_with}
 abbrev pub items_at : List ℕ → BTreeMap (List ℕ) (List (List ℕ)) → List (List ℕ)
 items_at name groups = unwrap_or (tree.get (slice_cmp nat_cmp) groups name) []
 
--- a value, where its name is this one
+-- the value, if its name is this one
 abbrev pub value_at : List ℕ → List ℕ → List ℕ → List (List ℕ)
 value_at q name value = if bytes_eq name q then value ∷ [] else []
 

@@ -1,4 +1,4 @@
--- The links of a document as they are lent: the definitions of the private steps of writing.
+-- The lent links of a document: the definitions of the private steps of writing.
 use Rattle.std.specs.Prelude.{ℕ, List}
 use Rattle.gs_linkset.specs.declared.link_types.Target.{Target}
 use Rattle.gs_linktext.specs.declared.lent_links.LentLink.{LentLink}

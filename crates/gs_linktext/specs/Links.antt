@@ -39,8 +39,8 @@ unfoldable pub is_language_byte : ℕ → Bool
 is_language_byte c =
     list_any (λ x. x == c) (codes "-0123456789ABCDEFGHIJKLMNOPQRSTUVWXYZabcdefghijklmnopqrstuvwxyz")
 
--- trusted, RFC 8187, section 3.2.1: a text and its language, behind the name of the character set. Both are UTF-8, the text
--- once its escapes are read.
+-- trusted, RFC 8187, section 3.2.1: a text and its language, after the name of the character set. Both are UTF-8, the text once
+-- its escapes are read.
 abbrev pub tagged_by : List ℕ → List ℕ → Option (List ℕ × List ℕ)
 tagged_by language [] = None
 tagged_by language (c ∷ text) =
@@ -53,12 +53,12 @@ tagged_text value =
     then tagged_by (prefix_of is_language_byte (drop 6 value)) (after_prefix is_language_byte (drop 6 value))
     else None
 
--- trusted, RFC 9264, section 4.2.4: texts with their languages, where there are any
+-- trusted, RFC 9264, section 4.2.4: the texts with their languages, if there are any
 abbrev pub tagged_value : List (List ℕ × List ℕ) → Option AttrValue
 tagged_value [] = None
 tagged_value (pair ∷ pairs) = Some (Tagged (pair ∷ pairs))
 
--- trusted, RFC 9264, section 4.2.4: texts, where there are any
+-- trusted, RFC 9264, section 4.2.4: the texts, if there are any
 abbrev pub many_value : List (List ℕ) → Option AttrValue
 many_value [] = None
 many_value (text ∷ texts) = Some (Many (text ∷ texts))
@@ -118,7 +118,7 @@ abbrev pub or_error : Option LinkTextFault → Option LinkTextFault → Option L
 or_error None other = other
 or_error (Some error) other = Some error
 
--- trusted, own: the first error of links, the first of which is at this place
+-- trusted, own: the first error of the links; the first link has this index
 abbrev pub first_error : ℕ → List WrittenLink → Option LinkTextFault
 first_error i [] = None
 first_error i (link ∷ links) = or_error (link_error i link) (first_error (i + 1) links)

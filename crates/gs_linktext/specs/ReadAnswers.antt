@@ -22,8 +22,8 @@ pub record IsReadAs (bytes : List ℕ) (contexts : List Context) : Type 0 where
 abbrev pub HasFirstError : List ℕ → LinkTextFault → Type 0
 HasFirstError bytes error = (written : List WrittenLink) × IsDocument bytes written × (first_error 0 written ≡ Some error)
 
--- trusted, own: the error is a syntax error where the bytes are no document, the first error of a document, or says that
--- memory ran out
+-- trusted, own: the error is a syntax error if the bytes are not document, the first error of a document, or says that memory ran
+-- out
 abbrev pub IsReadError : List ℕ → LinkTextFault → Type 0
 IsReadError bytes Syntax = (written : List WrittenLink) → IsDocument bytes written → ⊥
 IsReadError bytes (Anchor i) = HasFirstError bytes (Anchor i)
@@ -41,7 +41,7 @@ pub record IsTextOf (bytes : List ℕ) (links : List (List ℕ × List ℕ × Ta
 abbrev pub IsSameOrMemory : LinkTextFault → LinkTextFault → Type 0
 IsSameOrMemory f g = (f ≡ g) ⊎ ((f ≡ Memory) ⊎ (g ≡ Memory))
 
--- trusted, own: a text has an answer of reading beside that memory ran out: the contexts of a linkset, or an error
+-- trusted, own: holds if reading the text has a result other than `Memory`: the contexts of a linkset, or an error
 abbrev pub HasReading : List ℕ → Type 0
 HasReading bytes =
     ((contexts : List Context) × IsReadAs bytes contexts) ⊎ ((error : LinkTextFault) × (error ≢ Memory) × IsReadError bytes error)

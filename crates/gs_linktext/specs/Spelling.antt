@@ -1,5 +1,5 @@
--- How a linkset is spelled as text: RFC 9264, section 4.1; RFC 8288, section 3; RFC 8187, section 3.2.1. The order of what is
--- spelled, and the line break behind each comma, are this project's own.
+-- The spelling of a linkset as text: RFC 9264, section 4.1; RFC 8288, section 3; RFC 8187, section 3.2.1. The order of the parts,
+-- and the line break after each comma, are this project's own.
 use Rattle.std.specs.Prelude.{ℕ, Bool, ◌==◌, ◌&&◌, ◌||◌, ◌/◌, ◌%◌, nat_le, not, if◌then◌else◌, List, [], ◌∷◌, ◌++◌, codes, length}
 use Rattle.std.specs.List.{flat_map, list_any}
 use Rattle.std.specs.Str.{bytes_eq}
@@ -62,7 +62,7 @@ abbrev pub spelled_link : List ℕ × List ℕ × Target → List ℕ
 spelled_link link =
     60 ∷ (link.2.href ++ (spelled_types link.1 link.0 ++ flat_map spelled_attr link.2.attrs))
 
--- trusted, own: a link behind another: a comma and a line break between them
+-- trusted, own: a link after another: a comma and a line break between them
 abbrev pub spelled_behind : List ℕ × List ℕ × Target → List ℕ
 spelled_behind link = 44 ∷ 10 ∷ spelled_link link
 
@@ -77,7 +77,7 @@ spelled contexts = spelled_links (links_of_document contexts)
 
 -- ---- what cannot be spelled
 
--- trusted, own: a reference is empty, or has a byte that cannot stand between `<` and `>`
+-- trusted, own: holds if a target URI is empty, or has a byte that is not allowed between `<` and `>`
 abbrev pub is_unspellable_href : List ℕ → Bool
 is_unspellable_href href = not (are_some is_target_byte href)
 
@@ -85,7 +85,7 @@ is_unspellable_href href = not (are_some is_target_byte href)
 abbrev pub is_unspellable_type : List ℕ → Bool
 is_unspellable_type type = length type == 0 || list_any is_blank type
 
--- trusted, own: a text has a byte that cannot stand in a quoted string
+-- trusted, own: a text has a byte that cannot are in a quoted string
 abbrev pub is_unspellable_text : List ℕ → Bool
 is_unspellable_text text = list_any (λ c. not (is_quotable c)) text
 
@@ -93,7 +93,7 @@ is_unspellable_text text = list_any (λ c. not (is_quotable c)) text
 abbrev pub is_upper : ℕ → Bool
 is_upper c = nat_le 65 c && nat_le c 90
 
--- trusted, own: a name is none of the grammar, has an upper-case letter, or is `rel` or `anchor`
+-- trusted, own: holds if a name is not a name of the grammar, has an upper-case letter, or is `rel` or `anchor`
 abbrev pub is_unspellable_name : List ℕ → Bool
 is_unspellable_name name =
     not (are_some is_token name) || (list_any is_upper name || (bytes_eq name (codes "rel") || bytes_eq name (codes "anchor")))

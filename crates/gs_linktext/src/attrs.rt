@@ -20,28 +20,28 @@ use percent_encoding::percent_decode;
 use std::alloc::Global;
 use std::collections::BTreeMap;
 
-/// Whether the name is that of an internationalized attribute.
+/// Returns whether the name is that of an internationalized attribute.
 fn is_tagged(name: &[u8]) -> bool
     ensures { result ≡ is_tagged name.now }
 {
     name.ends_with(b"*")
 }
 
-/// Whether the name is that of an attribute with one text.
+/// Returns whether the name is that of an attribute with one text.
 fn is_single(name: &[u8]) -> bool
     ensures { result ≡ is_single name.now }
 {
     name == b"type".as_slice() || name == b"title".as_slice() || name == b"media".as_slice()
 }
 
-/// Whether the name is that of no attribute.
+/// Returns whether the name is that of no attribute.
 fn is_reserved(name: &[u8]) -> bool
     ensures { result ≡ is_reserved name.now }
 {
     name == b"rel".as_slice() || name == b"anchor".as_slice() || name == b"href".as_slice()
 }
 
-/// Whether the byte is one of a language.
+/// Returns whether the byte is one of a language.
 #[tactic(auto, unfolding(crate::specs::Links::is_language_byte))]
 pub(crate) fn is_language_byte(c: u8) -> bool
     ensures { result ≡ is_language_byte c }
@@ -49,7 +49,7 @@ pub(crate) fn is_language_byte(c: u8) -> bool
     matches!(c, b'-' | b'0'..=b'9' | b'A'..=b'Z' | b'a'..=b'z')
 }
 
-/// The text without its escapes.
+/// Returns the text without its escapes.
 fn decoded(alloc: Global, text: &[u8]) -> Result<Text, Memory>
     ensures { IfOk result (λ out. out ≡ percent_decode text.now) }
 {
@@ -58,7 +58,7 @@ fn decoded(alloc: Global, text: &[u8]) -> Result<Text, Memory>
     Ok(Text::from_vec(out))
 }
 
-/// The number of bytes of a language at the start of the text.
+/// Returns the number of bytes of a language at the start of the text.
 fn count_language_bytes(text: &[u8]) -> usize
     ensures number { result ≡ prefix_len is_language_byte text.now }
     ensures within { result ≤ length text.now }
@@ -66,7 +66,7 @@ fn count_language_bytes(text: &[u8]) -> usize
     text.iter().take_while(|c| is_language_byte(**c)).count()
 }
 
-/// The bytes of a language at the start of the text, and what is behind them.
+/// Returns the bytes of a language at the start of the text, and the rest.
 #[tactic(auto, using(crate::proofs::LanguageLemmas::take_language, crate::proofs::LanguageLemmas::drop_language))]
 fn split_language(text: &[u8]) -> (&[u8], &[u8])
     ensures prefix { result.0.now ≡ prefix_of is_language_byte text.now }
@@ -75,7 +75,8 @@ fn split_language(text: &[u8]) -> (&[u8], &[u8])
     text.split_at(count_language_bytes(text))
 }
 
-/// A text and its language, behind the name of the character set. `None` comes where one is no UTF-8 or no mark is between.
+/// Returns a text and its language, after the name of the character set. `None` is returned if one is not UTF-8 or no mark is
+/// between.
 fn tagged_by(alloc: Global, language: &[u8], behind: &[u8]) -> Result<Option<(Text, Text)>, Memory>
     ensures value { IfOk result (λ pair. pair ≡ tagged_by language.now behind.now) }
     ensures shape { IfOk result (λ pair. IfSome pair (λ pair. is_tagged_text pair ≡ true)) }
@@ -94,14 +95,14 @@ fn tagged_by(alloc: Global, language: &[u8], behind: &[u8]) -> Result<Option<(Te
     Ok(None)
 }
 
-/// Whether a text begins with the name of the character set and a mark, in either case.
+/// Returns whether a text begins with the name of the character set and a mark, in either case.
 fn names_utf8(prefix: &[u8]) -> bool
     ensures { result ≡ bytes_eq (map to_ascii_lowercase prefix.now) (codes "utf-8'") }
 {
     prefix.eq_ignore_ascii_case(b"utf-8'")
 }
 
-/// The text and the language of a value `UTF-8'LANG'TEXT`. `None` comes where it is none.
+/// Returns the text and the language of a value `UTF-8'LANG'TEXT`, or `None` if it does not have this form.
 fn tagged_text(alloc: Global, value: &[u8]) -> Result<Option<(Text, Text)>, Memory>
     ensures value { IfOk result (λ pair. pair ≡ tagged_text value.now) }
     ensures shape { IfOk result (λ pair. IfSome pair (λ pair. is_tagged_text pair ≡ true)) }
@@ -117,7 +118,7 @@ fn tagged_text(alloc: Global, value: &[u8]) -> Result<Option<(Text, Text)>, Memo
     tagged_by(alloc, language, behind)
 }
 
-/// The texts of tagged values, with their languages.
+/// Returns the texts of tagged values, with their languages.
 fn tagged_texts(alloc: Global, values: &[CheckedText]) -> Result<Vec<(Text, Text)>, Memory>
     ensures value { IfOk result (λ pairs. pairs.items ≡ filter_map tagged_text values.now) }
     ensures shape { IfOk result (λ pairs. list_all is_tagged_text pairs.items ≡ true) }
@@ -144,7 +145,7 @@ fn copies(alloc: Global, values: &[CheckedText]) -> Result<Vec<Text>, Memory>
     Ok(texts)
 }
 
-/// The first of the texts, copied.
+/// Returns the first of the texts, copied.
 fn first_copy(alloc: Global, values: &[CheckedText]) -> Result<Option<AttrValue>, Memory>
     ensures value { IfOk result (λ value. value ≡ option_map One (slice_get values.now 0)) }
     ensures shape { IfOk result (λ value. IfSome value (λ value. is_one value ≡ true)) }
@@ -155,7 +156,7 @@ fn first_copy(alloc: Global, values: &[CheckedText]) -> Result<Option<AttrValue>
     Ok(Some(AttrValue::One(first.copy(alloc)?)))
 }
 
-/// The value of an attribute, from the values of its name. `None` comes where they give none.
+/// Returns the value of an attribute, from the values of its name. `None` is returned if they give none.
 fn attr_value(
     alloc: Global,
     name: &[u8],
@@ -181,7 +182,7 @@ fn attr_value(
     Ok(Some(AttrValue::Many(List::from_vec(texts))))
 }
 
-/// The attribute of a name and its values. `None` comes where they give none.
+/// Returns the attribute of a name and its values. `None` is returned if they give none.
 fn attr_with(
     alloc: Global,
     name: &CheckedText,
@@ -199,7 +200,7 @@ fn attr_with(
     Ok(Some(Attr { name, value }))
 }
 
-/// Adds the attribute of a name and its values, where they give one.
+/// Appends the attribute of a name and its values, if they give one.
 fn push_attr(
     alloc: Global,
     attrs: &mut Vec<Attr>,
@@ -216,7 +217,7 @@ fn push_attr(
     Ok(())
 }
 
-/// The attributes of names and their values, in the order of the map.
+/// Returns the attributes of names and their values, in the order of the map.
 fn attrs_of_groups(
     alloc: Global,
     groups: BTreeMap<CheckedText, List<CheckedText>>,
@@ -231,7 +232,7 @@ fn attrs_of_groups(
     Ok(attrs)
 }
 
-/// The attributes of parameters, in ascending order of their names.
+/// Returns the attributes of parameters, in ascending order of their names.
 #[tactic(auto, using(crate::proofs::AttrLemmas::attributes))]
 pub(crate) fn attrs_of(alloc: Global, params: &[Param]) -> Result<List<Attr>, Memory>
     ensures { IfOk result (λ attrs. IsAttributes params.now attrs) }

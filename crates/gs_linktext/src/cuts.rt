@@ -7,7 +7,7 @@ use gs_chars::{List, Memory, Text};
 use gs_linkset::{Context, Relation, Target};
 use std::alloc::Global;
 
-/// A relation with one target.
+/// Returns a relation with one target.
 fn relation_with(alloc: Global, name: &[u8], target: Target) -> Result<Relation, Memory>
     ensures { IfOk result (λ relation. relation ≡ relation_with name.now target) }
 {
@@ -18,7 +18,7 @@ fn relation_with(alloc: Global, name: &[u8], target: Target) -> Result<Relation,
     Ok(Relation { name, targets })
 }
 
-/// A context with one link.
+/// Returns a context with one link.
 fn context_with(
     alloc: Global,
     anchor: &[u8],
@@ -34,7 +34,7 @@ fn context_with(
     Ok(Context { anchor, relations })
 }
 
-/// The name of the last relation.
+/// Returns the name of the last relation.
 fn last_name(relations: &[Relation]) -> &[u8]
     ensures { result.now ≡ last_name relations.now }
 {
@@ -44,14 +44,14 @@ fn last_name(relations: &[Relation]) -> &[u8]
     }
 }
 
-/// Whether the context can go on with a link of this anchor and relation.
+/// Returns whether the context can go on with a link of this anchor and relation.
 fn takes(context: &Context, anchor: &[u8], name: &[u8]) -> bool
     ensures { result ≡ takes context.now anchor.now name.now }
 {
     context.anchor.as_bytes() == anchor && !name.cmp(last_name(context.relations.items())).is_lt()
 }
 
-/// The relation with one target more.
+/// Returns the relation with one target more.
 fn with_target(relation: Relation, target: Target) -> Result<Relation, Memory>
     ensures name { IfOk result (λ more. more.name ≡ relation.name) }
     ensures targets { IfOk result (λ more. more.targets ≡ relation.targets ++ target ∷ []) }
@@ -63,7 +63,7 @@ fn with_target(relation: Relation, target: Target) -> Result<Relation, Memory>
     Ok(Relation { name, targets })
 }
 
-/// The context with one link more, whose relation is not below the last one.
+/// Returns the context with one link more, whose relation is not below the last one.
 fn with_link(
     alloc: Global,
     context: Context,
@@ -90,7 +90,7 @@ fn with_link(
     Ok(Context { anchor, relations })
 }
 
-/// Adds a link behind the others.
+/// Adds a link after the others.
 pub(crate) fn push_link(
     alloc: Global,
     contexts: &mut Vec<Context>,

@@ -42,7 +42,7 @@ fn put_value(
     Ok(())
 }
 
-/// The values of each name, in the order of the parameters.
+/// Returns the values of each name, in the order of the parameters.
 pub(crate) fn groups_of(
     alloc: Global,
     params: &[Param],

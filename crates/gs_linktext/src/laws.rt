@@ -9,16 +9,16 @@ ghost use Rattle.gs_linktext_grammar.specs.declared.error.LinkTextFault.{LinkTex
 ghost use Rattle.gs_linktext_grammar.specs.declared.error.LinkTextFault.TheVariants.{Memory};
 ghost use Rattle.gs_linktext.specs.Spelling.{cannot_spell, spelled};
 
-/// What is written of a document of which each link can be spelled is a document of the grammar, without an error, and its
-/// links are those of the document.
+/// States that the text of a document of which each link can be spelled is a document of the grammar, without an error, and that
+/// its links are those of the document.
 pub fn spelled_is_read()
     ensures { (doc : List Context) → list_all is_context doc ≡ true
         → position cannot_spell (links_of_document doc) ≡ None
         → IsTextOf (spelled doc) (links_of_document doc) }
 {}
 
-/// What is written of a document of which each link can be spelled is read as its links, and the one error is that memory ran
-/// out.
+/// States that the text of a document of which each link can be spelled is read as its links, and that reading it fails only with
+/// `Memory`.
 pub fn written_is_read()
     ensures links { (doc contexts : List Context) → list_all is_context doc ≡ true
         → position cannot_spell (links_of_document doc) ≡ None → IsReadAs (spelled doc) contexts
@@ -34,7 +34,7 @@ pub fn one_cut()
         → IsCut links d → c ≡ d }
 {}
 
-/// A text has one answer of reading, beside that memory ran out: the contexts of one linkset, or one error.
+/// States that reading a text has at most one result, apart from `Memory`: the contexts of one linkset, or one error.
 pub fn one_reading()
     ensures contexts { (bytes : List ℕ) (c d : List Context) → IsReadAs bytes c → IsReadAs bytes d → c ≡ d }
     ensures read { (bytes : List ℕ) (c : List Context) (error : LinkTextFault) → IsReadAs bytes c
@@ -43,7 +43,7 @@ pub fn one_reading()
         → IsSameOrMemory e f }
 {}
 
-/// Each text has an answer of reading, beside that memory ran out: the contexts of a linkset, or an error.
+/// States that reading a text has a result, apart from `Memory`: the contexts of a linkset, or an error.
 pub fn some_reading()
     ensures { (bytes : List ℕ) → HasReading bytes }
 {}

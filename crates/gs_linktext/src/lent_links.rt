@@ -46,7 +46,7 @@ fn push_context<'a>(links: &mut Vec<LentLink<'a>>, context: &'a Context) -> Resu
     Ok(())
 }
 
-/// The links of contexts, in their order.
+/// Returns the links of contexts, in their order.
 pub(crate) fn lent_links(alloc: Global, contexts: &[Context]) -> Result<Vec<LentLink<'_>>, Memory>
     ensures { IfOk result (λ links. map seen links.items ≡ links_of_document contexts.now) }
 {

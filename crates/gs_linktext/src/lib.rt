@@ -2,28 +2,28 @@
 //! (RFC 8288, section 3), read and written.
 //!
 //! - `read` reads a linkset from a text, or gives its first error; `write` spells one.
-//! - What is written is read as the same links: `written_is_read`.
+//! - A written document is read as the same links: `written_is_read`.
 //! - `one_lexing`, `one_cut`, `one_reading`, `some_reading`, `spelled_is_read`: the other laws of reading and writing.
 //!
 //! # Example
 //!
-//! A link with two relation types, which gives two links. Their order is kept, so each has a context of its own. The gate
-//! runs this case, for which crates/vectors_web/src/linktexts.rt makes the call.
+//! A link with two relation types, which gives two links. Their order is kept, so each has a separate context. The gate runs this
+//! case, for which crates/vectors_web/src/linktexts.rt makes the call.
 //!
 //! ```text
 //! gs_linktext::read <https://a.example/1>;rel="b\x20a"\x20;\x20anchor="/414/0614141000012",
 //! {"linkset":[{"anchor":"/414/0614141000012","b":[{"href":"https://a.example/1"}]},{"a":[{"href":"https://a.example/1"}],"anchor":"/414/0614141000012"}]}
 //! ```
 //!
-//! # Where it differs from the standards
+//! # Differences from the standards
 //!
 //! - Each link has an `anchor`, and a relation type, which is not `anchor`: a linkset in JSON could not hold it otherwise.
-//! - Blanks, line breaks too, may stand between all tokens. A reference has no blank, and no byte but those of printable
-//!   ASCII.
-//! - Only the first `rel` and the first `anchor` of a link count (RFC 8288, sections 3.2 and 3.3), as do the first `type`,
-//!   `title` and `media`. `hreflang` and attributes of other names may come many times.
+//! - White space, including line breaks, is allowed between all tokens. A target URI has no white space, and only bytes of
+//!   printable ASCII.
+//! - Only the first `rel` and the first `anchor` of a link count (RFC 8288, sections 3.2 and 3.3), and the first `type`, `title`
+//!   and `media`. `hreflang` and other attributes may be repeated.
 //! - The texts are UTF-8, once the backslashes of a quoted string are taken off.
-//! - A value of a name that ends in `*` that is none of the form `UTF-8'LANG'TEXT` is ignored.
+//! - A value of a name that ends in `*` is ignored unless it has the form `UTF-8'LANG'TEXT`.
 #![tactic(auto)]
 
 mod attrs;

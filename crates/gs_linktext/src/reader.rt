@@ -14,7 +14,7 @@ use gs_linkset::{Context, LinkDoc, Target};
 use gs_linktext_grammar::{LinkTextFault, Param, WrittenLink, read_links};
 use std::alloc::Global;
 
-/// The relation types of parameters.
+/// Returns the relation types of parameters.
 fn types_of(alloc: Global, params: &[Param]) -> Result<Vec<&[u8]>, Memory>
     ensures { IfOk result (λ types. map (λ type. type.now) types.items ≡ types_of params.now) }
 {
@@ -24,14 +24,14 @@ fn types_of(alloc: Global, params: &[Param]) -> Result<Vec<&[u8]>, Memory>
     }
 }
 
-/// Whether one of the relation types is `anchor`.
+/// Returns whether one of the relation types is `anchor`.
 fn has_anchor(types: &[&[u8]]) -> bool
     ensures { result ≡ list_any (λ type. bytes_eq type.now (codes "anchor")) types.now }
 {
     types.iter().any(|name| *name == b"anchor".as_slice())
 }
 
-/// Whether there is no relation type, or one that is `anchor`.
+/// Returns whether there is no relation type, or one that is `anchor`.
 fn is_rel_error(types: &[&[u8]]) -> bool
     ensures { result ≡ is_rel_error (map (λ type. type.now) types.now) }
 {
@@ -102,14 +102,14 @@ fn add_link(
     Ok(())
 }
 
-/// The linkset of a text (RFC 9264, section 4.1): a list of links in the syntax of the `Link` field (RFC 8288, section 3), in
-/// which line breaks may stand wherever blanks may. Each relation type of a link's first `rel` gives a link, with the first
-/// `anchor` as its anchor.
+/// Returns the linkset of a text (RFC 9264, section 4.1): a list of links in the syntax of the `Link` field (RFC 8288, section
+/// 3), with line breaks allowed as white space. Each relation type of a link's first `rel` gives a link, with the first `anchor`
+/// as its anchor.
 ///
-/// `Syntax` comes exactly where the bytes are no document of the grammar. Else the first link, counted from 0, without an
-/// `anchor` gives `Anchor`, or one with no relation type, or with one that is `anchor`, gives `Rel`; in one link `Anchor` comes
-/// first. `Memory` may come in place of any answer. The time is linear in the bytes, but for the order of the names of a link's
-/// parameters, and for the copies of a target that has several relation types.
+/// Returns `Syntax` if and only if the bytes are not a document of the grammar. Otherwise the first bad link decides, counted
+/// from 0: one without an `anchor` gives `Anchor`, and one with no relation type, or with the type `anchor`, gives `Rel`.
+/// `Anchor` comes first within a link. May return `Memory` instead. The time is linear in the bytes, except for sorting the names
+/// of a link's parameters, and for copying a target with several relation types.
 pub fn read(alloc: Global, bytes: &[u8]) -> Result<LinkDoc, LinkTextFault>
     ensures read { IfOk result (λ doc. IsReadAs bytes.now doc) }
     ensures rejected { IfErr result (IsReadError bytes.now) }

@@ -12,14 +12,14 @@ use gs_chars::Text;
 use gs_linkset::{Attr, AttrValue};
 use gs_linktext_grammar::{is_blank, is_quotable, is_target_byte, is_token};
 
-/// Whether each byte may stand between `<` and `>`.
+/// Returns whether each byte is allowed between `<` and `>`.
 fn are_target_bytes(href: &[u8]) -> bool
     ensures { result ≡ list_all is_target_byte href.now }
 {
     href.iter().all(|c| is_target_byte(*c))
 }
 
-/// Whether a reference is empty, or has a byte that cannot stand between `<` and `>`.
+/// Returns whether a target URI is empty, or has a byte that is not allowed between `<` and `>`.
 fn is_unspellable_href(href: &[u8]) -> bool
     ensures { result ≡ is_unspellable_href href.now }
 {
@@ -27,42 +27,42 @@ fn is_unspellable_href(href: &[u8]) -> bool
     !spellable
 }
 
-/// Whether a text has a blank.
+/// Returns whether a text has a blank.
 fn has_blank(text: &[u8]) -> bool
     ensures { result ≡ list_any is_blank text.now }
 {
     text.iter().any(|c| is_blank(*c))
 }
 
-/// Whether a relation type is empty, or has a blank.
+/// Returns whether a relation type is empty, or has a blank.
 fn is_unspellable_type(name: &[u8]) -> bool
     ensures { result ≡ is_unspellable_type name.now }
 {
     name.is_empty() || has_blank(name)
 }
 
-/// Whether a text has a byte that cannot stand in a quoted string.
+/// Returns whether a text has a byte that cannot are in a quoted string.
 fn is_unspellable_text(text: &[u8]) -> bool
     ensures { result ≡ is_unspellable_text text.now }
 {
     text.iter().any(|c| !is_quotable(*c))
 }
 
-/// Whether a name has an upper-case letter.
+/// Returns whether a name has an upper-case letter.
 fn has_upper(name: &[u8]) -> bool
     ensures { result ≡ list_any is_upper name.now }
 {
     name.iter().any(|c| c.is_ascii_uppercase())
 }
 
-/// Whether each byte is one of a token.
+/// Returns whether each byte is one of a token.
 fn are_tokens(name: &[u8]) -> bool
     ensures { result ≡ list_all is_token name.now }
 {
     name.iter().all(|c| is_token(*c))
 }
 
-/// Whether a name is empty, or has a byte that no name has.
+/// Returns whether a name is empty, or has a byte that no name has.
 fn is_no_name(name: &[u8]) -> bool
     ensures { result ≡ not (are_some is_token name.now) }
 {
@@ -70,21 +70,21 @@ fn is_no_name(name: &[u8]) -> bool
     !token
 }
 
-/// Whether a name is none of an attribute that can be spelled.
+/// Returns whether a name is not that of an attribute that can be spelled.
 fn is_unspellable_name(name: &[u8]) -> bool
     ensures { result ≡ is_unspellable_name name.now }
 {
     is_no_name(name) || has_upper(name) || name == b"rel".as_slice() || name == b"anchor".as_slice()
 }
 
-/// Whether the language of a text has a byte that none has.
+/// Returns whether the language of a text has a byte that none has.
 fn has_unspellable_language(pair: &(Text, Text)) -> bool
     ensures { result ≡ has_unspellable_language pair.now }
 {
     pair.1.as_bytes().iter().any(|c| !is_language_byte(*c))
 }
 
-/// Whether one of the texts cannot be quoted.
+/// Returns whether one of the texts cannot be quoted.
 fn has_unspellable_text(texts: &[Text]) -> bool
     ensures { result ≡ list_any is_unspellable_text texts.now }
 {
@@ -93,14 +93,14 @@ fn has_unspellable_text(texts: &[Text]) -> bool
         .any(|text| is_unspellable_text(text.as_bytes()))
 }
 
-/// Whether one of the texts has a language that cannot be spelled.
+/// Returns whether one of the texts has a language that cannot be spelled.
 fn has_unspellable_pair(pairs: &[(Text, Text)]) -> bool
     ensures { result ≡ list_any has_unspellable_language pairs.now }
 {
     pairs.iter().any(|pair| has_unspellable_language(pair))
 }
 
-/// Whether a value has an empty list, or a text or a language that cannot be spelled.
+/// Returns whether a value has an empty list, or a text or a language that cannot be spelled.
 fn is_unspellable_value(value: &AttrValue) -> bool
     ensures { result ≡ is_unspellable_value value.now }
 {
@@ -117,21 +117,21 @@ fn is_unspellable_value(value: &AttrValue) -> bool
     }
 }
 
-/// Whether an attribute cannot be spelled.
+/// Returns whether an attribute cannot be spelled.
 fn is_unspellable_attr(attr: &Attr) -> bool
     ensures { result ≡ is_unspellable_attr attr.now }
 {
     is_unspellable_name(attr.name.as_bytes()) || is_unspellable_value(&attr.value)
 }
 
-/// Whether one of the attributes cannot be spelled.
+/// Returns whether one of the attributes cannot be spelled.
 fn has_unspellable_attr(attrs: &[Attr]) -> bool
     ensures { result ≡ list_any is_unspellable_attr attrs.now }
 {
     attrs.iter().any(|attr| is_unspellable_attr(attr))
 }
 
-/// Whether a link cannot be spelled.
+/// Returns whether a link cannot be spelled.
 fn cannot_spell(link: &LentLink<'_>) -> bool
     ensures { result ≡ cannot_spell (seen link.now) }
 {
@@ -142,14 +142,14 @@ fn cannot_spell(link: &LentLink<'_>) -> bool
         || has_unspellable_attr(link.target.attrs.items())
 }
 
-/// The number of the first link that cannot be spelled.
+/// Returns the number of the first link that cannot be spelled.
 fn position_of_unspellable(links: &[LentLink<'_>]) -> Option<usize>
     ensures { result ≡ position (λ link. cannot_spell (seen link)) links.now }
 {
     links.iter().position(|link| cannot_spell(link))
 }
 
-/// The number of the first link of a document that cannot be spelled.
+/// Returns the number of the first link of a document that cannot be spelled.
 pub(crate) fn first_unspellable(links: &[LentLink<'_>]) -> Option<usize>
     ensures { result ≡ position cannot_spell (map seen links.now) }
 {

@@ -10,7 +10,7 @@ use gs_chars::Memory;
 use gs_linktext_grammar::{Param, is_blank};
 use std::alloc::{AllocError, Global};
 
-/// The parameter of a name that comes first.
+/// Returns the parameter of a name that comes first.
 fn first_param<'a>(name: &[u8], params: &'a [Param]) -> Option<&'a Param>
     ensures { option_map (λ param. param.now) result
         ≡ find (λ param. bytes_eq param.name name.now) params.now }
@@ -18,7 +18,7 @@ fn first_param<'a>(name: &[u8], params: &'a [Param]) -> Option<&'a Param>
     params.iter().find(|param| param.name.as_bytes() == name)
 }
 
-/// The value of the first parameter of a name.
+/// Returns the value of the first parameter of a name.
 pub(crate) fn first_value<'a>(name: &[u8], params: &'a [Param]) -> Option<&'a [u8]>
     ensures { option_map (λ value. value.now) result ≡ first_value name.now params.now }
 {
@@ -28,14 +28,14 @@ pub(crate) fn first_value<'a>(name: &[u8], params: &'a [Param]) -> Option<&'a [u
     }
 }
 
-/// The parts of a text between its blanks.
+/// Returns the parts of a text between its blanks.
 fn parts_of(alloc: Global, text: &[u8]) -> Result<Vec<&[u8]>, AllocError>
     ensures { IfOk result (λ parts. map (λ part. part.now) parts.items ≡ slice_split is_blank text.now) }
 {
     text.split(|c| is_blank(*c)).collect(alloc)
 }
 
-/// The parts that have a byte.
+/// Returns the parts that have a byte.
 fn without_empty(parts: Vec<&[u8]>) -> Vec<&[u8]>
     ensures { result.items ≡ filter (λ part. is_some_part part.now) parts.entry.items }
 {
@@ -44,7 +44,7 @@ fn without_empty(parts: Vec<&[u8]>) -> Vec<&[u8]>
     parts
 }
 
-/// The relation types of a text, the parts between its blanks that have a byte.
+/// Returns the relation types of a text, the parts between its blanks that have a byte.
 pub(crate) fn types_in(alloc: Global, text: &[u8]) -> Result<Vec<&[u8]>, Memory>
     ensures { IfOk result (λ types. map (λ type. type.now) types.items ≡ types_in text.now) }
 {

@@ -165,7 +165,7 @@ fn write_link(out: &mut Vec<u8>, link: &LentLink<'_>) -> Result<(), Memory>
     write_attrs(out, link.target.attrs.items())
 }
 
-/// Appends links behind another.
+/// Appends links after another.
 fn write_behind(out: &mut Vec<u8>, links: &[LentLink<'_>]) -> Result<(), Memory>
     ensures { IfOk result (λ _. out.new.items
         ≡ out.old.items ++ flat_map spelled_behind (map seen links.now)) }
@@ -188,14 +188,14 @@ fn write_links(out: &mut Vec<u8>, links: &[LentLink<'_>]) -> Result<(), Memory>
     write_behind(out, behind)
 }
 
-/// The text of a linkset (RFC 9264, section 4.1): of each link its reference, its relation type, its anchor and its attributes,
-/// in the order of the document, with a comma and a line break between two links.
+/// Returns the text of a linkset (RFC 9264, section 4.1): the target URI, the relation type, the anchor and the attributes of
+/// each link, in the order of the document, with a comma and a line break between two links.
 ///
-/// `CannotSpell` names the first link, counted from 0 in the order of the document, that text cannot hold: its reference is
-/// empty or has a byte that cannot stand between `<` and `>`; its relation type is empty or has a blank; one of its quoted
-/// texts has the byte 127, or one below 32 that is not 9; an attribute's name is no name of the grammar, has an upper-case
-/// letter, or is `rel` or `anchor`; an attribute has an empty list; or a language has another byte than letters, digits and
-/// `-`. `Memory` may come in place of any answer. The time is linear in the bytes of the text.
+/// `CannotSpell` names the first link, counted from 0 in the order of the document, that text cannot hold. Its target URI is
+/// empty or has a byte that is not allowed between `<` and `>`; its relation type is empty or has white space; one of its quoted
+/// texts has the byte 127, or one below 32 that is not 9; an attribute's name is not a name of the grammar, has an upper-case
+/// letter, or is `rel` or `anchor`; an attribute has an empty list; or a language has a byte other than letters, digits and `-`.
+/// May return `Memory` instead. The time is linear in the bytes of the text.
 pub fn write(alloc: Global, doc: &LinkDoc) -> Result<Text, LinkTextWriteFault>
     ensures spelled { IfOk result (λ text. text ≡ spelled doc.now) }
     ensures spellable { IfOk result (λ _. position cannot_spell (links_of_document doc.now) ≡ None) }

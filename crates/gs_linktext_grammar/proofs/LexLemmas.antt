@@ -20,7 +20,7 @@ not_some x h = let e : None ≡ Some x = h in cc
 pub equal_number : (a b : ℕ) → (a == b) ≡ true → a ≡ b
 equal_number a b h = grind (arith, nat_tests)
 
--- what is read is this lexeme and this rest
+-- the result of reading is this lexeme and this rest
 abbrev IsRead : Option (Lexeme × List ℕ) → Lexeme → List ℕ → Type 0
 IsRead read x rest = read ≡ Some (x, rest)
 
@@ -190,7 +190,7 @@ prefix_is_lexeme x (c ∷ text) rest h = by_comma (c == 44) refl
     by_comma true e = sign Comma 44 e (rw e at h) refl
     by_comma false e = by_semicolon (c == 59) refl e
 
--- ---- what is behind a lexeme is shorter than the text
+-- ---- the rest after a lexeme is shorter than the text
 
 shorter_byte : (c n : ℕ) (read : Option (List ℕ × List ℕ)) (value rest : List ℕ) → ((v r : List ℕ) → ◌≡◌ {A = Option (List ℕ × List ℕ)} read (Some (v, r)) → length r < n) → ◌≡◌ {A = Option (List ℕ × List ℕ)} (with_byte c read) (Some (value, rest)) → length rest < n
 shorter_byte c n None value rest h e = absurd (not_some (value, rest) e)

@@ -1,4 +1,4 @@
--- The bytes of a kind at the start of a text, and what is behind them, by their number.
+-- The bytes of a kind at the start of a text, and the rest, by the number of bytes.
 use Rattle.std.proofs.Common.{◌≡◌, ℕ, suc, ◌+◌, Bool, List, [], ◌∷◌, ◌++◌, Option, Some, None, take, drop, refl, ap, sym, ◌∙◌, inl, inr, arith, append_assoc}
 use Rattle.std.specs.List.{prefix_len}
 use Rattle.gs_linktext_grammar.specs.Prefixes.{said_from, with_bytes}

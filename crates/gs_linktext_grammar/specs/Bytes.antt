@@ -11,15 +11,15 @@ unfoldable pub is_token : ℕ → Bool
 is_token c =
     list_any (λ x. x == c) (codes "!#$%&'*+-.^_`|~0123456789ABCDEFGHIJKLMNOPQRSTUVWXYZabcdefghijklmnopqrstuvwxyz")
 
--- trusted, RFC 8288, section 3, and RFC 3986: a byte that may stand between `<` and `>`
+-- trusted, RFC 8288, section 3, and RFC 3986: holds if the byte is allowed between `<` and `>`
 abbrev pub is_target_byte : ℕ → Bool
 is_target_byte c = nat_le 33 c && (nat_le c 126 && not (c == 60 || c == 62))
 
--- trusted, RFC 9110, section 5.6.4: a byte that may stand in a quoted string behind a backslash
+-- trusted, RFC 9110, section 5.6.4: a byte that may be in a quoted string after a backslash
 abbrev pub is_quotable : ℕ → Bool
 is_quotable c = c == 9 || (nat_le 32 c && not (c == 127))
 
--- trusted, RFC 9110, section 5.6.4: a byte that stands in a quoted string by itself
+-- trusted, RFC 9110, section 5.6.4: a byte that is in a quoted string by itself
 abbrev pub is_quoted_byte : ℕ → Bool
 is_quoted_byte c = is_quotable c && not (c == 34 || c == 92)
 
@@ -28,7 +28,7 @@ abbrev pub prefix_of : (ℕ → Bool) → List ℕ → List ℕ
 prefix_of test [] = []
 prefix_of test (c ∷ rest) = if test c then c ∷ prefix_of test rest else []
 
--- trusted, own: what is behind the bytes of a kind at the start of a text
+-- trusted, own: the rest of a text after the bytes of a kind at its start
 abbrev pub after_prefix : (ℕ → Bool) → List ℕ → List ℕ
 after_prefix test [] = []
 after_prefix test (c ∷ rest) = if test c then after_prefix test rest else c ∷ rest

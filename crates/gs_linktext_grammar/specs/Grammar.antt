@@ -74,7 +74,7 @@ param_with name value =
     if is_utf8 (map to_ascii_lowercase name) && is_utf8 value
     then Some (record { name = map to_ascii_lowercase name; value = value }) else None
 
--- trusted, own: a parameter where it has a name and a value
+-- trusted, own: the parameter of a name and a value, if there are both
 abbrev pub param_by : Option (List ℕ) → Option (List ℕ) → Option Param
 param_by name value = option_and_then (λ n. option_and_then (λ v. param_with n v) value) name
 
@@ -90,13 +90,13 @@ param_of (name ∷ sign ∷ value ∷ x ∷ xs) = None
 abbrev pub params_of : List (List Lexeme) → Option (List Param)
 params_of parts = every param_of (filter is_some_part parts)
 
--- trusted, RFC 8288, section 3: a part that is a reference alone
+-- trusted, RFC 8288, section 3: the target URI of a part that is nothing else
 abbrev pub href_of : List Lexeme → Option (List ℕ)
 href_of [] = None
 href_of (x ∷ []) = href_in x
 href_of (x ∷ y ∷ xs) = None
 
--- trusted, RFC 8288, section 3: a link is a reference, and parameters each behind a semicolon; an empty one is ignored
+-- trusted, RFC 8288, section 3: a link is a reference, and parameters each after a semicolon; an empty one is ignored
 abbrev pub link_of : List (List Lexeme) → Option WrittenLink
 link_of [] = None
 link_of (head ∷ parts) =

@@ -6,12 +6,12 @@ use Rattle.gs_linktext_grammar.specs.Bytes.{is_blank, is_quotable, is_quoted_byt
 use Rattle.gs_linktext_grammar.specs.declared.lexeme.Lexeme.{Lexeme}
 use Rattle.gs_linktext_grammar.specs.declared.lexeme.Lexeme.TheVariants.{Comma, Semicolon, Equals, Word, Target, Quoted}
 
--- trusted, own: a byte before of a text, where there is one
+-- trusted, own: the text with a byte before it, if there is a text
 abbrev pub with_byte : ℕ → Option (List ℕ × List ℕ) → Option (List ℕ × List ℕ)
 with_byte c read = option_map (λ pair. (c ∷ pair.0, pair.1)) read
 
--- trusted, RFC 9110, section 5.6.4: what a quoted string says behind its first mark, its backslashes taken off, and what
--- stands behind its last mark; none where it does not end, or has a byte that it cannot have
+-- trusted, RFC 9110, section 5.6.4: the text of a quoted string after its first quotation mark, without its backslashes, and the
+-- rest after its last mark; none if it does not end, or has a byte that is not allowed
 abbrev pub unquoted : List ℕ → Option (List ℕ × List ℕ)
 unquoted [] = None
 unquoted (c ∷ []) = if c == 34 then Some ([], []) else None

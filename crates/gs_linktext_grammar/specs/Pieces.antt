@@ -17,7 +17,7 @@ abbrev pub IsPiece : List ℕ → List Lexeme → Option (List ℕ) → Type 0
 IsPiece text piece None = has_no_comma piece × Lexed piece text
 IsPiece text piece (Some rest) = has_no_comma piece × Chain (piece ++ Comma ∷ []) text rest
 
--- the values so far and that of a further part, where it has one; a part with nothing in it is ignored
+-- the values so far and the value of a further part, if it has one; an empty part is ignored
 abbrev pub with_part : {X Y : Type 0} → (List X → Option Y) → List X → List Y → Option (List Y)
 with_part f part ys = if is_some_part part then option_map (λ y. ys ++ y ∷ []) (f part) else Some ys
 
@@ -25,7 +25,7 @@ with_part f part ys = if is_some_part part then option_map (λ y. ys ++ y ∷ []
 abbrev pub given : {X Y : Type 0} → (List X → Option Y) → List (List X) → Option (List Y)
 given f parts = every f (filter is_some_part parts)
 
--- values before of others, where there are those
+-- the values before others, if there are others
 abbrev pub prepended : {Y : Type 0} → List Y → Option (List Y) → Option (List Y)
 prepended ys others = option_map (λ more. ys ++ more) others
 

@@ -6,20 +6,20 @@ use Rattle.gs_linktext_grammar.specs.Lexemes.{unquoted, with_byte}
 use Rattle.gs_linktext_grammar.specs.declared.lexeme.Lexeme.{Lexeme}
 use Rattle.gs_linktext_grammar.specs.declared.lexeme.Lexeme.TheVariants.{Comma, Semicolon, Equals, Word, Target, Quoted}
 
--- the text behind its blanks
+-- the text after its blanks
 abbrev pub after_blanks : List ℕ → List ℕ
 after_blanks text = after_prefix is_blank text
 
--- a word of these bytes, and what is behind it
+-- a word of these bytes, and the rest after it
 abbrev pub word_of : List ℕ → List ℕ → Option (Lexeme × List ℕ)
 word_of word rest = if length word == 0 then None else Some (Word word, rest)
 
--- what a target of these bytes and what is behind its closing bracket are
+-- the target of these bytes, and the rest after its closing bracket
 abbrev pub target_of : List ℕ → List ℕ → Option (Lexeme × List ℕ)
 target_of href [] = None
 target_of href (c ∷ rest) = if c == 62 then (if length href == 0 then None else Some (Target href, rest)) else None
 
--- what a quoted string says where it goes on with this byte, or ends, and then with the rest
+-- the text of a quoted string that goes on with this byte, or ends, and then with the rest
 abbrev pub said_from : Option ℕ → List ℕ → Option (List ℕ × List ℕ)
 said_from None rest = Some ([], rest)
 said_from (Some c) rest = with_byte c (unquoted rest)
@@ -32,7 +32,7 @@ with_bytes value read = option_map (λ pair. (value ++ pair.0, pair.1)) read
 abbrev pub quoted_of : Option (List ℕ × List ℕ) → Option (Lexeme × List ℕ)
 quoted_of read = option_map (λ pair. (Quoted pair.0, pair.1)) read
 
--- the lexeme at the start of a text that begins with no blank, and what is behind it
+-- the lexeme at the start of a text that does not begin with white space, and the rest after it
 abbrev pub first_lexeme : List ℕ → Option (Lexeme × List ℕ)
 first_lexeme [] = None
 first_lexeme (c ∷ rest) =

@@ -34,7 +34,7 @@ impl Model for CheckedText {
     ghost invariant = { λ a. is_utf8 a.text ≡ true };
 }
 
-/// Whether the bytes are UTF-8.
+/// Returns whether the bytes are UTF-8.
 pub fn is_utf8(bytes: &[u8]) -> bool
     ensures { result ≡ is_utf8 bytes.now }
 {
@@ -45,7 +45,7 @@ pub fn is_utf8(bytes: &[u8]) -> bool
 }
 
 impl CheckedText {
-    /// The text, where it is UTF-8. It takes no memory.
+    /// Returns the text if it is UTF-8. Does not allocate.
     pub fn new(text: Text) -> Option<CheckedText>
         ensures some { IfSome result (λ checked. (checked ≡ text) × (is_utf8 text ≡ true)) }
         ensures none { IfNone result (is_utf8 text ≡ false) }
@@ -56,7 +56,7 @@ impl CheckedText {
         None
     }
 
-    /// The bytes of the text.
+    /// Returns the bytes of the text.
     pub fn as_bytes(&self) -> &[u8]
         ensures value { result.now ≡ self.now }
         ensures shape { is_utf8 self.now ≡ true }
@@ -64,7 +64,7 @@ impl CheckedText {
         self.text.as_bytes()
     }
 
-    /// A text of the same bytes. The one error is that memory ran out.
+    /// Returns a text of the same bytes. Fails only with `Memory`.
     pub fn copy(&self, alloc: Global) -> Result<Text, Memory>
         ensures value { IfOk result (λ text. text ≡ self.now) }
         ensures shape { is_utf8 self.now ≡ true }
@@ -74,7 +74,7 @@ impl CheckedText {
 }
 
 impl CheckedText {
-    /// An equal text. The one error is that memory ran out.
+    /// Returns an equal text. Fails only with `Memory`.
     pub fn copied(&self, alloc: Global) -> Result<CheckedText, Memory>
         ensures { IfOk result (λ text. text ≡ self.now) }
     {

@@ -3,10 +3,10 @@ ghost use Rattle.std.specs.Prelude.{◌≡◌};
 use gs_chars::Memory;
 use std::alloc::{AllocError, AllocFailed};
 
-/// Why a text is no linkset. Links are counted from 0, in the order of the text.
+/// Why a text is not a linkset. Links are counted from 0, in the order of the text.
 #[derive(Clone, Copy, Debug)]
 pub enum LinkTextFault {
-    /// The bytes are no document of the grammar.
+    /// The bytes are not document of the grammar.
     Syntax,
     /// The link at this index has no parameter `anchor`.
     Anchor(usize),

@@ -11,7 +11,7 @@ use crate::lexeme::Lexeme;
 use gs_chars::Text;
 use std::alloc::Global;
 
-/// The number of blanks at the start of the text.
+/// Returns the number of blanks at the start of the text.
 fn count_blanks(text: &[u8]) -> usize
     ensures number { result ≡ prefix_len is_blank text.now }
     ensures within { result ≤ length text.now }
@@ -19,7 +19,7 @@ fn count_blanks(text: &[u8]) -> usize
     text.iter().take_while(|c| is_blank(**c)).count()
 }
 
-/// The number of bytes of a token at the start of the text.
+/// Returns the number of bytes of a token at the start of the text.
 fn count_token_bytes(text: &[u8]) -> usize
     ensures number { result ≡ prefix_len is_token text.now }
     ensures within { result ≤ length text.now }
@@ -27,7 +27,7 @@ fn count_token_bytes(text: &[u8]) -> usize
     text.iter().take_while(|c| is_token(**c)).count()
 }
 
-/// The number of bytes of a target at the start of the text.
+/// Returns the number of bytes of a target at the start of the text.
 fn count_target_bytes(text: &[u8]) -> usize
     ensures number { result ≡ prefix_len is_target_byte text.now }
     ensures within { result ≤ length text.now }
@@ -35,7 +35,7 @@ fn count_target_bytes(text: &[u8]) -> usize
     text.iter().take_while(|c| is_target_byte(**c)).count()
 }
 
-/// The text behind its blanks.
+/// Returns the text after its blanks.
 #[tactic(auto, using(crate::proofs::PrefixLemmas::drop_prefix))]
 pub(crate) fn after_blanks(text: &[u8]) -> &[u8]
     ensures value { result.now ≡ after_blanks text.now }
@@ -44,7 +44,7 @@ pub(crate) fn after_blanks(text: &[u8]) -> &[u8]
     text.split_at(count_blanks(text)).1
 }
 
-/// The bytes of a token at the start of the text, and what is behind them.
+/// Returns the bytes of a token at the start of the text, and the rest.
 #[tactic(auto, using(crate::proofs::PrefixLemmas::take_prefix, crate::proofs::PrefixLemmas::drop_prefix))]
 fn split_word(text: &[u8]) -> (&[u8], &[u8])
     ensures prefix { result.0.now ≡ prefix_of is_token text.now }
@@ -53,7 +53,7 @@ fn split_word(text: &[u8]) -> (&[u8], &[u8])
     text.split_at(count_token_bytes(text))
 }
 
-/// The bytes of a target at the start of the text, and what is behind them.
+/// Returns the bytes of a target at the start of the text, and the rest.
 #[tactic(auto, using(crate::proofs::PrefixLemmas::take_prefix, crate::proofs::PrefixLemmas::drop_prefix))]
 fn split_target(text: &[u8]) -> (&[u8], &[u8])
     ensures prefix { result.0.now ≡ prefix_of is_target_byte text.now }
@@ -62,14 +62,14 @@ fn split_target(text: &[u8]) -> (&[u8], &[u8])
     text.split_at(count_target_bytes(text))
 }
 
-/// A lexeme, and what is behind it.
+/// A lexeme, and the rest of the text.
 #[derive(Drop)]
 pub(crate) struct Next<'a> {
     pub(crate) lexeme: Lexeme,
     pub(crate) rest: &'a [u8],
 }
 
-/// A word of these bytes. `Syntax` comes where there are none.
+/// Returns a word of these bytes. `Syntax` is returned if there are none.
 fn word_of<'a>(alloc: Global, word: &[u8], rest: &'a [u8]) -> Result<Next<'a>, LinkTextFault>
     ensures ok { IfOk result (λ next. word_of word.now rest.now ≡ Some (next.lexeme, next.rest.now)) }
     ensures err { IfErr result (IsSyntax (word_of word.now rest.now ≡ None)) }
@@ -81,7 +81,7 @@ fn word_of<'a>(alloc: Global, word: &[u8], rest: &'a [u8]) -> Result<Next<'a>, L
     Ok(Next { lexeme, rest })
 }
 
-/// The target of these bytes. `Syntax` comes where there are none, and where no closing bracket is behind them.
+/// Returns the target of these bytes. Returns `Syntax` if there are none, or if no closing bracket follows.
 fn target_of<'a>(alloc: Global, href: &[u8], behind: &'a [u8]) -> Result<Next<'a>, LinkTextFault>
     ensures ok { IfOk result (λ next. target_of href.now behind.now ≡ Some (next.lexeme, next.rest.now)) }
     ensures err { IfErr result (IsSyntax (target_of href.now behind.now ≡ None)) }
@@ -99,14 +99,14 @@ fn target_of<'a>(alloc: Global, href: &[u8], behind: &'a [u8]) -> Result<Next<'a
     Ok(Next { lexeme, rest })
 }
 
-/// The next byte of a quoted string, or its end, and what is behind it.
+/// The next byte of a quoted string, or its end, and the rest of the text.
 #[derive(Clone, Copy)]
 struct Step<'a> {
     byte: Option<u8>,
     rest: &'a [u8],
 }
 
-/// The next byte of a quoted string, without its backslash. `None` comes where it has none and does not end.
+/// Returns the next byte of a quoted string, without its backslash. `None` is returned if it has none and does not end.
 fn quoted_step(text: &[u8]) -> Option<Step<'_>>
     ensures some { IfSome result (λ step. unquoted text.now ≡ said_from step.byte step.rest.now) }
     ensures none { IfNone result (unquoted text.now ≡ None) }
@@ -138,7 +138,7 @@ fn quoted_step(text: &[u8]) -> Option<Step<'_>>
     None
 }
 
-/// The quoted string whose first mark is at the start of the text.
+/// Returns the quoted string whose first mark is at the start of the text.
 fn quoted_of<'a>(alloc: Global, text: &'a [u8]) -> Result<Next<'a>, LinkTextFault>
     ensures ok { IfOk result (λ next. quoted_of (unquoted text.now) ≡ Some (next.lexeme, next.rest.now)) }
     ensures err { IfErr result (IsSyntax (quoted_of (unquoted text.now) ≡ None)) }
@@ -156,7 +156,7 @@ fn quoted_of<'a>(alloc: Global, text: &'a [u8]) -> Result<Next<'a>, LinkTextFaul
     Err(LinkTextFault::Syntax)
 }
 
-/// The lexeme at the start of the text. `Syntax` comes where there is none.
+/// Returns the lexeme at the start of the text. `Syntax` is returned if there is none.
 fn read_lexeme(alloc: Global, text: &[u8]) -> Result<Next<'_>, LinkTextFault>
     ensures ok { IfOk result (λ next. first_lexeme text.now ≡ Some (next.lexeme, next.rest.now)) }
     ensures err { IfErr result (IsSyntax (first_lexeme text.now ≡ None)) }
@@ -189,7 +189,7 @@ fn read_lexeme(alloc: Global, text: &[u8]) -> Result<Next<'_>, LinkTextFault>
     }
 }
 
-/// The lexeme at the start of the text, and what is behind it, which is shorter. `Syntax` comes where there is none.
+/// Returns the lexeme at the start of the text, and the rest, which is shorter. Returns `Syntax` if there is no lexeme.
 #[tactic(auto, using(crate::proofs::LexLemmas::shorter_prefix))]
 pub(crate) fn first_lexeme(alloc: Global, text: &[u8]) -> Result<Next<'_>, LinkTextFault>
     ensures ok { IfOk result (λ next. first_lexeme text.now ≡ Some (next.lexeme, next.rest.now)) }

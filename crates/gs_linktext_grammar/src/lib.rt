@@ -1,8 +1,8 @@
 //! The grammar of linksets as text (RFC 9264, section 4.1; RFC 8288, section 3): lexemes, and the links that are written with
 //! them. gs_linktext reads and writes linksets with it.
 //!
-//! - `read_links` gives the links of a text as they are written, with their parameters in order; `one_lexing` is the law that
-//!   a text has one list of lexemes.
+//! - `read_links` returns the links of a text as written, with their parameters in order; `one_lexing` is the law that a text has
+//!   one list of lexemes.
 //!
 //! # Example
 //!
@@ -14,10 +14,10 @@
 //! https://a.example/1 [ rel item anchor /414/0614141000012 title a,b ]
 //! ```
 //!
-//! # Where it differs from the standards
+//! # Differences from the standards
 //!
-//! - Blanks, line breaks too, may stand between all tokens.
-//! - Names and values are UTF-8; a text with another one is no document.
+//! - White space, including line breaks, is allowed between all tokens.
+//! - Names and values are UTF-8; a text with another one is not a document.
 #![tactic(auto)]
 
 mod bytes;

@@ -14,14 +14,14 @@ use crate::written_link::WrittenLink;
 use gs_chars::{List, Memory};
 use std::alloc::{AllocError, Global};
 
-/// The parts of the lexemes between the semicolons.
+/// Returns the parts of the lexemes between the semicolons.
 fn parts_of(alloc: Global, piece: &[Lexeme]) -> Result<Vec<&[Lexeme]>, AllocError>
     ensures { IfOk result (λ parts. map (λ part. part.now) parts.items ≡ slice_split is_semicolon piece.now) }
 {
     piece.split(|lexeme| lexeme.is_semicolon()).collect(alloc)
 }
 
-/// The reference of a lexeme.
+/// Returns the reference of a lexeme.
 fn href_in(alloc: Global, lexeme: &Lexeme) -> Result<Option<CheckedText>, Memory>
     ensures { IfOk result (λ href. href ≡ href_in lexeme.now) }
 {
@@ -31,7 +31,7 @@ fn href_in(alloc: Global, lexeme: &Lexeme) -> Result<Option<CheckedText>, Memory
     }
 }
 
-/// The reference of a part that is one alone.
+/// Returns the target URI of a part that is nothing else.
 fn href_of(alloc: Global, part: &[Lexeme]) -> Result<Option<CheckedText>, Memory>
     ensures { IfOk result (λ href. href ≡ href_of part.now) }
 {
@@ -41,7 +41,7 @@ fn href_of(alloc: Global, part: &[Lexeme]) -> Result<Option<CheckedText>, Memory
     }
 }
 
-/// The link of the parts between semicolons. `Syntax` comes where they are none.
+/// Returns the link of the parts between semicolons. Returns `Syntax` if they are not a link.
 fn link_of(alloc: Global, parts: &[&[Lexeme]]) -> Result<WrittenLink, LinkTextFault>
     ensures ok { IfOk result (λ link. link_of (map (λ part. part.now) parts.now) ≡ Some link) }
     ensures err { IfErr result (IsSyntax (link_of (map (λ part. part.now) parts.now) ≡ None)) }
@@ -56,7 +56,7 @@ fn link_of(alloc: Global, parts: &[&[Lexeme]]) -> Result<WrittenLink, LinkTextFa
     Ok(WrittenLink { href, params })
 }
 
-/// The link of the lexemes between two commas. `Syntax` comes where they are none.
+/// Returns the link of the lexemes between two commas. Returns `Syntax` if they are not a link.
 fn written_link(alloc: Global, piece: &[Lexeme]) -> Result<WrittenLink, LinkTextFault>
     ensures ok { IfOk result (λ link. written_link piece.now ≡ Some link) }
     ensures err { IfErr result (IsSyntax (written_link piece.now ≡ None)) }
@@ -65,7 +65,7 @@ fn written_link(alloc: Global, piece: &[Lexeme]) -> Result<WrittenLink, LinkText
     link_of(alloc, parts.as_slice())
 }
 
-/// Adds the link of the lexemes between two commas, where there are any. `Syntax` comes where they are no link.
+/// Appends the link of the lexemes between two commas, if there are any. Returns `Syntax` if they are not a link.
 fn push_link(
     alloc: Global,
     links: &mut Vec<WrittenLink>,
@@ -81,7 +81,7 @@ fn push_link(
     Ok(())
 }
 
-/// The links of a document, link by link. `Syntax` comes exactly where the bytes are none.
+/// Returns the links of a document, link by link. Returns `Syntax` if and only if the bytes are not a document.
 pub fn read_links(alloc: Global, text: &[u8]) -> Result<Vec<WrittenLink>, LinkTextFault>
     ensures ok { IfOk result (λ links. IsDocument text.now links.items) }
     ensures err { IfErr result (IsSyntax ((links : List WrittenLink) → IsDocument text.now links → ⊥)) }

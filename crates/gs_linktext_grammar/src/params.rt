@@ -12,7 +12,7 @@ use crate::written_link::Param;
 use gs_chars::{Memory, Text};
 use std::alloc::Global;
 
-/// The text with its letters in lower case.
+/// Returns the text with its letters in lower case.
 fn lower(alloc: Global, word: &[u8]) -> Result<Text, Memory>
     ensures { IfOk result (λ text. text ≡ map to_ascii_lowercase word.now) }
 {
@@ -23,7 +23,7 @@ fn lower(alloc: Global, word: &[u8]) -> Result<Text, Memory>
     Ok(name)
 }
 
-/// The bytes of a word.
+/// Returns the bytes of a word.
 fn name_in(lexeme: &Lexeme) -> Option<&[u8]>
     ensures { option_map (λ name. name.now) result ≡ name_in lexeme.now }
 {
@@ -33,7 +33,7 @@ fn name_in(lexeme: &Lexeme) -> Option<&[u8]>
     }
 }
 
-/// The bytes of a word, or what a quoted string says.
+/// Returns the bytes of a word, or what a quoted string says.
 fn value_in(lexeme: &Lexeme) -> Option<&[u8]>
     ensures { option_map (λ value. value.now) result ≡ value_in lexeme.now }
 {
@@ -43,7 +43,7 @@ fn value_in(lexeme: &Lexeme) -> Option<&[u8]>
     }
 }
 
-/// The parameter of a name and a value, the letters of its name in lower case. `None` comes where one is no UTF-8.
+/// Returns the parameter of a name and a value, the letters of its name in lower case. `None` is returned if one is not UTF-8.
 fn param_with(alloc: Global, name: &[u8], value: &[u8]) -> Result<Option<Param>, Memory>
     ensures { IfOk result (λ param. param ≡ param_with name.now value.now) }
 {
@@ -56,7 +56,7 @@ fn param_with(alloc: Global, name: &[u8], value: &[u8]) -> Result<Option<Param>,
     Ok(Some(Param { name, value }))
 }
 
-/// The parameter of a name and a value, where there are both.
+/// Returns the parameter of a name and a value, if there are both.
 fn param_by(
     alloc: Global,
     name: Option<&[u8]>,
@@ -74,7 +74,7 @@ fn param_by(
     param_with(alloc, name, value)
 }
 
-/// The parameter of a part. `None` comes where it is none.
+/// Returns the parameter of a part, or `None` if it is not a parameter.
 fn param_of(alloc: Global, part: &[Lexeme]) -> Result<Option<Param>, Memory>
     ensures { IfOk result (λ param. param ≡ param_of part.now) }
 {
@@ -90,7 +90,7 @@ fn param_of(alloc: Global, part: &[Lexeme]) -> Result<Option<Param>, Memory>
     }
 }
 
-/// Adds the parameter of a part, where it has a lexeme. `Syntax` comes where it is no parameter.
+/// Appends the parameter of a part, if it has a lexeme. Returns `Syntax` if it is not a parameter.
 fn push_param(alloc: Global, params: &mut Vec<Param>, part: &[Lexeme]) -> Result<(), LinkTextFault>
     ensures ok { IfOk result (λ _. with_part param_of part.now params.old.items ≡ Some params.new.items) }
     ensures err { IfErr result (IsSyntax (with_part param_of part.now params.old.items ≡ None)) }
@@ -105,7 +105,7 @@ fn push_param(alloc: Global, params: &mut Vec<Param>, part: &[Lexeme]) -> Result
     Ok(())
 }
 
-/// The parameters of the parts that have a lexeme. `Syntax` comes where one is no parameter.
+/// Returns the parameters of the parts that have a lexeme. `Syntax` is returned if one is not a parameter.
 pub(crate) fn params_of(alloc: Global, parts: &[&[Lexeme]]) -> Result<Vec<Param>, LinkTextFault>
     ensures ok { IfOk result (λ params. params_of (map (λ part. part.now) parts.now) ≡ Some params.items) }
     ensures err { IfErr result (IsSyntax (params_of (map (λ part. part.now) parts.now) ≡ None)) }

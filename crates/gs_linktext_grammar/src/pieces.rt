@@ -12,21 +12,21 @@ use crate::lexer::{after_blanks, first_lexeme};
 use std::alloc::Global;
 
 impl Lexeme {
-    /// Whether it is a comma.
+    /// Returns whether it is a comma.
     pub(crate) fn is_comma(&self) -> bool
         ensures { result ≡ is_comma self.now }
     {
         matches!(self, Lexeme::Comma)
     }
 
-    /// Whether it is a semicolon.
+    /// Returns whether it is a semicolon.
     pub(crate) fn is_semicolon(&self) -> bool
         ensures { result ≡ is_semicolon self.now }
     {
         matches!(self, Lexeme::Semicolon)
     }
 
-    /// Whether it is an equals sign.
+    /// Returns whether it is an equals sign.
     pub(crate) fn is_equals(&self) -> bool
         ensures { result ≡ is_equals self.now }
     {
@@ -34,15 +34,14 @@ impl Lexeme {
     }
 }
 
-/// The lexemes up to a comma or to the end of a text, and what is behind the comma.
+/// The lexemes up to a comma or to the end of a text, and the rest after the comma.
 #[derive(Drop)]
 pub(crate) struct Piece<'a> {
     pub(crate) lexemes: Vec<Lexeme>,
     pub(crate) rest: Option<&'a [u8]>,
 }
 
-/// The lexemes of the text up to its first comma, or to its end. `Syntax` comes where the text has no lexemes: a part of it is
-/// none.
+/// Returns the lexemes of the text up to its first comma, or to its end. Returns `Syntax` if a part of the text is not a lexeme.
 pub(crate) fn cut_piece(alloc: Global, text: &[u8]) -> Result<Piece<'_>, LinkTextFault>
     ensures ok { IfOk result (λ piece.
         IsPiece text.now piece.lexemes.items (option_map (λ rest. rest.now) piece.rest)) }

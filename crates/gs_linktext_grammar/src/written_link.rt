@@ -5,7 +5,7 @@ use gs_chars::List;
 pub struct Param {
     /// The name, with its letters in lower case.
     pub name: CheckedText,
-    /// The value, which is empty where none is written.
+    /// The value, which is empty if none is written.
     pub value: CheckedText,
 }
 
@@ -16,7 +16,7 @@ impl Drop for Param {
     }
 }
 
-/// A link as it is written: its reference, and its parameters in their order.
+/// A link as written: its target URI, and its parameters in their order.
 pub struct WrittenLink {
     /// The reference.
     pub href: CheckedText,

@@ -79,7 +79,7 @@ word_length word =
     let eight = length-bits_of 8 word.attributes in
     omega arith
 
--- what is behind the word is what is behind 16 bits
+-- the bits after the word are those after 16 bits
 pub behind_word : (bits behind : List ℕ) (word : ControlWord) → BeginsWith bits word behind → drop 16 bits ≡ behind
 behind_word bits behind word begins = ap (drop 16) begins.joined ∙ (drop_at (control_bits word) behind 16 (word_length word))
 

@@ -1,4 +1,4 @@
--- Bits are one dump at most, and what is rejected is none.
+-- Bits are at most one dump, and rejected bits are not a dump.
 use Rattle.std.proofs.Common.{◌≡◌, ◌%◌, ◌^◌, ◌<◌, ℕ, Bool, true, false, List, ◌∷◌, length, take, drop, Err, refl, sym, ap, ap₂, ◌∙◌, arith}
 use Rattle.std.proofs.lemmas.List.{drop_at, take_at}
 use Rattle.gs_chars.proofs.TruthsAndLists.{same_at}
@@ -84,7 +84,7 @@ one_bank set bits one other a b =
     let says : Says set Binary b.encoding one.epc = rw same.1 at a.says in
     equal_dumps one.user other.user one.attributes other.attributes one.epc other.epc (ap (λ (w : ControlWord). w.user) same.0) (ap (λ (w : ControlWord). w.attributes) same.0) (one_epc set Binary b.encoding one.epc other.epc says b.says)
 
--- ---- what is rejected is no dump
+-- ---- rejected bits are not a dump
 
 bank_rejected : (set : TableRows) (bits : List ℕ) (error : DumpFault) (dump : Dump) → IsBankError set bits error → IsBank set bits dump → ⊥
 bank_rejected set bits (Hex e) dump bad bank = bad.reason

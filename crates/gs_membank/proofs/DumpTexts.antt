@@ -1,4 +1,4 @@
--- Hexadecimal texts and their bits, a part behind the other.
+-- Hexadecimal texts and their bits, a part after the other.
 use Rattle.std.proofs.Common.{◌≡◌, ◌*◌, ◌≤◌, ℕ, List, [], ◌∷◌, ◌++◌, length, take, drop, refl, sym, ap, ◌∙◌, arith, length-append, append_assoc}
 use Rattle.std.proofs.lemmas.List.{drop_at, length-take-le, take-append-drop}
 use Rattle.gs_bits.specs.BitLaws.{length-bits_of}
@@ -16,7 +16,7 @@ pub hex_joined : (first second : List ℕ) → bits_of_hex (first ++ second) ≡
 hex_joined [] second = refl
 hex_joined (c ∷ first) second = ap (λ w. bits_of_digit c ++ w) (hex_joined first second) ∙ sym (append_assoc (bits_of_digit c) (bits_of_hex first) (bits_of_hex second))
 
--- the bits behind four digits
+-- the bits after four digits
 pub hex_behind : (text : List ℕ) → 4 ≤ length text → bits_of_hex (drop 4 text) ≡ drop 16 (bits_of_hex text)
 hex_behind text long =
     let parts : bits_of_hex text ≡ bits_of_hex (take 4 text) ++ bits_of_hex (drop 4 text) = ap bits_of_hex (sym (take-append-drop 4 text)) ∙ hex_joined (take 4 text) (drop 4 text) in

@@ -1,4 +1,4 @@
--- What is written of an EPC in bits is whole words, four digits each.
+-- An EPC is written in whole words of bits, four digits each.
 use Rattle.std.proofs.Common.{◌≡◌, ◌*◌, ◌/◌, ◌%◌, ◌==◌, ◌&&◌, ℕ, not, true, List, length, ap, ◌∙◌, arith}
 use Rattle.std.proofs.lemmas.Bool.Decides.{nat_tests}
 use Rattle.std.proofs.lemmas.List.{length-map}

@@ -1,4 +1,4 @@
--- The values that an option gives its items, of the EPC that was said by values of these items: the same values.
+-- The values that an option gives its items for an EPC that values of these items named: the same values.
 use Rattle.std.proofs.Common.{◌≡◌, ◌-◌, ◌==◌, ◌≤◌, ℕ, Bool, true, false, List, [], ◌∷◌, length, map, Option, Some, None, slice_get, zero, suc, decimal, refl, sym, ap, ap₂, ◌∙◌, arith, inl, inr}
 use Rattle.std.specs.Prelude.{IfSome}
 use Rattle.std.specs.List.{list_any}

@@ -1,4 +1,4 @@
--- What is read of a tag has a filter value, and what has one names its encoding.
+-- An EPC that is read from a tag has a filter value, and an EPC with a filter value names its encoding.
 use Rattle.std.proofs.Common.{◌≡◌, ◌<◌, ◌≤◌, ◌==◌, ◌&&◌, ◌||◌, ◌%◌, ◌^◌, ℕ, not, true, false, List, [], ◌∷◌, Option, Some, None, option_map, bytes_eq, refl, sym, ap, ◌∙◌, arith}
 use Rattle.std.specs.Prelude.{IfSome}
 use Rattle.std.proofs.lemmas.Fmt.{decimal_digit}
@@ -77,7 +77,7 @@ kept_filter set level items info values words kept held one =
     let place : value_at Filter info.fields values ≡ Some is.0 = ap (λ fields. value_at Filter fields values) kept.fields_are ∙ is.1 in
     has_of (value_at Filter info.fields values) is.0 place (filter_kept set level items info values words kept held)
 
--- ---- what is read of a tag
+-- ---- an EPC that is read from a tag
 
 pub filter_said : (set : TableRows) (level : LevelName) (symbols : List ℕ) (epc : Epc) → IsShaped set → ((encoding : List ℕ) (parts : List FieldItem) → keeps_level level encoding parts ≡ true → is_one is_filter (items_of_field Filter parts) ≡ true)
     → Says set level symbols epc → HasFilter epc.filter
@@ -89,7 +89,7 @@ filter_said set level symbols epc shaped one says =
     let has = kept_filter set level d.items says.info says.values d.words kept held (one says.info.encoding kept.parts kept.of_level) in
     rw says.fields has
 
--- ---- what has a filter value names its encoding
+-- ---- an EPC with a filter value names its encoding
 
 named : (level : LevelName) (encoding : List ℕ) (parts : List FieldItem) (values : List (List ℕ)) → keeps_level level encoding parts ≡ true → HasFilter (filter_of (fields_of parts) values) → is_empty encoding ≡ false
 unfolding keeps_level
@@ -108,7 +108,7 @@ names_encoding set epc shaped of has =
     let filter = rw same at has in
     ap (λ (e : Epc). is_empty e.encoding) of.fields ∙ named of.level of.info.encoding kept.parts of.values kept.of_level filter
 
--- ---- a candidate is of the encoding that is asked for
+-- ---- a candidate has the requested encoding
 
 asked_name : (asked name : List ℕ) → is_empty asked ≡ false → (is_empty asked || bytes_eq asked name) ≡ true → name ≡ asked
 asked_name asked name some h = let same : bytes_eq asked name ≡ true = rw some at h in sym (equal_bytes asked name same)

@@ -1,4 +1,4 @@
--- The control word at the start of a hexadecimal text, and the digits behind it.
+-- The control word at the start of a hexadecimal text, and the digits after it.
 use Rattle.std.proofs.Common.{◌≡◌, ◌≤◌, ℕ, true, false, List, length, drop, slice_index, Ok, Err, ap₂, ◌∙◌, arith, subst}
 use Rattle.std.proofs.lemmas.List.{length-drop}
 use Rattle.std.proofs.lemmas.List.Elements.{All-drop, All-get_or}
@@ -31,7 +31,7 @@ word_rejected set text behind word (Words said bits) hex begins reason = (hex, r
 word_rejected set text behind word NoReading hex begins reason = (hex, record { word = word; behind = behind; begins = begins; reason = reason })
 word_rejected set text behind word Memory hex begins reason = tt
 
--- ---- the digits behind the word
+-- ---- the digits after the word
 
 pub head_long : (text : List ℕ) (word : ControlWord) → IsHeadOf text word → 4 ≤ length text
 head_long text word head =
@@ -60,7 +60,7 @@ never_both text OddDigits odd hex = let even = hex.even in absurd (omega arith)
 never_both text Full full hex = let short = hex.short in let long = full.1 in absurd (omega arith)
 never_both text (BadDigit place) bad hex = no_bad_digit text place bad hex
 
--- the digits behind the word are hexadecimal
+-- the digits after the word are hexadecimal
 pub never_hex : (set : TableRows) (text rest : List ℕ) (word : ControlWord) (answer : EpcFault) (error : HexFault) → IsHeadOf text word → rest ≡ drop 4 text → answer ≡ HexOf error → ReadsHex set rest (Err answer) → ⊥
 never_hex set text rest word answer error head same is read =
     let reads : EpcFault → Type 0 = λ e. ReadsHex set rest (Err e) in

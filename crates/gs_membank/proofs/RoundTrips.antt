@@ -1,4 +1,4 @@
--- What is written of a dump, and of its line, is read as that dump.
+-- The text and the line of a dump are read as that dump.
 use Rattle.std.proofs.Common.{◌≡◌, ◌+◌, ◌/◌, ◌%◌, ◌<◌, ℕ, Bool, true, false, List, ◌∷◌, ◌++◌, length, Some, Ok, sym, ap, ◌∙◌, arith, length-append}
 use Rattle.std.proofs.lemmas.List.Elements.{All-append, All-cons}
 use Rattle.gs_chars.specs.Escapes.{hex_digit, hex_value}

@@ -23,7 +23,7 @@ use Rattle.gs_membank.specs.ShownLines.{IsShownStart, shown_line}
 
 -- ---- dumps that are read
 
--- trusted, TDS 2.0, section 9: the control word of a dump, of so many words
+-- trusted, TDS 2.0, section 9: the control word of a dump, of that many words
 abbrev pub word_of : ℕ → Dump → ControlWord
 word_of words dump =
     record { words = words; user = dump.user; extended = false; toggle = false; attributes = dump.attributes }
@@ -37,7 +37,7 @@ pub record IsBank (set : TableRows) (bits : List ℕ) (dump : Dump) : Type 0 whe
   pub size : length encoding ≡ 16 * words
   pub says : Says set Binary encoding dump.epc
 
--- trusted, TDS 2.0, section 9; the order is own: why a control word and the bits behind it are no dump: the first that fits
+-- trusted, TDS 2.0, section 9; the order is own: why a control word and the bits after it are not dump: the first that fits
 abbrev pub IsWordError : TableRows → ControlWord → List ℕ → DumpFault → Type 0
 IsWordError set word behind Extended = word.extended ≡ true
 IsWordError set word behind Toggle = (word.extended ≡ false) × (word.toggle ≡ true)
@@ -47,16 +47,16 @@ IsWordError set word behind NoReading =
     IsPlain word × (length behind ≡ 16 * word.words) × (Derivation (options_of Binary set) behind → ⊥)
 IsWordError set word behind error = ⊥
 
--- trusted, own: the bits begin with a control word, and this is why they are no dump
+-- trusted, own: the bits begin with a control word, and this is why they are not dump
 pub record IsBankError (set : TableRows) (bits : List ℕ) (error : DumpFault) : Type 0 where
   pub word : ControlWord
   pub behind : List ℕ
   pub begins : BeginsWith bits word behind
   pub reason : IsWordError set word behind error
 
--- trusted, TDS 2.0, sections 9, 14 and 15; the order of errors is own: The answer to a text: why it is no hexadecimal text of at
--- most 128 digits, that it is shorter than a control word, why its bits are no dump, or the dump that they are. Out of memory may
--- come in place of each.
+-- trusted, TDS 2.0, sections 9, 14 and 15; the order of errors is own: The result of reading a text: why it is not a hexadecimal
+-- text of at most 128 digits; that it is shorter than a control word; why its bits are not a dump; or their dump. `Memory` may
+-- come instead.
 abbrev pub ReadsDump : TableRows → List ℕ → Result Dump DumpFault → Type 0
 ReadsDump set text (Ok dump) = IsHex text × IsBank set (bits_of_hex text) dump
 ReadsDump set text (Err (Hex error)) = IsHexFault text error
@@ -66,7 +66,7 @@ ReadsDump set text (Err error) = IsHex text × IsBankError set (bits_of_hex text
 
 -- ---- dumps that are written
 
--- trusted, own: why a dump is not written, where its EPC is not
+-- trusted, own: why a dump is not written if its EPC is not
 abbrev pub of_writing : EpcWriteFault → DumpWriteFault
 of_writing NoOptionOf = NoOption
 of_writing (CannotHoldOf field why) = CannotHold field why
@@ -90,8 +90,8 @@ pub record IsTooLong (set : TableRows) (dump : Dump) : Type 0 where
   pub size : length encoding ≡ 4 * words
   pub many : 31 < words
 
--- trusted, TDS 2.0, sections 9, 14 and 15: The answer to a dump that is to be written: its text, that its encoding is too long,
--- or why its EPC is not written in bits. Out of memory may come in place of each.
+-- trusted, TDS 2.0, sections 9, 14 and 15: The result of writing a dump: its text, that its encoding is too long, or why its EPC
+-- is not written in bits. `Memory` may come instead.
 abbrev pub WritesDump : TableRows → Dump → Result (List ℕ) DumpWriteFault → Type 0
 WritesDump set dump (Ok text) = WrittenDump set dump text
 WritesDump set dump (Err TooLong) = IsTooLong set dump
@@ -107,8 +107,8 @@ pub record ShownDump (set : TableRows) (dump : Dump) (text : List ℕ) : Type 0 
   pub written : Writes set Tag dump.epc tag
   pub text_is : text ≡ shown_line dump.user dump.attributes tag
 
--- trusted, TDS 2.0, section 12; the form is own: The answer to a dump that is to be shown: its line, or why its EPC is not
--- written as a tag URI. Out of memory may come in place of each.
+-- trusted, TDS 2.0, section 12; the form is own: The result of showing a dump: its line, or why its EPC is not written as a tag
+-- URI. `Memory` may come instead.
 abbrev pub ShowsDump : TableRows → Dump → Result (List ℕ) DumpWriteFault → Type 0
 ShowsDump set dump (Ok text) = ShownDump set dump text
 ShowsDump set dump (Err TooLong) = ⊥
@@ -116,13 +116,14 @@ ShowsDump set dump (Err NoOption) = WritesAs set Tag dump.epc (Err NoOptionOf)
 ShowsDump set dump (Err (CannotHold field why)) = WritesAs set Tag dump.epc (Err (CannotHoldOf field why))
 ShowsDump set dump (Err WriteMemory) = Unit {0}
 
--- trusted, TDS 2.0, section 12; the form is own: the text begins as a line of the dump, and what follows says its EPC
+-- trusted, TDS 2.0, section 12; the form is own: holds if the text begins as a line of the dump, and the rest is a tag URI of its
+-- EPC
 pub record IsShown (set : TableRows) (text : List ℕ) (dump : Dump) : Type 0 where
   pub rest : List ℕ
   pub start : IsShownStart text dump.user dump.attributes rest
   pub says : Says set Tag rest dump.epc
 
--- trusted, own: the text begins as a line of a dump, and what follows has no derivation in the level of tag URIs
+-- trusted, own: holds if the text begins as a line of a dump, and the rest has no derivation in the level of tag URIs
 pub record ShowsNoTag (set : TableRows) (text : List ℕ) : Type 0 where
   pub user : Bool
   pub attributes : ℕ
@@ -130,8 +131,8 @@ pub record ShowsNoTag (set : TableRows) (text : List ℕ) : Type 0 where
   pub start : IsShownStart text user attributes rest
   pub none : Derivation (options_of Tag set) rest → ⊥
 
--- trusted, TDS 2.0, section 12; the form is own: The answer to a line: that it does not begin as one of a dump, that it has no
--- tag URI, or its dump. Out of memory may come in place of each.
+-- trusted, TDS 2.0, section 12; the form is own: The result of reading a line: that it does not begin as a line of a dump, that
+-- it has no tag URI, or its dump. `Memory` may come instead.
 abbrev pub ReadsShown : TableRows → List ℕ → Result Dump DumpLineFault → Type 0
 ReadsShown set text (Ok dump) = IsShown set text dump
 ReadsShown set text (Err Line) = (user : Bool) (attributes : ℕ) (rest : List ℕ) → IsShownStart text user attributes rest → ⊥

@@ -1,4 +1,4 @@
--- What private functions say beside the definitions of Answers.antt.
+-- Definitions for private functions, in addition to Answers.antt.
 use Rattle.std.specs.Prelude.{◌≡◌, ◌*◌, List, ℕ, length, Err}
 use Rattle.gs_bits.specs.HexText.{bits_of_hex}
 use Rattle.gs_tables.specs.Tables.{TableRows}
@@ -8,7 +8,7 @@ use Rattle.gs_membank.specs.declared.error.DumpFault.{DumpFault}
 use Rattle.gs_membank.specs.Answers.{ReadsDump}
 use Rattle.gs_membank.specs.Banks.{BeginsWith, IsPlain}
 
--- a hexadecimal text begins with a plain control word, which says as many words as there are behind it
+-- a hexadecimal text begins with a plain control word, which says as many words as there are after it
 pub record IsHeadOf (text : List ℕ) (word : ControlWord) : Type 0 where
   pub hex : IsHex text
   pub behind : List ℕ

@@ -4,17 +4,17 @@ use Rattle.std.specs.Prelude.{◌≡◌, ◌<◌, ℕ, Bool, false, if◌then◌
 use Rattle.gs_bits.specs.Bits.{bits_of}
 use Rattle.gs_membank.specs.declared.control.ControlWord.{ControlWord}
 
--- trusted, own: a bit is 1 where it is set, else 0
+-- trusted, own: a bit is 1 if it is set, otherwise 0
 abbrev pub bit_of : Bool → ℕ
 bit_of set = if set then 1 else 0
 
--- trusted, TDS 2.0, section 9: The bits of a control word: the length of the encoding in words, in 5 bits, whether user memory
--- has contents, whether an extended word follows, whether the bank holds something other than an EPC, and 8 attribute bits.
+-- trusted, TDS 2.0, section 9: The bits of a control word: the length of the encoding in words in 5 bits, the user memory bit,
+-- the extended bit, the toggle bit, and 8 attribute bits.
 abbrev pub control_bits : ControlWord → List ℕ
 control_bits word =
     bits_of 5 word.words ++ bit_of word.user ∷ bit_of word.extended ∷ bit_of word.toggle ∷ bits_of 8 word.attributes
 
--- trusted, TDS 2.0, section 9: the bits are those of a control word, whose numbers they hold, and these behind it
+-- trusted, TDS 2.0, section 9: the bits are those of a control word, whose numbers they hold, and these after it
 pub record BeginsWith (bits : List ℕ) (word : ControlWord) (behind : List ℕ) : Type 0 where
   pub words : word.words < 32
   pub attributes : word.attributes < 256

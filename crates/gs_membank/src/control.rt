@@ -13,7 +13,7 @@ use std::alloc::Global;
 /// What a protocol control word says (TDS 2.0, section 9).
 #[derive(Clone, Copy)]
 pub(crate) struct ControlWord {
-    /// How many words of 16 bits the encoding behind it has, at most 31.
+    /// How many words of 16 bits the encoding after it has, at most 31.
     pub words: u8,
     /// Whether user memory has contents.
     pub user: bool,
@@ -21,24 +21,24 @@ pub(crate) struct ControlWord {
     pub extended: bool,
     /// Whether the bank holds something other than an EPC.
     pub toggle: bool,
-    /// The 8 attribute bits, as a number.
+    /// The 8 attribute bits as a number.
     pub attributes: u8,
 }
 
-/// The number of the next n bits.
+/// Returns the number of the next n bits.
 fn take_bits(cursor: &mut Cursor<'_, 64>, n: u32) -> Result<u64, Short>
     requires { n ≤ 64 }
     ensures short { IsErr result ↔ (length cursor.old < n) }
     ensures small { IfOk result (λ number. number < 2 ^ n) }
     ensures joined { IfOk result (λ number. cursor.old ≡ bits_of n number ++ cursor.new) }
 {
-    // for the proof alone: each item is 0 or 1
+    // only for the proof: each item is 0 or 1
     let _ = cursor.left();
     let number = cursor.take(n)?;
     Ok(number)
 }
 
-/// The control word that the next 16 bits are.
+/// Returns the control word that the next 16 bits are.
 pub(crate) fn take_word(cursor: &mut Cursor<'_, 64>) -> Result<ControlWord, Short>
     ensures short { IsErr result ↔ (length cursor.old < 16) }
     ensures word { IfOk result (λ word. BeginsWith cursor.old word cursor.new) }
@@ -52,7 +52,7 @@ pub(crate) fn take_word(cursor: &mut Cursor<'_, 64>) -> Result<ControlWord, Shor
     })
 }
 
-/// That a control word is that of an EPC without an extended word, and says as many words as bits are behind it.
+/// That a control word is that of an EPC without an extended word, and says as many words as bits are after it.
 pub(crate) fn check_word(word: &ControlWord, bits: usize) -> Result<(), DumpFault>
     requires { bits < 2 ^ 16 }
     ensures plain { OnOk result (IsPlain word.now) }
@@ -93,7 +93,7 @@ fn push_flag(set: bool, bits: &mut BitBuf<2>)
     push_number(if set { 1 } else { 0 }, 1, bits);
 }
 
-/// The four hexadecimal digits of a control word.
+/// Returns the four hexadecimal digits of a control word.
 pub(crate) fn word_digits(alloc: Global, word: ControlWord) -> Result<Text, Memory>
     requires { word.words < 32 }
     ensures { IfOk result (λ digits. digits ≡ hex_of_bits (control_bits word)) }

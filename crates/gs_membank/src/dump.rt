@@ -5,8 +5,8 @@ use gs_epc::Epc;
 pub struct Dump {
     /// Whether user memory has contents.
     pub user: bool,
-    /// The 8 attribute bits, as a number.
+    /// The 8 attribute bits as a number.
     pub attributes: u8,
-    /// The EPC of the encoding behind the word, with its encoding and filter value.
+    /// The EPC of the encoding after the word, with its encoding and filter value.
     pub epc: Epc,
 }

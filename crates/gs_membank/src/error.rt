@@ -4,10 +4,10 @@ use gs_epc::{EpcFault, EpcWriteFault};
 use gs_grammar::Why;
 use gs_tables::Field;
 
-/// Why a text is no dump.
+/// Why a text is not a dump.
 #[derive(Clone, Copy, Debug)]
 pub enum DumpFault {
-    /// The text is no hexadecimal text of at most 128 digits.
+    /// The text is not a hexadecimal text of at most 128 digits.
     Hex(HexFault),
     /// There are fewer than the 16 bits of a protocol control word.
     NoWord,
@@ -15,14 +15,14 @@ pub enum DumpFault {
     Extended,
     /// The bit of the word that says that the bank holds no EPC is 1.
     Toggle,
-    /// The bits behind the word are not as many as the words of 16 bits that it says.
+    /// The bits after the word are not as many as the words of 16 bits that it says.
     Words {
         /// How many words it says, at most 31.
         said: u8,
-        /// How many bits are behind it, at most 496.
+        /// How many bits are after it, at most 496.
         bits: u16,
     },
-    /// The bits behind the word have no derivation in the level of bits.
+    /// The bits after the word have no derivation in the level of bits.
     NoReading,
     /// Out of memory.
     Memory,
@@ -72,7 +72,7 @@ impl From<EpcWriteFault> for DumpWriteFault {
 pub enum DumpLineFault {
     /// The line does not begin with the user memory bit and the attribute bits.
     Line,
-    /// What follows them has no derivation in the level of tag URIs.
+    /// The rest has no derivation in the level of tag URIs.
     NoReading,
     /// Out of memory.
     Memory,

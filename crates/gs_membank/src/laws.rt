@@ -19,22 +19,22 @@ pub fn bits_are_one_dump()
         → IsBank set bits other → one ≡ other }
 {}
 
-/// A text that `read_dump` rejects, unless memory ran out, is hexadecimal digits of no dump, or no such digits: so it answers
-/// with a dump exactly where the text's bits are one.
+/// States that a text that `read_dump` rejects, other than by `Memory`, is not a dump: it has other characters than hexadecimal
+/// digits, or its digits are not a dump. So `read_dump` returns a dump if and only if the text's bits are one.
 pub fn what_is_rejected_is_no_dump()
     ensures { (set : TableRows) (text : List ℕ) (error : DumpFault) (dump : Dump)
         → ReadsDump set text (Err error) → (error ≡ Memory → ⊥) → IsHex text
         → IsBank set (bits_of_hex text) dump → ⊥ }
 {}
 
-/// What is written of a dump by tables that are loaded is read as that dump.
+/// States that by loaded tables the text that is written of a dump is read as that dump.
 pub fn dump_written_is_read()
     ensures { (set : TableRows) (dump : Dump) (text : List ℕ) → IsLoaded set → IsOfSet set dump.epc
         → HasFilter dump.epc.filter → dump.attributes < 256 → WritesDump set dump (Ok text)
         → ReadsDump set text (Ok dump) }
 {}
 
-/// A dump that is read is written as its text in upper case, by tables that are loaded, where the items of its option have as many
+/// States that by loaded tables a dump that is read is written as its text in upper case, if the items of its option have as many
 /// bits as its control word says.
 pub fn dump_read_is_written()
     ensures { (set : TableRows) (text : List ℕ) (dump : Dump) → IsLoaded set → IsHex text
@@ -43,14 +43,14 @@ pub fn dump_read_is_written()
         → WritesDump set dump (Ok (map to_ascii_uppercase text)) }
 {}
 
-/// The line that shows a dump is read as that dump.
+/// States that the line that shows a dump is read as that dump.
 pub fn shown_is_read()
     ensures { (set : TableRows) (dump : Dump) (text : List ℕ) → IsLoaded set → IsOfSet set dump.epc
         → HasFilter dump.epc.filter → dump.attributes < 256 → ShowsDump set dump (Ok text)
         → ReadsShown set text (Ok dump) }
 {}
 
-/// A text begins as one line at most: with one user memory bit, one number of attribute bits, and one rest.
+/// States that a text begins as at most one line: with one user memory bit, one number of attribute bits, and one rest.
 pub fn texts_begin_as_one_line()
     ensures { (text rest behind : List ℕ) (user other : Bool) (attributes others : ℕ)
         → IsShownStart text user attributes rest → IsShownStart text other others behind

@@ -5,7 +5,7 @@
 //!
 //! # Example
 //!
-//! A control word that says six words, and the 96 bits of an SGTIN-96 behind it. The gate runs this case, for which
+//! A control word that says six words, and the 96 bits of an SGTIN-96 after it. The gate runs this case, for which
 //! crates/vectors_membank/src/lib.rt makes the calls.
 //!
 //! ```text
@@ -13,12 +13,12 @@
 //! u0\x20a00\x20urn:epc:tag:sgtin-96:3.0614141.812345.6789
 //! ```
 //!
-//! # Where it differs from the standards
+//! # Differences from the standards
 //!
 //! - Of GS1 EPC Tag Data Standard 2.0 it has the bank of an EPC without an extended control word: a word whose extended bit or
-//!   toggle bit is 1 is rejected. The CRC in front of the word and what user memory holds are no part of a dump.
+//!   toggle bit is 1 is rejected. The CRC in front of the word and what user memory holds are not part of a dump.
 //! - The length in the word is that of the encoding, which is whole words: bits beyond it are rejected.
-//! - The attribute bits are a number of 8 bits, whatever the version of the standard that the tag keeps says of each.
+//! - The attribute bits are a number of 8 bits, for every version of the standard.
 #![tactic(auto)]
 
 mod control;
@@ -33,8 +33,8 @@ mod writing;
 pub use dump::Dump;
 pub use error::{DumpFault, DumpLineFault, DumpWriteFault};
 pub use laws::{
-    bits_are_one_dump, dump_written_is_read, shown_is_read, texts_begin_as_one_line,
-    what_is_rejected_is_no_dump,
+    bits_are_one_dump, dump_read_is_written, dump_written_is_read, shown_is_read,
+    texts_begin_as_one_line, what_is_rejected_is_no_dump,
 };
 pub use reading::read_dump;
 pub use showing::show_dump;

@@ -12,7 +12,7 @@ use gs_epc::{EpcFault, read_hex};
 use gs_tables::TableSet;
 use std::alloc::Global;
 
-/// The control word at the start of a dump. The bits behind it are as many as it says.
+/// Returns the control word at the start of a dump. The bits after it are as many as it says.
 fn read_word(text: &[u8]) -> Result<ControlWord, DumpFault>
     ensures word { IfOk result (IsHeadOf text.now) }
     ensures rejected { IfErr result (RejectsHead text.now) }
@@ -21,7 +21,7 @@ fn read_word(text: &[u8]) -> Result<ControlWord, DumpFault>
         Ok(bits) => bits,
         Err(error) => return Err(DumpFault::Hex(error)),
     };
-    // for the proof alone: there are at most 512 bits
+    // only for the proof: there are at most 512 bits
     let _ = bits.len();
     let mut cursor = bits.cursor();
     let Ok(word) = take_word(&mut cursor) else {
@@ -33,10 +33,10 @@ fn read_word(text: &[u8]) -> Result<ControlWord, DumpFault>
     }
 }
 
-/// What a dump of the EPC memory bank says, in a text of at most 128 hexadecimal digits of either case that begins with the
-/// protocol control word (TDS 2.0, section 9). The errors are tried in the order of `DumpFault`: the text is no such
-/// hexadecimal text; it has fewer than 16 bits; the extended bit is 1; the toggle bit is 1; the bits behind the word are not 16
-/// times the length that it says, and both numbers are carried; these bits have no derivation in the level of bits.
+/// Reads a dump of the EPC memory bank: a text of at most 128 hexadecimal digits in either case that begins with the protocol
+/// control word (TDS 2.0, section 9). The errors are tried in the order of `DumpFault`: the text is not such a hexadecimal text;
+/// it has fewer than 16 bits; the extended bit is 1; the toggle bit is 1; the bits after the word are not 16 times the length in
+/// it, and the error has both numbers; these bits have no derivation in the level of bits.
 pub fn read_dump(alloc: Global, set: &TableSet, text: &[u8]) -> Result<Dump, DumpFault>
     ensures answer { ReadsDump set.now text.now result }
     ensures of_set { IfOk result (λ dump. IsOfSet set.now dump.epc) }
@@ -46,7 +46,7 @@ pub fn read_dump(alloc: Global, set: &TableSet, text: &[u8]) -> Result<Dump, Dum
         Ok(word) => word,
         Err(error) => return Err(error),
     };
-    // for the proof alone: the options keep the rules
+    // only for the proof: the options satisfy the rules
     let _ = set.kinds();
     let (_, encoding) = text.split_at(4);
     match read_hex(alloc, set, encoding) {
@@ -57,7 +57,7 @@ pub fn read_dump(alloc: Global, set: &TableSet, text: &[u8]) -> Result<Dump, Dum
         }),
         Err(EpcFault::NoReading) => Err(DumpFault::NoReading),
         Err(EpcFault::Memory) => Err(DumpFault::Memory),
-        // the digits behind those of the control word are hexadecimal too
+        // the digits after those of the control word are hexadecimal too
         Err(EpcFault::Hex(_)) => unreachable!(),
     }
 }

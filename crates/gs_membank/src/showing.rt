@@ -11,7 +11,7 @@ use gs_epc::write_tag;
 use gs_tables::TableSet;
 use std::alloc::Global;
 
-/// The byte of a number below 16 as an upper-case hexadecimal digit.
+/// Returns the byte of a number below 16 as an upper-case hexadecimal digit.
 fn hex_digit(n: u8) -> u8
     requires { n < 16 }
     ensures { result ≡ hex_digit n }
@@ -19,7 +19,7 @@ fn hex_digit(n: u8) -> u8
     if n < 10 { b'0' + n } else { b'A' + (n - 10) }
 }
 
-/// How a line begins that shows a dump: `u`, the user memory bit, ` a`, the attribute bits in two digits, and a space.
+/// Returns the start of a line that shows a dump: `u`, the user memory bit, ` a`, the attribute bits in two digits, and a space.
 fn shown_start(user: bool, attributes: u8) -> [u8; 7]
     ensures { result ≡ shown_start user attributes }
 {
@@ -29,9 +29,9 @@ fn shown_start(user: bool, attributes: u8) -> [u8; 7]
     [b'u', digit, b' ', b'a', high, low, b' ']
 }
 
-/// The line that shows a dump, `uU aHH TAG`: the user memory bit as 0 or 1, the attribute bits as two upper-case hexadecimal
-/// digits, and the EPC tag URI (TDS 2.0, section 12). `NoOption` and `CannotHold` come as from `gs_epc::write_tag`; `TooLong`
-/// never comes. The EPC has a filter value, which is at most 7.
+/// Returns the line that shows a dump, `uU aHH TAG`: the user memory bit as 0 or 1, the attribute bits as two upper-case
+/// hexadecimal digits, and the EPC tag URI (TDS 2.0, section 12). Returns `NoOption` and `CannotHold` as `gs_epc::write_tag`
+/// does, and never `TooLong`. The EPC has a filter value of at most 7.
 pub fn show_dump(alloc: Global, set: &TableSet, dump: &Dump) -> Result<Text, DumpWriteFault>
     requires { HasFilter dump.now.epc.filter }
     ensures { ShowsDump set.now dump.now result }

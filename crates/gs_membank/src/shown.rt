@@ -11,7 +11,7 @@ use gs_epc::{EpcFault, read_tag};
 use gs_tables::TableSet;
 use std::alloc::Global;
 
-/// The value of a hexadecimal digit of either case.
+/// Returns the value of a hexadecimal digit of either case.
 fn hex_value(digit: u8) -> Option<u8>
     ensures { result ≡ hex_value digit }
 {
@@ -28,13 +28,13 @@ fn hex_value(digit: u8) -> Option<u8>
 struct Start<'a> {
     /// Whether user memory has contents.
     user: bool,
-    /// The 8 attribute bits, as a number.
+    /// The 8 attribute bits as a number.
     attributes: u8,
-    /// What follows.
+    /// The rest of the line.
     rest: &'a [u8],
 }
 
-/// The start of a line, where it is that of one that shows a dump.
+/// Returns the start of a line, if the line begins as one that shows a dump.
 fn read_start(line: &[u8]) -> Option<Start<'_>>
     ensures start { IfSome result (λ start. IsShownStart line.now start.user start.attributes start.rest.now) }
     ensures none { IfNone result ((user : Bool) (attributes : ℕ) (rest : List ℕ)
@@ -56,9 +56,9 @@ fn read_start(line: &[u8]) -> Option<Start<'_>>
     })
 }
 
-/// The dump that a line shows, as `show_dump` writes it, with digits of either case. `Line` comes exactly where the line does not
-/// begin with `u`, 0 or 1, a space, `a`, two hexadecimal digits and a space; else `NoReading` comes exactly where what follows
-/// has no derivation in the level of tag URIs, as from `gs_epc::read_tag`.
+/// Returns the dump that a line shows, as `show_dump` writes it, with digits in either case. Returns `Line` if and only if the
+/// line does not begin with `u`, 0 or 1, a space, `a`, two hexadecimal digits and a space. Otherwise returns `NoReading` if and
+/// only if the rest has no derivation in the level of tag URIs, as `gs_epc::read_tag` does.
 pub fn read_shown(alloc: Global, set: &TableSet, text: &[u8]) -> Result<Dump, DumpLineFault>
     ensures answer { ReadsShown set.now text.now result }
     ensures of_set { IfOk result (λ dump. IsOfSet set.now dump.epc) }
@@ -67,7 +67,7 @@ pub fn read_shown(alloc: Global, set: &TableSet, text: &[u8]) -> Result<Dump, Du
     let Some(start) = read_start(text) else {
         return Err(DumpLineFault::Line);
     };
-    // for the proof alone: the options keep the rules
+    // only for the proof: the options satisfy the rules
     let _ = set.kinds();
     match read_tag(alloc, set, start.rest) {
         Ok(epc) => Ok(Dump {
@@ -77,7 +77,7 @@ pub fn read_shown(alloc: Global, set: &TableSet, text: &[u8]) -> Result<Dump, Du
         }),
         Err(EpcFault::NoReading) => Err(DumpLineFault::NoReading),
         Err(EpcFault::Memory) => Err(DumpLineFault::Memory),
-        // a tag URI is no hexadecimal text
+        // a tag URI is not a hexadecimal text
         Err(EpcFault::Hex(_)) => unreachable!(),
     }
 }

@@ -12,14 +12,15 @@ use std::alloc::Global;
 /// The most words of 16 bits that a control word can say.
 const MOST_WORDS: usize = 31;
 
-/// The text of a dump, in upper-case hexadecimal digits: the protocol control word and the encoding of the EPC behind it (TDS 2.0,
-/// sections 9 and 15). The extended bit and the toggle bit are 0. `NoOption` and `CannotHold` come as from `gs_epc::write_hex`.
-/// `TooLong` comes exactly where what that call writes has more than 31 words. The EPC has a filter value, which is at most 7.
+/// Returns the text of a dump, in upper-case hexadecimal digits: the protocol control word and the encoding of the EPC after it
+/// (TDS 2.0, sections 9 and 15). The extended bit and the toggle bit are 0. Returns `NoOption` and `CannotHold` as
+/// `gs_epc::write_hex` does, and `TooLong` if and only if that encoding has more than 31 words. The EPC has a filter value of at
+/// most 7.
 pub fn write_dump(alloc: Global, set: &TableSet, dump: &Dump) -> Result<Text, DumpWriteFault>
     requires { HasFilter dump.now.epc.filter }
     ensures { WritesDump set.now dump.now result }
 {
-    // for the proof alone: the options keep the rules
+    // only for the proof: the options satisfy the rules
     let _ = set.kinds();
     let encoding = write_hex(alloc, set, &dump.epc)?;
     let words = encoding.as_bytes().len() / 4;

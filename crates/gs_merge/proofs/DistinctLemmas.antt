@@ -1,4 +1,4 @@
--- Lists in which each thing stands once.
+-- Lists without duplicates.
 use Rattle.std.proofs.Common.{◌≡◌, ◌||◌, not, Bool, true, false, List, [], ◌∷◌, ◌++◌, filter, refl, sym, ap, ◌∙◌}
 use Rattle.std.specs.Prelude.{if◌then◌else◌}
 use Rattle.std.specs.List.{list_all, list_any}
@@ -89,7 +89,7 @@ module _ {X : Type 0} (same : X → X → Bool) (itself : (x : X) → same x x �
   without_distinct [] zs = refl
   without_distinct (x ∷ xs) zs = without_both x (distinct_by same xs) zs ∙ ap (λ ws. without same x ws) (without_distinct xs zs)
 
-  -- of things of which the first already stand once each
+  -- of a list whose first part has no duplicates
   pub distinct_first : (xs ys : List X) → distinct_by same (distinct_by same xs ++ ys) ≡ distinct_by same (xs ++ ys)
   distinct_first xs ys =
       append_distinct (distinct_by same xs) ys
@@ -97,7 +97,7 @@ module _ {X : Type 0} (same : X → X → Bool) (itself : (x : X) → same x x �
       ∙ ap (λ zs. distinct_by same xs ++ zs) (without_distinct xs (distinct_by same ys))
       ∙ sym (append_distinct xs ys)
 
-  -- of things of which the last already stand once each
+  -- of a list whose last part has no duplicates
   pub distinct_last : (xs ys : List X) → distinct_by same (xs ++ distinct_by same ys) ≡ distinct_by same (xs ++ ys)
   distinct_last xs ys =
       append_distinct xs (distinct_by same ys)
@@ -118,7 +118,7 @@ module _ {X : Type 0} (same : X → X → Bool) (itself : (x : X) → same x x �
       ∙ sym (without_swap x xs (distinct_by same xs))
       ∙ ap (λ ws. without same x ws) (without_own xs)
 
-  -- of things that stand there twice
+  -- of a list that is repeated
   pub distinct_twice : (xs : List X) → distinct_by same (xs ++ xs) ≡ distinct_by same xs
   distinct_twice xs = append_distinct xs xs ∙ ap (λ zs. distinct_by same xs ++ zs) (without_own xs) ∙ append-nil (distinct_by same xs)
 

@@ -78,7 +78,7 @@ module _ {G : Type 0} (seen : G → List Link) where
       by true = refl
       by false = refl
 
-  -- each entry is what is found at its key
+  -- each entry is the entry that is found at its key
   entries_by : (f : List ℕ → List Link) (es : List (List ℕ × G)) → Ascend (keys_of es)
       → ((t : List ℕ) → has t (keys_of es) ≡ true → option_map seen (found_at es t) ≡ Some (f t))
       → map (entry_seen seen) es ≡ map (group_at f) (keys_of es)
@@ -102,7 +102,7 @@ module _ {G : Type 0} (seen : G → List Link) where
           let away : is_at (slice_cmp nat_cmp t) e.0 ≡ false = at_is_same t e.0 ∙ is in
           rw away at (own all)
 
--- a text is that of a link where its group has one
+-- a text is the key of a link if its group is not empty
 pub has_key : (key : Link → List ℕ) (t : List ℕ) (links : List Link) → has t (map key links) ≡ has_some (filter (λ link. bytes_eq (key link) t) links)
 has_key key t [] = refl
 has_key key t (link ∷ links) = rw (same_bytes_sym t (key link), has_key key t links) (by (bytes_eq (key link) t))
@@ -184,7 +184,7 @@ texts_more old new targets target text own put so_far q =
     by false true e = e
     by false false e = e
 
--- a text that is there
+-- a text that is in the map
 pub texts_same : (old new : List (List ℕ × Unit {0})) (targets : List Target) (text : List ℕ)
     → ((q : List ℕ) → found_at new q ≡ cond (is_at (slice_cmp nat_cmp text) q) (Some tt) (found_at old q))
     → is_some (found_at old text) ≡ true → AreTextsOf old targets → AreTextsOf new targets
@@ -194,7 +194,7 @@ texts_same old new targets text put there so_far q = rw (put q, at_is_same text 
     by true e = let same = equal_bytes text q e in sym (sym (so_far q) ∙ (rw same at there))
     by false e = so_far q
 
--- whether the same target is there, by its text
+-- whether the same target is in the map, by its text
 pub text_there : (entries : List (List ℕ × Unit {0})) (targets : List Target) (target : Target) (text : List ℕ) → text ≡ target_text target → AreTextsOf entries targets
     → list_all is_target targets ≡ true → is_target target ≡ true → is_some (found_at entries text) ≡ list_any (λ other. is_same_target other target) targets
 text_there entries targets target text own so_far all shape = ap (λ t. is_some (found_at entries t)) own ∙ so_far (target_text target) ∙ same_texts targets target all shape
@@ -219,7 +219,7 @@ with_shape_by targets target false all own = rw (list_all-append is_target targe
 pub targets_shape : (old new : List Target) (target : Target) → list_all is_target old ≡ true → is_target target ≡ true → new ≡ with_target old target → list_all is_target new ≡ true
 targets_shape old new target all own e = rw e (with_shape_by old target (list_any (λ other. is_same_target other target) old) all own)
 
--- ---- what is made of groups
+-- ---- values that are mapped from groups
 
 map_twice : {X Y Z : Type 0} (f : Y → Z) (g : X → Y) (xs : List X) → map f (map g xs) ≡ map (λ x. f (g x)) xs
 map_twice f g [] = refl

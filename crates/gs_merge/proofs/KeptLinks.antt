@@ -1,4 +1,4 @@
--- The links of a store, and what is loaded of them again.
+-- The links of a store, and those that are loaded again from them.
 use Rattle.std.proofs.Common.{◌≡◌, ◌+◌, not, ℕ, Bool, true, false, All, List, [], ◌∷◌, ◌++◌, codes, filter, map, Option, Some, None, refl, sym, ap, ◌∙◌}
 use Rattle.std.specs.Prelude.{Result, Ok, Err, if◌then◌else◌, fold, position}
 use Rattle.std.specs.BTreeSet.{insert_key}
@@ -179,14 +179,14 @@ module _ (table : List AiRow) (rules : KeepsRules table) (voc : List ℕ) (keeps
   unfolding load_answer
   links_are_those contexts links h = (loaded_by (store_errors table contexts) (links_of table voc contexts) links h).1
 
--- ---- contexts that load as they are
+-- ---- contexts that load unchanged
 
 -- a relation that is expanded, and whose targets have references
 pub record IsSettledRelation (voc : List ℕ) (relation : Relation) : Type 0 where
   pub settled : expanded voc relation.name ≡ relation.name
   pub references : list_all (λ target. is_reference target.href) relation.targets ≡ true
 
--- a context whose anchor is the canonical link of what it is read as, and whose relations load as they are
+-- a context whose anchor is the canonical link of its identity, and whose relations load unchanged
 pub record IsSettled (table : List AiRow) (voc : List ℕ) (context : Context) : Type 0 where
   pub identity : Elements
   pub answer : anchor_answer table context.anchor ≡ Ok identity
@@ -220,7 +220,7 @@ module _ (table : List AiRow) (voc : List ℕ) where
       let names = all_ascending (λ n. expanded voc n ≡ n) (map (λ (l : Link). l.relation) links) (All-map (λ n. expanded voc n ≡ n) (λ (l : Link). l.relation) links (All-weaker (IsKept table voc) (λ l. expanded voc l.relation ≡ l.relation) (λ l k. k.settled) links h)) in
       All-map (IsSettledRelation voc) (relation_with links) (ascending (map (λ (l : Link). l.relation) links)) (All-weaker (λ n. expanded voc n ≡ n) (λ n. IsSettledRelation voc (relation_with links n)) (relation_settled links h) (ascending (map (λ (l : Link). l.relation) links)) names)
 
-  -- a text is the canonical link of what it is read as
+  -- a text that is the canonical link of its identity
   record IsAnchorText (text : List ℕ) : Type 0 where
     identity : Elements
     answer : anchor_answer table text ≡ Ok identity

@@ -63,7 +63,7 @@ pub ascending_ascends : (texts : List (List ℕ)) → Ascend (ascending texts)
 unfolding IsStrictlySortedBy
 ascending_ascends texts = ascend_fold [] texts tt
 
--- the same, as a test of each name and the next
+-- the same, by a test of each name and the next
 pub ascend_test : (names : List (List ℕ)) → Ascend names → ascend names ≡ true
 unfolding IsStrictlySortedBy
 ascend_test [] h = refl
@@ -81,7 +81,7 @@ not_below_itself a b less =
     let bad : true ≡ false = ap is_lt g in
     cc))
 
--- a name below all of them is none of them
+-- a name below all of them is not one of them
 pub below_is_none : (a : List ℕ) (names : List (List ℕ)) → IsBelow a names → has a names ≡ false
 below_is_none a [] h = refl
 below_is_none a (b ∷ names) h = rw (not_below_itself a b h.0) (below_is_none a names h.1)
@@ -133,7 +133,7 @@ only_at t n names true e below h =
     rw (h, none, same) refl
 only_at t n names false e below h = h
 
--- of names that ascend, those that are one are that one alone
+-- among ascending names, only one equals a given name
 pub only_one : (t : List ℕ) (names : List (List ℕ)) → Ascend names → filter (λ m. bytes_eq m t) names ≡ (if has t names then t ∷ [] else [])
 unfolding IsStrictlySortedBy
 only_one t [] h = refl

@@ -72,13 +72,13 @@ target_one a b h =
     let attrs = all_one is_same_attr attr_one a.attrs b.attrs (and_second (bytes_eq a.href b.href) (pointwise is_same_attr a.attrs b.attrs) h) in
     ap (λ t. record { href = t; attrs = a.attrs }) href ∙ ap (λ t. record { href = b.href; attrs = t }) attrs
 
--- two truths of which each gives the other are one
+-- two truth values that imply each other are equal
 pub one_truth : (a b : Bool) → (a ≡ true → b ≡ true) → (b ≡ true → a ≡ true) → a ≡ b
 one_truth true b f g = sym (f refl)
 one_truth false true f g = g refl
 one_truth false false f g = refl
 
--- targets of the shape are the same where their texts are
+-- targets of the shape are the same if their texts are
 pub same_text : (a b : Target) → is_target a ≡ true → is_target b ≡ true → bytes_eq (target_text a) (target_text b) ≡ is_same_target a b
 same_text a b ha hb =
     one_truth (bytes_eq (target_text a) (target_text b)) (is_same_target a b)

@@ -117,7 +117,7 @@ same_contexts xs ys each =
     let texts = one_list (ascending texts_x) (ascending texts_y) (ascending_ascends texts_x) (ascending_ascends texts_y) (λ t. has_text xs t ∙ ap has_some (relations t) ∙ sym (has_text ys t)) in
     map_agree (context_with xs) (context_with ys) (λ t. ap (λ rs. record { anchor = t; relations = rs }) (relations t)) (ascending texts_x) ∙ ap (map (context_with ys)) texts
 
--- ---- links one behind the other, and links of a relation
+-- ---- links one after the other, and links of a relation
 
 pub targets_append : (xs ys : List Link) (text name : List ℕ) → targets_at (xs ++ ys) text name ≡ targets_at xs text name ++ targets_at ys text name
 targets_append xs ys text name =
@@ -205,7 +205,7 @@ no_anchor : (links : List Link) → links_by (codes "anchor") (with_relation lin
 no_anchor [] = refl
 no_anchor (link ∷ links) = no_anchor_at link links (bytes_eq link.relation (codes "anchor")) refl (no_anchor links)
 
--- two merged documents are one where they have the same targets at each anchor and relation but `anchor`
+-- two merged documents are equal if they have the same targets at each anchor and each relation except `anchor`
 pub one_merged : (a b c d : List Link) → ((text name : List ℕ) → bytes_eq name (codes "anchor") ≡ false → distinct (targets_at a text name ++ targets_at b text name) ≡ distinct (targets_at c text name ++ targets_at d text name))
     → merged a b ≡ merged c d
 unfolding merged

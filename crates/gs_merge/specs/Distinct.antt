@@ -1,5 +1,4 @@
--- Things of which each equal one stands once. Two targets are equal where all that a linkset says of them is the same
--- (RFC 9264, section 4.2.3).
+-- Lists without duplicates. Two targets are equal if a linkset has the same facts about both (RFC 9264, section 4.2.3).
 use Rattle.std.specs.Prelude.{ℕ, Bool, false, not, ◌&&◌, List, [], ◌∷◌, filter}
 use Rattle.std.specs.Cmp.Lexicographic.{pointwise}
 use Rattle.std.specs.Str.{bytes_eq}

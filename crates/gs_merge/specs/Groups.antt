@@ -1,4 +1,4 @@
--- How links are grouped and targets are told apart in a map of texts, step by step.
+-- The steps by which links are grouped, and by which a map of texts tells targets apart.
 use Rattle.std.specs.Prelude.{◌≡◌, ℕ, if◌then◌else◌, List, [], ◌∷◌, ◌++◌, filter, map, Option, Some, None}
 use Rattle.std.specs.BTreeMap.{is_at}
 use Rattle.std.specs.Cmp.Lexicographic.{slice_cmp}
@@ -28,7 +28,7 @@ grouped by links text = filter (λ link. bytes_eq (key_of by link) text) links
 abbrev pub group_at : (List ℕ → List Link) → List ℕ → List ℕ × List Link
 group_at links text = (text, links text)
 
--- an entry of a map, by what is seen of its group
+-- an entry of a map, with the visible links of its group
 abbrev pub entry_seen : {G : Type 0} → (G → List Link) → List ℕ × G → List ℕ × List Link
 entry_seen seen entry = (entry.0, seen entry.1)
 
@@ -49,7 +49,7 @@ some_group (link ∷ links) = Some (link ∷ links)
 abbrev pub AreGroups : Grouping → List Link → (List ℕ → Option (List Link)) → Type 0
 AreGroups by links found = (text : List ℕ) → found text ≡ some_group (grouped by links text)
 
--- targets with one more, where none is the same
+-- the targets with one more, if none is the same
 abbrev pub with_target : List Target → Target → List Target
 with_target targets target = if list_any (λ other. is_same_target other target) targets then targets else targets ++ target ∷ []
 

@@ -24,7 +24,7 @@ ascending texts = fold (insert_key (slice_cmp nat_cmp)) [] texts
 abbrev pub anchor_text : Link → List ℕ
 anchor_text link = canonical_link link.anchor
 
--- trusted, RFC 9264, section 4.2.2: `anchor` is no relation's name, so links of it are left out
+-- trusted, RFC 9264, section 4.2.2: `anchor` is not a relation's name, so links of it are left out
 abbrev pub with_relation : List Link → List Link
 with_relation links = filter (λ link. not (bytes_eq link.relation (codes "anchor"))) links
 

@@ -1,5 +1,5 @@
--- What is said of merged stores: the targets at an anchor and a relation (RFC 9264, section 4.2), and the targets that are
--- chosen for an identity (GS1-Conformant Resolver). The laws are the project's own.
+-- The targets of merged stores at an anchor and a relation (RFC 9264, section 4.2), and those that are chosen for an identity
+-- (GS1-Conformant Resolver). The laws are this project's own.
 use Rattle.std.specs.Prelude.{◌≡◌, ℕ, Bool, false, max, List, codes, filter, Ok}
 use Rattle.std.specs.List.{flat_map, list_any}
 use Rattle.std.specs.Str.{bytes_eq}
@@ -35,7 +35,7 @@ targets_in contexts text name =
 abbrev pub has_target : List Target → Target → Bool
 has_target targets target = list_any (is_same_target target) targets
 
--- trusted, own: the targets of the candidates with so many qualifiers, in the order of the store
+-- trusted, own: the targets of the candidates with that many qualifiers, in the order of the store
 abbrev pub chosen_targets : List Link → Elements → Want → ℕ → List Target
 chosen_targets links identity want depth = targets_of (linked links (chosen_at links identity want depth))
 

@@ -24,7 +24,7 @@ fn push_relation(
     Ok(())
 }
 
-/// The relations of links, in ascending order of name.
+/// Returns the relations of links, in ascending order of name.
 fn relations_of(alloc: Global, links: &[StoredLink<'_>]) -> Result<List<Relation>, Memory>
     ensures { IfOk result (λ relations. relations ≡ relations_of links.now) }
 {
@@ -52,7 +52,7 @@ fn push_context(
     Ok(())
 }
 
-/// The contexts of links, in ascending order of anchor.
+/// Returns the contexts of links, in ascending order of anchor.
 pub(crate) fn contexts_of(alloc: Global, links: &[StoredLink<'_>]) -> Result<List<Context>, Memory>
     ensures { IfOk result (λ contexts. contexts ≡ contexts_of links.now) }
 {

@@ -12,7 +12,7 @@ use gs_linkset::Target;
 use std::alloc::Global;
 use std::collections::BTreeMap;
 
-/// The text by which a target is told apart.
+/// Returns the text that identifies a target.
 fn text_of(alloc: Global, target: &Target) -> Result<Text, Memory>
     requires { is_target target.now ≡ true }
     ensures { IfOk result (λ text. text ≡ target_text target.now) }
@@ -20,7 +20,7 @@ fn text_of(alloc: Global, target: &Target) -> Result<Text, Memory>
     target.text(alloc)
 }
 
-/// Adds a copy of a target where none was added that is the same: none that has its text.
+/// Appends a copy of a target unless an equal one, with the same text, was appended before.
 fn add_target(
     alloc: Global,
     texts: &mut BTreeMap<Text, ()>,

@@ -22,7 +22,7 @@ pub(crate) enum Grouping {
     ByRelation,
 }
 
-/// The text by which a link is grouped.
+/// Returns the text by which a link is grouped.
 fn key_of(alloc: Global, by: Grouping, link: &Link) -> Result<Text, Memory>
     ensures { IfOk result (λ text. text ≡ key_of by link.now) }
 {
@@ -67,7 +67,7 @@ fn put_link<'a>(
     Ok(())
 }
 
-/// The links by their texts, those of each text in their order.
+/// Returns the links by their texts, those of each text in their order.
 pub(crate) fn groups_of<'a>(
     alloc: Global,
     by: Grouping,

@@ -12,14 +12,14 @@ ghost use Rattle.gs_merge.specs.Stores.{IsOfRelation, IsStore, chosen_targets, h
 
 use gs_ai::AiTable;
 
-/// At each anchor and each relation but `anchor` the merged document has the targets of the first store and then those of
-/// the second, each equal one once.
+/// States that at each anchor and each relation except `anchor`, the merged document has the targets of the first store and then
+/// those of the second, without duplicates.
 pub fn merged_targets()
     ensures { (a b : List Link) (text name : List ℕ) → bytes_eq name (codes "anchor") ≡ false
         → targets_in (merged a b) text name ≡ distinct (targets_at a text name ++ targets_at b text name) }
 {}
 
-/// A store that is merged with itself gives what it gives with a store of no links.
+/// States that merging a store with itself gives the same as merging it with a store of no links.
 pub fn merged_with_itself()
     ensures { (a : List Link) → merged a a ≡ merged a [] }
 {}
@@ -31,31 +31,31 @@ pub fn either_way_round()
         ≡ has_target (targets_in (merged b a) text name) target }
 {}
 
-/// The merged document of two stores of one table and one vocabulary that keeps names is not rejected where it is loaded, if
-/// it has not too many targets: the answer is its links, or out of memory.
+/// States that the merged document of two stores loads to its links, or fails with `Memory`. The stores have one table and one
+/// vocabulary that keeps names, and the document has at most the allowed number of targets.
 pub fn merged_document_loads(table: &AiTable)
     ensures { (voc : List ℕ) (a b : List Link) → keeps_names voc ≡ true
         → IsStore table.now voc a → IsStore table.now voc b → is_too_many (merged a b) ≡ false
         → load_answer table.now voc (merged a b) ≡ Ok (links_of table.now voc (merged a b)) }
 {
-    // For the proof alone: the rows keep the rules.
+    // Only for the proof: the rows satisfy the rules.
     let _ = table.rows();
 }
 
-/// Of three stores it is all one which two are merged first.
+/// States that the order in which three stores are merged does not matter.
 pub fn merging_is_associative(table: &AiTable)
     ensures { (voc : List ℕ) (a b c ab bc : List Link) → keeps_names voc ≡ true
         → IsStore table.now voc a → IsStore table.now voc b → IsStore table.now voc c
         → load_answer table.now voc (merged a b) ≡ Ok ab → load_answer table.now voc (merged b c) ≡ Ok bc
         → merged ab c ≡ merged a bc }
 {
-    // For the proof alone: the rows keep the rules.
+    // Only for the proof: the rows satisfy the rules.
     let _ = table.rows();
 }
 
-/// The store of the merged document chooses, for every identity and every relation but `anchor`, at the larger of the depths
-/// that two stores choose at: the targets of the first store at this depth, and then those of the second, each equal one
-/// once. So it chooses none where neither has any.
+/// States what the store of the merged document chooses for every identity and every relation except `anchor`. It chooses at the
+/// larger of the two stores' depths: the targets of the first store at this depth, and then those of the second, without
+/// duplicates. So it chooses none if neither has any.
 pub fn merged_store_chooses(table: &AiTable)
     ensures depth { (voc : List ℕ) (a b m : List Link) → keeps_names voc ≡ true
         → IsStore table.now voc a → IsStore table.now voc b → load_answer table.now voc (merged a b) ≡ Ok m
@@ -68,6 +68,6 @@ pub fn merged_store_chooses(table: &AiTable)
         ≡ distinct (chosen_targets a identity want (larger_depth a b identity want)
         ++ chosen_targets b identity want (larger_depth a b identity want)) }
 {
-    // For the proof alone: the rows keep the rules.
+    // Only for the proof: the rows satisfy the rules.
     let _ = table.rows();
 }

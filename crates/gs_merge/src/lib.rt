@@ -1,24 +1,24 @@
-//! The merging of two stores of links (gs_links) into one linkset (RFC 9264), as where several departments each keep a linkset
-//! and one resolver serves them.
+//! The merging of two stores of links (gs_links) into one linkset (RFC 9264), for example if several departments each keep a
+//! linkset and one resolver serves them.
 //!
 //! - `merge` makes the merged document of two stores.
-//! - The laws say what it has: it loads where the vocabulary keeps names, the store of it chooses what the two stores choose,
-//!   and merging is associative.
+//! - The laws state its properties: it loads if the vocabulary keeps names, its store chooses the targets of both stores, and
+//!   merging is associative.
 //!
 //! # Example
 //!
-//! Two stores of one anchor and one relation, of which the second has a target of its own and one of the first. The gate runs
-//! this case, for which crates/vectors_merge/src/lib.rt makes the call.
+//! Two stores of one anchor and one relation; the second has one target of the first, and another one. The gate runs this case,
+//! for which crates/vectors_merge/src/lib.rt makes the call.
 //!
 //! ```text
 //! gs_merge::merge {"linkset":[{"anchor":"/414/0614141000012","r":[{"href":"https://x.example/"}]}]} {"linkset":[{"anchor":"/414/0614141000012","r":[{"href":"https://y.example/"},{"href":"https://x.example/"}]}]}
 //! {"linkset":[{"anchor":"https://id.gs1.org/414/0614141000012","r":[{"href":"https://x.example/"},{"href":"https://y.example/"}]}]}
 //! ```
 //!
-//! # Where it differs from the standards
+//! # Differences from the standards
 //!
-//! No standard says how linksets are merged. That the canonical link of an anchor is its one name (GS1 Digital Link URI Syntax,
-//! section 5), that all orders are ascending but that of the targets, and that equal targets stand once, is this project's own.
+//! No standard defines the merging of linksets. The canonical link as an anchor's one name (GS1 Digital Link URI Syntax, section
+//! 5), the ascending orders except that of targets, and the removal of duplicates are this project's own.
 #![tactic(auto)]
 
 mod contexts;

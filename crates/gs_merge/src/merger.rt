@@ -11,7 +11,7 @@ use gs_links::{Store, is_over};
 use gs_linkset::{Context, LinkDoc};
 use std::alloc::Global;
 
-/// The contexts of the merged document.
+/// Returns the contexts of the merged document.
 fn merged_contexts(alloc: Global, a: &Store, b: &Store) -> Result<List<Context>, Memory>
     ensures answer { IfOk result (λ contexts. contexts ≡ merged a.now b.now) }
     ensures shape { IfOk result (λ contexts. list_all is_context contexts ≡ true) }
@@ -20,11 +20,11 @@ fn merged_contexts(alloc: Global, a: &Store, b: &Store) -> Result<List<Context>,
     contexts_of(alloc, links.as_slice())
 }
 
-/// The merged document of two stores. Its contexts are the canonical links of all anchors of links of both stores, each once,
-/// in ascending order; a context has each relation of its links but `anchor`, in ascending order; and a relation has the
-/// targets of the first store and then those of the second, in their stores' orders, each equal target once, at its first
-/// place. Two targets are equal where their references and all their attributes are. `TooMany`: exactly where the document
-/// has more than 65,536 targets. `Memory` may come in place of any answer. Its time grows as n log n in the number of links.
+/// Returns the merged document of two stores. Its contexts are the canonical links of all anchors of both stores, without
+/// duplicates, in ascending order. A context has each relation of its links except `anchor`, in ascending order. A relation has
+/// the targets of the first store and then those of the second, in their stores' orders, and only the first of equal targets. Two
+/// targets are equal if their target URIs and all their attributes are. Returns `TooMany` if and only if the document has more
+/// than 65,536 targets. May return `Memory` instead. Takes O(n log n) steps for n links.
 pub fn merge(alloc: Global, a: &Store, b: &Store) -> Result<LinkDoc, MergeFault>
     ensures { OrMemory result (merge_answer a.now b.now) }
 {

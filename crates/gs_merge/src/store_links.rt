@@ -28,7 +28,7 @@ impl<'a> Model for StoredLink<'a> {
 }
 
 impl<'a> StoredLink<'a> {
-    /// The link.
+    /// Returns the link.
     pub(crate) fn link(&self) -> &Link
         ensures same { result.now ≡ self.now }
         ensures shape { is_link self.now ≡ true }
@@ -36,7 +36,7 @@ impl<'a> StoredLink<'a> {
         self.link
     }
 
-    /// The same link, lent once more.
+    /// Returns the same link, lent once more.
     pub(crate) fn again(&self) -> StoredLink<'a>
         ensures { result ≡ self.now }
     {
@@ -44,7 +44,7 @@ impl<'a> StoredLink<'a> {
     }
 }
 
-/// Whether the name is that of no relation.
+/// Returns whether the name is that of no relation.
 fn is_anchor(name: &[u8]) -> bool
     ensures { result ≡ bytes_eq name.now (codes "anchor") }
 {
@@ -67,7 +67,7 @@ fn push_links<'a>(store: &'a Store, links: &mut Vec<StoredLink<'a>>) -> Result<(
     Ok(())
 }
 
-/// The links of two stores whose relation is not `anchor`: those of the first, and then those of the second.
+/// Returns the links of two stores whose relation is not `anchor`: those of the first, and then those of the second.
 pub(crate) fn stored_links<'a>(
     alloc: Global,
     a: &'a Store,

@@ -1,4 +1,4 @@
--- What is read piece after piece.
+-- Bytes that are read piece by piece.
 use Rattle.std.proofs.Common.{◌≡◌, ◌∙◌, ◌↔◌, ◌⊎◌, ◌≤◌, ◌+◌, ◌-◌, ℕ, List, [], ◌++◌, Option, None, Some, IfSome, Result, Ok, Err, length, take, drop, ap, refl, sym, append-nil, inl, arith}
 use Rattle.std.proofs.lemmas.List.{take-append-le}
 use Rattle.std.proofs.lemmas.Grind.{common_steps}
@@ -32,11 +32,11 @@ over_read files name first after (Err (error.Over text)) e there h = front_read 
 over_read files name first after (Err error.Failed) e there h = tt
 over_read files name first after (Err error.Memory) e there h = tt
 
--- what was read stays within the bound
+-- the bytes read are within the bound
 pub read_within : (max asked n : ℕ) (bytes buf block after : List ℕ) → after ≡ bytes ++ take n buf → length buf ≡ length (take asked block) → asked ≤ (max + 1) - length bytes → length bytes ≤ max → length after ≤ max + 1
 read_within max asked n bytes buf block after e f h k = grind (arith, common_steps)
 
--- a room keeps its length where its start is written
+-- writing the start of a room keeps its length
 pub room_kept : (front block : List ℕ) (asked : ℕ) → length front ≡ length (take asked block) → length (front ++ drop asked block) ≡ length block
 room_kept front block asked e = grind (arith, common_steps)
 
@@ -51,7 +51,7 @@ rest_failed files name first opened now (Err (error.Over text)) e h = tt
 rest_failed files name first opened now (Err error.Failed) e h = inl (rw e at h)
 rest_failed files name first opened now (Err error.Memory) e h = tt
 
--- an error at a file that is there is counted
+-- an error at a file that exists is counted
 counted_there : (found : Option (List ℕ)) (count : ℕ) → ¬ (found ≡ None) → counted count ≡ counted_if_found found count
 counted_there None count there = absurd (there refl)
 counted_there (Some bytes) count there = refl

@@ -1,4 +1,4 @@
--- What an answer of the outside says, by its variant.
+-- The facts of each result of a source, a sink, a file or a connection, by its variant.
 use Rattle.std.specs.Prelude.{◌≡◌, ◌↔◌, ◌⊎◌, ℕ, List, [], Option, Result, Ok, Err, IfSome, take}
 use Rattle.gs_port.specs.Contents.{append_known, prepend_known}
 use Rattle.gs_port.specs.Counts.{Rises, counted}
@@ -21,15 +21,15 @@ abbrev pub IfGot : ReadAnswer → (ℕ → Type 0) → Type 0
 IfGot (read.Got n) fact = fact n
 IfGot read.Failed fact = Unit {0}
 
--- trusted, own: what a read moved to the start of the buffer was the start of what was left, and the rest is left now
+-- trusted, own: holds if a read moved the start of the bytes left to the start of the buffer, and the rest is left now
 abbrev pub MovesFront : ReadAnswer → List ℕ → Option (List ℕ) → Option (List ℕ) → Type 0
 MovesFront answer buffer before now = IfGot answer (λ n. before ≡ prepend_known (take n buffer) now)
 
--- trusted, own: what a read moved to the start of the buffer was added to what was read before
+-- trusted, own: holds if the bytes that a read moved to the start of the buffer were added to those read before
 abbrev pub AddsMoved : ReadAnswer → List ℕ → Option (List ℕ) → Option (List ℕ) → Type 0
 AddsMoved answer buffer before now = IfGot answer (λ n. now ≡ append_known before (take n buffer))
 
--- trusted, own: a read moved 0 bytes exactly where nothing was left, where that is known
+-- trusted, own: holds if a read moved 0 bytes if and only if nothing was left, if that is known
 abbrev pub IsZeroAtEnd : ReadAnswer → Option (List ℕ) → Type 0
 IsZeroAtEnd answer left = IfGot answer (λ n. IfSome left (λ bytes. (n ≡ 0) ↔ (bytes ≡ [])))
 
@@ -38,7 +38,7 @@ abbrev pub OnReadFailed : ReadAnswer → Type 0 → Type 0
 OnReadFailed (read.Got n) fact = Unit {0}
 OnReadFailed read.Failed fact = fact
 
--- trusted, own: the count of errors after a read: one more where it failed
+-- trusted, own: the count of errors after a read: one more if it failed
 abbrev pub count_after_read : ReadAnswer → ℕ → ℕ
 count_after_read (read.Got n) count = count
 count_after_read read.Failed count = counted count
@@ -49,11 +49,11 @@ IfTook (write.Took n) fact = fact n
 IfTook write.Failed fact = Unit {0}
 IfTook write.Memory fact = Unit {0}
 
--- trusted, own: what a write took from the start of the piece was added to what was held
+-- trusted, own: holds if the bytes that a write took from the start of the piece were added to those held
 abbrev pub AppendsFront : WriteAnswer → List ℕ → Option (List ℕ) → Option (List ℕ) → Type 0
 AppendsFront answer piece before now = IfTook answer (λ n. now ≡ append_known before (take n piece))
 
--- trusted, own: a fact for a write that took nothing, be it for an error or for lack of memory
+-- trusted, own: a fact for a write that took nothing, because of an error or for lack of memory
 abbrev pub OnNothingTaken : WriteAnswer → Type 0 → Type 0
 OnNothingTaken (write.Took n) fact = Unit {0}
 OnNothingTaken write.Failed fact = fact
@@ -65,7 +65,7 @@ OnWriteFailed (write.Took n) fact = Unit {0}
 OnWriteFailed write.Failed fact = fact
 OnWriteFailed write.Memory fact = Unit {0}
 
--- trusted, own: the count of errors after a write: one more where it failed
+-- trusted, own: the count of errors after a write: one more if it failed
 abbrev pub count_after_write : WriteAnswer → ℕ → ℕ
 count_after_write (write.Took n) count = count
 count_after_write write.Failed count = counted count
@@ -77,19 +77,19 @@ OnDone whole.Done fact = fact
 OnDone whole.SinkFault fact = Unit {0}
 OnDone whole.Memory fact = Unit {0}
 
--- trusted, own: a fact for bytes of which the rest was not written
+-- trusted, own: a fact for bytes that were not all written
 abbrev pub OnShort : Whole → Type 0 → Type 0
 OnShort whole.Done fact = Unit {0}
 OnShort whole.SinkFault fact = fact
 OnShort whole.Memory fact = fact
 
--- trusted, own: a fact for bytes of which the rest was not written for an error
+-- trusted, own: a fact for bytes that were not all written because of an error
 abbrev pub OnSinkFault : Whole → Type 0 → Type 0
 OnSinkFault whole.Done fact = Unit {0}
 OnSinkFault whole.SinkFault fact = fact
 OnSinkFault whole.Memory fact = Unit {0}
 
--- trusted, own: the count of errors after bytes were written: one more where the rest was not written for an error
+-- trusted, own: the count of errors after bytes were written: one more if an error kept some of them from being written
 abbrev pub count_after_whole : Whole → ℕ → ℕ
 count_after_whole whole.Done count = count
 count_after_whole whole.SinkFault count = counted count
@@ -101,7 +101,7 @@ OnOpened opening.Opened fact = fact
 OnOpened opening.Failed fact = Unit {0}
 OnOpened opening.Memory fact = Unit {0}
 
--- trusted, own: a fact for a file that was not opened, be it for an error or for lack of memory
+-- trusted, own: a fact for a file that was not opened, because of an error or for lack of memory
 abbrev pub OnNotOpened : OpenAnswer → Type 0 → Type 0
 OnNotOpened opening.Opened fact = Unit {0}
 OnNotOpened opening.Failed fact = fact
@@ -113,19 +113,19 @@ OnOpenFailed opening.Opened fact = Unit {0}
 OnOpenFailed opening.Failed fact = fact
 OnOpenFailed opening.Memory fact = Unit {0}
 
--- trusted, own: the same, where a file that is not among those that are known is no error
+-- trusted, own: the same, but no error is counted if the files are known and the file is not among them
 abbrev pub count_after_named : OpenAnswer → Option FilesHeld → List ℕ → ℕ → ℕ
 count_after_named opening.Opened files name count = count
 count_after_named opening.Failed files name count = counted_if_there files name count
 count_after_named opening.Memory files name count = count
 
--- trusted, own: an open of the named file fails only where an error was counted, or where the files are known and it is not
+-- trusted, own: holds if an open of the named file fails only if an error was counted, or if the files are known and it is not
 -- among them
 abbrev pub OpenFails : OpenAnswer → Option FilesHeld → List ℕ → ℕ → ℕ → Type 0
 OpenFails answer files name before now = OnOpenFailed answer (Rises before now ⊎ IsAbsent files name)
 
--- trusted, own: the count of errors between two moments with an open of the named file: one more where the file is there
--- and it failed
+-- trusted, own: the count of errors from before to after an open of the named file: one more if the file exists and the open
+-- failed
 abbrev pub CountsOpen : OpenAnswer → Option FilesHeld → List ℕ → ℕ → ℕ → Type 0
 CountsOpen answer files name before now = now ≡ count_after_named answer files name before
 
@@ -167,20 +167,19 @@ OnFileFailed (Err (file.Over text)) fact = Unit {0}
 OnFileFailed (Err file.Failed) fact = fact
 OnFileFailed (Err file.Memory) fact = Unit {0}
 
--- trusted, own: the count of errors after the reading of a file: one more where it failed, but where it is not among files
--- that are known
+-- trusted, own: the count of errors after a file was read: one more if that failed, unless the files are known and it is not
+-- among them
 abbrev pub count_after_file : Result (List ℕ) FileFault → Option FilesHeld → List ℕ → ℕ → ℕ
 count_after_file (Ok text) files name count = count
 count_after_file (Err (file.Over text)) files name count = count
 count_after_file (Err file.Failed) files name count = counted_if_there files name count
 count_after_file (Err file.Memory) files name count = count
 
--- trusted, own: the reading of the named file fails only where an error was counted, or where the files are known and it is
--- not among them
+-- trusted, own: holds if reading the named file fails only if an error was counted, or if the files are known and it is not among
+-- them
 abbrev pub FileFails : Result (List ℕ) FileFault → Option FilesHeld → List ℕ → ℕ → ℕ → Type 0
 FileFails answer files name before now = OnFileFailed answer (Rises before now ⊎ IsAbsent files name)
 
--- trusted, own: the count of errors between two moments with the reading of the named file: one more where it is there and
--- it failed
+-- trusted, own: the count of errors from before to after the named file was read: one more if it exists and that failed
 abbrev pub CountsFile : Result (List ℕ) FileFault → Option FilesHeld → List ℕ → ℕ → ℕ → Type 0
 CountsFile answer files name before now = now ≡ count_after_file answer files name before

@@ -1,4 +1,4 @@
--- What proofs and private functions say beside the definitions of Answers.antt.
+-- Definitions for proofs and private functions, in addition to Answers.antt.
 use Rattle.std.specs.Prelude.{◌≡◌, ℕ, List, Option, Result, Ok, Err, IfSome, min, length}
 use Rattle.gs_port.specs.Counts.{counted}
 use Rattle.gs_port.specs.declared.source.ReadAnswer.{ReadAnswer}
@@ -10,17 +10,17 @@ use Rattle.gs_port.specs.declared.file_reader.FileFault.{FileFault}
 use Rattle.gs_port.specs.declared.file_reader.FileFault.TheVariants as file
 use Rattle.gs_port.specs.Answers.{IfGot}
 
--- a read moved so many bytes, or all that were left where they were fewer, where that is known
+-- trusted, own: a read moved that many bytes, or all bytes left if they were fewer, if that is known
 abbrev pub MovesMost : ReadAnswer → ℕ → Option (List ℕ) → Type 0
 MovesMost answer most left = IfGot answer (λ n. IfSome left (λ bytes. n ≡ min most (length bytes)))
 
--- the count of errors after an open: one more where it failed
+-- the count of errors after an open: one more if it failed
 abbrev pub count_after_open : OpenAnswer → ℕ → ℕ
 count_after_open opening.Opened count = count
 count_after_open opening.Failed count = counted count
 count_after_open opening.Memory count = count
 
--- the count of errors after an accept: one more where it failed
+-- the count of errors after an accept: one more if it failed
 abbrev pub count_after_accept : AcceptAnswer → ℕ → ℕ
 count_after_accept accepting.Accepted count = count
 count_after_accept accepting.Closed count = count

@@ -1,4 +1,4 @@
--- Connections, and the doors at which they come.
+-- Connections, and the doors (listeners) that accept them.
 use Rattle.std.specs.Prelude.{◌≡◌, ℕ, ◌-◌, Bool, true, false, List, [], ◌∷◌, ◌++◌, Option, Some, None, option_map}
 use Rattle.gs_port.specs.Counts.{Rises, counted}
 use Rattle.gs_port.specs.declared.files.OpenAnswer.{OpenAnswer}
@@ -6,18 +6,17 @@ use Rattle.gs_port.specs.declared.files.OpenAnswer.TheVariants as opening
 use Rattle.gs_port.specs.declared.door.AcceptAnswer.{AcceptAnswer}
 use Rattle.gs_port.specs.declared.door.AcceptAnswer.TheVariants as accepting
 
--- trusted, own: a connection that was finished: the bytes that were read of it and those that were written to it, where
--- they are known, and how far the counts of its reads and of its writes rose
+-- trusted, own: a finished connection: the bytes read from it and written to it, if they are known, and by how much the counts of
+-- its reads and writes rose
 pub record Finished : Type 0 where
   pub read : Option (List ℕ)
   pub written : Option (List ℕ)
   pub reads : ℕ
   pub writes : ℕ
 
--- trusted, own: what the reads and writes of a connection leave as it was, that is, of a door: its own count of errors, of
--- opens and of accepts; whether it was opened; the addresses at which it was to be opened, the inputs of the waiting
--- connections and the finished connections, in order, where they are known; and the counts of reads and of writes that
--- stood at its last accept
+-- trusted, own: the state that the reads and writes of a connection preserve. For a door it is: its own count of errors, of opens
+-- and accepts; whether it was opened; the addresses of its opens, the inputs of the waiting connections and the finished
+-- connections, in order, if they are known; and the counts of reads and writes at its last accept
 pub record Aside : Type 0 where
   pub errors : ℕ
   pub opened : Bool
@@ -27,19 +26,19 @@ pub record Aside : Type 0 where
   pub reads_then : ℕ
   pub writes_then : ℕ
 
--- trusted, own: an error of a door itself was counted between two moments
+-- trusted, own: holds if an error of the door itself was counted from before to after
 abbrev pub ErrorRises : Aside → Aside → Type 0
 ErrorRises before now = Rises before.errors now.errors
 
--- trusted, own: between two moments it did not change whether a door was opened
+-- trusted, own: holds if the door is opened after exactly if it was opened before
 abbrev pub SameOpened : Aside → Aside → Type 0
 SameOpened before now = now.opened ≡ before.opened
 
--- trusted, own: of what is no door
+-- trusted, own: the state of an object that is not a door
 abbrev pub no_aside : Aside
 no_aside = record { errors = 0; opened = false; addresses = None; waiting = None; finished = None; reads_then = 0; writes_then = 0 }
 
--- trusted, own: the input of the first waiting connection, where it is known and one waits
+-- trusted, own: the input of the first waiting connection, if it is known and one waits
 abbrev pub first_input : Option (List (List ℕ)) → Option (List ℕ)
 first_input None = None
 first_input (Some []) = None
@@ -49,17 +48,17 @@ first_input (Some (input ∷ rest)) = Some input
 abbrev pub first_begun : Option (List (List ℕ)) → Option (List ℕ)
 first_begun waiting = option_map (λ _. []) (first_input waiting)
 
--- trusted, own: nothing was read of the first connection that waits at a door, and nothing written to it
+-- trusted, own: the empty contents of the next waiting connection, of which nothing was read or written
 abbrev pub begun_next : Aside → Option (List ℕ)
 begun_next aside = first_begun aside.waiting
 
--- trusted, own: the waiting connections behind the first
+-- trusted, own: the waiting connections after the first
 abbrev pub behind_first : Option (List (List ℕ)) → Option (List (List ℕ))
 behind_first None = None
 behind_first (Some []) = Some []
 behind_first (Some (input ∷ rest)) = Some rest
 
--- trusted, own: what an open leaves, after which these are its addresses: the door was opened, or an error was counted
+-- trusted, own: the state after an open with these addresses: the door was opened, or an error was counted
 abbrev pub after_open : OpenAnswer → Option (List (List ℕ)) → Aside → Aside
 after_open opening.Opened addresses aside = record aside { opened = true; addresses = addresses }
 after_open opening.Failed addresses aside = record aside { errors = counted aside.errors; addresses = addresses }
@@ -71,8 +70,7 @@ after_accept accepting.Accepted reads writes aside = record aside { waiting = be
 after_accept accepting.Closed reads writes aside = aside
 after_accept accepting.Failed reads writes aside = record aside { errors = counted aside.errors }
 
--- trusted, own: the connection of which these bytes were read and to which these were written, as it is finished at these
--- counts
+-- trusted, own: the finished connection with these bytes read and written, at these counts
 abbrev pub finished_now : Option (List ℕ) → Option (List ℕ) → ℕ → ℕ → Aside → Finished
 finished_now read written reads writes aside = record { read = read; written = written; reads = reads - aside.reads_then; writes = writes - aside.writes_then }
 
@@ -80,7 +78,6 @@ finished_now read written reads writes aside = record { read = read; written = w
 abbrev pub after_finish : Finished → Aside → Aside
 after_finish last aside = record aside { finished = option_map (λ before. before ++ last ∷ []) aside.finished }
 
--- trusted, own: what the finish of a connection leaves, of which these bytes were read and to which these were written, at
--- these counts
+-- trusted, own: the state after the finish of a connection with these bytes read and written, at these counts
 abbrev pub after_finish_of : Option (List ℕ) → Option (List ℕ) → ℕ → ℕ → Aside → Aside
 after_finish_of read written reads writes aside = after_finish (finished_now read written reads writes aside) aside

@@ -1,8 +1,8 @@
--- What proofs and private functions say beside the definitions of Connections.antt.
+-- Definitions for proofs and private functions, in addition to Connections.antt.
 use Rattle.std.specs.Prelude.{ℕ, Bool, None}
 use Rattle.gs_port.specs.Connections.{Aside}
 
--- of a door of whose addresses and connections nothing is known
+-- trusted, own: the state of a door whose addresses and connections are not known
 abbrev pub unknown_aside : ℕ → Bool → ℕ → ℕ → Aside
 unknown_aside errors opened reads_then writes_then =
     record { errors = errors; opened = opened; addresses = None; waiting = None; finished = None; reads_then = reads_then; writes_then = writes_then }

@@ -8,7 +8,7 @@ ghost use Rattle.gs_port.specs.Answers.{OnWriteFailed, count_after_read, count_a
 use crate::sink::WriteAnswer;
 use crate::source::ReadAnswer;
 
-/// A connection, of which bytes are read and to which bytes are written.
+/// A connection: bytes are read from it and written to it.
 pub trait Conn {
     /// The source and the sink that it lends, if it lends some: the names of the borrows, which no call changes.
     ghost ends: { Self → Option (GName × GName) };
@@ -16,26 +16,26 @@ pub trait Conn {
     /// Whether a connection is open.
     ghost is_open: { Self → Bool };
 
-    /// The bytes of the connection that are left to read, where they are known.
+    /// The bytes of the connection that are left to read, if they are known.
     ghost left: { Self → Option (List ℕ) };
 
-    /// The bytes of the connection that were read, where they are known.
+    /// The bytes that were read from the connection, if they are known.
     ghost taken: { Self → Option (List ℕ) };
 
-    /// The bytes that were written to the connection, where they are known.
+    /// The bytes that were written to the connection, if they are known.
     ghost held: { Self → Option (List ℕ) };
 
-    /// The count of the reads that failed. It stands still at 2^64 - 1.
+    /// The count of the reads that failed. It saturates at 2^64 - 1.
     ghost reads: { Self → ℕ };
 
-    /// The count of the writes that failed. It stands still at 2^64 - 1.
+    /// The count of the writes that failed. It saturates at 2^64 - 1.
     ghost writes: { Self → ℕ };
 
-    /// What reads and writes leave as it was.
+    /// The state that reads and writes preserve.
     ghost aside: { Self → Aside };
 
-    /// Moves the next bytes of what is left into the start of `buf`, at most as many as `buf` is long, and 0 exactly
-    /// where nothing is left. `Failed` comes only where a failed read was counted, and moves nothing.
+    /// Moves the next bytes of those left to the start of `buf`, at most its length, and 0 if and only if nothing is left.
+    /// Returns `Failed` only if a failed read was counted; it then moves nothing.
     fn read(&mut self, buf: &mut [u8]) -> ReadAnswer
         requires room { 0 < length buf.old }
         requires current { is_open self.old ≡ true }
@@ -54,8 +54,8 @@ pub trait Conn {
         ensures same_aside { aside self.new ≡ aside self.old }
         ensures same_ends { ends self.new ≡ ends self.old };
 
-    /// Writes bytes from the start of the piece, at least one unless it is empty. `Failed` comes only where a failed
-    /// write was counted. It writes nothing, and neither does `Memory`.
+    /// Writes bytes from the start of the piece, at least one unless it is empty. `Failed` is returned only if a failed write was
+    /// counted. It writes nothing, and neither does `Memory`.
     fn write(&mut self, piece: &[u8]) -> WriteAnswer
         requires current { is_open self.old ≡ true }
         ensures within { IfTook result (λ n. n ≤ length piece.now) }

@@ -18,13 +18,13 @@ pub enum AcceptAnswer {
     Failed,
 }
 
-/// A door at which connections come, of which one is open at a time. What it sets aside of its reads and writes is its own
-/// count of errors, which are those of `open` and `accept`; whether it was opened; the addresses at which it was to be, its
-/// waiting and its finished connections, where they are known; and the counts of reads and of writes that stood at its last `accept`.
+/// A listener that accepts connections, one open at a time. Its reads and writes preserve its own count of errors of `open` and
+/// `accept`; whether it was opened; its addresses, waiting and finished connections, if they are known; and the counts of reads
+/// and writes at its last `accept`.
 pub trait Door: Conn {
-    /// Begins to listen at the address. `Failed` comes only where an error was counted; it begins nothing, and neither does
-    /// `Memory`. What was opened stays so, and the connections stay as they are. After any answer the address is the last of
-    /// those at which it was to be opened, where they are still known.
+    /// Begins to listen at the address. Returns `Failed` only if an error was counted; `Failed` and `Memory` begin nothing. An
+    /// opened door stays open, and the connections are unchanged. After any result the address is the last of the door's
+    /// addresses, if these are still known.
     fn open(&mut self, address: &str) -> OpenAnswer
         ensures opened { OnOpened result ((Self.aside self.new).opened ≡ true) }
         ensures not_opened { OnNotOpened result (SameOpened (Self.aside self.old) (Self.aside self.new)) }
@@ -40,8 +40,8 @@ pub trait Door: Conn {
         ensures same_writes { Self.writes self.new ≡ Self.writes self.old }
         ensures same_ends { Self.ends self.new ≡ Self.ends self.old };
 
-    /// Takes the next connection as the open one: the first of those that wait, with all its input left, nothing read of it
-    /// and nothing written to it. `Closed` comes exactly where none is left, and `Failed` only where an error was counted.
+    /// Takes the next connection as the open one: the first of those that wait, with all its input left, nothing read of it and
+    /// nothing written to it. `Closed` is returned if and only if none is left, and `Failed` only if an error was counted.
     fn accept(&mut self) -> AcceptAnswer
         requires none_open { Self.is_open self.old ≡ false }
         requires listening { (Self.aside self.old).opened ≡ true }
@@ -60,8 +60,8 @@ pub trait Door: Conn {
         ensures same_writes { Self.writes self.new ≡ Self.writes self.old }
         ensures same_ends { Self.ends self.new ≡ Self.ends self.old };
 
-    /// Ends the open connection, and puts it behind the finished ones: the bytes that were read of it and written to it, and
-    /// how far the counts of reads and of writes rose since it was accepted.
+    /// Ends the open connection and appends it to the finished ones: the bytes read from it and written to it, and by how much
+    /// the counts of reads and writes rose since its accept.
     fn finish(&mut self)
         requires current { Self.is_open self.old ≡ true }
         ensures ended { Self.is_open self.new ≡ false }

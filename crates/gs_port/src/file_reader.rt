@@ -13,7 +13,7 @@ use std::alloc::{AllocError, Global};
 /// Why a file was not read whole.
 #[derive(Drop)]
 pub enum FileFault {
-    /// It has more bytes than were asked for at most. These are the first of them, one more than that.
+    /// The file has more than the most bytes. These are its first bytes, one more than the most.
     Over(Text),
     /// An error of the files, which they counted, or a file that is not among those that are known.
     Failed,
@@ -34,10 +34,9 @@ impl From<AllocError> for FileFault {
 /// The most bytes that one read asks for.
 const BLOCK: usize = 65_536;
 
-/// Reads the named file whole, if it has at most `max` bytes. `Over` comes exactly where `max + 1` bytes could be read, and
-/// carries them. `Failed` comes only where the files counted an error, or where they are known and the named one is not among
-/// them. After any answer the name is the last of those that were opened, where they are still known. `max` is at most
-/// 16,777,216.
+/// Reads the named file whole if it has at most `max` bytes. Returns `Over` if and only if `max + 1` bytes could be read, with
+/// these bytes. Returns `Failed` only if the files counted an error, or if they are known and the named one is not among them.
+/// After any result the name is the last opened one, if the opened names are still known. `max` is at most 16,777,216.
 pub fn read_file<F: Files>(
     alloc: Global,
     files: &mut F,
@@ -64,14 +63,14 @@ pub fn read_file<F: Files>(
     }
 }
 
-/// So many bytes of 0.
+/// That many bytes of 0.
 fn zeros(alloc: Global, len: usize) -> Result<Vec<u8>, AllocError>
     ensures { IfOk result (λ bytes. vec_len bytes ≡ len) }
 {
     vec![in alloc; 0; len]
 }
 
-/// Reads what is left of the current file, if it is at most `max` bytes.
+/// Reads the rest of the current file if it has at most `max` bytes.
 fn read_current<F: Files>(alloc: Global, files: &mut F, max: usize) -> Result<Text, FileFault>
     requires small { max ≤ 16777216 }
     requires current { F.is_open files.old ≡ true }

@@ -19,26 +19,26 @@ pub enum OpenAnswer {
 
 /// Files, which are opened by their names and read one at a time.
 pub trait Files {
-    /// The files, each a name and its bytes, where they are known. The first file with a name is the one that is opened.
+    /// The name and the bytes of each file, if they are known. An open opens the first file of its name.
     ghost files: { Self → Option FilesHeld };
 
     /// Whether a file is current.
     ghost is_open: { Self → Bool };
 
-    /// The bytes that are left of the current file, where the files are known.
+    /// The bytes of the current file that are left, if the files are known.
     ghost left: { Self → Option (List ℕ) };
 
-    /// The count of errors: of the calls that failed, but for opens of a name that is not among files that are known. It
-    /// stands still at 2^64 - 1.
+    /// The count of errors: of the calls that failed, except for opens of a name that is not among files that are known. It
+    /// saturates at 2^64 - 1.
     ghost errors: { Self → ℕ };
 
-    /// The names that were opened, in order, whether or not there was a file, where they are known. They may cease
-    /// to be known when memory ran out, and none becomes known.
+    /// The opened names in order, whether or not such a file exists, if they are known. They can become unknown if memory runs
+    /// out, and never become known again.
     ghost opened: { Self → Option (List (List ℕ)) };
 
-    /// Makes the named file the current one, with all its bytes left. `Failed` comes only where an error was counted, or
-    /// where the files are known and the named one is not among them, which is no error. After any answer but `Opened` no
-    /// file is current. After any answer the name is the last of those that were opened, where they are still known.
+    /// Makes the named file the current one, with all its bytes left. Returns `Failed` only if an error was counted, or if the
+    /// files are known and the named one is not among them, which is not an error. After any result but `Opened` no file is
+    /// current. After any result the name is the last opened one, if the opened names are still known.
     fn open(&mut self, name: &str) -> OpenAnswer
         ensures opened { OnOpened result (is_open self.new ≡ true) }
         ensures whole { OnOpened result (left self.new ≡ known_file (files self.old) name.now) }
@@ -51,8 +51,8 @@ pub trait Files {
         ensures count { CountsOpen result (files self.old) name.now (errors self.old) (errors self.new) }
         ensures named { AddsNames (opened self.old) (name.now ∷ []) (opened self.new) };
 
-    /// Moves the next bytes of what is left of the current file into the start of `buf`, at most as many as `buf` is
-    /// long, and 0 exactly where nothing is left. `Failed` comes only where an error was counted, and moves nothing.
+    /// Moves the next bytes left of the current file to the start of `buf`, at most its length, and 0 if and only if nothing is
+    /// left. Returns `Failed` only if an error was counted; it then moves nothing.
     fn read(&mut self, buf: &mut [u8]) -> ReadAnswer
         requires room { 0 < length buf.old }
         requires current { is_open self.old ≡ true }

@@ -1,14 +1,15 @@
-//! The outside: sources, sinks, files, connections and doors, with what is known of their content and their counts of errors.
+//! The objects of the system that the program uses: sources, sinks, files, connections and doors (listeners), with the known
+//! facts of their contents and their counts of errors.
 //!
 //! - `Source`, `Sink`, `Files`, `Conn` and `Door` are the traits that every other crate reads and writes through. Each has a
 //!   count of errors, which rises by one at each call that fails and at nothing else.
-//! - `MemSource` and `MemSink` are a source and a sink in memory, of which calls fail by a `CallPlan`; `Pair` makes one
-//!   connection of a source and a sink. Files and a door in memory are those of gs_port_memory; the system's objects, of gs_port_system.
+//! - `MemSource` and `MemSink` are a source and a sink in memory, whose calls fail by a `CallPlan`; `Pair` makes one connection
+//!   of a source and a sink. gs_port_memory has files and a door in memory, and gs_port_system the system's objects.
 //! - `read_file` and `write_whole` read and write whole things.
 //!
 //! # Example
 //!
-//! Files in memory are read up to so many bytes each: the last name is none of them. The gate runs this case, for which
+//! Files in memory, each read up to a number of bytes. The last name is not among them. The gate runs this case, for which
 //! crates/vectors_runs/src/outside.rt makes the calls.
 //!
 //! ```text
@@ -16,10 +17,10 @@
 //! Ok abcdefgh Over abcdefgh Over a Ok \e Failed
 //! ```
 //!
-//! # Where it differs from the system
+//! # Differences from the system
 //!
 //! - One connection is open at a time, and a connection that is finished is closed at once.
-//! - Counts of errors stand still at 2^64 - 1.
+//! - Counts of errors saturate at 2^64 - 1.
 #![tactic(auto)]
 
 mod conn;

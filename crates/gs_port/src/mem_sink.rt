@@ -8,7 +8,7 @@ use crate::sink::{Sink, WriteAnswer};
 use std::alloc::Global;
 use std::marker::Model;
 
-/// A sink in memory, which takes at most so many bytes at a time, and fails at the calls that the plan names.
+/// A sink in memory, which takes at most that many bytes at a time, and fails at the calls that the plan names.
 #[derive(Drop)]
 pub struct MemSink {
     bytes: Vec<u8>,
@@ -29,7 +29,8 @@ impl Model for MemSink {
 }
 
 impl MemSink {
-    /// An empty sink. A write takes at most `cut` bytes. The calls whose numbers, from 0, are in `fails` fail. `cut` is not 0.
+    /// Returns an empty sink. A write takes at most `cut` bytes. The calls whose numbers, from 0, are in `fails` fail. `cut` is
+    /// not 0.
     pub fn new(alloc: Global, cut: usize, fails: Vec<u64>) -> MemSink
         requires some { 0 < cut }
         ensures { result ≡ empty_output cut fails.items }
@@ -42,7 +43,7 @@ impl MemSink {
         }
     }
 
-    /// The bytes that it holds.
+    /// Returns the bytes that it holds.
     pub fn bytes(&self) -> &[u8]
         ensures { result.now ≡ self.now.kept }
     {

@@ -10,7 +10,7 @@ use crate::transfer::copy_front;
 use std::alloc::Global;
 use std::marker::Model;
 
-/// A source in memory, which moves at most so many bytes at a time, and fails at the calls that the plan names.
+/// A source in memory, which moves at most that many bytes at a time, and fails at the calls that the plan names.
 #[derive(Drop)]
 pub struct MemSource {
     bytes: Vec<u8>,
@@ -37,8 +37,8 @@ impl Model for MemSource {
 }
 
 impl MemSource {
-    /// A source of the bytes. A read moves at most `cut` of them. The calls whose numbers, from 0, are in `fails` fail. `cut`
-    /// is not 0.
+    /// Returns a source of the bytes. A read moves at most `cut` of them. The calls whose numbers, from 0, are in `fails` fail.
+    /// `cut` is not 0.
     pub fn new(_alloc: Global, bytes: Vec<u8>, cut: usize, fails: Vec<u64>) -> MemSource
         requires some { 0 < cut }
         ensures { result ≡ unread_input bytes.items cut fails.items }

@@ -20,7 +20,7 @@ impl Model for OpenedNames {
     ghost view = { λ a. a.names };
 }
 
-/// The names and one more behind them.
+/// Returns the names and one more after them.
 fn with_name(alloc: Global, names: List<Text>, name: &str) -> Result<List<Text>, Memory>
     ensures { IfOk result (λ more. more ≡ names ++ name.now ∷ []) }
 {
@@ -30,7 +30,7 @@ fn with_name(alloc: Global, names: List<Text>, name: &str) -> Result<List<Text>,
 }
 
 impl OpenedNames {
-    /// No names.
+    /// Returns an empty list of names.
     pub fn new(alloc: Global) -> OpenedNames
         ensures { result ≡ Some [] }
     {
@@ -40,14 +40,14 @@ impl OpenedNames {
         }
     }
 
-    /// Adds a name, or forgets all, where memory runs out for it.
+    /// Adds a name, or forgets all names if memory runs out for it.
     pub fn add(&mut self, name: &str)
         ensures { AddsNames self.old (name.now ∷ []) self.new }
     {
         let _ = self.try_add(name);
     }
 
-    /// Adds a name, where names are known. The one error is out of memory, from which on they are not known.
+    /// Adds a name, if names are known. Fails only with `Memory`; the names are then no longer known.
     pub fn try_add(&mut self, name: &str) -> Result<(), Memory>
         ensures added { OnOk result (self.new ≡ with_names self.old (name.now ∷ [])) }
         ensures forgotten { OnErr result (self.new ≡ None) }
@@ -58,7 +58,7 @@ impl OpenedNames {
         Ok(())
     }
 
-    /// The names that were opened, in order. `None` comes exactly where they are not known any more.
+    /// Returns the names that were opened, in order. `None` is returned if and only if they are not known any more.
     pub fn names(&self) -> Option<&[Text]>
         ensures { option_map (λ names. names.now) result ≡ self.now }
     {

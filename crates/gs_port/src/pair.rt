@@ -14,7 +14,7 @@ pub struct Pair<'a, S, K> {
 }
 
 impl<'a, S: Source, K: Sink> Pair<'a, S, K> {
-    /// The connection over the two.
+    /// Returns the connection over the two.
     pub fn new(source: &'a mut S, sink: &'a mut K) -> Pair<'a, S, K>
         ensures source { result.source.ghost_name ≡ source.entry.ghost_name }
         ensures sink { result.sink.ghost_name ≡ sink.entry.ghost_name }

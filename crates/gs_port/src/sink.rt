@@ -15,13 +15,13 @@ pub enum WriteAnswer {
 
 /// What bytes are written to.
 pub trait Sink {
-    /// The bytes that it holds, where they are known.
+    /// The held bytes, if they are known.
     ghost held: { Self → Option (List ℕ) };
 
-    /// The count of errors: of the calls that failed. It stands still at 2^64 - 1.
+    /// The count of errors: of the calls that failed. It saturates at 2^64 - 1.
     ghost errors: { Self → ℕ };
 
-    /// Appends bytes from the start of the piece, at least one unless it is empty. `Failed` comes only where an error was
+    /// Appends bytes from the start of the piece, at least one unless it is empty. `Failed` is returned only if an error was
     /// counted. It appends nothing, and neither does `Memory`.
     fn write(&mut self, piece: &[u8]) -> WriteAnswer
         ensures within { IfTook result (λ n. n ≤ length piece.now) }

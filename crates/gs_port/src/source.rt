@@ -13,14 +13,14 @@ pub enum ReadAnswer {
 
 /// What bytes are read from.
 pub trait Source {
-    /// The bytes that are left, where they are known.
+    /// The bytes left, if they are known.
     ghost left: { Self → Option (List ℕ) };
 
-    /// The count of errors: of the calls that failed. It stands still at 2^64 - 1.
+    /// The count of errors: of the calls that failed. It saturates at 2^64 - 1.
     ghost errors: { Self → ℕ };
 
-    /// Moves the next bytes of what is left into the start of `buf`, at most as many as `buf` is long, and 0 exactly
-    /// where nothing is left. `Failed` comes only where an error was counted, and moves nothing.
+    /// Moves the next bytes of those left to the start of `buf`, at most its length, and 0 if and only if nothing is left.
+    /// Returns `Failed` only if an error was counted; it then moves nothing.
     fn read(&mut self, buf: &mut [u8]) -> ReadAnswer
         requires room { 0 < length buf.old }
         ensures within { IfGot result (λ n. n ≤ length buf.new) }

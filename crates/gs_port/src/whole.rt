@@ -16,7 +16,7 @@ pub enum Whole {
     Memory,
 }
 
-/// Writes all the bytes, in as many pieces as the sink takes. `SinkFault` comes only where the sink's count rose.
+/// Writes all the bytes, in as many pieces as the sink takes. `SinkFault` is returned only if the sink's count rose.
 pub fn write_whole<K: Sink>(sink: &mut K, bytes: &[u8]) -> Whole
     ensures done { OnDone result (K.held sink.new ≡ append_known (K.held sink.old) bytes.now) }
     ensures short { OnShort result (AddsFrontOf bytes.now (K.held sink.old) (K.held sink.new)) }

@@ -25,6 +25,6 @@ found_at files all name place i h same e = rw same at (rw e at h)
 pub found_none : (files all : List (String Global × Vec ℕ Global)) (name : List ℕ) (place : Option ℕ) → IsPlaceOf files name place → files ≡ all → place ≡ None → file_of (known_files all) name ≡ None
 found_none files all name place h same e = rw same at (rw e at h)
 
--- what was found is there
+-- a file that was found exists
 pub is_there : (found : Option (List ℕ)) (bytes : List ℕ) → found ≡ Some bytes → found ≡ None → ⊥
 is_there found bytes e none = cc

@@ -1,7 +1,7 @@
-//! Files and a door in memory, of which calls fail by a plan: the twins of the system's, of which everything is known.
+//! Files and a door in memory, whose calls fail by a plan: counterparts of the system's, with all contents known.
 //!
 //! - `MemFiles` are files, each a name and its bytes.
-//! - `MemDoor` is a door with one connection for each input, which keeps what was written to each.
+//! - `MemDoor` is a door with one connection for each input. It keeps the bytes written to each.
 //!
 //! # Example
 //!
@@ -13,9 +13,9 @@
 //! Opened Failed Opened abc
 //! ```
 //!
-//! # Where it differs from the system
+//! # Differences from the system
 //!
-//! - A name is the bytes that it is written with, and stands for nothing else. Addresses are kept, and not looked at.
+//! - A name is its bytes and nothing else. Addresses are kept but not used.
 //! - Connections come in the order of their inputs, and after the last one none comes any more.
 #![tactic(auto)]
 

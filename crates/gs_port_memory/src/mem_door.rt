@@ -37,8 +37,8 @@ impl Model for Ended {
     ghost view = { λ a. ended_with a.stream a.reads a.writes };
 }
 
-/// A door in memory, with one connection for each input, which moves at most so many bytes at a time, and fails at the calls
-/// that the plan names.
+/// A door in memory with one connection for each input. It moves at most a given number of bytes at a time, and fails at the
+/// calls that the plan names.
 #[derive(Drop)]
 pub struct MemDoor {
     alloc: Global,
@@ -83,9 +83,9 @@ impl Model for MemDoor {
 }
 
 impl MemDoor {
-    /// A door that was not opened yet, with the inputs of the connections that come at it, in order. A read or a write moves at
-    /// most `cut` bytes. The calls but `finish` whose numbers, from 0, are in `fails` fail. The memory for the list of finished
-    /// connections is taken here. `cut` is not 0.
+    /// Returns an unopened door with the inputs of its connections, in order. A read or a write moves at most `cut` bytes. The
+    /// calls except `finish` whose numbers, from 0, are in `fails` fail. Allocates the list of finished connections. `cut` is not
+    /// 0.
     pub fn new(
         alloc: Global,
         inputs: Vec<Vec<u8>>,
@@ -113,21 +113,22 @@ impl MemDoor {
         })
     }
 
-    /// The addresses at which it was to be opened, in order. `None` comes exactly where they are not known any more.
+    /// Returns the addresses at which it was to be opened, in order. `None` is returned if and only if they are not known any
+    /// more.
     pub fn addresses(&self) -> Option<&[Text]>
         ensures { option_map (λ addresses. addresses.now) result ≡ self.now.addresses }
     {
         self.addresses.names()
     }
 
-    /// The number of finished connections.
+    /// Returns the number of finished connections.
     pub fn finished(&self) -> usize
         ensures { result ≡ length self.now.finished }
     {
         self.finished.len()
     }
 
-    /// What was written to the finished connection with the number. The number, from 0, is below the number of these.
+    /// Returns the bytes written to the finished connection of this number, from 0. The number is below their count.
     pub fn written(&self, i: usize) -> &[u8]
         requires { i < length self.now.finished }
         ensures { Some result.now ≡ written_at self.now.finished i }

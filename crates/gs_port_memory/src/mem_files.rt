@@ -49,7 +49,7 @@ impl Model for MemFiles {
     ghost invariant = { λ a. IsWithin (known_files a.files.items) a.current };
 }
 
-/// The number of the first file with the name.
+/// Returns the number of the first file with the name.
 fn place_of(files: &[(String, Vec<u8>)], name: &str) -> Option<usize>
     ensures { IsPlaceOf files.now name.now result }
 {
@@ -61,7 +61,7 @@ fn place_of(files: &[(String, Vec<u8>)], name: &str) -> Option<usize>
     None
 }
 
-/// The bytes of the file with the number.
+/// Returns the bytes of the file with the number.
 fn contents_at(files: &[(String, Vec<u8>)], i: usize) -> &[u8]
     requires { i < length files.now }
     ensures { result.now ≡ bytes_at (known_files files.now) i }
@@ -70,9 +70,9 @@ fn contents_at(files: &[(String, Vec<u8>)], i: usize) -> &[u8]
 }
 
 impl MemFiles {
-    /// The files, each with its name, and none of them open. No open answers `Memory`: where memory is wanting for a name,
-    /// the names that were opened are not known any more. The calls of either method whose numbers, from 0, are in
-    /// `fails` fail, but for an open of a name that is not there.
+    /// Returns the files, each with its name; none is open. No open returns `Memory`: if memory runs out for a name, the opened
+    /// names are no longer known. The calls of either method whose numbers, from 0, are in `fails` fail, except an open of a name
+    /// that does not exist.
     pub fn new(alloc: Global, files: Vec<(String, Vec<u8>)>, fails: Vec<u64>) -> MemFiles
         ensures { result ≡ unopened_folder (known_files files.items) fails.items }
     {
@@ -85,7 +85,7 @@ impl MemFiles {
         }
     }
 
-    /// The names that were opened, in order. `None` comes exactly where they are not known any more.
+    /// Returns the names that were opened, in order. `None` is returned if and only if they are not known any more.
     pub fn opened(&self) -> Option<&[Text]>
         ensures { option_map (λ names. names.now) result ≡ self.now.opened }
     {

@@ -4,7 +4,7 @@ use gs_port::copy_front;
 use std::alloc::{AllocError, Global};
 use std::marker::Model;
 
-/// A connection in memory: its input, how many bytes of it were read, and what was written.
+/// A connection in memory: its input, the number of bytes read, and the bytes written.
 #[derive(Drop)]
 pub(crate) struct MemStream {
     input: Vec<u8>,
@@ -28,7 +28,7 @@ impl Model for MemStream {
 }
 
 impl MemStream {
-    /// The connection with the input, of which nothing was read and to which nothing was written.
+    /// Returns the connection of the input before any read or write.
     pub(crate) fn new(alloc: Global, input: Vec<u8>) -> MemStream
         ensures { result ≡ record { rest = input.items; taken = []; kept = [] } }
     {
@@ -39,7 +39,7 @@ impl MemStream {
         }
     }
 
-    /// Moves the next bytes of the input into the start of `buf`, at most `most`, and answers how many.
+    /// Moves the next bytes of the input to the start of `buf`, at most `most`, and returns their number.
     pub(crate) fn read(&mut self, most: usize, buf: &mut [u8]) -> usize
         ensures number { result ≡ min (min most (length buf.new)) (length self.old.rest) }
         ensures moved { self.old.rest ≡ take result buf.new ++ self.new.rest }
@@ -51,7 +51,7 @@ impl MemStream {
         moved
     }
 
-    /// Writes bytes from the start of the piece, at most `most`, and answers how many.
+    /// Writes bytes from the start of the piece, at most `most`, and returns their number.
     pub(crate) fn write(&mut self, most: usize, piece: &[u8]) -> Result<usize, AllocError>
         ensures number { IfOk result (λ n. n ≡ min most (length piece.now)) }
         ensures written { IfOk result (λ n. self.new.kept ≡ self.old.kept ++ take n piece.now) }
@@ -64,7 +64,7 @@ impl MemStream {
         Ok(taken)
     }
 
-    /// What was written.
+    /// Returns the written bytes.
     pub(crate) fn written(&self) -> &[u8]
         ensures { result.now ≡ self.now.kept }
     {

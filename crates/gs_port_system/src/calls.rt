@@ -3,9 +3,10 @@ ghost use Rattle.std.specs.Io.{ReadsAtMost, WritesAtMost};
 ghost use Rattle.std.specs.declared.io.Error.{Error as SystemError};
 
 use std::fs::File;
-use std::io::{Read, Result, Stdin, Stdout, Write};
-use std::net::{TcpListener, TcpStream};
-use std::time::Duration;
+use std::io::{Error, ErrorKind, Read, Result, Stdin, Stdout, Write};
+use std::net::{Shutdown, TcpListener, TcpStream};
+use std::thread::sleep;
+use std::time::{Clock, Duration};
 
 /// What gives bytes by one call of the system.
 pub trait ReadCall {
@@ -42,12 +43,40 @@ pub trait FileCalls {
         ensures called { opens self.old name.now result self.new };
 }
 
-/// What listens, accepts connections and sets them up, each by one call.
+/// A connection, whose reads and writes wait for the peer until a time: so many milliseconds of the clock of `DoorCalls`.
+pub trait StreamCalls {
+    /// What one read may do: the connection before it, the buffer after it, the time until which it may wait, what it
+    /// says, and the connection after it.
+    ghost reads: { Self → List ℕ → ℕ → Result ℕ SystemError → Self → Type 0 };
+
+    /// What one write may do: the connection before it, the piece, the time until which it may wait, what it says, and the
+    /// connection after it.
+    ghost writes: { Self → List ℕ → ℕ → Result ℕ SystemError → Self → Type 0 };
+
+    /// What one shutdown of the write half may do: the connection before it, what it says, and the connection after it.
+    ghost shuts: { Self → Result (Unit {0}) SystemError → Self → Type 0 };
+
+    /// Moves bytes into the start of `buf`, and returns their number. Fails with `TimedOut` or `WouldBlock` if none came in time.
+    fn read_until(&mut self, buf: &mut [u8], until: u64) -> Result<usize>
+        ensures within { ReadsAtMost result buf.new }
+        ensures called { reads self.old buf.new until result self.new };
+
+    /// Takes bytes from the start of the piece, and returns their number. Fails with `TimedOut` or `WouldBlock` if none went in time.
+    fn write_until(&mut self, piece: &[u8], until: u64) -> Result<usize>
+        ensures within { WritesAtMost result piece.now }
+        ensures called { writes self.old piece.now until result self.new };
+
+    /// Tells the peer that no more bytes come.
+    fn shut_write(&mut self) -> Result<()>
+        ensures called { shuts self.old result self.new };
+}
+
+/// What listens, accepts connections and sets them up, each by one call, and has a clock.
 pub trait DoorCalls {
     /// What listens at an address.
     type Listener: Drop;
     /// A connection.
-    type Stream: ReadCall + WriteCall + Drop;
+    type Stream: StreamCalls + Drop;
 
     /// What one call to listen may do: the object before it, the address, what it answers, and the object behind it.
     ghost binds: { Self → List ℕ → Result Self.Listener SystemError → Self → Type 0 };
@@ -58,6 +87,9 @@ pub trait DoorCalls {
     /// What the setting up of a connection may answer.
     ghost sets_up: { Self.Stream → Result Self.Stream SystemError → Type 0 };
 
+    /// What one reading of the clock may do: the object before it, the milliseconds that it shows, and the object after it.
+    ghost times: { Self → ℕ → Self → Type 0 };
+
     /// Makes the one call: begins to listen at the address.
     fn bind_once(&mut self, address: &str) -> Result<Self::Listener>
         ensures called { binds self.old address.now result self.new };
@@ -66,9 +98,16 @@ pub trait DoorCalls {
     fn accept_once(listener: &mut Self::Listener) -> Result<Self::Stream>
         ensures called { accepts listener.old result listener.new };
 
-    /// The connection, set up so that each write is sent at once, and no read or write waits longer than the peer is given.
+    /// Sets up the connection, so that each write is sent at once.
     fn set_up(stream: Self::Stream) -> Result<Self::Stream>
         ensures called { sets_up stream result };
+
+    /// Reads the clock: milliseconds since some start.
+    fn now(&mut self) -> u64
+        ensures called { times self.old result self.new };
+
+    /// Waits a moment, in which what the system lacks may come back.
+    fn pause(&mut self);
 
     /// The port that it listens at, where the system names one.
     fn port(listener: &Self::Listener) -> Option<u16>;
@@ -98,22 +137,6 @@ impl ReadCall for File {
     }
 }
 
-impl ReadCall for TcpStream {
-    ghost reads = { λ _ _ _ _. Unit {0} };
-
-    fn read_once(&mut self, buf: &mut [u8]) -> Result<usize> {
-        self.read(buf)
-    }
-}
-
-impl WriteCall for TcpStream {
-    ghost writes = { λ _ _ _ _. Unit {0} };
-
-    fn write_once(&mut self, piece: &[u8]) -> Result<usize> {
-        self.write(piece)
-    }
-}
-
 impl FileCalls for HostRuntime {
     type File = File;
 
@@ -124,13 +147,80 @@ impl FileCalls for HostRuntime {
     }
 }
 
-/// The seconds that a read or a write of a connection waits for the peer, at most.
-const PATIENCE: u64 = 10;
+/// The milliseconds that a new connection waits in a read or a write, until another wait is asked for.
+const PATIENCE: u64 = 10_000;
+
+/// The milliseconds of a pause.
+const PAUSE: u64 = 100;
+
+/// A connection of the system, with the clock of the runtime and the waits in milliseconds that were set last.
+#[derive(Drop)]
+pub struct HostStream {
+    stream: TcpStream,
+    rt: HostRuntime,
+    read_wait: u64,
+    write_wait: u64,
+}
+
+/// Returns the milliseconds that the clock shows. A clock that cannot be read shows 0.
+fn milliseconds(rt: &HostRuntime) -> u64 {
+    match rt.monotonic() {
+        Ok(time) => u64::try_from(time.as_millis()).unwrap_or(u64::MAX),
+        Err(_) => 0,
+    }
+}
+
+/// Returns the milliseconds that are left until a time. Fails with `TimedOut` if none is.
+fn wait_until(rt: &HostRuntime, until: u64) -> Result<u64> {
+    match until.saturating_sub(milliseconds(rt)) {
+        0 => Err(Error::from(ErrorKind::TimedOut)),
+        left => Ok(left),
+    }
+}
+
+impl StreamCalls for HostStream {
+    ghost reads = { λ _ _ _ _ _. Unit {0} };
+
+    ghost writes = { λ _ _ _ _ _. Unit {0} };
+
+    ghost shuts = { λ _ _ _. Unit {0} };
+
+    fn read_until(&mut self, buf: &mut [u8], until: u64) -> Result<usize> {
+        let wait = wait_until(&self.rt, until)?;
+        if wait != self.read_wait {
+            self.stream
+                .set_read_timeout(Some(Duration::from_millis(wait)))?;
+            self.read_wait = wait;
+        }
+        self.stream.read(buf)
+    }
+
+    fn write_until(&mut self, piece: &[u8], until: u64) -> Result<usize> {
+        let wait = wait_until(&self.rt, until)?;
+        if wait != self.write_wait {
+            self.stream
+                .set_write_timeout(Some(Duration::from_millis(wait)))?;
+            self.write_wait = wait;
+        }
+        self.stream.write(piece)
+    }
+
+    fn shut_write(&mut self) -> Result<()> {
+        self.stream.shutdown(Shutdown::Write)
+    }
+}
+
+/// A listener of the system, with the runtime.
+#[derive(Drop)]
+pub struct HostListener {
+    listener: TcpListener,
+    rt: HostRuntime,
+}
 
 impl DoorCalls for HostRuntime {
-    type Listener = TcpListener;
+    type Listener = HostListener;
 
-    type Stream = TcpStream;
+    type Stream = HostStream;
 
     ghost binds = { λ _ _ _ _. Unit {0} };
 
@@ -138,25 +228,44 @@ impl DoorCalls for HostRuntime {
 
     ghost sets_up = { λ _ _. Unit {0} };
 
-    fn bind_once(&mut self, address: &str) -> Result<TcpListener> {
-        TcpListener::bind(self, address)
+    ghost times = { λ _ _ _. Unit {0} };
+
+    fn bind_once(&mut self, address: &str) -> Result<HostListener> {
+        let listener = TcpListener::bind(self, address)?;
+        Ok(HostListener {
+            listener,
+            rt: *self,
+        })
     }
 
-    fn accept_once(listener: &mut TcpListener) -> Result<TcpStream> {
-        let (stream, _) = listener.accept()?;
-        Ok(stream)
+    fn accept_once(listener: &mut HostListener) -> Result<HostStream> {
+        let (stream, _) = listener.listener.accept()?;
+        Ok(HostStream {
+            stream,
+            rt: listener.rt,
+            read_wait: PATIENCE,
+            write_wait: PATIENCE,
+        })
     }
 
-    fn set_up(stream: TcpStream) -> Result<TcpStream> {
-        let patience = Some(Duration::from_secs(PATIENCE));
-        stream.set_nodelay(true)?;
-        stream.set_read_timeout(patience)?;
-        stream.set_write_timeout(patience)?;
-        Ok(stream)
+    fn set_up(host: HostStream) -> Result<HostStream> {
+        let patience = Some(Duration::from_millis(PATIENCE));
+        host.stream.set_nodelay(true)?;
+        host.stream.set_read_timeout(patience)?;
+        host.stream.set_write_timeout(patience)?;
+        Ok(host)
     }
 
-    fn port(listener: &TcpListener) -> Option<u16> {
-        let address = listener.local_addr().ok()?;
+    fn now(&mut self) -> u64 {
+        milliseconds(self)
+    }
+
+    fn pause(&mut self) {
+        sleep(self, Duration::from_millis(PAUSE));
+    }
+
+    fn port(listener: &HostListener) -> Option<u16> {
+        let address = listener.listener.local_addr().ok()?;
         Some(address.port())
     }
 }

@@ -7,8 +7,10 @@ ghost use Rattle.gs_port_system.specs.Calls.{OpensNamed, ReadsCurrent};
 
 use crate::calls::FileCalls;
 use crate::system::{open_error, read_current};
+use gs_chars::Text;
 use gs_port::{Files, OpenAnswer, OpenedNames, ReadAnswer};
 use std::alloc::Global;
+use std::io::Error;
 
 /// The files of the system, or of what stands for it. An open or a read is one call. Each error of one is counted, but for an
 /// error of out of memory, which an open answers by `Memory`; so it does, without a call, where memory runs out for the name.
@@ -17,6 +19,7 @@ use std::alloc::Global;
 pub struct HostFiles<S, F> {
     system: S,
     current: Option<F>,
+    first: Option<Error>,
     errors: u64,
     opened: OpenedNames,
 }
@@ -31,9 +34,20 @@ impl<S: FileCalls> HostFiles<S, S::File> {
         HostFiles {
             system,
             current: None,
+            first: None,
             errors: 0,
             opened: OpenedNames::new(alloc),
         }
+    }
+
+    /// The first error. `None` if there was none.
+    pub fn first_error(&self) -> Option<Error> {
+        self.first
+    }
+
+    /// The name of the file that was opened last. `None` if none was, or memory ran out for a name.
+    pub fn last_name(&self) -> Option<&Text> {
+        self.opened.names()?.last()
     }
 }
 
@@ -67,7 +81,10 @@ impl<S: FileCalls> Files for HostFiles<S, S::File> {
                 self.current = Some(file);
                 OpenAnswer::Opened
             }
-            Err(error) => open_error(error, &mut self.errors),
+            Err(error) => {
+                self.first = self.first.or(Some(error));
+                open_error(error, &mut self.errors)
+            }
         }
     }
 
@@ -82,6 +99,6 @@ impl<S: FileCalls> Files for HostFiles<S, S::File> {
         ensures counts { self.old.errors ≤ self.new.errors }
         ensures count { self.new.errors ≡ count_after_read result self.old.errors }
     {
-        read_current(&mut self.current, buf, &mut self.errors)
+        read_current(&mut self.current, buf, &mut self.first, &mut self.errors)
     }
 }

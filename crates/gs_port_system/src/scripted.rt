@@ -1,6 +1,6 @@
 ghost use Rattle.std.specs.Prelude.{◌≤◌, IfOk};
 
-use crate::calls::{DoorCalls, FileCalls, ReadCall, WriteCall};
+use crate::calls::{DoorCalls, FileCalls, ReadCall, StreamCalls, WriteCall};
 use std::io::{Error, ErrorKind, Result};
 
 /// What a scripted call answers.
@@ -10,6 +10,8 @@ pub enum ScriptedAnswer {
     Gives(usize),
     /// An error of this kind.
     Fails(ErrorKind),
+    /// An error of the system's with this number.
+    FailsBy(i32),
 }
 
 /// Calls that answer by a script of eight answers, each call by the next one, and behind the last as by the last. A file, a
@@ -18,12 +20,40 @@ pub enum ScriptedAnswer {
 pub struct ScriptedCalls {
     answers: [ScriptedAnswer; 8],
     next: usize,
+    step: u64,
+    time: u64,
 }
 
 impl ScriptedCalls {
     /// The script before its first call.
     pub fn new(answers: [ScriptedAnswer; 8]) -> ScriptedCalls {
-        ScriptedCalls { answers, next: 0 }
+        ScriptedCalls {
+            answers,
+            next: 0,
+            step: 0,
+            time: 0,
+        }
+    }
+
+    /// The script with a clock that shows so many milliseconds more after each call and each reading.
+    pub fn with_step(self, step: u64) -> ScriptedCalls {
+        ScriptedCalls { step, ..self }
+    }
+
+    /// Moves the clock on, and returns what it shows.
+    fn tick(&mut self) -> u64 {
+        self.time = self.time.saturating_add(self.step);
+        self.time
+    }
+
+    /// What the next call answers that waits until a time, which has room for so many bytes.
+    fn answer_until(&mut self, room: usize, until: u64) -> Result<usize>
+        ensures { IfOk result (λ n. n ≤ room) }
+    {
+        if self.tick() > until {
+            return Err(Error::from(ErrorKind::TimedOut));
+        }
+        self.answer(room)
     }
 
     /// What the next call answers, which has room for so many bytes.
@@ -35,6 +65,7 @@ impl ScriptedCalls {
         match answer {
             ScriptedAnswer::Gives(count) => Ok(count.min(room)),
             ScriptedAnswer::Fails(kind) => Err(Error::from(kind)),
+            ScriptedAnswer::FailsBy(number) => Err(Error::from_raw_os_error(number)),
         }
     }
 
@@ -61,6 +92,27 @@ impl WriteCall for ScriptedCalls {
     }
 }
 
+impl StreamCalls for ScriptedCalls {
+    ghost reads = { λ _ _ _ _ _. Unit {0} };
+
+    ghost writes = { λ _ _ _ _ _. Unit {0} };
+
+    ghost shuts = { λ _ _ _. Unit {0} };
+
+    fn read_until(&mut self, buf: &mut [u8], until: u64) -> Result<usize> {
+        self.answer_until(buf.len(), until)
+    }
+
+    fn write_until(&mut self, piece: &[u8], until: u64) -> Result<usize> {
+        self.answer_until(piece.len(), until)
+    }
+
+    fn shut_write(&mut self) -> Result<()> {
+        self.answer(0)?;
+        Ok(())
+    }
+}
+
 impl FileCalls for ScriptedCalls {
     type File = ScriptedCalls;
 
@@ -82,6 +134,8 @@ impl DoorCalls for ScriptedCalls {
 
     ghost sets_up = { λ _ _. Unit {0} };
 
+    ghost times = { λ _ _ _. Unit {0} };
+
     fn bind_once(&mut self, _address: &str) -> Result<ScriptedCalls> {
         self.give()
     }
@@ -92,6 +146,14 @@ impl DoorCalls for ScriptedCalls {
 
     fn set_up(stream: ScriptedCalls) -> Result<ScriptedCalls> {
         Ok(stream)
+    }
+
+    fn now(&mut self) -> u64 {
+        self.tick()
+    }
+
+    fn pause(&mut self) {
+        self.tick();
     }
 
     fn port(_listener: &ScriptedCalls) -> Option<u16> {

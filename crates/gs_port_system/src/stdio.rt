@@ -5,13 +5,15 @@ ghost use Rattle.gs_port.specs.Counts.{Rises};
 ghost use Rattle.gs_port_system.specs.Calls.{ReadsOnce, WritesOnce};
 
 use crate::calls::{ReadCall, WriteCall};
-use crate::system::{read_answer, write_answer};
+use crate::system::{keep_first, read_answer, write_answer};
 use gs_port::{ReadAnswer, Sink, Source, WriteAnswer};
+use std::io::Error;
 
 /// The standard input, or what stands for it. A read is one call, and each error of one is counted. Its content is not known.
 #[derive(Drop)]
 pub struct StdinSource<R> {
     stdin: R,
+    first: Option<Error>,
     errors: u64,
 }
 
@@ -20,7 +22,16 @@ impl<R: ReadCall> StdinSource<R> {
     pub fn new(stdin: R) -> StdinSource<R>
         ensures { ⟦<StdinSource<R> as Source>⟧.errors result ≡ 0 }
     {
-        StdinSource { stdin, errors: 0 }
+        StdinSource {
+            stdin,
+            first: None,
+            errors: 0,
+        }
+    }
+
+    /// The first error. `None` if there was none that the system named.
+    pub fn first_error(&self) -> Option<Error> {
+        self.first
     }
 }
 
@@ -39,7 +50,9 @@ impl<R: ReadCall> Source for StdinSource<R> {
         ensures counts { self.old.errors ≤ self.new.errors }
         ensures count { self.new.errors ≡ count_after_read result self.old.errors }
     {
-        read_answer(self.stdin.read_once(buf), &mut self.errors)
+        let said = self.stdin.read_once(buf);
+        keep_first(&said, &mut self.first);
+        read_answer(said, &mut self.errors)
     }
 }
 
@@ -48,6 +61,7 @@ impl<R: ReadCall> Source for StdinSource<R> {
 #[derive(Drop)]
 pub struct StdoutSink<W> {
     stdout: W,
+    first: Option<Error>,
     errors: u64,
 }
 
@@ -56,7 +70,16 @@ impl<W: WriteCall> StdoutSink<W> {
     pub fn new(stdout: W) -> StdoutSink<W>
         ensures { ⟦<StdoutSink<W> as Sink>⟧.errors result ≡ 0 }
     {
-        StdoutSink { stdout, errors: 0 }
+        StdoutSink {
+            stdout,
+            first: None,
+            errors: 0,
+        }
+    }
+
+    /// The first error. `None` if there was none that the system named.
+    pub fn first_error(&self) -> Option<Error> {
+        self.first
     }
 }
 
@@ -74,6 +97,8 @@ impl<W: WriteCall> Sink for StdoutSink<W> {
         ensures counts { self.old.errors ≤ self.new.errors }
         ensures count { self.new.errors ≡ count_after_write result self.old.errors }
     {
-        write_answer(self.stdout.write_once(piece), piece.len(), &mut self.errors)
+        let said = self.stdout.write_once(piece);
+        keep_first(&said, &mut self.first);
+        write_answer(said, piece.len(), &mut self.errors)
     }
 }

@@ -1,11 +1,11 @@
-ghost use Rattle.std.specs.Prelude.{◌≡◌, ◌≢◌, ◌<◌, ◌≤◌, ◌↔◌, IsTrue, is_some, length, true};
+ghost use Rattle.std.specs.Prelude.{◌≡◌, ◌≢◌, ◌≤◌, ◌↔◌, is_some, length, true};
 ghost use Rattle.std.specs.IoError.{error_kind};
-ghost use Rattle.gs_port.specs.Answers.{IfGot, IfTook, count_after_read, count_after_write};
+ghost use Rattle.gs_port.specs.Answers.{IfGot, count_after_read, count_after_write};
 ghost use Rattle.gs_port.specs.AnswersSupport.{count_after_accept, count_after_open};
-ghost use Rattle.gs_port_system.specs.Calls.{ReadsCurrent, WritesCurrent};
-ghost use Rattle.gs_port_system.specs.System.{IsTriedAgain, accept_answer_of, accepted_now, read_answer_of, write_answer_of};
+ghost use Rattle.gs_port_system.specs.Calls.{ReadsCurrent};
+ghost use Rattle.gs_port_system.specs.System.{accept_answer_of, accepted_now, first_error, read_answer_of, write_answer_of};
 
-use crate::calls::{ReadCall, WriteCall};
+use crate::calls::ReadCall;
 use gs_port::{AcceptAnswer, OpenAnswer, ReadAnswer, WriteAnswer};
 use std::io::{Error, ErrorKind, Result};
 
@@ -54,12 +54,13 @@ pub(crate) fn open_error(error: Error, errors: &mut u64) -> OpenAnswer
     OpenAnswer::Failed
 }
 
-/// Whether an accept of the system that ends with the error is tried again: it was interrupted, or the peer gave up.
-pub(crate) fn is_tried_again(error: &Error) -> bool
-    ensures { IsTrue result ↔ IsTriedAgain (error_kind error.now) }
+/// Keeps the first error.
+pub(crate) fn keep_first<T>(said: &Result<T>, first: &mut Option<Error>)
+    ensures { first.new ≡ first_error first.old said.now }
 {
-    let kind = error.kind();
-    kind == ErrorKind::Interrupted || kind == ErrorKind::ConnectionAborted
+    if let (Err(error), None) = (said, &first) {
+        *first = Some(*error);
+    }
 }
 
 /// What an accept of the system answers. What it gives becomes the current one. An error is counted.
@@ -89,6 +90,7 @@ pub(crate) fn accept_answer<T: Drop>(
 pub(crate) fn read_current<R: ReadCall>(
     current: &mut Option<R>,
     buf: &mut [u8],
+    first: &mut Option<Error>,
     errors: &mut u64,
 ) -> ReadAnswer
     requires current { is_some current.old ≡ true }
@@ -99,24 +101,7 @@ pub(crate) fn read_current<R: ReadCall>(
     ensures counts { errors.old ≤ errors.new }
 {
     let Some(open) = current else { unreachable!() };
-    read_answer(open.read_once(buf), errors)
-}
-
-/// What one call to write to what is current answers. An error is counted, and so is a write that takes nothing of a piece that
-/// is not empty. Something is current.
-pub(crate) fn write_current<W: WriteCall>(
-    current: &mut Option<W>,
-    piece: &[u8],
-    errors: &mut u64,
-) -> WriteAnswer
-    requires current { is_some current.old ≡ true }
-    ensures called { WritesCurrent W.writes current.old piece.now result current.new }
-    ensures within { IfTook result (λ n. n ≤ length piece.now) }
-    ensures some { IfTook result (λ n. 0 < length piece.now → 0 < n) }
-    ensures stays { is_some current.new ≡ true }
-    ensures count { errors.new ≡ count_after_write result errors.old }
-    ensures counts { errors.old ≤ errors.new }
-{
-    let Some(open) = current else { unreachable!() };
-    write_answer(open.write_once(piece), piece.len(), errors)
+    let said = open.read_once(buf);
+    keep_first(&said, first);
+    read_answer(said, errors)
 }

@@ -5,21 +5,27 @@ ghost use Rattle.gs_port.specs.Answers.{count_after_read, count_after_write};
 ghost use Rattle.gs_port.specs.Connections.{after_accept, after_open, no_aside};
 ghost use Rattle.gs_port.specs.ConnectionsSupport.{unknown_aside};
 ghost use Rattle.gs_port.specs.Counts.{Rises};
-ghost use Rattle.gs_port_system.specs.Calls.{AcceptsLast, AcceptsOnce, AcceptsSetUp, IsAgain, IsLast, ListensOnce, ReadsCurrent, WritesCurrent};
+ghost use Rattle.gs_port_system.specs.Calls.{AcceptsOnce, AcceptsSetUp, EndsInStages, ListensOnce, ReadsInTime, WritesInTime};
 
+use crate::again::accept_last;
+use crate::budget::Budget;
 use crate::calls::DoorCalls;
-use crate::system::{accept_answer, is_tried_again, open_error, read_current, write_current};
+use crate::closing::end_in_stages;
+use crate::in_time::{read_in_time, write_in_time};
+use crate::system::{accept_answer, keep_first, open_error};
 use gs_port::{AcceptAnswer, Conn, Door, OpenAnswer, ReadAnswer, WriteAnswer};
-use std::io::{Error, ErrorKind, Result};
+use std::io::{Error, Result};
 
-/// A listener of the system's TCP, or of what stands for it, and one connection at a time. A read or a write is one call, and
-/// one that waits too long is an error. Each error is counted, but for an error of out of memory, which an open answers by
+/// A listener of the system's TCP, or of what stands for it, and one connection at a time, which has a budget of time. A read or a
+/// write that is interrupted is made again. Each error is counted, but for an error of out of memory, which an open answers by
 /// `Memory`. Nothing is known of the addresses and the connections.
 #[derive(Drop)]
 pub struct TcpDoor<S, L, T> {
     system: S,
     listener: Option<L>,
     current: Option<T>,
+    budget: Budget,
+    first: Option<Error>,
     errors: u64,
     reads: u64,
     writes: u64,
@@ -27,36 +33,11 @@ pub struct TcpDoor<S, L, T> {
     writes_then: u64,
 }
 
-/// Whether what an accept said is not to be tried again.
-fn is_last<T>(accepted: &Result<T>) -> bool
-    ensures last { result ≡ true → IsLast accepted.now }
-    ensures again { result ≡ false → IsAgain accepted.now }
-{
-    match accepted {
-        Ok(_) => true,
-        Err(error) => !is_tried_again(error),
-    }
-}
-
-/// The next connection. An accept that the system interrupts or that a peer gives up is tried again, more often than a listener
-/// lives to see.
-fn next_stream<S: DoorCalls>(listener: &mut S::Listener) -> Result<S::Stream>
-    ensures { AcceptsLast S.accepts listener.old result listener.new }
-{
-    for tries in 0..u64::MAX {
-        let accepted = S::accept_once(listener);
-        if is_last(&accepted) {
-            return accepted;
-        }
-    }
-    Err(Error::from(ErrorKind::Other))
-}
-
 /// The next connection, set up.
-fn next_connection<S: DoorCalls>(listener: &mut S::Listener) -> Result<S::Stream>
+fn next_connection<S: DoorCalls>(system: &mut S, listener: &mut S::Listener) -> Result<S::Stream>
     ensures { AcceptsSetUp S.accepts S.sets_up listener.old result listener.new }
 {
-    match next_stream::<S>(listener) {
+    match accept_last(system, listener) {
         Ok(stream) => S::set_up(stream),
         Err(error) => Err(error),
     }
@@ -74,12 +55,19 @@ impl<S: DoorCalls> TcpDoor<S, S::Listener, S::Stream> {
             system,
             listener: None,
             current: None,
+            budget: Budget::Idle,
+            first: None,
             errors: 0,
             reads: 0,
             writes: 0,
             reads_then: 0,
             writes_then: 0,
         }
+    }
+
+    /// The first error of an open or an accept. `None` if there was none.
+    pub fn first_error(&self) -> Option<Error> {
+        self.first
     }
 
     /// The port that it listens at. `None` where it was not opened, or the system names no address.
@@ -108,7 +96,8 @@ impl<S: DoorCalls> Conn for TcpDoor<S, S::Listener, S::Stream> {
     fn read(&mut self, buf: &mut [u8]) -> ReadAnswer
         requires room { 0 < length buf.old }
         requires current { is_some self.old.current ≡ true }
-        ensures called { ReadsCurrent S.Stream.ReadCall.reads self.old.current buf.new result self.new.current }
+        ensures called { ReadsInTime S.times S.Stream.reads self.old.system self.old.budget self.old.current buf.old result
+            self.new.system self.new.budget self.new.current buf.new }
         ensures within { IfGot result (λ n. n ≤ length buf.new) }
         ensures failed { OnReadFailed result (Rises self.old.reads self.new.reads) }
         ensures counts { self.old.reads ≤ self.new.reads }
@@ -118,12 +107,19 @@ impl<S: DoorCalls> Conn for TcpDoor<S, S::Listener, S::Stream> {
         ensures same_aside { unknown_aside self.new.errors (is_some self.new.listener) self.new.reads_then self.new.writes_then
             ≡ unknown_aside self.old.errors (is_some self.old.listener) self.old.reads_then self.old.writes_then }
     {
-        read_current(&mut self.current, buf, &mut self.reads)
+        read_in_time(
+            &mut self.system,
+            &mut self.budget,
+            &mut self.current,
+            buf,
+            &mut self.reads,
+        )
     }
 
     fn write(&mut self, piece: &[u8]) -> WriteAnswer
         requires current { is_some self.old.current ≡ true }
-        ensures called { WritesCurrent S.Stream.WriteCall.writes self.old.current piece.now result self.new.current }
+        ensures called { WritesInTime S.times S.Stream.writes self.old.system self.old.budget self.old.current piece.now result
+            self.new.system self.new.budget self.new.current }
         ensures within { IfTook result (λ n. n ≤ length piece.now) }
         ensures some { IfTook result (λ n. 0 < length piece.now → 0 < n) }
         ensures failed { OnWriteFailed result (Rises self.old.writes self.new.writes) }
@@ -134,7 +130,13 @@ impl<S: DoorCalls> Conn for TcpDoor<S, S::Listener, S::Stream> {
         ensures same_aside { unknown_aside self.new.errors (is_some self.new.listener) self.new.reads_then self.new.writes_then
             ≡ unknown_aside self.old.errors (is_some self.old.listener) self.old.reads_then self.old.writes_then }
     {
-        write_current(&mut self.current, piece, &mut self.writes)
+        write_in_time(
+            &mut self.system,
+            &mut self.budget,
+            &mut self.current,
+            piece,
+            &mut self.writes,
+        )
     }
 }
 
@@ -158,7 +160,10 @@ impl<S: DoorCalls> Door for TcpDoor<S, S::Listener, S::Stream> {
                 self.listener = Some(listener);
                 OpenAnswer::Opened
             }
-            Err(error) => open_error(error, &mut self.errors),
+            Err(error) => {
+                self.first = self.first.or(Some(error));
+                open_error(error, &mut self.errors)
+            }
         }
     }
 
@@ -180,16 +185,27 @@ impl<S: DoorCalls> Door for TcpDoor<S, S::Listener, S::Stream> {
         let Some(listener) = &mut self.listener else {
             unreachable!()
         };
-        let accepted = next_connection::<S>(listener);
+        let accepted = next_connection(&mut self.system, listener);
+        keep_first(&accepted, &mut self.first);
         let answer = accept_answer(accepted, &mut self.current, &mut self.errors);
         if answer == AcceptAnswer::Accepted {
+            self.budget = Budget::Idle;
             self.reads_then = self.reads;
             self.writes_then = self.writes;
         }
         answer
     }
 
-    fn finish(&mut self) {
+    fn finish(&mut self)
+        requires current { is_some self.old.current ≡ true }
+        ensures called { EndsInStages S.times S.Stream.shuts S.Stream.reads self.old.system self.old.current self.new.system }
+        ensures ended { is_some self.new.current ≡ false }
+        ensures same_aside { unknown_aside self.new.errors (is_some self.new.listener) self.new.reads_then self.new.writes_then
+            ≡ unknown_aside self.old.errors (is_some self.old.listener) self.old.reads_then self.old.writes_then }
+        ensures same_reads { self.new.reads ≡ self.old.reads }
+        ensures same_writes { self.new.writes ≡ self.old.writes }
+    {
+        end_in_stages(&mut self.system, &mut self.current);
         self.current = None;
     }
 }

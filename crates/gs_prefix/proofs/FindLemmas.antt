@@ -33,7 +33,7 @@ module _ {K : Type 0} (f : K → List ℕ) where
       let last : new ≡ es ++ (k, v) ∷ [] = n ∙ inserted k v es fresh in
       rw (last, map-append, m, e)
 
--- an entry is found exactly where one has the prefix
+-- an entry is found if and only if one has the prefix
 pub found_any : (p : List ℕ) (es : List PrefixEntry) → is_some (option_map (λ (e : PrefixEntry). e.length) (find (has_prefix p) es)) ≡ list_any (has_prefix p) es
 found_any p [] = refl
 found_any p (e ∷ es) = elim (true_or_false (has_prefix p e)) [

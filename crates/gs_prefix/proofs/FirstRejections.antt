@@ -14,7 +14,7 @@ use Rattle.gs_prefix.specs.AnswersSupport.{of_json}
 use Rattle.gs_prefix.specs.declared.error.PrefixFault.{PrefixFault}
 use Rattle.gs_prefix.specs.declared.error.PrefixFault.TheVariants.{Json, Memory}
 
--- ---- one list behind another
+-- ---- one list after another
 
 pub first_in_front : {X Y : Type 0} (a b : List PrefixFault) (x : X) (y : Y) (e : PrefixFault) → OrMemory (Err e) (first_or a x) → OrMemory (Err e) (first_or (a ++ b) y)
 first_in_front a b x y e (inl h) = inl (let same : e ≡ Memory = cc in ap Err same)
@@ -38,7 +38,7 @@ take_all (x ∷ xs) zero h = absurd (omega arith)
 take_all (x ∷ xs) (suc i) h = ap (λ ys. x ∷ ys) (take_all xs i (omega arith))
 
 module _ {X E : Type 0} (f : ℕ × X → List E) where
-  -- the rejections of rows from one counted as n on, of which none but the row at a place has one
+  -- the rejections of rows that are counted from n; only the row at index i has any
   split_from : (n : ℕ) (xs : List X) (i : ℕ) (x : X) → slice_get xs i ≡ Some x → flat_map f (enumerate_from n (take i xs)) ≡ [] → (rest : List E) × (flat_map f (enumerate_from n xs) ≡ f (n + i, x) ++ rest)
   split_from n [] i x at none = absurd (let g : None ≡ Some x = at in cc)
   split_from n (y ∷ ys) zero x at none =
@@ -79,7 +79,7 @@ module _ {X E : Type 0} (f : ℕ × X → List E) where
 
 -- ---- errors of JSON
 
--- what is said of a result without a value
+-- the statement about a result without a value
 abbrev unit : Unit {0}
 unit = tt
 

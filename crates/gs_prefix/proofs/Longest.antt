@@ -203,7 +203,7 @@ module _ (entries : List PrefixEntry) (digits : List ℕ) (ok : list_all is_entr
   pub length_none : NoneFrom 1 → None ≡ length_of_longest entries digits
   length_none none = rw (longest_none none) refl
 
--- one more prefix that is no entry
+-- one more prefix that is not an entry
 pub none_found : (entries : List PrefixEntry) (digits : List ℕ) (n : ℕ) (r : Option ℕ) → 1 ≤ n → r ≡ option_map (λ entry. entry.length) (find (has_prefix (take (n - 1) digits)) entries) → is_some r ≡ false
     → ((k : ℕ) → n ≤ k → k < 13 → k ≤ length digits → find (has_prefix (take k digits)) entries ≡ None)
     → (k : ℕ) → n - 1 ≤ k → k < 13 → k ≤ length digits → find (has_prefix (take k digits)) entries ≡ None

@@ -83,7 +83,7 @@ pub limit_passed : (es : List PrefixEntry) → 65536 < length es → OrMemory {X
 unfolding rejections
 limit_passed es h = let l : nat_lt 65536 (length es) ≡ true = grind (arith, nat_tests) in rw l (inr refl)
 
--- what is known of the entries before an index
+-- the facts about the entries before an index
 pub record SoFar (entries index : List PrefixEntry) (i : ℕ) : Type 0 where
   pub held : index ≡ take i entries
   pub in_order : list_all is_entry index ≡ true

@@ -1,5 +1,5 @@
--- The answer to the bytes of a list: its entries, or the first rejection. Each list of bytes has exactly one answer; out of
--- memory may come in its place.
+-- The result of loading the bytes of a list: its entries, or the first rejection. Each list of bytes has exactly one result, or
+-- `Memory` instead.
 use Rattle.std.specs.Prelude.{ℕ, List, ◌++◌, map, Result, Err}
 use Rattle.std.specs.Option.{option_map_or}
 use Rattle.serde_json.specs.Data.{Data}
@@ -12,11 +12,11 @@ use Rattle.gs_prefix.specs.declared.error.PrefixFault.TheVariants.{Json, Memory}
 use Rattle.gs_prefix.specs.Documents.{entries_of, form_errors}
 use Rattle.gs_prefix.specs.Rules.{rejections}
 
--- trusted, own: the answer, or out of memory
+-- trusted, own: holds if the result is the answer, or `Memory`
 abbrev pub OrMemory : {X : Type 0} → Result X PrefixFault → Result X PrefixFault → Type 0
 OrMemory result answer = OrError Memory result answer
 
--- trusted, own: the answer to a document: the errors of its form stand before the rejections of its entries
+-- trusted, own: the answer to a document: the errors of its form are before the rejections of its entries
 unfoldable pub document_answer : Data → Result (List PrefixEntry) PrefixFault
 document_answer d = first_or (map Json (form_errors d) ++ rejections (entries_of d)) (entries_of d)
 

@@ -1,4 +1,4 @@
--- What proofs and private functions say beside the definitions of Answers.antt.
+-- Definitions for proofs and private functions, in addition to Answers.antt.
 use Rattle.std.specs.Prelude.{◌≡◌, ℕ, List, map, Result, IfOk}
 use Rattle.gs_chars.specs.Answers.{first_or}
 use Rattle.gs_json.specs.declared.error.JsonFault.{JsonFault}
@@ -10,7 +10,7 @@ use Rattle.gs_prefix.specs.LengthsSupport.{with_entry}
 use Rattle.gs_prefix.specs.Rules.{entry_rejections}
 use Rattle.gs_prefix.specs.Answers.{OrMemory}
 
--- the answer to an entry beside the earlier ones: where no rule rejects it, it is behind them
+-- the result of adding an entry to the earlier ones: if no rule rejects it, it is the last entry
 abbrev pub AddsEntry : Result Unit PrefixFault → ℕ → List PrefixEntry → List PrefixEntry → PrefixEntry → Type 0
 AddsEntry result i earlier after entry =
     OrMemory result (first_or (entry_rejections earlier i entry) tt) × IfOk result (λ _. after ≡ with_entry earlier entry.prefix entry.length)

@@ -30,7 +30,7 @@ is_longest entries entry = list_all (λ other. nat_le (length other.prefix) (len
 unfoldable pub longest_entry : List PrefixEntry → List ℕ → Option PrefixEntry
 longest_entry entries digits = find (is_longest (beginning entries digits)) (beginning entries digits)
 
--- trusted, own: the length of that entry, where there is one
+-- trusted, own: the length of the longest entry that begins the digits, if there is one
 abbrev pub length_of_longest : List PrefixEntry → List ℕ → Option ℕ
 length_of_longest entries digits = option_map (λ entry. entry.length) (longest_entry entries digits)
 

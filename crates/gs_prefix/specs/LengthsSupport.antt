@@ -1,4 +1,4 @@
--- What proofs and private functions say beside the definitions of Lengths.antt.
+-- Definitions for proofs and private functions, in addition to Lengths.antt.
 use Rattle.std.specs.Prelude.{ℕ, Bool, ◌&&◌, nat_le, List, [], ◌∷◌, ◌++◌, length, map, Vec}
 use Rattle.std.specs.declared.alloc.Global.{Global}
 use Rattle.gs_prefix.specs.declared.entry.PrefixEntry.{PrefixEntry}

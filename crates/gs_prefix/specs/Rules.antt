@@ -11,7 +11,7 @@ use Rattle.gs_prefix.specs.Lengths.{has_prefix, is_prefix}
 abbrev pub most_entries : ℕ
 most_entries = 65536
 
--- trusted, own: the rejections of entry i beside the earlier ones
+-- trusted, own: the rejections of entry i, given the earlier entries
 unfoldable pub entry_rejections : List PrefixEntry → ℕ → PrefixEntry → List PrefixFault
 entry_rejections earlier i entry =
     error_if (not (is_prefix entry.prefix)) (BadPrefix i)

@@ -5,6 +5,6 @@ use gs_chars::Text;
 pub struct PrefixEntry {
     /// The first digits of keys.
     pub prefix: Text,
-    /// How many digits the company prefix of such a key has, and 0 where the digits belong to no company prefix.
+    /// How many digits the company prefix of such a key has, and 0 if the digits belong to no company prefix.
     pub length: u64,
 }

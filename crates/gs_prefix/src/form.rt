@@ -10,7 +10,7 @@ use gs_chars::{List, Memory, Text};
 use gs_json::{Entry, JsonFault, Node, Sort, number_in, plan_of};
 use std::alloc::Global;
 
-/// The members of the document.
+/// Returns the members of the document.
 fn list_plan(alloc: Global) -> Result<List<Entry>, Memory>
     ensures { IfOk result (λ plan. plan ≡ list_plan) }
 {
@@ -23,7 +23,7 @@ fn list_plan(alloc: Global) -> Result<List<Entry>, Memory>
     )
 }
 
-/// The members of an entry.
+/// Returns the members of an entry.
 fn entry_plan(alloc: Global) -> Result<List<Entry>, Memory>
     ensures { IfOk result (λ plan. plan ≡ entry_plan) }
 {
@@ -36,7 +36,7 @@ fn entry_plan(alloc: Global) -> Result<List<Entry>, Memory>
     )
 }
 
-/// An error of JSON, with out of memory as its own.
+/// Returns an error of JSON, with out of memory as its own.
 pub(crate) fn of_json(error: JsonFault) -> PrefixFault
     ensures { result ≡ of_json error }
 {
@@ -46,7 +46,7 @@ pub(crate) fn of_json(error: JsonFault) -> PrefixFault
     }
 }
 
-/// The first error of an object by its plan.
+/// Finds the first error of an object by its plan.
 fn judge_object(alloc: Global, object: &Node<'_>, plan: &[Entry]) -> Result<(), PrefixFault>
     ensures { IsFirst result (shape_errors object.now plan.now) }
 {
@@ -67,7 +67,7 @@ fn judge_version(alloc: Global, root: &Node<'_>) -> Result<(), PrefixFault>
     Err(PrefixFault::Json(JsonFault::Kind(place)))
 }
 
-/// The first error of the entries of an array, entry by entry.
+/// Finds the first error of the entries of an array, entry by entry.
 fn judge_items(alloc: Global, array: &Node<'_>) -> Result<(), PrefixFault>
     ensures { IsFirst result (array_errors array.now.place (items_of (view array.now.tree))) }
 {
@@ -75,7 +75,7 @@ fn judge_items(alloc: Global, array: &Node<'_>) -> Result<(), PrefixFault>
     judge_by(alloc, array, plan.items())
 }
 
-/// The first error of the entries of an array by the plan of an entry, entry by entry.
+/// Finds the first error of the entries of an array by the plan of an entry, entry by entry.
 #[tactic(auto, unfolding(crate::specs::Documents::array_errors))]
 fn judge_by(alloc: Global, array: &Node<'_>, plan: &[Entry]) -> Result<(), PrefixFault>
     requires { plan.now ≡ entry_plan }
@@ -91,7 +91,7 @@ fn judge_by(alloc: Global, array: &Node<'_>, plan: &[Entry]) -> Result<(), Prefi
     Ok(())
 }
 
-/// The first error of the entries of a document, entry by entry.
+/// Finds the first error of the entries of a document, entry by entry.
 #[tactic(auto, unfolding(crate::specs::Documents::array_errors, crate::specs::Documents::entries_errors))]
 fn judge_entries(alloc: Global, root: &Node<'_>) -> Result<(), PrefixFault>
     requires { root.now.place ≡ [] }
@@ -103,7 +103,7 @@ fn judge_entries(alloc: Global, root: &Node<'_>) -> Result<(), PrefixFault>
     }
 }
 
-/// The first error of the form of a document: of its object, then of its version, then of its entries.
+/// Finds the first error of the form of a document: of its object, then of its version, then of its entries.
 pub(crate) fn judge_form(alloc: Global, root: &Node<'_>) -> Result<(), PrefixFault>
     requires { root.now.place ≡ [] }
     ensures { IsFirst result (form_errors (view root.now.tree)) }

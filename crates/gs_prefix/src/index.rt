@@ -32,7 +32,7 @@ impl Model for Index {
 }
 
 impl Index {
-    /// No entry. It takes no memory.
+    /// Returns an empty index. Does not allocate.
     pub fn new(alloc: Global) -> Index
         ensures { result ≡ [] }
     {
@@ -41,7 +41,7 @@ impl Index {
         }
     }
 
-    /// The number of entries.
+    /// Returns the number of entries.
     pub fn len(&self) -> usize
         ensures { result ≡ length self.now }
     {
@@ -58,7 +58,7 @@ impl Index {
         Ok(())
     }
 
-    /// The length of the entry of a prefix. `None` comes exactly where there is no such entry.
+    /// Returns the length of the entry of a prefix. `None` is returned if and only if there is no such entry.
     pub fn length_of(&self, prefix: &[u8]) -> Option<u8>
         ensures { result ≡ option_map (λ entry. entry.length) (find (has_prefix prefix.now) self.now) }
     {

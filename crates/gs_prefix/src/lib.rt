@@ -13,9 +13,9 @@
 //! Some(7)
 //! ```
 //!
-//! # Where it differs from the standard
+//! # Differences from the standard
 //!
-//! - GS1 publishes its list as GCPPrefixFormatList, in XML and JSON; this form has the same rows under names of its own.
+//! - GS1 publishes its list as GCPPrefixFormatList, in XML and JSON. This form has the same rows with other member names.
 //! - A length of 0 says that the digits belong to no company prefix. The longest row that begins the digits decides.
 #![tactic(auto)]
 

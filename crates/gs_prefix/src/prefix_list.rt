@@ -40,7 +40,7 @@ impl Model for PrefixList {
 }
 
 impl PrefixList {
-    /// The list of no entry, which gives no length. It takes no memory.
+    /// Returns the list of no entry, which gives no length. Does not allocate.
     pub fn empty(alloc: Global) -> PrefixList
         ensures { result ≡ [] }
     {
@@ -49,10 +49,10 @@ impl PrefixList {
         }
     }
 
-    /// The list that a document in JSON gives: an object with exactly `version`, the number 1, and `prefixes`, an array of
-    /// objects with exactly `prefix`, a text, and `length`, a number. Of the rejections the first in this order is the answer.
-    /// `Json`: the bytes are no JSON text; the document, its version or an entry has not this form. `Limit`: more than
-    /// 65,536 entries. Then entry by entry `BadPrefix`, `BadLength`, `Twice`. `Memory` may come in place of any answer.
+    /// Returns the list that a document in JSON gives: an object with exactly `version`, the number 1, and `prefixes`, an array
+    /// of objects with exactly `prefix`, a text, and `length`, a number. Of the rejections the first in this order is the answer.
+    /// `Json`: the bytes are not JSON text; the document, its version or an entry has not this form. `Limit`: more than 65,536
+    /// entries. Then entry by entry `BadPrefix`, `BadLength`, `Twice`. May return `Memory` instead.
     pub fn load(alloc: Global, bytes: &[u8]) -> Result<PrefixList, PrefixFault>
         ensures { OrMemory result (load_answer bytes.now) }
     {
@@ -62,7 +62,7 @@ impl PrefixList {
         }
     }
 
-    /// The list that the document of this tree gives, or its first rejection.
+    /// Returns the list that the document of this tree gives, or its first rejection.
     fn of_root(alloc: Global, root: &Node<'_>) -> Result<PrefixList, PrefixFault>
         requires { root.now.place ≡ [] }
         ensures { OrMemory result (document_answer (view root.now.tree)) }
@@ -72,7 +72,7 @@ impl PrefixList {
         PrefixList::of_entries(alloc, entries.as_slice())
     }
 
-    /// The list of the entries, or their first rejection.
+    /// Returns the list of the entries, or their first rejection.
     fn of_entries(alloc: Global, entries: &[PrefixEntry]) -> Result<PrefixList, PrefixFault>
         ensures { OrMemory result (first_or (rejections entries.now) entries.now) }
     {
@@ -86,16 +86,16 @@ impl PrefixList {
         Ok(PrefixList { entries: index })
     }
 
-    /// The number of entries.
+    /// Returns the number of entries.
     pub fn len(&self) -> usize
         ensures { result ≡ length self.now }
     {
         self.entries.len()
     }
 
-    /// How many digits the company prefix has with which the digits begin: the length of the longest entry that is a prefix
-    /// of the digits. `None` comes exactly where no entry is one, or the length of the longest is 0. It takes no memory, and
-    /// looks into the list at most twelve times.
+    /// Returns how many digits the company prefix has with which the digits begin: the length of the longest entry that is a
+    /// prefix of the digits. `None` is returned if and only if no entry is one, or the length of the longest is 0. Does not
+    /// allocate, and looks into the list at most twelve times.
     #[tactic(auto, unfolding(crate::specs::Lengths::prefix_length))]
     pub fn length_of(&self, digits: &[u8]) -> Option<u8>
         ensures length { result ≡ prefix_length self.now digits.now }
@@ -105,7 +105,7 @@ impl PrefixList {
         if length == 0 { None } else { Some(length) }
     }
 
-    /// The length of the longest entry that is a prefix of the digits.
+    /// Returns the length of the longest entry that is a prefix of the digits.
     fn longest(&self, digits: &[u8]) -> Option<u8>
         ensures length { result ≡ length_of_longest self.now digits.now }
         ensures range { IfSome result (λ n. n ≤ 12) }
@@ -122,7 +122,7 @@ impl PrefixList {
     }
 }
 
-/// Adds the entry of an index behind the earlier ones, unless it breaks a rule beside them.
+/// Adds an entry to the index, unless it breaks a rule given the earlier entries.
 fn add_entry(
     alloc: Global,
     index: &mut Index,

@@ -8,7 +8,7 @@ use gs_json::{items_in, number_in, text_in};
 use serde_json::Value;
 use std::alloc::Global;
 
-/// The entry that an object is.
+/// Returns the entry that an object is.
 fn read_entry(alloc: Global, object: &Value) -> Result<PrefixEntry, Memory>
     ensures { IfOk result (λ entry. entry ≡ entry_of (view object.now)) }
 {
@@ -18,7 +18,7 @@ fn read_entry(alloc: Global, object: &Value) -> Result<PrefixEntry, Memory>
     })
 }
 
-/// The entries of a document, in their order.
+/// Returns the entries of a document, in their order.
 pub(crate) fn read_entries(alloc: Global, root: &Value) -> Result<Vec<PrefixEntry>, Memory>
     ensures { IfOk result (λ entries. entries.items ≡ entries_of (view root.now)) }
 {

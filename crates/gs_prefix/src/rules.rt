@@ -11,14 +11,14 @@ use gs_chars::are_digits;
 /// The most digits that a company prefix has.
 const GREATEST_LENGTH: u64 = 12;
 
-/// Whether a text is 1 to 12 digits.
+/// Returns whether a text is 1 to 12 digits.
 fn is_prefix(text: &[u8]) -> bool
     ensures { result ≡ is_prefix text.now }
 {
     are_digits(text) && 1 <= text.len() && text.len() <= 12
 }
 
-/// The first rule that an entry breaks, beside the earlier entries.
+/// Finds the first rule that an entry breaks, given the earlier entries.
 pub(crate) fn check_entry(earlier: &Index, i: usize, entry: &PrefixEntry) -> Result<(), PrefixFault>
     ensures { result ≡ first_or (entry_rejections earlier.now i entry.now) tt }
 {

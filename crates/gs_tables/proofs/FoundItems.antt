@@ -1,4 +1,4 @@
--- The items that are there: one of them between those before and those after, the items of a field, and their sizes.
+-- The items that are not absent: one of them between the earlier and the later ones, the items of a field, and their sizes.
 use Rattle.std.proofs.Common.{◌≡◌, ℕ, zero, suc, ◌+◌, ◌<◌, ◌≤◌, true, List, [], ◌∷◌, ◌++◌, length, take, map, filter, Option, Some, None, slice_get, get_or, refl, ap, ◌∙◌, arith, Bor}
 use Rattle.std.specs.Prelude.{option_to_list}
 use Rattle.std.specs.List.{flat_map}
@@ -21,7 +21,7 @@ there xs = flat_map option_to_list xs
 abbrev alone : List (Option FieldItem) → List Item
 alone xs = map (λ (i : FieldItem). i.1) (there xs)
 
--- ---- an item that is there
+-- ---- an item that is not absent
 
 there_split : (xs : List (Option FieldItem)) (i : ℕ) (x : FieldItem) → slice_get xs i ≡ Some (Some x) → (rest : List FieldItem) × (there xs ≡ there (take i xs) ++ x ∷ rest)
 there_split [] i x at = absurd (let g : None ≡ Some (Some x) = at in cc)
@@ -98,7 +98,7 @@ size_passed xs i entry x most low read is long short =
     let whole : size_of_all (alone xs) ≡ size_of_all (alone (take i xs)) + (size_of x.1 + size_of_all (map (λ (i : FieldItem). i.1) rest.0)) = ap (λ zs. size_of_all (map (λ (i : FieldItem). i.1) zs)) rest.1 ∙ alone_append (there (take i xs)) (x ∷ rest.0) in
     absurd (omega arith)
 
--- one item more, and one entry more that is no item
+-- one item more, and one entry more that is not an item
 pub size_next : (xs : List (Option FieldItem)) (i : ℕ) (entry : Option FieldItem) (x : FieldItem) → i < length xs → entry ≡ get_or xs i entry → entry ≡ Some x → size_of_all (map (λ (i : FieldItem). i.1) (flat_map option_to_list (take (i + 1) xs))) ≡ size_of_all (map (λ (i : FieldItem). i.1) (flat_map option_to_list (take i xs))) + size_of x.1
 size_next xs i entry x low read is =
     let at : slice_get xs i ≡ Some (Some x) = read_at xs i entry low read ∙ ap Some is in

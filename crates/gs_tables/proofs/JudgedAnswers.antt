@@ -1,5 +1,5 @@
--- What is answered once the levels are judged, by what the rules answer: one answer beside out of memory, and no other but for
--- the text of an ambiguous level.
+-- The result after the levels are checked, given the result of the rules: exactly one, or `Memory`; the text of an ambiguous
+-- level may vary.
 use Rattle.std.proofs.Common.{◌≡◌, ℕ, List, refl, sym, ◌∙◌, inl, inr, arith}
 use Rattle.std.specs.Prelude.{Result, Ok, Err}
 use Rattle.std.proofs.lemmas.Bool.{cases_lt, cases_eq}
@@ -14,8 +14,8 @@ use Rattle.gs_tables.specs.Shapes.{AreAlike, HasMemory, but_text, same}
 use Rattle.gs_tables.specs.Tables.{IsShaped, TableRows}
 use Rattle.gs_tables.proofs.JudgedLevels.{items_kept, level_decided}
 
--- what holds of the answers of rules: there is one beside out of memory and no other, none names an ambiguous level, and their
--- sets keep them
+-- the facts about results of the rules: there is exactly one, or `Memory`; none names an ambiguous level; their sets satisfy the
+-- rules
 pub record IsRuling (Ruled : Result TableRows LoadFault → Type 0) : Type 0 where
   pub some : (answer : Result TableRows LoadFault) × HasMemory answer × Ruled answer
   pub one : (one other : Result TableRows LoadFault) → Ruled one → Ruled other → HasMemory one → HasMemory other → one ≡ other

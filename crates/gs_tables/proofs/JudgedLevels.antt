@@ -30,7 +30,7 @@ use Rattle.gs_tables.proofs.RuledRejections.{ruled_first, ruled_of_document}
 
 -- ---- the levels of a set, judged by a law
 
--- each item of a set keeps its bounds
+-- each item of a set is within its bounds
 pub items_kept : (set : TableRows) → IsShaped set → (name : LevelName) → AreItems (item_lists (levels_of set name).options)
 items_kept set shaped name k items at =
     let low = slice_get_within (item_lists (levels_of set name).options) k items at in
@@ -102,7 +102,7 @@ moved_clear binary tag pure set b t p h Binary = rw b (h Binary)
 moved_clear binary tag pure set b t p h Tag = rw t (h Tag)
 moved_clear binary tag pure set b t p h Pure = rw p (h Pure)
 
--- so is a set of which a level is ambiguous
+-- so is a set with an ambiguous level
 pub judged_levels : (document : Document) (binary tag pure : LevelTable) (e : LoadFault) → row_rejections document ≡ [] → binary ≡ level_of document.kinds Binary document.binary → tag ≡ level_of document.kinds Tag document.tag → pure ≡ level_of document.kinds Pure document.pure
     → AreJudged (by_name binary.level tag.level pure.level) (Err e) → Judged (IsAnswer (row_rejections document) (set_of document)) (Err e)
 judged_levels document binary tag pure (Ambiguous name i j text) none b t p h = (set_of document, (none, refl), moved_first (set_of document) name i j text (rw (b, t, p) at h))
@@ -120,7 +120,7 @@ judged_levels document binary tag pure (Duplicate level j i) none b t p h = absu
 pub judged_made : (kinds : List KindRow) (binary tag pure : List OptionRow) (made : LevelTables) (answer : Result (Unit {0}) LoadFault) → AreOfRows kinds binary tag pure made → AreJudged (by_name made.binary.level made.tag.level made.pure.level) answer → AreJudged (levels_of_rows kinds binary tag pure) answer
 judged_made kinds binary tag pure made answer of_rows h = rw (of_rows.0, of_rows.1, of_rows.2) at h
 
--- what is rejected by a rule, or by the judgement of the levels
+-- a rejection by a rule, or by the check of the levels
 pub levels_rejected : (document : Document) (ais : List AiRow) (e : LoadFault) → limit_rejections document ≡ [] → (map Ai (table_errors document.ais) ≡ []) × (ais ≡ document.ais)
     → (slice_get (rule_rejections ais document.kinds document.binary document.tag document.pure) 0 ≡ Some e)
     ⊎ ((rule_rejections ais document.kinds document.binary document.tag document.pure ≡ [])
@@ -131,7 +131,7 @@ levels_rejected document ais e limits table (inr h) =
     judged_levels document (level_of document.kinds Binary document.binary) (level_of document.kinds Tag document.tag) (level_of document.kinds Pure document.pure) e
     (rules_kept document ais limits table h.0) refl refl refl h.1
 
--- the set of what is made of the rows of a document
+-- the set that the rows of a document make
 pub set_judged : (document : Document) (ais : List AiRow) (kinds : List Kind) (made : LevelTables) → limit_rejections document ≡ [] → (map Ai (table_errors document.ais) ≡ []) × (ais ≡ document.ais)
     → rule_rejections ais document.kinds document.binary document.tag document.pure ≡ [] → AreClear (levels_of_rows document.kinds document.binary document.tag document.pure)
     → kinds ≡ map (kind_of ais) document.kinds → AreOfRows document.kinds document.binary document.tag document.pure made

@@ -85,7 +85,7 @@ lead_kept ais kinds i kind none low read =
     let kept = kind_at ais kinds i kind none (read_at kinds i kind low read) in
     lead_short kept.form kind.lead kept.lead
 
--- ---- what is found has a place
+-- ---- a found item has an index
 
 pub placed : {X : Type 0} (test : X → Bool) (xs : List X) (x : X) → find test xs ≡ Some x → (i : ℕ) × (position test xs ≡ Some i) × (slice_get xs i ≡ Some x)
 placed test xs x found = by (position test xs) refl

@@ -103,7 +103,7 @@ kept_in document level i items info none of_level said =
     let here = level_at document.kinds (is_bits level) (options_of level document) i items info of_level said in
     of_row document level i items info here.row none here.at here.items_are here.info_is
 
--- each option of a set keeps the rules
+-- each option of a set satisfies the rules
 pub options_kept : (set : TableRows) (level : LevelName) → IsShaped set → AreKept set level
 options_kept set level shaped i items info of_level said =
     let made = ap (level_rows level) shaped.made ∙ level_made shaped.document level in
@@ -111,7 +111,7 @@ options_kept set level shaped i items info of_level said =
     let said' = rw made at said in
     rw shaped.made (kept_in shaped.document level i items info shaped.in_order of_level' said')
 
--- ---- as many options as there is said of options
+-- ---- the options and their facts are equally many
 
 as_many_rows : (kinds : List KindRow) (level : LevelName) (rows : List OptionRow) → length (level_of kinds level rows).level.options ≡ length (level_of kinds level rows).info
 as_many_rows kinds level [] = refl

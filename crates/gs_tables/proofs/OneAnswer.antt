@@ -1,4 +1,4 @@
--- What the rules answer to bytes and to the built-in rows: one answer beside out of memory, and no other.
+-- The result of the rules for bytes and for the built-in rows: exactly one, or `Memory`.
 use Rattle.std.proofs.Common.{◌≡◌, ℕ, not, true, false, List, [], ◌∷◌, Some, None, slice_get, refl, sym, ap, ◌∙◌, ◌⊎◌, inl, inr}
 use Rattle.std.specs.Prelude.{Result, Ok, Err}
 use Rattle.gs_chars.proofs.TruthsAndLists.{none_behind}

@@ -18,7 +18,7 @@ stops_second a b c x y e f g h = rw (sym e, sym f, g, h) refl
 pub goes_on : (a b c x y : Bool) → x ≡ a → y ≡ b → x ≡ true → y ≡ true → c ≡ ((a && b) && c)
 goes_on a b c x y e f g h = rw (sym e, sym f, g, h) refl
 
--- ---- what is found, and a test of it
+-- ---- a found item, and a test of it
 
 pub tested : {X : Type 0} (test : X → Bool) (found : Option X) (x : X) (b : Bool) → found ≡ Some x → b ≡ test x → b ≡ option_map_or test found false
 tested test found x b e f = rw (e, f) refl
@@ -41,7 +41,7 @@ size_next bad twin f twins large fit size mismatch e g = rw (e, g) refl
 pub mismatch_next : (bad twin : Option ℕ) (f twins : ℕ → LoadFault) (large fit : Bool) (size mismatch : LoadFault) → bad ≡ None → large ≡ false → fit ≡ false → slice_get (listed bad twin f twins large fit size mismatch) 0 ≡ Some mismatch
 mismatch_next bad twin f twins large fit size mismatch e g h = rw (e, g, h) refl
 
--- what decides where the first three tests reject nothing
+-- the deciding rule if the first three tests reject nothing
 pub twin_decides : (bad twin : Option ℕ) (f twins : ℕ → LoadFault) (large fit : Bool) (size mismatch : LoadFault) (answer : Result (Unit {0}) LoadFault) → bad ≡ None → large ≡ false → fit ≡ true → IsFirst (option_to_list (option_map twins twin)) answer → IsFirst (listed bad twin f twins large fit size mismatch) answer
 twin_decides bad twin f twins large fit size mismatch answer e g h i = rw (e, g, h) i
 

@@ -13,7 +13,7 @@ use Rattle.gs_tables.specs.TablesSupport.{IsFirst}
 
 -- ---- answers by rejections
 
--- the first of a list, and of what is made of its elements
+-- the first item of a list, and of the list that is mapped from it
 pub first_mapped : {A B : Type 0} (f : A → B) (xs : List A) (x : A) → slice_get xs 0 ≡ Some x → slice_get (map f xs) 0 ≡ Some (f x)
 first_mapped f [] x h = cc
 first_mapped f (y ∷ ys) x h = let e : y ≡ x = cc in ap (λ z. Some (f z)) e

@@ -1,4 +1,4 @@
--- The forms of keys, and where their serials stand: TDS 2.0, section 6.3 (the EPC schemes and their keys).
+-- The forms of keys, and the places of their serials: TDS 2.0, section 6.3 (the EPC schemes and their keys).
 use Rattle.std.specs.Prelude.{ℕ, ◌-◌, List, [], ◌∷◌, Option, Some, None, option_and_then, option_map, if◌then◌else◌, codes}
 use Rattle.std.specs.List.{find}
 use Rattle.std.specs.Option.{option_map_or}
@@ -22,9 +22,9 @@ digits_form (NumCheck k ∷ SetOpt most ∷ []) = Some (Digits (k - 1) (BehindTa
 digits_form (NumCheck k ∷ NumOpt most ∷ []) = Some (Digits (k - 1) (BehindTail (room.Digits most)))
 digits_form _ = None
 
--- trusted, TDS 2.0, section 6.3; GS1 General Specifications, section 3.2: the form of the parts of a key, where a kind can
--- have them: an optional zero, digits with a check digit and an optional tail; digits with a check digit, a piece and a
--- total; or characters alone
+-- trusted, TDS 2.0, section 6.3; GS1 General Specifications, section 3.2: the form of the parts of a key, if a kind can have
+-- them: an optional zero, digits with a check digit and an optional tail; digits with a check digit, a piece and a total; or only
+-- characters
 abbrev pub key_form : List Part → Option KeyForm
 key_form (Zero ∷ parts) = digits_form parts
 key_form (Set most ∷ []) = Some (Characters most)
@@ -35,7 +35,7 @@ key_form parts = digits_form parts
 abbrev pub form_at : List AiRow → List ℕ → Option KeyForm
 form_at ais code = option_and_then (λ row. key_form row.parts) (find (has_code code) ais)
 
--- trusted, own: the room of a tail, where the key has one
+-- trusted, own: the room of a tail, if the key has one
 abbrev pub tail_of : KeyForm → Option Room
 tail_of (Digits _ (BehindTail room)) = Some room
 tail_of (Digits _ Nothing) = None
@@ -53,17 +53,17 @@ further_of (Characters _) = []
 abbrev pub further_at : List AiRow → List ℕ → List ℕ
 further_at ais code = option_map_or further_of (form_at ais code) []
 
--- trusted, own: the most characters of parts that are characters alone
+-- trusted, own: the most characters of parts that are only characters
 abbrev pub characters_of : List Part → Option ℕ
 characters_of (Set most ∷ []) = Some most
 characters_of _ = None
 
--- trusted, TDS 2.0, section 6.3: where the serial stands by the text of a row
+-- trusted, TDS 2.0, section 6.3: the place of the serial by the text of a row
 abbrev pub serial_at : List ℕ → SerialAt
 serial_at [] = Nowhere
 serial_at (c ∷ cs) = if bytes_eq (c ∷ cs) (codes "tail") then Tail else Ai (c ∷ cs)
 
--- trusted, TDS 2.0, section 6.3: the room of the serial, where there is one
+-- trusted, TDS 2.0, section 6.3: the room of the serial, if there is one
 abbrev pub serial_room : List AiRow → KeyForm → SerialAt → Option Room
 serial_room ais form Nowhere = None
 serial_room ais form Tail = tail_of form

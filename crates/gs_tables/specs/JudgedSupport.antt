@@ -1,4 +1,4 @@
--- What proofs and private functions say beside the definitions of Judged.antt.
+-- Definitions for proofs and private functions, in addition to Judged.antt.
 use Rattle.std.specs.Prelude.{◌≡◌, ◌⊎◌, List, [], Some, slice_get, Result, Ok, Err}
 use Rattle.gs_tables_document.specs.declared.document.KindRow.{KindRow}
 use Rattle.gs_tables_document.specs.declared.document.OptionRow.{OptionRow}
@@ -18,14 +18,14 @@ by_name binary tag pure Binary = binary
 by_name binary tag pure Tag = tag
 by_name binary tag pure Pure = pure
 
--- the judgement of one level, and of all: none is ambiguous, or the first that is; out of memory may come in place of each
+-- holds if the result is the check of this level: it is not ambiguous, or it is rejected; or `Memory` instead
 abbrev pub IsLevelJudged : LevelName → LevelForm → Result (Unit {0}) LoadFault → Type 0
 IsLevelJudged name level (Ok _) = IsClear level
 IsLevelJudged name level (Err (Ambiguous other i j text)) = (other ≡ name) × ShowsFirstShare level i j text
 IsLevelJudged name level (Err Memory) = Unit {0}
 IsLevelJudged name level (Err _) = ⊥
 
--- the judgement of all levels: none is ambiguous, or the first that is; out of memory may come in place of each
+-- holds if the result is the check of all levels: none is ambiguous, or the first that is; or `Memory` instead
 abbrev pub AreJudged : (LevelName → LevelForm) → Result (Unit {0}) LoadFault → Type 0
 AreJudged levels (Ok _) = AreClear levels
 AreJudged levels (Err (Ambiguous name i j text)) = IsFirstAmbiguous levels name i j text
@@ -41,8 +41,8 @@ abbrev pub AreOfRows : List KindRow → (binary tag pure : List OptionRow) → L
 AreOfRows kinds binary tag pure made =
     (made.binary ≡ level_of kinds Binary binary) × (made.tag ≡ level_of kinds Tag tag) × (made.pure ≡ level_of kinds Pure pure)
 
--- The answer of what is made of rows, by the rejections of the rules and the levels that the rows make: the first rejection; where
--- there is none, the judgement of the levels; and where none of them is ambiguous, what is made.
+-- The result that rows make, given the rejections of the rules and the levels of the rows: the first rejection. If there is none,
+-- it is the check of the levels, and the value if none of them is ambiguous.
 abbrev pub RuledAnswer : {X : Type 0} → List LoadFault → (LevelName → LevelForm) → (X → Type 0) → Result X LoadFault → Type 0
 RuledAnswer rejections levels Made (Ok made) = (rejections ≡ []) × AreClear levels × Made made
 RuledAnswer rejections levels Made (Err e) = (slice_get rejections 0 ≡ Some e) ⊎ ((rejections ≡ []) × AreJudged levels (Err e))

@@ -39,9 +39,9 @@ pub record IsLoaded (set : TableRows) : Type 0 where
   pub shaped : IsShaped set
   pub clear : AreClear (levels_of set)
 
--- trusted, own: The answer of a load, by what the rules answer. The set that they make is the answer where none of its
--- levels is ambiguous; else the rejection names the first that is, its first pair of options that shares a list, and a text
--- that shows one. What the rules reject is rejected.
+-- trusted, own: The result of a load, given the result of the rules. It is the set that they make if none of its levels is
+-- ambiguous. Otherwise the rejection names the first ambiguous level, its first pair of options that shares a list, and a text
+-- that shows one. A rejection of the rules is the result.
 abbrev pub Judged : (Result TableRows LoadFault → Type 0) → Result TableRows LoadFault → Type 0
 Judged Ruled (Ok set) = Ruled (Ok set) × AreClear (levels_of set)
 Judged Ruled (Err (Ambiguous name i j text)) = (set : TableRows) × Ruled (Ok set) × IsFirstAmbiguous (levels_of set) name i j text

@@ -1,4 +1,4 @@
--- What proofs and private functions say beside the definitions of Numbers.antt.
+-- Definitions for proofs and private functions, in addition to Numbers.antt.
 use Rattle.std.specs.Prelude.{◌≡◌, ◌<◌, ◌≤◌, ℕ, List, length, Some, slice_get}
 use Rattle.gs_tables_document.specs.declared.opt_info.OptInfo.{OptInfo}
 use Rattle.gs_tables.specs.Numbers.{numbers_of}
@@ -16,7 +16,7 @@ pub record OfKind (infos : List OptInfo) (kind : ℕ) (lists : List (List ℕ)) 
 abbrev pub AreOfKinds : List OptInfo → List (List (List ℕ)) → Type 0
 AreOfKinds infos kinds = (kind : ℕ) (lists : List (List ℕ)) → slice_get kinds kind ≡ Some lists → OfKind infos kind lists
 
--- each option is of one of so many kinds, and its prefix length is at most 12
+-- each option is of one of that many kinds, and its prefix length is at most 12
 abbrev pub AreWithin : List OptInfo → ℕ → Type 0
 AreWithin infos count = (i : ℕ) (info : OptInfo) → slice_get infos i ≡ Some info → (info.kind < count) × (info.gcp ≤ 12)
 

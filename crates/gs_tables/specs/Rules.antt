@@ -36,20 +36,20 @@ has_name name kind = bytes_eq name kind.name
 abbrev pub has_key : List ℕ → KindRow → Bool
 has_key key kind = bytes_eq key kind.key
 
--- trusted, own: the name is there, is visible, and is no earlier one
+-- trusted, own: holds if the name is not empty, is visible, and differs from the earlier ones
 abbrev pub is_new_name : List KindRow → List ℕ → Bool
 is_new_name earlier name = not (is_empty name) && are_visible name && not (list_any (has_name name) earlier)
 
--- trusted, own: no digit stands before the prefix, or one where the key is digits
+-- trusted, own: holds if no digit precedes the company prefix, or one does and the key is digits
 abbrev pub is_lead : KeyForm → ℕ → Bool
 is_lead (Digits _ _) lead = nat_le lead 1
 is_lead (Characters _) lead = lead == 0
 
--- trusted, own: the code is that of a row that is characters alone
+-- trusted, own: holds if the AI is that of a row of only characters
 abbrev pub is_characters : List AiRow → List ℕ → Bool
 is_characters ais code = option_map_or (λ row. is_some (characters_of row.parts)) (find (has_code code) ais) false
 
--- trusted, own: the serial stands in the tail exactly where the key has one, else nowhere or in a qualifier of the key
+-- trusted, own: the serial is in the tail if and only if the key has one, otherwise nowhere or in a qualifier of the key
 abbrev pub is_serial_of : List AiRow → AiRow → KeyForm → SerialAt → Bool
 is_serial_of ais row form Nowhere = is_none (tail_of form)
 is_serial_of ais row form Tail = is_some (tail_of form)
@@ -60,7 +60,7 @@ abbrev pub are_piece_and_total : List (List ℕ) → Bool
 are_piece_and_total (piece ∷ total ∷ []) = bytes_eq piece (codes "piece") && bytes_eq total (codes "total")
 are_piece_and_total _ = false
 
--- trusted, own: the further fields are the piece and the total where the key has them, and else none
+-- trusted, own: holds if the further fields are the piece and the total if the key has them, and otherwise none
 abbrev pub are_fields_of : KeyForm → List (List ℕ) → Bool
 are_fields_of (Digits _ (Further _ _)) fields = are_piece_and_total fields
 are_fields_of (Digits _ Nothing) fields = is_empty fields
@@ -76,7 +76,7 @@ fits_form ais row kind form =
 abbrev pub fits_key : List AiRow → AiRow → KindRow → Bool
 fits_key ais row kind = is_key row.role && option_map_or (fits_form ais row kind) (key_form row.parts) false
 
--- trusted, own, after TDS 2.0 section 6.3: the kind keeps the rules of kinds, beside the earlier ones
+-- trusted, own, after TDS 2.0 section 6.3: holds if the kind satisfies the rules of kinds, given the earlier ones
 unfoldable pub is_kind : List AiRow → List KindRow → KindRow → Bool
 is_kind ais earlier kind =
     is_new_name earlier kind.name && not (list_any (has_key kind.key) earlier)
@@ -94,13 +94,13 @@ is_field Total (Some Total) = true
 is_field Serial (Some Serial) = true
 is_field _ _ = false
 
--- trusted, own: an item of which each word has the empty value: a literal or a fill
+-- trusted, own: holds if each word of the item has the empty value: a literal or a fill
 abbrev pub has_no_value : Item → Bool
 has_no_value (Lit _) = true
 has_no_value (Fill _ _) = true
 has_no_value _ = false
 
--- trusted, own: an item stands for no field, though it has values other than the empty one
+-- trusted, own: holds if the item has no field, though it has values other than the empty one
 abbrev pub lacks_field : FieldItem → Bool
 lacks_field (None, item) = not (has_no_value item)
 lacks_field (Some _, item) = false
@@ -114,13 +114,13 @@ abbrev pub is_one : (Item → Bool) → List Item → Bool
 is_one test (item ∷ []) = test item
 is_one test _ = false
 
--- trusted, own: exactly so many digits
+-- trusted, own: exactly that many digits
 abbrev pub is_digits : ℕ → Item → Bool
 is_digits n (Pad k) = k == n
 is_digits n (NumPad _ k) = k == n
 is_digits n _ = false
 
--- trusted, own: digits alone
+-- trusted, own: holds if the item has only digits
 abbrev pub is_padded : Item → Bool
 is_padded (Pad _) = true
 is_padded (DigitsItem _ _) = true
@@ -147,7 +147,7 @@ longest_of (NumStr _ hi) = hi
 longest_of (Ascii7 _ hi _) = hi
 longest_of (Fill _ _) = 0
 
--- trusted, own: the item has values other than the empty one, and the longest has at most so many characters
+-- trusted, own: the item has values other than the empty one, and the longest has at most that many characters
 abbrev pub has_room : ℕ → Item → Bool
 has_room most item = is_between 1 most (longest_of item)
 
@@ -157,11 +157,11 @@ is_numeral (Esc _ _) = false
 is_numeral (Ascii7 _ _ _) = false
 is_numeral _ = true
 
--- trusted, own: digits, whose longest value has at most so many
+-- trusted, own: digits, whose longest value has at most that many
 abbrev pub is_number : ℕ → Item → Bool
 is_number most item = is_numeral item && has_room most item
 
--- trusted, own: characters, whose longest value has at most so many
+-- trusted, own: characters, whose longest value has at most that many
 abbrev pub is_free : ℕ → Item → Bool
 is_free most item = not (is_padded item) && has_room most item
 
@@ -170,31 +170,31 @@ abbrev pub is_gcp : KeyForm → ℕ → ℕ → Bool
 is_gcp (Digits digits _) lead n = is_between 1 12 n && nat_le n (digits - lead)
 is_gcp (Characters _) lead n = is_between 1 12 n
 
--- trusted, own: the prefix has such a length, and stands in one item of so many digits
+-- trusted, own: the prefix has such a length, and is in one item of that many digits
 unfoldable pub keeps_gcp : KeyForm → ℕ → ℕ → List Item → Bool
 keeps_gcp form lead n items = is_gcp form lead n && is_one (is_digits n) items
 
--- trusted, own: the digits or characters of the key that are left beside a prefix of n stand in one item, or in none where
--- no digit is left
+-- trusted, own: holds if the digits or characters of the key after a company prefix of n digits are in one item, or in none if no
+-- digit is left
 unfoldable pub keeps_rest : KeyForm → ℕ → List Item → Bool
 keeps_rest (Digits digits _) n items = if digits - n == 0 then is_empty items else is_one (is_digits (digits - n)) items
 keeps_rest (Characters most) n items = is_one (is_free (most - n)) items
 
--- trusted, own: one serial item where there is a serial, with a longest value that it has room for, and else none
+-- trusted, own: holds if there is one serial item that the serial has room for, or none if the kind has no serial
 unfoldable pub keeps_serial : Option Room → List Item → Bool
 keeps_serial None items = is_empty items
 keeps_serial (Some (room.Characters most)) items = is_one (has_room most) items
 keeps_serial (Some (room.Digits most)) items = is_one (is_number most) items
 
--- trusted, own: one item of the piece and one of the total, of so many digits each, where the key has them, and else none
+-- trusted, own: holds if there is one item each of the piece and the total, of that many digits, or none if the key has no pieces
 unfoldable pub keeps_further : KeyForm → List Item → List Item → Bool
 keeps_further (Digits _ (Further a b)) pieces totals = is_one (is_digits a) pieces && is_one (is_digits b) totals
 keeps_further (Digits _ Nothing) pieces totals = is_empty pieces && is_empty totals
 keeps_further (Digits _ (BehindTail _)) pieces totals = is_empty pieces && is_empty totals
 keeps_further (Characters _) pieces totals = is_empty pieces && is_empty totals
 
--- trusted, own: what an option of a level must keep beside its kind: the name of an encoding, a filter value and whole
--- words of 16 bits
+-- trusted, own: holds if an option of the level has the name of an encoding, a filter value and whole words of 16 bits, as its
+-- level requires
 unfoldable pub keeps_level : LevelName → List ℕ → List FieldItem → Bool
 keeps_level Binary encoding items = not (is_empty encoding) && is_one is_filter (items_of_field Filter items) && (size_of_all (alone items) % 16 == 0)
 keeps_level Tag encoding items = not (is_empty encoding) && is_one is_filter (items_of_field Filter items)

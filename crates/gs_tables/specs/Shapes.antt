@@ -18,15 +18,14 @@ abbrev pub ByForm : List ℕ → Result TableRows LoadFault → Type 0
 ByForm bytes (Err (Json error)) = IsFormError bytes error
 ByForm bytes _ = ⊥
 
--- trusted, own: The answer to bytes. What has not the form of a table document is rejected by the first error of its form. A
--- document of that form is rejected by the first rejection of its rows, and else its rows make the set. Out of memory may
--- come in place of each.
+-- trusted, own: The result for bytes. Bytes that are not a table document are rejected by the first error of its form. A table
+-- document is rejected by the first rejection of its rows. Otherwise its rows make the set. `Memory` may come instead.
 abbrev pub Shape : List ℕ → Result TableRows LoadFault → Type 0
 Shape bytes (Err Memory) = Unit {0}
 Shape bytes answer = ByForm bytes answer ⊎ ByRows bytes answer
 
--- trusted, own: the answer of `TableSet::load` to bytes: the set that their shape gives, where none of its levels is
--- ambiguous, or the rejection
+-- trusted, own: the result of `TableSet::load` for bytes: the set of their shape if none of its levels is ambiguous, or the
+-- rejection
 abbrev pub LoadAnswer : List ℕ → Result TableRows LoadFault → Type 0
 LoadAnswer bytes answer = Judged (Shape bytes) answer
 

@@ -46,7 +46,7 @@ level_rows Pure set = set.pure
 
 -- ---- the rows of a document
 
--- trusted, own: the kind of a row, beside the application identifiers
+-- trusted, own: the kind of a row, given the application identifiers
 abbrev pub kind_of : List AiRow → KindRow → Kind
 kind_of ais row = record {
   name = row.name;
@@ -56,11 +56,11 @@ kind_of ais row = record {
   further = further_at ais row.key;
 }
 
--- trusted, own: the items that are there, with their fields
+-- trusted, own: the items that are not absent, with their fields
 abbrev pub items_there : OptionRow → List FieldItem
 items_there row = present row.items
 
--- trusted, own: the items that are there, without their fields
+-- trusted, own: the items that are not absent, without their fields
 abbrev pub items_alone : OptionRow → List Item
 items_alone row = alone (items_there row)
 
@@ -86,7 +86,7 @@ limit_rejections document =
 abbrev pub kind_rejections : List AiRow → List KindRow → ℕ × KindRow → List LoadFault
 kind_rejections ais kinds row = error_if (not (is_kind ais (take row.0 kinds) row.1)) (BadKind row.0)
 
--- trusted, own: an item is not there, breaks a bound of the level, or lacks a field for its values
+-- trusted, own: holds if the item is absent, breaks a bound of the level, or has no field for its values
 abbrev pub is_bad_item : Bool → Option FieldItem → Bool
 is_bad_item bits None = true
 is_bad_item bits (Some item) = is_bad bits item.1 || lacks_field item
@@ -131,7 +131,7 @@ row_rejections document =
 abbrev pub is_version : ℕ → Bool
 is_version version = (version == 1) || (version == 2)
 
--- trusted, own: the rejections of a document: the version stands before the rows
+-- trusted, own: the rejections of a document: the version is before the rows
 unfoldable pub rejections : Document → List LoadFault
 rejections document = error_if (not (is_version document.version)) Version ++ row_rejections document
 
@@ -141,7 +141,7 @@ rejections document = error_if (not (is_version document.version)) Version ++ ro
 abbrev pub option_form : Bool → OptionRow → OptionForm
 option_form bits row = record { bit_level = bits; items = items_alone row }
 
--- trusted, own: what is said of a row's option, where its kind is one of the kinds
+-- trusted, own: the facts of a row's option, if its kind is one of the kinds
 abbrev pub info_of : List KindRow → OptionRow → OptInfo
 info_of kinds row = record {
   kind = unwrap_or (position (has_name row.kind) kinds) 0;
@@ -150,7 +150,7 @@ info_of kinds row = record {
   fields = fields_of (items_there row);
 }
 
--- trusted, own: a level's options, and what is said of them
+-- trusted, own: a level's options and their facts
 abbrev pub level_of : List KindRow → LevelName → List OptionRow → LevelTable
 level_of kinds level rows = record {
   level = record { bit_level = is_bits level; options = map (option_form (is_bits level)) rows };
@@ -169,7 +169,7 @@ set_of document = record {
 
 -- ---- answers
 
--- trusted, own: the first of the rejections, or what is made where there is none; out of memory may come in place of each
+-- trusted, own: holds if the result is the first of the rejections, or the value if there are none; or `Memory` instead
 abbrev pub IsAnswer : {X : Type 0} → List LoadFault → X → Result X LoadFault → Type 0
 IsAnswer rejections made (Ok x) = (rejections ≡ []) × (x ≡ made)
 IsAnswer rejections made (Err Memory) = Unit {0}

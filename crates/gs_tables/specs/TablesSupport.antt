@@ -1,4 +1,4 @@
--- What proofs and private functions say beside the definitions of Tables.antt.
+-- Definitions for proofs and private functions, in addition to Tables.antt.
 use Rattle.std.specs.Prelude.{◌≡◌, List, [], ◌++◌, Some, slice_get, Result, Ok, Err}
 use Rattle.gs_ai.specs.declared.row.AiRow.{AiRow}
 use Rattle.gs_tables_document.specs.declared.document.Document.{Document}
@@ -27,7 +27,7 @@ rule_rejections ais kinds binary tag pure =
     kinds_rejections ais kinds
     ++ (level_rejections ais kinds Binary binary ++ (level_rejections ais kinds Tag tag ++ level_rejections ais kinds Pure pure))
 
--- the first of the rejections, or Ok where there is none
+-- holds if the result is the first of the rejections, or Ok if there are none
 abbrev pub IsFirst : List LoadFault → Result (Unit {0}) LoadFault → Type 0
 IsFirst rejections (Ok _) = rejections ≡ []
 IsFirst rejections (Err error) = slice_get rejections 0 ≡ Some error

@@ -5,10 +5,9 @@ use gs_tables_builtin::builtin_document;
 use gs_tables_document::LoadFault;
 use std::alloc::Global;
 
-/// The set of the built-in rows: the application identifiers, seven kinds of key, and for each encoding and each length of
-/// the company prefix from 12 to 6 its binary and its tag option, and for each kind its pure option. They go through the
-/// rules of `TableSet::load`, and their levels are judged as its are. The answer is the first rejection where there is one. `Memory`
-/// may come in place of any answer.
+/// Returns the set of the built-in rows: the application identifiers, ten kinds of key, the binary and the tag option of each
+/// encoding for each company prefix length from 12 to 6, and the pure option of each kind. The rows go through the rules of
+/// `TableSet::load`, and its check of levels. Returns the first rejection if there is one. May return `Memory` instead.
 pub fn builtin(alloc: Global) -> Result<TableSet, LoadFault>
     ensures { BuiltInAnswer result }
 {

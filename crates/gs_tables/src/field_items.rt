@@ -11,7 +11,7 @@ use crate::form::{Behind, KeyForm, Room};
 use gs_grammar::{Item, MOST_SYMBOLS};
 use gs_tables_document::{Field, FieldItem, LevelName};
 
-/// What is found of the items of a field.
+/// The items of a field that a scan has found.
 #[derive(Clone, Copy)]
 enum Found<'a> {
     /// There is none.
@@ -22,7 +22,7 @@ enum Found<'a> {
     More,
 }
 
-/// The items whose value stands for a field, as far as they are none, one or more.
+/// Returns the items of the field: none, the only one, or several.
 fn items_of<'a>(field: Field, items: &'a [Option<FieldItem>]) -> Found<'a>
     ensures { IsFound (items_of_field field (present items.now)) result }
 {
@@ -42,7 +42,7 @@ fn items_of<'a>(field: Field, items: &'a [Option<FieldItem>]) -> Found<'a>
     found
 }
 
-/// The characters of the longest value of an item.
+/// Returns the characters of the longest value of an item.
 fn longest_of(item: &Item) -> usize
     ensures { result ≡ longest_of item.now }
 {
@@ -57,7 +57,7 @@ fn longest_of(item: &Item) -> usize
     }
 }
 
-/// Whether the item is exactly so many digits.
+/// Returns whether the item is exactly that many digits.
 fn is_digits(n: u64, item: &Item) -> bool
     ensures { result ≡ is_digits n item.now }
 {
@@ -67,7 +67,7 @@ fn is_digits(n: u64, item: &Item) -> bool
     }
 }
 
-/// Whether the item is a filter value.
+/// Returns whether the item is a filter value.
 fn is_filter(item: &Item) -> bool
     ensures { result ≡ is_filter item.now }
 {
@@ -78,7 +78,7 @@ fn is_filter(item: &Item) -> bool
     }
 }
 
-/// Whether the item has values other than the empty one, of which the longest has at most so many characters.
+/// Returns whether the item has values other than the empty one, and its longest value has at most `most` characters.
 fn has_room(most: usize, item: &Item) -> bool
     ensures { result ≡ has_room most item.now }
 {
@@ -86,7 +86,7 @@ fn has_room(most: usize, item: &Item) -> bool
     longest >= 1 && longest <= most
 }
 
-/// Whether the item is characters, and not digits alone, of which the longest value has at most so many.
+/// Returns whether the item is characters, and not only digits, and its longest value has at most `most` characters.
 fn is_free(most: usize, item: &Item) -> bool
     ensures { result ≡ is_free most item.now }
 {
@@ -99,7 +99,7 @@ fn is_free(most: usize, item: &Item) -> bool
     }
 }
 
-/// Whether the item is digits, of which the longest value has at most so many.
+/// Returns whether the item is digits, and its longest value has at most `most` digits.
 fn is_number(most: usize, item: &Item) -> bool
     ensures { result ≡ is_number most item.now }
 {
@@ -114,7 +114,7 @@ fn is_number(most: usize, item: &Item) -> bool
     }
 }
 
-/// Whether the prefix has a length that the key leaves room for, in the one item of it.
+/// Returns whether the prefix has a length that the key leaves room for, in the one item of it.
 #[tactic(auto, unfolding(crate::specs::Rules::keeps_gcp))]
 pub fn keeps_gcp(form: KeyForm, lead: u64, n: u64, items: &[Option<FieldItem>]) -> bool
     ensures { result ≡ keeps_gcp form lead n (items_of_field Field.Gcp (present items.now)) }
@@ -133,8 +133,7 @@ pub fn keeps_gcp(form: KeyForm, lead: u64, n: u64, items: &[Option<FieldItem>]) 
     }
 }
 
-/// Whether the digits or characters of the key that are left beside the prefix stand in one item, or in none where no
-/// digit is left.
+/// Returns whether the digits or characters of the key after the company prefix are in one item, or in none if no digit is left.
 #[tactic(auto, unfolding(crate::specs::Rules::keeps_rest))]
 pub fn keeps_rest(form: KeyForm, n: u64, items: &[Option<FieldItem>]) -> bool
     ensures { result ≡ keeps_rest form n (items_of_field Field.Rest (present items.now)) }
@@ -151,7 +150,7 @@ pub fn keeps_rest(form: KeyForm, n: u64, items: &[Option<FieldItem>]) -> bool
     }
 }
 
-/// Whether there is one serial item where there is a serial, with a longest value that it has room for, and else none.
+/// Returns whether there is one serial item that the serial has room for, or none if the kind has no serial.
 #[tactic(auto, unfolding(crate::specs::Rules::keeps_serial))]
 pub fn keeps_serial(room: Option<Room>, items: &[Option<FieldItem>]) -> bool
     ensures { result ≡ keeps_serial room (items_of_field Field.Serial (present items.now)) }
@@ -164,7 +163,7 @@ pub fn keeps_serial(room: Option<Room>, items: &[Option<FieldItem>]) -> bool
     }
 }
 
-/// Whether the field has one item, of exactly so many digits.
+/// Returns whether the field has one item, of exactly that many digits.
 fn has_digits(field: Field, n: u8, items: &[Option<FieldItem>]) -> bool
     ensures { result ≡ is_one (is_digits n) (items_of_field field (present items.now)) }
 {
@@ -174,7 +173,7 @@ fn has_digits(field: Field, n: u8, items: &[Option<FieldItem>]) -> bool
     }
 }
 
-/// Whether the field has no item.
+/// Returns whether the field has no item.
 fn has_none(field: Field, items: &[Option<FieldItem>]) -> bool
     ensures { result ≡ is_empty (items_of_field field (present items.now)) }
 {
@@ -184,7 +183,7 @@ fn has_none(field: Field, items: &[Option<FieldItem>]) -> bool
     }
 }
 
-/// Whether there is one item of the piece and one of the total, of so many digits each, where the key has them, and else none.
+/// Returns whether there is one item each of the piece and the total, of that many digits, or none if the key has no pieces.
 #[tactic(auto, unfolding(crate::specs::Rules::keeps_further))]
 pub(crate) fn keeps_further(form: KeyForm, items: &[Option<FieldItem>]) -> bool
     ensures { result ≡ keeps_further form (items_of_field Field.Piece (present items.now))
@@ -200,7 +199,7 @@ pub(crate) fn keeps_further(form: KeyForm, items: &[Option<FieldItem>]) -> bool
     }
 }
 
-/// The sizes of the items added up, where they are at most `MOST_SYMBOLS`.
+/// Returns the sum of the sizes of the items if it is at most `MOST_SYMBOLS`.
 pub fn size_within_limit(items: &[Option<FieldItem>]) -> Option<usize>
     ensures { SomeIff result (size_of_all (alone (present items.now)) ≤ most_symbols)
         (size_of_all (alone (present items.now))) }
@@ -217,8 +216,7 @@ pub fn size_within_limit(items: &[Option<FieldItem>]) -> Option<usize>
     Some(size)
 }
 
-/// Whether the option has what a level asks for beside its kind: the name of an encoding, a filter value and whole words of
-/// 16 bits.
+/// Returns whether the option has the name of an encoding, a filter value and whole words of 16 bits, as its level requires.
 #[tactic(auto, unfolding(crate::specs::Rules::keeps_level))]
 pub(crate) fn keeps_level(
     level: LevelName,

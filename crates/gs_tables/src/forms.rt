@@ -24,7 +24,7 @@ fn digits_form(parts: &[Part]) -> Option<KeyForm>
     }
 }
 
-/// The form of the parts of a key, where a kind can have them.
+/// Returns the form of the parts of a key, if a kind can have them.
 pub fn key_form(parts: &[Part]) -> Option<KeyForm>
     ensures { result ≡ key_form parts.now }
 {
@@ -38,14 +38,14 @@ pub fn key_form(parts: &[Part]) -> Option<KeyForm>
     }
 }
 
-/// The form of the key of a code.
+/// Returns the form of the key of a code.
 pub fn form_at(ais: &AiTable, code: &[u8]) -> Option<KeyForm>
     ensures { result ≡ form_at ais.now code.now }
 {
     key_form(ais.row_with(code)?.parts.items())
 }
 
-/// The room of a tail, where the key has one.
+/// Returns the room of a tail, if the key has one.
 pub fn tail_of(form: KeyForm) -> Option<Room>
     ensures { result ≡ tail_of form }
 {
@@ -57,7 +57,7 @@ pub fn tail_of(form: KeyForm) -> Option<Room>
     }
 }
 
-/// How many digits the piece and the total of the key of a code have, and nothing of a key without them.
+/// Returns how many digits the piece and the total of the key of a code have, and nothing of a key without them.
 pub fn further_at(alloc: Global, ais: &AiTable, code: &[u8]) -> Result<List<u8>, Memory>
     ensures { IfOk result (λ lengths. lengths ≡ further_at ais.now code.now) }
 {
@@ -70,7 +70,7 @@ pub fn further_at(alloc: Global, ais: &AiTable, code: &[u8]) -> Result<List<u8>,
     Ok(List::from_vec(lengths))
 }
 
-/// The most characters of parts that are characters alone.
+/// Returns the most characters of parts that are only characters.
 pub fn characters_of(parts: &[Part]) -> Option<u8>
     ensures { result ≡ characters_of parts.now }
 {
@@ -80,14 +80,14 @@ pub fn characters_of(parts: &[Part]) -> Option<u8>
     }
 }
 
-/// Whether the parts are characters of the set of 82 alone.
+/// Returns whether the parts are only characters of the set of 82.
 pub fn are_characters(parts: &[Part]) -> bool
     ensures { result ≡ is_some (characters_of parts.now) }
 {
     characters_of(parts).is_some()
 }
 
-/// The room of the serial, where there is one.
+/// Returns the room of the serial, if there is one.
 pub fn serial_room(ais: &AiTable, form: KeyForm, serial: &[u8]) -> Option<Room>
     ensures { result ≡ serial_room ais.now form (serial_at serial.now) }
 {

@@ -7,8 +7,8 @@ use gs_tables_document::OptInfo;
 use std::alloc::Global;
 use std::marker::Model;
 
-/// What is said of each option of a level beside its items, in the order of the options, and which of them have a kind and a
-/// prefix length. Contracts see it as the list of what is said.
+/// The facts of each option of a level apart from its items, in the order of the options, with an index by kind and company
+/// prefix length. Contracts see the list of facts.
 pub struct IndexedInfo {
     info: List<OptInfo>,
     /// The numbers of the options of each kind and, within it, of each prefix length from 0 to 12, ascending.
@@ -37,14 +37,14 @@ impl Model for IndexedInfo {
     ghost invariant = { λ a. AreNumbered a.info a.numbers };
 }
 
-/// Whether the option is of the kind and prefix length.
+/// Returns whether the option is of the kind and prefix length.
 fn is_of(kind: usize, gcp: u8, info: &OptInfo) -> bool
     ensures { result ≡ is_of kind gcp info.now }
 {
     info.kind == kind && info.gcp == gcp
 }
 
-/// The numbers of the options of a kind and prefix length, ascending.
+/// Returns the numbers of the options of a kind and prefix length, ascending.
 fn numbers_of(alloc: Global, info: &[OptInfo], kind: usize, gcp: u8) -> Result<List<usize>, Memory>
     ensures { IfOk result (λ numbers. numbers ≡ numbers_of kind gcp info.now) }
 {
@@ -57,7 +57,7 @@ fn numbers_of(alloc: Global, info: &[OptInfo], kind: usize, gcp: u8) -> Result<L
     Ok(List::from_vec(numbers))
 }
 
-/// The numbers of the options of a kind, by their prefix length.
+/// Returns the numbers of the options of a kind, by their prefix length.
 fn numbers_of_kind(
     alloc: Global,
     info: &[OptInfo],
@@ -72,7 +72,7 @@ fn numbers_of_kind(
     Ok(List::from_vec(lists))
 }
 
-/// The numbers of the options, by their kind and prefix length.
+/// Returns the numbers of the options, by their kind and prefix length.
 fn numbers_of_kinds(
     alloc: Global,
     info: &[OptInfo],
@@ -89,8 +89,8 @@ fn numbers_of_kinds(
 }
 
 impl IndexedInfo {
-    /// What is said of the options of a level, each of one of so many kinds. The one error is out of memory. Each names a
-    /// kind below that number.
+    /// Returns the index of the facts of a level's options, for `count` kinds. Each names a kind below that number. Fails only
+    /// with `Memory`.
     pub fn new(alloc: Global, count: usize, info: Vec<OptInfo>) -> Result<IndexedInfo, Memory>
         requires { AreWithin info.items count }
         ensures { IfOk result (λ made. made ≡ info.items) }
@@ -102,14 +102,14 @@ impl IndexedInfo {
         })
     }
 
-    /// What is said of each option, in their order.
+    /// Returns the facts of each option, in their order.
     pub fn items(&self) -> &[OptInfo]
         ensures { result.now ≡ self.now }
     {
         self.info.items()
     }
 
-    /// The numbers of the options of a kind and prefix length, ascending.
+    /// Returns the numbers of the options of a kind and prefix length, ascending.
     pub fn numbers(&self, kind: usize, gcp: u8) -> &[usize]
         ensures { result.now ≡ numbers_of kind gcp self.now }
     {

@@ -12,7 +12,7 @@ use gs_chars::List;
 use gs_tables_document::{Kind, KindRow, LoadFault};
 use std::alloc::Global;
 
-/// The levels of the rows, or the first rejection: of a kind, of an option, or of a level that is ambiguous.
+/// Returns the levels of the rows, or the first rejection: of a kind, of an option, or of a level that is ambiguous.
 fn judged_levels(
     alloc: Global,
     ais: &AiTable,
@@ -41,7 +41,8 @@ fn judged_levels(
     Ok(levels)
 }
 
-/// The kinds and the levels of the rows, or the first rejection: of a kind, of an option, or of a level that is ambiguous.
+/// Returns the kinds and the levels of the rows, or the first rejection: of a kind, of an option, or of a level that is
+/// ambiguous.
 pub(crate) fn judged_parts(
     alloc: Global,
     ais: &AiTable,

@@ -10,28 +10,28 @@ use gs_ai::{AiRow, AiTable, Role};
 use gs_chars::{Text, are_visible};
 use gs_tables_document::KindRow;
 
-/// Whether a kind has the name.
+/// Returns whether a kind has the name.
 fn is_named(kinds: &[KindRow], name: &[u8]) -> bool
     ensures { result ≡ list_any (has_name name.now) kinds.now }
 {
     kinds.iter().any(|kind| name == kind.name.as_bytes())
 }
 
-/// Whether a kind has the key.
+/// Returns whether a kind has the key.
 fn is_keyed(kinds: &[KindRow], key: &[u8]) -> bool
     ensures { result ≡ list_any (has_key key.now) kinds.now }
 {
     kinds.iter().any(|kind| key == kind.key.as_bytes())
 }
 
-/// Whether the name is there, is visible, and is no earlier one.
+/// Returns whether the name is not empty, is visible, and differs from the earlier ones.
 fn is_new_name(earlier: &[KindRow], name: &[u8]) -> bool
     ensures { result ≡ is_new_name earlier.now name.now }
 {
     !name.is_empty() && are_visible(name) && !is_named(earlier, name)
 }
 
-/// Whether so many lead digits fit the form of the key.
+/// Returns whether that many lead digits fit the form of the key.
 fn is_lead(form: KeyForm, lead: u64) -> bool
     ensures { result ≡ is_lead form lead }
 {
@@ -41,7 +41,7 @@ fn is_lead(form: KeyForm, lead: u64) -> bool
     }
 }
 
-/// Whether the code is that of a row that is characters alone.
+/// Returns whether the AI is that of a row of only characters.
 fn is_characters(ais: &AiTable, code: &[u8]) -> bool
     ensures { result ≡ is_characters ais.now code.now }
 {
@@ -51,7 +51,7 @@ fn is_characters(ais: &AiTable, code: &[u8]) -> bool
     }
 }
 
-/// Whether a row lists the code among its qualifiers.
+/// Returns whether a row lists the code among its qualifiers.
 pub fn lists(row: &AiRow, code: &[u8]) -> bool
     ensures { result ≡ list_any (bytes_eq code.now) row.now.qualifiers }
 {
@@ -61,7 +61,7 @@ pub fn lists(row: &AiRow, code: &[u8]) -> bool
         .any(|listed| code == listed.as_bytes())
 }
 
-/// Whether the serial stands in the tail exactly where the key has one, else nowhere or in a qualifier of the key.
+/// Returns whether the serial is in the tail if and only if the key has one, otherwise nowhere or in a qualifier of the key.
 fn is_serial_of(ais: &AiTable, row: &AiRow, form: KeyForm, serial: &[u8]) -> bool
     ensures { result ≡ is_serial_of ais.now row.now form (serial_at serial.now) }
 {
@@ -75,7 +75,7 @@ fn is_serial_of(ais: &AiTable, row: &AiRow, form: KeyForm, serial: &[u8]) -> boo
     !has_tail && lists(row, serial) && is_characters(ais, serial)
 }
 
-/// Whether these are the names of the two further fields, in their order.
+/// Returns whether these are the names of the two further fields, in their order.
 fn are_piece_and_total(fields: &[Text]) -> bool
     ensures { result ≡ are_piece_and_total fields.now }
 {
@@ -87,7 +87,7 @@ fn are_piece_and_total(fields: &[Text]) -> bool
     }
 }
 
-/// Whether the further fields are the piece and the total where the key has them, and else none.
+/// Returns whether the further fields are the piece and the total if the key has them, and otherwise none.
 fn are_fields_of(form: KeyForm, fields: &[Text]) -> bool
     ensures { result ≡ are_fields_of form fields.now }
 {
@@ -99,7 +99,7 @@ fn are_fields_of(form: KeyForm, fields: &[Text]) -> bool
     }
 }
 
-/// Whether the lead digits, the serial and the further fields of the kind fit a key of this form.
+/// Returns whether the lead digits, the serial and the further fields of the kind fit a key of this form.
 fn fits_form(ais: &AiTable, row: &AiRow, kind: &KindRow, form: KeyForm) -> bool
     ensures { result ≡ fits_form ais.now row.now kind.now form }
 {
@@ -108,14 +108,14 @@ fn fits_form(ais: &AiTable, row: &AiRow, kind: &KindRow, form: KeyForm) -> bool
         && are_fields_of(form, kind.fields.items())
 }
 
-/// Whether the row is that of a key.
+/// Returns whether the row is that of a key.
 pub fn is_of_key(row: &AiRow) -> bool
     ensures { result ≡ is_key row.now.role }
 {
     matches!(row.role, Role::Key)
 }
 
-/// Whether the row of the key has a form that a kind can have, which the kind fits.
+/// Returns whether the row of the key has a form that a kind can have, which the kind fits.
 fn fits_key(ais: &AiTable, row: &AiRow, kind: &KindRow) -> bool
     ensures { result ≡ fits_key ais.now row.now kind.now }
 {
@@ -128,7 +128,7 @@ fn fits_key(ais: &AiTable, row: &AiRow, kind: &KindRow) -> bool
     }
 }
 
-/// Whether the kind keeps the rules of kinds, beside the earlier ones.
+/// Returns whether the kind satisfies the rules of kinds, given the earlier ones.
 #[tactic(auto, unfolding(crate::specs::Rules::is_kind))]
 pub(crate) fn is_kind(ais: &AiTable, earlier: &[KindRow], kind: &KindRow) -> bool
     ensures { result ≡ is_kind ais.now earlier.now kind.now }

@@ -19,7 +19,7 @@ use gs_tables_document::{
 };
 use std::alloc::Global;
 
-/// Where the serial stands by the text of a row.
+/// Returns the place of the serial by the text of a row.
 fn serial_at(serial: Text) -> SerialAt
     ensures { result ≡ serial_at serial }
 {
@@ -33,7 +33,7 @@ fn serial_at(serial: Text) -> SerialAt
     }
 }
 
-/// The kinds of rows that no rule rejects, beside these application identifiers.
+/// Returns the kinds of rows that no rule rejects, given these application identifiers.
 pub fn make_kinds(alloc: Global, ais: &AiTable, rows: List<KindRow>) -> Result<List<Kind>, Memory>
     requires { kinds_rejections ais.now rows ≡ [] }
     ensures { IfOk result (λ kinds. kinds ≡ map (kind_of ais.now) rows) }
@@ -52,7 +52,7 @@ pub fn make_kinds(alloc: Global, ais: &AiTable, rows: List<KindRow>) -> Result<L
     Ok(List::from_vec(kinds))
 }
 
-/// The items that are there, apart from their fields. The one error is out of memory.
+/// Returns the items that are not absent, apart from their fields. Fails only with `Memory`.
 pub fn split_items(
     alloc: Global,
     items: List<Option<FieldItem>>,
@@ -71,14 +71,14 @@ pub fn split_items(
     Ok((List::from_vec(fields), alone))
 }
 
-/// The index of the kind of a name.
+/// Returns the index of the kind of a name.
 fn kind_at(kinds: &[KindRow], name: &[u8]) -> Option<usize>
     ensures { result ≡ position (has_name name.now) kinds.now }
 {
     kinds.iter().position(|kind| name == kind.name.as_bytes())
 }
 
-/// The option of a row that no rule rejects, and what is said of it.
+/// Returns the option of a row that no rule rejects, with its facts.
 fn make_option(
     alloc: Global,
     kinds: &[KindRow],
@@ -105,7 +105,7 @@ fn make_option(
     Ok((option, info))
 }
 
-/// Appends the options of rows that no rule rejects, and what is said of each.
+/// Appends the options of rows that no rule rejects, with the facts of each.
 fn push_options(
     alloc: Global,
     ais: &AiTable,
@@ -120,7 +120,7 @@ fn push_options(
         ≡ options.old.items ++ map (option_form (is_bits level)) rows) }
     ensures info { OnOk result (info.new.items ≡ info.old.items ++ map (info_of kinds.now) rows) }
 {
-    // the proof alone reads it: the rows keep the rules beside these application identifiers
+    // only for the proof: the rows satisfy the rules, given these application identifiers
     let _ = ais;
     for row in rows.into_vec() {
         let (option, said) = make_option(alloc, kinds, level, row)?;
@@ -130,7 +130,7 @@ fn push_options(
     Ok(())
 }
 
-/// The level of rows that no rule rejects.
+/// Returns the level of rows that no rule rejects.
 fn make_level(
     alloc: Global,
     ais: &AiTable,
@@ -150,7 +150,7 @@ fn make_level(
     })
 }
 
-/// The levels of rows that no rule rejects.
+/// Returns the levels of rows that no rule rejects.
 pub fn make_levels(
     alloc: Global,
     ais: &AiTable,

@@ -5,20 +5,20 @@ ghost use Rattle.gs_tables.specs.KeptRules.{AreKept};
 ghost use Rattle.gs_tables.specs.Shapes.{BuiltInAnswer, BuiltInAnswersAreAlike, HasMemory, LoadAnswer, LoadAnswersAreAlike};
 ghost use Rattle.gs_tables.specs.Tables.{IsShaped, TableRows, level_rows};
 
-/// All bytes have one answer of `TableSet::load` beside out of memory, and no other but for the text of an ambiguous level.
+/// States that all bytes have exactly one result of `TableSet::load`, apart from `Memory` and the text of an ambiguous level.
 pub fn bytes_have_one_answer()
     ensures some { (bytes : List ℕ) →
         ((answer : Result TableRows LoadFault) × HasMemory answer × LoadAnswer bytes answer) }
     ensures at_most_one { LoadAnswersAreAlike }
 {}
 
-/// `builtin` has one answer beside out of memory, and no other but for the text of an ambiguous level.
+/// States that `builtin` has exactly one result, apart from `Memory` and the text of an ambiguous level.
 pub fn built_in_rows_have_one_answer()
     ensures some { (answer : Result TableRows LoadFault) × HasMemory answer × BuiltInAnswer answer }
     ensures at_most_one { BuiltInAnswersAreAlike }
 {}
 
-/// Each option of a set keeps the rules, with what is said of it; and as much is said as there are options.
+/// States that each option of a set satisfies the rules with its facts, and that there are as many facts as options.
 pub fn options_keep_the_rules()
     ensures kept { (set : TableRows) (level : LevelName) → IsShaped set → AreKept set level }
     ensures as_many { (set : TableRows) (level : LevelName) → IsShaped set

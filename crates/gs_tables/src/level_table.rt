@@ -1,7 +1,7 @@
 use crate::indexed_info::IndexedInfo;
 use gs_grammar_level::Level;
 
-/// A level of a table set: its options, and what is said of each beside its items, in the same order.
+/// A level of a table set: its options, and the facts of each apart from its items, in the same order.
 pub struct LevelTable {
     pub level: Level,
     pub info: IndexedInfo,

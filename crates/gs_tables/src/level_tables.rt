@@ -23,7 +23,7 @@ impl Drop for OptionRows {
 }
 
 impl OptionRows {
-    /// The rows of each level: binary, tag, pure.
+    /// Returns the rows of each level: binary, tag, pure.
     pub fn into_lists(self) -> (List<OptionRow>, List<OptionRow>, List<OptionRow>)
         ensures { result ≡ (self.binary, self.tag, self.pure) }
     {

@@ -4,9 +4,9 @@
 //! - `migrate` makes the text of a document as one of version 2, which loads to the same set; `migrated_text` that of a document
 //!   that is known to load.
 //! - `TableSet::ais`, `kinds`, `level`, `info` and `candidates` lend the parts of a set.
-//! - `KeyForm`, `Room`, `are_characters` and `characters_of` tell the form of the values of a key and of its serial; `keeps_gcp`, `keeps_rest`,
-//!   `keeps_serial` and `size_within_limit` are the tests of an option's items, `is_of_key` and `lists` those of a key's row; for them
-//!   and `split_items`, which parts items from their fields, gs_class has use too.
+//! - `KeyForm`, `Room`, `are_characters` and `characters_of` describe the form of a key's values and of its serial. `keeps_gcp`,
+//!   `keeps_rest`, `keeps_serial` and `size_within_limit` test an option's items, and `is_of_key` and `lists` a key's row.
+//!   gs_class uses them too, with `split_items`, which separates items from their fields.
 //!
 //! # Example
 //!
@@ -18,7 +18,7 @@
 //! 57 10 105 105 70
 //! ```
 //!
-//! # Where it differs from the standards
+//! # Differences from the standards
 //!
 //! - The form of the document and its rules are this project's own (docs/FORMATS.md, 'The table document'); GS1 EPC Tag Data
 //!   Translation has its own files, which are not read.

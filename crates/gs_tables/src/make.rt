@@ -8,7 +8,7 @@ use gs_chars::List;
 use gs_tables_document::LoadFault;
 use std::alloc::Global;
 
-/// The table of the application identifiers, or their first error.
+/// Returns the table of the application identifiers, or their first error.
 pub(crate) fn make_ais(alloc: Global, rows: List<AiRow>) -> Result<AiTable, LoadFault>
     ensures { IsAnswer (map Ai (table_errors rows)) rows result }
 {

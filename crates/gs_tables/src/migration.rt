@@ -9,10 +9,10 @@ use gs_tables_document::LoadFault;
 use gs_tables_migration::second_text;
 use std::alloc::Global;
 
-/// The text of a table document as one of version 2. Of a document of version 1 it is the JSON text of the same tree with the
-/// version 2 and, in each kind, no further fields; of one of version 2, that of the tree as it is. The text has no space, and
-/// the members of each object in ascending order of name, each once; it loads to the set that the document loads to. The
-/// bytes are a document that loads. The one error is out of memory.
+/// Returns the text of a table document as one of version 2. For a document of version 1 it is the JSON text of the same tree
+/// with the version 2 and, in each kind, no further fields; for one of version 2, that of the same tree. The text has no spaces,
+/// and the members of each object once, in ascending order of name. It loads to the set that the document loads to. The bytes are
+/// a document that loads. Fails only with `Memory`.
 pub fn migrated_text(alloc: Global, bytes: &[u8]) -> Result<Text, Memory>
     requires loads { Loads bytes.now }
     ensures text { IfOk result (IsMigrated bytes.now) }
@@ -21,8 +21,8 @@ pub fn migrated_text(alloc: Global, bytes: &[u8]) -> Result<Text, Memory>
     second_text(alloc, bytes)
 }
 
-/// The migrated text of a table document, as `migrated_text` makes it, or the rejection of the document: `Ok` comes exactly
-/// where `TableSet::load` answers Ok, and else its error. `Memory` may come in place of any answer.
+/// Returns the migrated text of a table document, as `migrated_text` makes it, or the rejection of the document. Returns `Ok` if
+/// and only if `TableSet::load` does, and otherwise its error. May return `Memory` instead.
 pub fn migrate(alloc: Global, bytes: &[u8]) -> Result<Text, LoadFault>
     ensures text { IfOk result (IsMigrated bytes.now) }
     ensures loads { IfOk result (λ _. Loads bytes.now) }
@@ -33,7 +33,7 @@ pub fn migrate(alloc: Global, bytes: &[u8]) -> Result<Text, LoadFault>
     Ok(migrated_text(alloc, bytes)?)
 }
 
-/// Whether the bytes load, and else the rejection.
+/// Checks that the bytes load, and returns the rejection if not.
 fn judge(alloc: Global, bytes: &[u8]) -> Result<(), LoadFault>
     ensures loads { IfOk result (λ _. Loads bytes.now) }
     ensures rejected { IfErr result (λ error. LoadAnswer bytes.now (Err error)) }

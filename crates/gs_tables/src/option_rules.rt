@@ -18,7 +18,7 @@ use gs_chars::are_visible;
 use gs_grammar::Item;
 use gs_tables_document::{Field, FieldItem, KindRow, LevelName, LimitName, LoadFault, OptionRow};
 
-/// Whether the item stands for no field, though it has values other than the empty one.
+/// Returns whether the item has no field, though it has values other than the empty one.
 fn lacks_field(item: &FieldItem) -> bool
     ensures { result ≡ lacks_field item.now }
 {
@@ -28,7 +28,7 @@ fn lacks_field(item: &FieldItem) -> bool
     }
 }
 
-/// The index of the first item that is not there, breaks a bound of the level, or lacks a field for its values.
+/// Returns the index of the first item that is absent, breaks a bound of the level, or has no field for its values.
 fn first_bad(bits: bool, items: &[Option<FieldItem>]) -> Option<usize>
     ensures { result ≡ position (is_bad_item bits) items.now }
 {
@@ -38,7 +38,7 @@ fn first_bad(bits: bool, items: &[Option<FieldItem>]) -> Option<usize>
     })
 }
 
-/// Whether two options have one kind, encoding and prefix length.
+/// Returns whether two options have one kind, encoding and prefix length.
 #[tactic(auto, unfolding(crate::specs::Tables::is_same))]
 fn is_same(a: &OptionRow, b: &OptionRow) -> bool
     ensures { result ≡ is_same a.now b.now }
@@ -46,7 +46,7 @@ fn is_same(a: &OptionRow, b: &OptionRow) -> bool
     a.kind == b.kind && a.encoding == b.encoding && a.gcp == b.gcp
 }
 
-/// Whether what stands behind the rest, the serial and the further fields, fits a kind whose key is of this form.
+/// Returns whether the items after the reference, the serial and the further fields, fit a kind whose key has this form.
 fn keeps_behind(ais: &AiTable, kind: &KindRow, row: &OptionRow, form: KeyForm) -> bool
     ensures { result ≡ (keeps_serial (serial_room ais.now form (serial_at kind.now.serial))
         (items_of_field Field.Serial (items_there row.now))
@@ -58,7 +58,7 @@ fn keeps_behind(ais: &AiTable, kind: &KindRow, row: &OptionRow, form: KeyForm) -
     keeps_serial(room, items) && keeps_further(form, items)
 }
 
-/// Whether the prefix, the rest, the serial and the further fields fit a kind whose key is of this form.
+/// Returns whether the prefix, the rest, the serial and the further fields fit a kind whose key is of this form.
 fn keeps_form(ais: &AiTable, kind: &KindRow, row: &OptionRow, form: KeyForm) -> bool
     ensures { result ≡ keeps_form ais.now kind.now row.now.gcp (items_there row.now) form }
 {
@@ -72,7 +72,7 @@ fn keeps_form(ais: &AiTable, kind: &KindRow, row: &OptionRow, form: KeyForm) -> 
     keeps_behind(ais, kind, row, form)
 }
 
-/// Whether the option fits a kind.
+/// Returns whether the option fits a kind.
 fn fits_kind(ais: &AiTable, kind: &KindRow, level: LevelName, size: usize, row: &OptionRow) -> bool
     requires { size ≡ size_of_all (items_alone row.now) }
     ensures { result ≡ fits_kind ais.now kind.now level row.now.encoding row.now.gcp (items_there row.now) }
@@ -90,14 +90,14 @@ fn fits_kind(ais: &AiTable, kind: &KindRow, level: LevelName, size: usize, row: 
     }
 }
 
-/// The first kind of this name.
+/// Returns the first kind of this name.
 fn kind_with<'a>(kinds: &'a [KindRow], name: &[u8]) -> Option<&'a KindRow>
     ensures { option_copied result ≡ find (has_name name.now) kinds.now }
 {
     kinds.iter().find(|kind| name == kind.name.as_bytes())
 }
 
-/// Whether the option's kind is one of the kinds, and the option fits it.
+/// Returns whether the option's kind is one of the kinds, and the option fits it.
 fn fits(ais: &AiTable, kinds: &[KindRow], level: LevelName, size: usize, row: &OptionRow) -> bool
     requires { size ≡ size_of_all (items_alone row.now) }
     ensures { result ≡ fits ais.now kinds.now level row.now }
@@ -108,14 +108,14 @@ fn fits(ais: &AiTable, kinds: &[KindRow], level: LevelName, size: usize, row: &O
     }
 }
 
-/// The index of the first option of the same kind, encoding and prefix length.
+/// Returns the index of the first option of the same kind, encoding and prefix length.
 fn first_same(rows: &[OptionRow], row: &OptionRow) -> Option<usize>
     ensures { result ≡ position (λ other. is_same other row.now) rows.now }
 {
     rows.iter().position(|other| is_same(other, row))
 }
 
-/// Rejects option `i` where it is the same as an earlier one.
+/// Rejects option `i` if it equals an earlier one.
 fn check_unlike(
     level: LevelName,
     earlier: &[OptionRow],
@@ -130,7 +130,7 @@ fn check_unlike(
     }
 }
 
-/// The first rejection of option `i` of a level.
+/// Finds the first rejection of option `i` of a level.
 pub(crate) fn check_option(
     ais: &AiTable,
     kinds: &[KindRow],

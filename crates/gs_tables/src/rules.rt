@@ -15,7 +15,7 @@ use gs_tables_document::{
     OptionRow,
 };
 
-/// Whether this is a version of the profile.
+/// Returns whether this is a version of the profile.
 fn is_version(version: u64) -> bool
     ensures { result ≡ is_version version }
 {
@@ -33,21 +33,21 @@ pub(crate) fn check_version(document: &Document) -> Result<(), LoadFault>
     }
 }
 
-/// Whether some option has more than `MOST_ITEMS` items.
+/// Returns whether some option has more than `MOST_ITEMS` items.
 fn has_long(rows: &[OptionRow]) -> bool
     ensures { result ≡ has_long rows.now }
 {
     rows.iter().any(|row| row.items.items().len() > MOST_ITEMS)
 }
 
-/// Whether there are more application identifiers than there may be.
+/// Returns whether there are more application identifiers than there may be.
 fn has_many_ais(document: &Document) -> bool
     ensures { result ≡ more_than most_rows document.now.ais }
 {
     document.ais.items().len() > MOST_ROWS
 }
 
-/// The first of the limits of the numbers of rows that is passed.
+/// Finds the first limit on the number of rows that the document exceeds.
 #[tactic(auto, unfolding(crate::specs::Tables::limit_rejections))]
 pub(crate) fn check_limits(document: &Document) -> Result<(), LoadFault>
     ensures { IsFirst (limit_rejections document.now) result }
@@ -70,7 +70,7 @@ pub(crate) fn check_limits(document: &Document) -> Result<(), LoadFault>
     Ok(())
 }
 
-/// The first kind that breaks a rule.
+/// Finds the first kind that breaks a rule.
 fn check_kinds(ais: &AiTable, kinds: &[KindRow]) -> Result<(), LoadFault>
     ensures { IsFirst (kinds_rejections ais.now kinds.now) result }
 {
@@ -82,7 +82,7 @@ fn check_kinds(ais: &AiTable, kinds: &[KindRow]) -> Result<(), LoadFault>
     Ok(())
 }
 
-/// The first rejection of the kinds, and of the options of the levels, row by row.
+/// Finds the first rejection of the kinds, and of the options of the levels, row by row.
 pub(crate) fn check_rows(
     ais: &AiTable,
     kinds: &[KindRow],
@@ -98,7 +98,7 @@ pub(crate) fn check_rows(
     check_level(ais, kinds, LevelName::Pure, pure)
 }
 
-/// The first rejection of the options of a level, row by row.
+/// Finds the first rejection of the options of a level, row by row.
 fn check_level(
     ais: &AiTable,
     kinds: &[KindRow],

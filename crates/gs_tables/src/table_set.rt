@@ -17,7 +17,7 @@ use std::alloc::Global;
 use std::marker::Model;
 
 /// A table set: the application identifiers, the kinds, and the options of three levels, each in the order of its rows. It
-/// keeps the rules that `TableSet::load` asks for, and none of its levels is ambiguous.
+/// satisfies the rules that `TableSet::load` asks for, and none of its levels is ambiguous.
 pub struct TableSet {
     ais: AiTable,
     kinds: List<Kind>,
@@ -48,14 +48,14 @@ impl Model for TableSet {
 }
 
 impl TableSet {
-    /// The set that a table document gives, or its first rejection. These are tried in this order. `Json`: the bytes are no
-    /// JSON text, or the document or a row has not the form of its kind. `Version`: the version is neither 1 nor 2. `Limit` of the
-    /// numbers of rows: application identifiers, kinds, options, items. `Ai`: the first error of the application
-    /// identifiers. `BadKind`: the first kind that breaks a rule. Then option by option of the levels binary, tag, pure:
-    /// `BadItem` for its first bad item, `Limit(Size)`, `Mismatch` where it does not fit its kind, `Duplicate` for the first
-    /// earlier option of the same kind, encoding and prefix length. Last `Ambiguous`: the first level, in the same order, with
-    /// a list of symbols that has two different derivations, the first pair of its options that shares one, and such a list.
-    /// `Ok` comes exactly where none of these does. `Memory` may come in place of any answer.
+    /// Returns the set that a table document gives, or its first rejection, in this order. `Json`: the bytes are not JSON text,
+    /// or the document or a row does not have the form of its kind. `Version`: the version is neither 1 nor 2. `Limit` of the
+    /// numbers of rows: application identifiers, kinds, options, items. `Ai`: the first error of the application identifiers.
+    /// `BadKind`: the first kind that breaks a rule. Then option by option of the levels binary, tag, pure: `BadItem` for its
+    /// first bad item, `Limit(Size)`, `Mismatch` if it does not fit its kind, `Duplicate` for the first earlier option of the
+    /// same kind, encoding and company prefix length. Last `Ambiguous`: the first level, in the same order, with a list of
+    /// symbols that has two different derivations, the first pair of its options that shares one, and such a list. Returns `Ok`
+    /// if and only if none of these applies. May return `Memory` instead.
     pub fn load(alloc: Global, bytes: &[u8]) -> Result<TableSet, LoadFault>
         ensures { LoadAnswer bytes.now result }
     {
@@ -64,7 +64,7 @@ impl TableSet {
         TableSet::of_rows(alloc, document)
     }
 
-    /// The set of the rows, or their first rejection from the limits on, its levels judged.
+    /// Returns the set of the rows, or their first rejection from the limits on, its levels judged.
     pub(crate) fn of_rows(alloc: Global, document: Document) -> Result<TableSet, LoadFault>
         ensures { Judged (IsAnswer (row_rejections document) (set_of document)) result }
     {
@@ -83,7 +83,7 @@ impl TableSet {
         Ok(TableSet { ais, kinds, levels })
     }
 
-    /// The application identifiers.
+    /// Returns the application identifiers.
     pub fn ais(&self) -> &AiTable
         ensures rows { result.now ≡ self.now.ais }
         ensures shaped { IsShaped self.now }
@@ -91,7 +91,7 @@ impl TableSet {
         &self.ais
     }
 
-    /// The kinds, in their order.
+    /// Returns the kinds, in their order.
     pub fn kinds(&self) -> &[Kind]
         ensures rows { result.now ≡ self.now.kinds }
         ensures shaped { IsShaped self.now }
@@ -99,36 +99,36 @@ impl TableSet {
         self.kinds.items()
     }
 
-    /// The options of a level, in their order. The level is not ambiguous.
+    /// Returns the options of a level, in their order. The level is not ambiguous.
     pub fn level(&self, name: LevelName) -> &Level
         ensures rows { result.now ≡ (level_rows name self.now).level }
         ensures loaded { IsLoaded self.now }
         ensures clear { IsClear result.now }
         ensures shaped { IsShaped self.now }
     {
-        // the proof alone reads it: what holds of the set
+        // only for the proof: the facts of the set
         let _ = &self.kinds;
         &self.table(name).level
     }
 
-    /// What is said of each option of a level beside its items, in the order of the options.
+    /// Returns the facts of each option of a level apart from its items, in the order of the options.
     pub fn info(&self, name: LevelName) -> &[OptInfo]
         ensures rows { result.now ≡ (level_rows name self.now).info }
         ensures shaped { IsShaped self.now }
     {
-        // the proof alone reads it: what holds of the set
+        // only for the proof: the facts of the set
         let _ = &self.kinds;
         self.table(name).info.items()
     }
 
-    /// The numbers of the options of a level that are of a kind, named by its index, and of a prefix length, ascending.
+    /// Returns the numbers of the options of a level that are of a kind, named by its index, and of a prefix length, ascending.
     pub fn candidates(&self, name: LevelName, kind: usize, gcp: u8) -> &[usize]
         ensures { result.now ≡ numbers_of kind gcp (level_rows name self.now).info }
     {
         self.table(name).info.numbers(kind, gcp)
     }
 
-    /// A level with what is said of its options.
+    /// Returns a level with the facts of its options.
     fn table(&self, name: LevelName) -> &LevelTable
         ensures { result.now ≡ level_rows name self.now }
     {

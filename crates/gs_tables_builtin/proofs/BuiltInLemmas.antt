@@ -10,7 +10,7 @@ use Rattle.gs_tables_builtin.specs.BuiltInSupport.{rests_fit}
 use Rattle.gs_tables_document.specs.Items.{FieldItem}
 use Rattle.gs_grammar.specs.declared.item.Item.{Item}
 
--- the next bit behind those that are there
+-- the next bit after the earlier ones
 pub bits_more : (xs ys : List ℕ) (b left number : ℕ) → 0 < left → b ≡ bit_at number (left - 1) → ys ≡ xs ++ b ∷ [] → ys ++ bits_of (left - 1) number ≡ xs ++ bits_of left number
 unfolding bits_of
 bits_more xs ys b zero number h e f = absurd (omega arith)
@@ -19,11 +19,11 @@ bits_more xs ys b (suc n) number h e f =
     let first : b ≡ bit_at number n = e ∙ (rw less refl) in
     rw less (rw f (rw append_assoc (rw first refl)))
 
--- one behind those that are there, and others behind it
+-- one more item after the earlier ones, and others after it
 pub one_more : {X : Type 0} (old mid new : List X) (x : X) (xs : List X) → mid ≡ old ++ x ∷ [] → new ≡ mid ++ xs → new ≡ old ++ x ∷ xs
 one_more old mid new x xs gained e = rw gained at e ∙ append_assoc old (x ∷ []) xs
 
--- what follows the prefix, behind those that are there
+-- the items after the company prefix, after the earlier ones
 pub same_behind : (old new : List (Option FieldItem)) (rest rest' : FieldItem) (pieces : List FieldItem) (serial serial' : Option Item) → rest ≡ rest' → serial ≡ serial' → new ≡ old ++ map there (behind_prefix rest pieces serial) → new ≡ old ++ map there (behind_prefix rest' pieces serial')
 same_behind old new rest rest' pieces serial serial' r s h = rw (r, s) at h
 

@@ -55,7 +55,7 @@ partitions = partition 12 0 40 ∷ partition 11 1 37 ∷ partition 10 2 34 ∷ p
 abbrev pub encoding : List ℕ → List ℕ → ℕ → ℕ → RestForm → Option Item → Option Item → Encoding
 encoding name kind header width rest serial after = record { name = name; kind = kind; header = header; width = width; rest = rest; serial = serial; after = after }
 
--- trusted, own: a literal of zeros, so many
+-- trusted, own: a literal of zeros, that many
 abbrev pub zeros : ℕ → Item
 zeros n = Lit (replicate n 0)
 
@@ -96,22 +96,22 @@ encodings = item_encodings ++ asset_encodings ++ document_encodings ++ further_e
 
 -- ---- options
 
--- trusted, own: an item that is there
+-- trusted, own: an item that is not absent
 abbrev pub there : FieldItem → Option FieldItem
 there i = Some i
 
--- trusted, own: the item of a field, where there is one
+-- trusted, own: the item of a field, if there is one
 abbrev pub of_field : Option Field → Option Item → List FieldItem
 of_field field item = map (λ (i : Item). (field, i)) (option_to_list item)
 
--- trusted, own: the rest beside a prefix of n digits, in so many bits
+-- trusted, own: the reference for a company prefix of n digits, in that many bits
 abbrev pub rest_in_bits : RestForm → ℕ → ℕ → FieldItem
 rest_in_bits (Digits d) n bits = if d - n == 0 then (None, zeros bits) else (Some Rest, NumPad bits (d - n))
 rest_in_bits (InPieces d) n bits = if d - n == 0 then (None, zeros bits) else (Some Rest, NumPad bits (d - n))
 rest_in_bits Number n bits = (Some Rest, Num bits (2 ^ bits - 1))
 rest_in_bits Characters n bits = (Some Rest, Ascii7 1 (30 - n) bits)
 
--- trusted, TDS 2.0, section 14.6: the piece and the total behind the rest, where there are, in 7 bits each
+-- trusted, TDS 2.0, section 14.6: the piece and the total after the reference, if the kind has them, in 7 bits each
 abbrev pub pieces_in_bits : RestForm → List FieldItem
 pieces_in_bits (Digits _) = []
 pieces_in_bits (InPieces _) = (Some Piece, NumPad 7 2) ∷ (Some Total, NumPad 7 2) ∷ []
@@ -138,15 +138,15 @@ in_text other = other
 abbrev pub dotted : Field → Item → List FieldItem
 dotted field i = (None, Lit (codes ".")) ∷ (Some field, i) ∷ []
 
--- trusted, own: the piece and the total behind the rest of a text, where there are, of two digits each
+-- trusted, own: the piece and the total after the reference of a text, if the kind has them, of two digits each
 abbrev pub pieces_in_text : RestForm → List FieldItem
 pieces_in_text (Digits _) = []
 pieces_in_text (InPieces _) = dotted Piece (Pad 2) ++ dotted Total (Pad 2)
 pieces_in_text Number = []
 pieces_in_text Characters = []
 
--- trusted, own: what follows the prefix: the rest, the piece and the total, and the serial, each behind a dot, where a rest
--- of no digits, which no key in pieces has, leaves two dots
+-- trusted, own: the items after the company prefix: the reference, the piece and the total, and the serial, each after a dot. A
+-- reference of no digits, which no key with pieces has, leaves two dots
 abbrev pub behind_prefix : FieldItem → List FieldItem → Option Item → List FieldItem
 behind_prefix (None, _) pieces serial = (None, Lit (codes "..")) ∷ of_field (Some Serial) serial
 behind_prefix (Some field, rest) pieces serial = dotted Rest rest ++ pieces ++ flat_map (dotted Serial) (option_to_list serial)
@@ -155,7 +155,7 @@ behind_prefix (Some field, rest) pieces serial = dotted Rest rest ++ pieces ++ f
 abbrev pub in_text_too : FieldItem → FieldItem
 in_text_too i = (i.0, in_text i.1)
 
--- trusted, TDS 2.0, sections 12 and 6.3: `urn:epc:tag:ENCODING:`, filter, prefix, and what follows it
+-- trusted, TDS 2.0, sections 12 and 6.3: `urn:epc:tag:ENCODING:`, filter value, company prefix, and the items after it
 abbrev pub tag_items : Encoding → Partition → List FieldItem
 tag_items e p =
     (None, Lit (codes "urn:epc:tag:" ++ e.name ++ codes ":")) ∷ (Some Filter, Int 7) ∷ (None, Lit (codes ".")) ∷ (Some Gcp, Pad p.digits)
@@ -179,7 +179,7 @@ identities =
     ∷ identity (codes "itip") (InPieces 13) (Some (Esc 1 20))
     ∷ identity (codes "gsrnp") (Digits 17) None ∷ []
 
--- trusted, TDS 2.0, sections 12 and 6.3: `urn:epc:id:KIND:`, prefix, and what follows it
+-- trusted, TDS 2.0, sections 12 and 6.3: `urn:epc:id:KIND:`, company prefix, and the items after it
 abbrev pub pure_items : Identity → Partition → List FieldItem
 pure_items k p =
     (None, Lit (codes "urn:epc:id:" ++ k.name ++ codes ":")) ∷ (Some Gcp, Pad p.digits)

@@ -10,7 +10,7 @@ use Rattle.gs_ai.specs.declared.row.AiRow.{AiRow}
 abbrev pub attribute : List ℕ → Part → AiRow
 attribute code p = record { code = code; parts = p ∷ []; role = role.Attribute; qualifiers = []; short = false; none = [] }
 
--- trusted, own: a row of a qualifier with one part, and the text that stands for none
+-- trusted, own: a row of a key qualifier with one part and the text that means none
 abbrev pub qualifier : List ℕ → Part → List ℕ → AiRow
 qualifier code p none = record { code = code; parts = p ∷ []; role = role.Qualifier; qualifiers = []; short = false; none = none }
 

@@ -1,4 +1,4 @@
--- What proofs and private functions say beside the definitions of BuiltInAis.antt.
+-- Definitions for proofs and private functions, in addition to BuiltInAis.antt.
 use Rattle.std.specs.Prelude.{ℕ, Bool, List, ◌++◌, map}
 use Rattle.std.specs.Borrow.{Bor}
 use Rattle.gs_tables_builtin.specs.declared.ai_line.AiLine.{AiLine}
@@ -23,10 +23,10 @@ row_of (line.Attribute code p) = attribute code.now p
 row_of (line.Qualifier code p none) = qualifier code.now p none.now
 row_of (line.Key code parts qualifiers short) = key code.now parts.now (map known qualifiers.now) short
 
--- the rows of goods: what and how many they are, their dates and weights
+-- the rows of goods: what and their number, their dates and weights
 abbrev pub goods_ais : List AiRow
 goods_ais = item_ais ++ date_ais ++ variant_ais ++ additional_ais ++ weight_ais
 
--- the other rows: where goods go and come from, assets and services, and what is agreed
+-- the other rows: origins and destinations of goods, assets and services, and mutual agreements
 abbrev pub other_ais : List AiRow
 other_ais = shipment_ais ++ party_ais ++ location_ais ++ asset_ais ++ agreed_ais ++ company_ais

@@ -1,4 +1,4 @@
--- What proofs and private functions say beside the definitions of BuiltIn.antt.
+-- Definitions for proofs and private functions, in addition to BuiltIn.antt.
 use Rattle.std.specs.Prelude.{◌≡◌, ℕ, ◌-◌, nat_le, Bool, true, false, List, [], ◌∷◌, ◌++◌, codes, Option, Some, None, option_map}
 use Rattle.std.specs.Borrow.{Bor}
 use Rattle.std.specs.List.{flat_map, list_all}
@@ -27,7 +27,7 @@ use Rattle.gs_tables_builtin.specs.BuiltIn.{kind, builtin_kinds, partition, part
 abbrev pub Gains : {X : Type 0} → List X → List X → X → Type 0
 Gains old new row = new ≡ old ++ row ∷ []
 
--- the further fields of a kind, where it is in pieces
+-- the further fields of a kind: the piece and the total if it has pieces
 abbrev pub fields_known : Bool → List (List ℕ)
 fields_known false = []
 fields_known true = codes "piece" ∷ codes "total" ∷ []
@@ -36,7 +36,7 @@ fields_known true = codes "piece" ∷ codes "total" ∷ []
 abbrev pub kind_known : Bor (List ℕ) × Bor (List ℕ) × ℕ × Bor (List ℕ) × Bool → KindRow
 kind_known line = kind line.0.now line.1.now line.2 line.3.now (fields_known line.4)
 
--- the item that a line of the code describes, where there is one
+-- the item that a line of the code describes, if there is one
 abbrev pub item_known : ItemLine → Option Item
 item_known item_line.Nothing = None
 item_known (item_line.Number bits most) = Some (Num bits most)
@@ -63,17 +63,17 @@ abbrev pub tag_head : List ℕ → ℕ → List FieldItem
 tag_head name digits =
     (None, Lit (codes "urn:epc:tag:" ++ name ++ codes ":")) ∷ (Some Filter, Int 7) ∷ (None, Lit (codes ".")) ∷ (Some Gcp, Pad digits) ∷ []
 
--- what follows the prefix of a tag URI
+-- the items of a tag URI after the company prefix
 abbrev pub tag_tail : Encoding → Partition → List FieldItem
 tag_tail e p = behind_prefix (in_text_too (rest_in_bits e.rest p.digits (e.width - p.bits))) (pieces_in_text e.rest) (option_map in_text e.serial)
 
--- the serial that a line of the code describes, where there is one
+-- the serial that a line of the code describes, if there is one
 abbrev pub serial_known : SerialLine → Option Item
 serial_known serial_line.Nothing = None
 serial_known (serial_line.Characters hi) = Some (Esc 1 hi)
 serial_known (serial_line.Digits hi) = Some (DigitsItem 1 hi)
 
--- the pure identity with this serial, where it has one
+-- the pure identity with this serial, if it has one
 abbrev pub identity_with : List ℕ → RestForm → SerialLine → Identity
 identity_with name rest serial = identity name rest (serial_known serial)
 

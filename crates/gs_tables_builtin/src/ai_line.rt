@@ -5,7 +5,7 @@ use gs_ai::Part;
 pub(crate) enum AiLine<'a> {
     /// An attribute: its code and its part.
     Attribute(&'a [u8], Part),
-    /// A qualifier: its code, its part, and the value that stands for none.
+    /// A key qualifier: its AI, its part, and the value that means none.
     Qualifier(&'a [u8], Part, &'a [u8]),
     /// A key: its code, its parts, the codes of its qualifiers, and whether a link may have it with fewer digits.
     Key(&'a [u8], &'a [Part], &'a [&'a [u8]], bool),

@@ -9,7 +9,7 @@ use gs_ai::{AiRow, Part, Role};
 use gs_chars::{List, Memory, Text};
 use std::alloc::Global;
 
-/// The list of these codes.
+/// Returns the list of these codes.
 fn list_of(alloc: Global, codes: &[&[u8]]) -> Result<List<Text>, Memory>
     ensures { IfOk result (λ list. list ≡ map known codes.now) }
 {
@@ -20,7 +20,7 @@ fn list_of(alloc: Global, codes: &[&[u8]]) -> Result<List<Text>, Memory>
     Ok(List::from_vec(list))
 }
 
-/// The row of these parts.
+/// Returns the row of these parts.
 fn make_row(
     alloc: Global,
     code: &[u8],
@@ -43,7 +43,7 @@ fn make_row(
     })
 }
 
-/// The row that a line describes.
+/// Returns the row that a line describes.
 fn row_of(alloc: Global, line: &AiLine<'_>) -> Result<AiRow, Memory>
     ensures { IfOk result (λ row. row ≡ row_of line.now) }
 {
@@ -239,7 +239,7 @@ fn add_assets(alloc: Global, rows: &mut Vec<AiRow>) -> Result<(), Memory>
     )
 }
 
-/// What partners agree on, and the first that companies use for themselves.
+/// Appends the rows that trading partners agree on, and the first company internal ones.
 #[tactic(auto, unfolding(crate::specs::BuiltInAis::agreed_ais))]
 fn add_agreed(alloc: Global, rows: &mut Vec<AiRow>) -> Result<(), Memory>
     ensures { OnOk result (rows.new.items ≡ rows.old.items ++ agreed_ais) }
@@ -257,7 +257,7 @@ fn add_agreed(alloc: Global, rows: &mut Vec<AiRow>) -> Result<(), Memory>
     )
 }
 
-/// What companies use for themselves.
+/// Appends the company internal rows.
 #[tactic(auto, unfolding(crate::specs::BuiltInAis::company_ais))]
 fn add_company(alloc: Global, rows: &mut Vec<AiRow>) -> Result<(), Memory>
     ensures { OnOk result (rows.new.items ≡ rows.old.items ++ company_ais) }
@@ -275,7 +275,7 @@ fn add_company(alloc: Global, rows: &mut Vec<AiRow>) -> Result<(), Memory>
     )
 }
 
-/// Appends the application identifiers of goods: what and how many they are, their dates and weights.
+/// Appends the application identifiers of goods: what and their number, their dates and weights.
 fn add_goods(alloc: Global, rows: &mut Vec<AiRow>) -> Result<(), Memory>
     ensures { OnOk result (rows.new.items ≡ rows.old.items ++ goods_ais) }
 {
@@ -286,7 +286,7 @@ fn add_goods(alloc: Global, rows: &mut Vec<AiRow>) -> Result<(), Memory>
     add_weights(alloc, rows)
 }
 
-/// Appends the other ones: where goods go and come from, assets and services, and what is agreed.
+/// Appends the other rows: origins and destinations of goods, assets and services, and mutual agreements.
 fn add_others(alloc: Global, rows: &mut Vec<AiRow>) -> Result<(), Memory>
     ensures { OnOk result (rows.new.items ≡ rows.old.items ++ other_ais) }
 {
@@ -307,8 +307,8 @@ fn add_all(alloc: Global, rows: &mut Vec<AiRow>) -> Result<(), Memory>
     add_others(alloc, rows)
 }
 
-/// The rows of the built-in application identifiers, in the order of tables/builtin.txt, or out of memory. They are those of GS1
-/// General Specifications, section 3, that are met most.
+/// Returns the rows of the built-in application identifiers, in the order of tables/builtin.txt, or out of memory. They are those
+/// of GS1 General Specifications, section 3, that are met most.
 pub fn builtin_ais(alloc: Global) -> Result<List<AiRow>, Memory>
     ensures { IfOk result (λ rows. rows ≡ builtin_ais) }
 {

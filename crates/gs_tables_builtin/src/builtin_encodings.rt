@@ -27,7 +27,7 @@ pub(crate) const PARTITIONS: [Partition; 7] = partitions! {
     6 6 20;
 };
 
-/// A literal of zeros, so many.
+/// Returns a literal of zeros, that many.
 pub(crate) fn zeros(alloc: Global, n: u8) -> Result<Item, Memory>
     ensures { IfOk result (λ item. item ≡ zeros n) }
 {
@@ -35,7 +35,7 @@ pub(crate) fn zeros(alloc: Global, n: u8) -> Result<Item, Memory>
     Ok(Item::Lit(Text::from_vec(bits)))
 }
 
-/// The item that a line describes, where there is one.
+/// Returns the item that a line describes, if there is one.
 fn item_of(alloc: Global, line: ItemLine) -> Result<Option<Item>, Memory>
     ensures { IfOk result (λ item. item ≡ item_known line) }
 {
@@ -49,7 +49,7 @@ fn item_of(alloc: Global, line: ItemLine) -> Result<Option<Item>, Memory>
     }
 }
 
-/// The encoding that a line describes.
+/// Returns the encoding that a line describes.
 fn encoding_of(alloc: Global, line: &EncodingLine<'_>) -> Result<Encoding, Memory>
     ensures { IfOk result (λ row. row ≡ encoding_known line.now) }
 {
@@ -93,7 +93,7 @@ macro_rules! lines {
     };
 }
 
-/// The encodings of trade items, logistic units and locations.
+/// Appends the encodings of trade items, logistic units and locations.
 #[tactic(auto, unfolding(crate::specs::BuiltIn::item_encodings))]
 fn add_item_encodings(alloc: Global, rows: &mut Vec<Encoding>) -> Result<(), Memory>
     ensures { OnOk result (rows.new.items ≡ rows.old.items ++ item_encodings) }
@@ -111,7 +111,7 @@ fn add_item_encodings(alloc: Global, rows: &mut Vec<Encoding>) -> Result<(), Mem
     )
 }
 
-/// The encodings of assets.
+/// Appends the encodings of assets.
 #[tactic(auto, unfolding(crate::specs::BuiltIn::asset_encodings))]
 fn add_asset_encodings(alloc: Global, rows: &mut Vec<Encoding>) -> Result<(), Memory>
     ensures { OnOk result (rows.new.items ≡ rows.old.items ++ asset_encodings) }
@@ -128,7 +128,7 @@ fn add_asset_encodings(alloc: Global, rows: &mut Vec<Encoding>) -> Result<(), Me
     )
 }
 
-/// The encodings of documents and services.
+/// Appends the encodings of documents and services.
 #[tactic(auto, unfolding(crate::specs::BuiltIn::document_encodings))]
 fn add_document_encodings(alloc: Global, rows: &mut Vec<Encoding>) -> Result<(), Memory>
     ensures { OnOk result (rows.new.items ≡ rows.old.items ++ document_encodings) }
@@ -144,7 +144,7 @@ fn add_document_encodings(alloc: Global, rows: &mut Vec<Encoding>) -> Result<(),
     )
 }
 
-/// The encodings of coupons, pieces of trade items and service providers.
+/// Appends the encodings of coupons, pieces of trade items and service providers.
 #[tactic(auto, unfolding(crate::specs::BuiltIn::further_encodings))]
 fn add_further_encodings(alloc: Global, rows: &mut Vec<Encoding>) -> Result<(), Memory>
     ensures { OnOk result (rows.new.items ≡ rows.old.items ++ further_encodings) }
@@ -171,7 +171,7 @@ fn add_encodings(alloc: Global, rows: &mut Vec<Encoding>) -> Result<(), Memory>
     add_further_encodings(alloc, rows)
 }
 
-/// The encodings, in their order.
+/// Returns the encodings, in their order.
 pub(crate) fn encodings(alloc: Global) -> Result<List<Encoding>, Memory>
     ensures { IfOk result (λ rows. rows ≡ encodings) }
 {
@@ -180,7 +180,7 @@ pub(crate) fn encodings(alloc: Global) -> Result<List<Encoding>, Memory>
     Ok(List::from_vec(rows))
 }
 
-/// The serial that a line describes, where there is one.
+/// Returns the serial that a line describes, if there is one.
 fn serial_of(line: SerialLine) -> Option<Item>
     ensures { result ≡ serial_known line }
 {
@@ -191,7 +191,7 @@ fn serial_of(line: SerialLine) -> Option<Item>
     }
 }
 
-/// The pure identity of a kind, with the serial that a line describes.
+/// Returns the pure identity of a kind, with the serial that a line describes.
 fn identity_of(
     alloc: Global,
     name: &[u8],
@@ -205,7 +205,7 @@ fn identity_of(
     Ok(Identity { name, rest, serial })
 }
 
-/// The pure identities of these lines: the name of each, the rest, and the serial, where there is one.
+/// Returns the pure identities of these lines: the name of each, the reference, and the serial, if there is one.
 fn identities_of(
     alloc: Global,
     lines: &[(&[u8], RestForm, SerialLine)],
@@ -219,7 +219,7 @@ fn identities_of(
     Ok(List::from_vec(rows))
 }
 
-/// The pure identities of the kinds, in their order.
+/// Returns the pure identities of the kinds, in their order.
 #[tactic(auto, unfolding(crate::specs::BuiltIn::identities))]
 pub(crate) fn identities(alloc: Global) -> Result<List<Identity>, Memory>
     ensures { IfOk result (λ rows. rows ≡ identities) }

@@ -24,7 +24,7 @@ fn push_item(
     Ok(())
 }
 
-/// Appends a literal of the lowest bits of a number, so many, the highest first.
+/// Appends a literal of the lowest bits of a number, that many, the highest first.
 #[tactic(auto, unfolding(gs_bits::specs::Bits::bits_of))]
 fn add_bits(
     alloc: Global,
@@ -77,7 +77,7 @@ fn add_beginning(
     push_item(items, None, Item::Lit(Text::from_vec(text)))
 }
 
-/// The greatest number of so many bits.
+/// Returns the greatest number of that many bits.
 fn greatest_of(bits: u8) -> u64
     requires { bits ≤ 64 }
     ensures { result ≡ 2 ^ bits - 1 }
@@ -89,7 +89,7 @@ fn greatest_of(bits: u8) -> u64
     }
 }
 
-/// The rest beside a prefix of so many digits, in so many bits.
+/// Returns the reference for a company prefix of `digits` digits, in `bits` bits.
 fn rest_in_bits(alloc: Global, rest: RestForm, digits: u8, bits: u8) -> Result<FieldItem, Memory>
     requires { IsTrue (rest_fits rest bits) }
     ensures { IfOk result (λ item. item ≡ rest_in_bits rest digits bits) }
@@ -115,7 +115,7 @@ fn rest_in_bits(alloc: Global, rest: RestForm, digits: u8, bits: u8) -> Result<F
     }
 }
 
-/// The item of a text level for one of a bit level.
+/// Returns the item of a text level for one of a bit level.
 fn in_text(item: Item) -> Item
     ensures { result ≡ in_text item }
 {
@@ -128,7 +128,7 @@ fn in_text(item: Item) -> Item
     }
 }
 
-/// A copy of the item.
+/// Returns a copy of the item.
 fn copy_of(alloc: Global, item: &Item) -> Result<Item, Memory>
     ensures { IfOk result (λ copy. copy ≡ item.now) }
 {
@@ -156,7 +156,7 @@ fn copy_of(alloc: Global, item: &Item) -> Result<Item, Memory>
     })
 }
 
-/// A copy of the item that there may be.
+/// Returns a copy of the item that there may be.
 fn copy_of_some(alloc: Global, item: &Option<Item>) -> Result<Option<Item>, Memory>
     ensures { IfOk result (λ copy. copy ≡ item.now) }
 {
@@ -166,7 +166,7 @@ fn copy_of_some(alloc: Global, item: &Option<Item>) -> Result<Option<Item>, Memo
     }
 }
 
-/// Appends an item, where there is one.
+/// Appends an item, if there is one.
 fn add(
     items: &mut Vec<Option<FieldItem>>,
     field: Option<Field>,
@@ -193,7 +193,7 @@ fn add_dotted(
     push_item(items, Some(field), item)
 }
 
-/// Appends the item of the serial behind a dot, where there is one.
+/// Appends the item of the serial after a dot, if there is one.
 fn add_serial(
     alloc: Global,
     items: &mut Vec<Option<FieldItem>>,
@@ -208,7 +208,7 @@ fn add_serial(
     }
 }
 
-/// Appends the piece and the total behind the rest, where there are, on the bit level.
+/// Appends the piece and the total after the reference on the bit level, if the kind has them.
 fn add_pieces_in_bits(items: &mut Vec<Option<FieldItem>>, rest: RestForm) -> Result<(), Memory>
     ensures { OnOk result (items.new.items ≡ items.old.items ++ map there (pieces_in_bits rest)) }
 {
@@ -221,7 +221,7 @@ fn add_pieces_in_bits(items: &mut Vec<Option<FieldItem>>, rest: RestForm) -> Res
     }
 }
 
-/// Appends the piece and the total behind the rest of a text, where there are.
+/// Appends the piece and the total after the reference of a text, if the kind has them.
 fn add_pieces_in_text(
     alloc: Global,
     items: &mut Vec<Option<FieldItem>>,
@@ -238,7 +238,7 @@ fn add_pieces_in_text(
     }
 }
 
-/// Appends what follows the prefix in a text, where the rest has no digits.
+/// Appends the items after the company prefix of a text if the reference has no digits.
 fn add_behind_dots(
     alloc: Global,
     items: &mut Vec<Option<FieldItem>>,
@@ -251,7 +251,7 @@ fn add_behind_dots(
     add(items, Some(Field::Serial), serial)
 }
 
-/// Appends what follows the prefix in a text.
+/// Appends the items after the company prefix of a text.
 fn add_behind_prefix(
     alloc: Global,
     items: &mut Vec<Option<FieldItem>>,
@@ -271,7 +271,7 @@ fn add_behind_prefix(
     }
 }
 
-/// The rest of a text beside a prefix of so many digits, where on the bit level it has so many bits.
+/// Returns the reference of a text for a company prefix of `digits` digits, which has `bits` bits on the bit level.
 fn rest_in_text(alloc: Global, rest: RestForm, digits: u8, bits: u8) -> Result<FieldItem, Memory>
     requires { IsTrue (rest_fits rest bits) }
     ensures { IfOk result (λ item. item ≡ in_text_too (rest_in_bits rest digits bits)) }
@@ -299,7 +299,7 @@ fn add_binary_head(
     push_item(items, Some(Field::Gcp), prefix)
 }
 
-/// Appends the items of an encoding on the bit level behind the prefix.
+/// Appends the items of an encoding on the bit level after the prefix.
 fn add_binary_tail(
     alloc: Global,
     items: &mut Vec<Option<FieldItem>>,
@@ -320,7 +320,7 @@ fn add_binary_tail(
     add(items, None, after)
 }
 
-/// The items of an encoding on the bit level.
+/// Returns the items of an encoding on the bit level.
 pub(crate) fn binary_items(
     alloc: Global,
     encoding: &Encoding,
@@ -350,7 +350,7 @@ fn add_tag_head(
     push_item(items, Some(Field::Gcp), Item::Pad { n })
 }
 
-/// Appends the items of an encoding as a tag URI behind the prefix.
+/// Appends the items of an encoding as a tag URI after the prefix.
 fn add_tag_tail(
     alloc: Global,
     items: &mut Vec<Option<FieldItem>>,
@@ -366,7 +366,7 @@ fn add_tag_tail(
     add_behind_prefix(alloc, items, rest, encoding.rest, serial)
 }
 
-/// The items of an encoding as a tag URI.
+/// Returns the items of an encoding as a tag URI.
 pub(crate) fn tag_items(
     alloc: Global,
     encoding: &Encoding,
@@ -399,7 +399,7 @@ fn add_pure(
     add_behind_prefix(alloc, items, rest, identity.rest, serial)
 }
 
-/// The items of a kind as a pure identity URI.
+/// Returns the items of a kind as a pure identity URI.
 pub(crate) fn pure_items(
     alloc: Global,
     identity: &Identity,

@@ -6,7 +6,7 @@ use gs_chars::{List, Memory, Text};
 use gs_tables_document::KindRow;
 use std::alloc::Global;
 
-/// The names of the further fields of a kind: the piece and the total where it is in pieces, and else none.
+/// Returns the names of the further fields of a kind: the piece and the total if it has pieces, and otherwise none.
 fn fields_of(alloc: Global, in_pieces: bool) -> Result<List<Text>, Memory>
     ensures { IfOk result (λ fields. fields ≡ fields_known in_pieces) }
 {
@@ -19,7 +19,8 @@ fn fields_of(alloc: Global, in_pieces: bool) -> Result<List<Text>, Memory>
     Ok(List::from_vec(fields))
 }
 
-/// A kind: its name, the code of its key, the digits before the prefix, where the serial stands, and whether it is in pieces.
+/// Returns a kind: its name, the AI of its key, the digits before the company prefix, the place of the serial, and whether it has
+/// pieces.
 fn kind_of(
     alloc: Global,
     name: &[u8],
@@ -40,7 +41,7 @@ fn kind_of(
     })
 }
 
-/// The kinds of these lines.
+/// Returns the kinds of these lines.
 fn kinds_of(
     alloc: Global,
     lines: &[(&[u8], &[u8], u64, &[u8], bool)],
@@ -54,7 +55,7 @@ fn kinds_of(
     Ok(List::from_vec(rows))
 }
 
-/// The built-in kinds.
+/// Returns the built-in kinds.
 #[tactic(auto, unfolding(crate::specs::BuiltIn::builtin_kinds))]
 pub(crate) fn builtin_kinds(alloc: Global) -> Result<List<KindRow>, Memory>
     ensures { IfOk result (λ rows. rows ≡ builtin_kinds) }

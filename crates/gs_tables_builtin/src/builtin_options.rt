@@ -54,7 +54,7 @@ fn push_named(
     )
 }
 
-/// The items of an option of an encoding for a length of the prefix, of tag bits or of tag URIs.
+/// Returns the items of an option of an encoding for a length of the prefix, of tag bits or of tag URIs.
 fn encoded_items(
     alloc: Global,
     bits: bool,
@@ -125,7 +125,7 @@ fn add_pure(alloc: Global, rows: &mut Vec<OptionRow>, identity: &Identity) -> Re
     Ok(())
 }
 
-/// The options of the encodings, of tag bits or of tag URIs.
+/// Returns the options of the encodings, of tag bits or of tag URIs.
 pub(crate) fn encoded_options(
     alloc: Global,
     bits: bool,
@@ -141,7 +141,7 @@ pub(crate) fn encoded_options(
     Ok(List::from_vec(rows))
 }
 
-/// The pure options of the kinds.
+/// Returns the pure options of the kinds.
 pub(crate) fn pure_options(
     alloc: Global,
     identities: &[Identity],

@@ -12,7 +12,7 @@ use gs_chars::{List, Memory};
 use gs_tables_document::{Document, OptionRow};
 use std::alloc::Global;
 
-/// The options of these encodings and identities: binary, tag, pure.
+/// Returns the options of these encodings and identities: binary, tag, pure.
 fn options_of(
     alloc: Global,
     encodings: &[Encoding],
@@ -27,7 +27,7 @@ fn options_of(
     Ok((binary, tag, pure))
 }
 
-/// The document of the application identifiers, the kinds, and the options of these encodings and identities.
+/// Returns the document of the application identifiers, the kinds, and the options of these encodings and identities.
 fn document_of(
     alloc: Global,
     encodings: &[Encoding],
@@ -49,8 +49,8 @@ fn document_of(
     })
 }
 
-/// The built-in rows: the application identifiers, ten kinds of key, and for each encoding and each length of the company
-/// prefix from 12 to 6 its binary and its tag option, and for each kind its pure option.
+/// Returns the built-in rows: the application identifiers, ten kinds of key, the binary and the tag option of each encoding for
+/// each company prefix length from 12 to 6, and the pure option of each kind.
 #[tactic(auto, using(crate::proofs::BuiltInLemmas::rests_of_encodings_fit), unfolding(crate::specs::BuiltIn::builtin_binary, crate::specs::BuiltIn::builtin_tag, crate::specs::BuiltIn::builtin_pure))]
 pub fn builtin_document(alloc: Global) -> Result<Document, Memory>
     ensures { IfOk result (λ document. document ≡ builtin_document) }

@@ -5,15 +5,15 @@ use crate::encoding::RestForm;
 pub(crate) enum ItemLine {
     /// No item.
     Nothing,
-    /// A number in so many bits, and the greatest.
+    /// A number in that many bits, and the greatest.
     Number(u8, u64),
-    /// Digits in so many bits, at least one and at most so many.
+    /// Digits in that many bits, at least one and at most that many.
     Count(u8, u8),
-    /// At least one character, at most so many, in so many bits.
+    /// At least one character, at most that many, in that many bits.
     Characters(u8, u16),
-    /// So many zeros, or so many.
+    /// That many zeros, or that many.
     Fill(u8, u8),
-    /// So many zeros.
+    /// That many zeros.
     Zeros(u8),
 }
 
@@ -22,9 +22,9 @@ pub(crate) enum ItemLine {
 pub(crate) enum SerialLine {
     /// No serial.
     Nothing,
-    /// At least one character, at most so many.
+    /// At least one character, at most that many.
     Characters(u8),
-    /// At least one digit, at most so many.
+    /// At least one digit, at most that many.
     Digits(u8),
 }
 

@@ -13,9 +13,9 @@
 //! 57 10 105 105 70
 //! ```
 //!
-//! # Where it differs from the standard
+//! # Differences from the standard
 //!
-//! - Of GS1 EPC Tag Data Standard 2.0 it has the encodings of ten kinds for company prefixes of 6 to 12 digits, and none of
+//! - It has the encodings of ten kinds of GS1 EPC Tag Data Standard 2.0, for company prefixes of 6 to 12 digits, and none of
 //!   those that carry a whole element string.
 //! - Of the GS1 General Specifications it has the application identifiers that are met most; tables/gs1.json has more.
 #![tactic(auto)]

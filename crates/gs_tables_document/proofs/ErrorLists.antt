@@ -18,7 +18,7 @@ take_all [] (suc i) h = refl
 take_all (x ∷ xs) zero h = absurd (omega arith)
 take_all (x ∷ xs) (suc i) h = ap (λ ys. x ∷ ys) (take_all xs i (omega arith))
 
--- the first rejection, found at a row behind rows without one
+-- the first rejection, found at a row after rows without one
 pub first_row : {X E : Type 0} (f : ℕ × X → List E) (rows : List X) (i : ℕ) (row : X) (e : E) → i < length rows → row ≡ get_or rows i row → flat_map f (enumerate_from 0 (take i rows)) ≡ [] → slice_get (f (i, row)) 0 ≡ Some e → slice_get (flat_map f (enumerate_from 0 rows)) 0 ≡ Some e
 first_row f rows i row e low read none h =
     let at = read_at rows i row low read in
@@ -56,7 +56,7 @@ same_first : (a b : List JsonFault) (error : JsonFault) → ((e : JsonFault) →
 same_first a b error same (inl h) = inl (let e : error ≡ Memory = cc in ap Err e)
 same_first a b error same (inr h) = inr (error_first b error (same error (error_at a error h)))
 
--- the first error of a document's lists, of which one stands before the other
+-- the first error of two of a document's lists, one before the other
 pub form_first : (a b : List JsonFault) (error : JsonFault) → OrMemory (Err error) (first_error a) → OrMemory (Err error) (first_error (a ++ b))
 form_first a b error h = same_first a (a ++ b) error (first_of_front a b) h
 
@@ -65,7 +65,7 @@ form_rest a b answer ok h = rw (no_errors a ok) h
 
 -- ---- the first error of rows
 
--- a row with an error, behind rows without one
+-- a row with an error, after rows without one
 pub form_row : {X : Type 0} (f : ℕ × X → List JsonFault) (rows : List X) (i : ℕ) (row : X) (error : JsonFault) → slice_get rows i ≡ Some row → flat_map f (enumerate_from 0 (take i rows)) ≡ [] → OrMemory (Err error) (first_error (f (i, row))) → OrMemory (Err error) (first_error (flat_map f (enumerate_from 0 rows)))
 form_row f rows i row error at none h =
     let zero_plus : i ≡ 0 + i = omega arith in

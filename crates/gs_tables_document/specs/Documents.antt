@@ -82,20 +82,20 @@ Each Is [] [] = Unit {0}
 Each Is (x ∷ xs) (y ∷ ys) = Is x y × Each Is xs ys
 Each Is _ _ = ⊥
 
--- trusted, own: the text that this is, and the empty one of what is no text
+-- trusted, own: the text of this value, and the empty text if it is not a text
 abbrev pub text_of : Data → List ℕ
 text_of d = unwrap_or (as_str d) []
 
--- trusted, own: the text is the one that stands here
+-- trusted, own: holds if the value is this text
 abbrev pub IsText : Data → List ℕ → Type 0
 IsText d text = text ≡ text_of d
 
--- trusted, own: the part that a text writes, or the other one exactly where it writes none
+-- trusted, own: the part that a text writes, or the other one if and only if it writes none
 pub record IsPart (text : List ℕ) (p : Part) : Type 0 where
   pub written : p ≢ part.Other → (is_part p ≡ true) × (part_text p ≡ text)
   pub other : p ≡ part.Other → (q : Part) → is_part q ≡ true → part_text q ≡ text → ⊥
 
--- trusted, own: the role that a text writes, or the other one exactly where it writes none
+-- trusted, own: the role that a text writes, or the other one if and only if it writes none
 pub record IsRole (text : List ℕ) (r : Role) : Type 0 where
   pub written : r ≢ role.Other → role_text r ≡ text
   pub other : r ≡ role.Other → WritesNoRole text

@@ -1,4 +1,4 @@
--- What proofs and private functions say beside the definitions of Documents.antt.
+-- Definitions for proofs and private functions, in addition to Documents.antt.
 use Rattle.std.specs.Prelude.{ℕ, Bool, List, codes}
 use Rattle.serde_json.specs.Data.{Data}
 use Rattle.gs_json.specs.Members.{items_in}

@@ -13,7 +13,7 @@ use Rattle.gs_tables_document.specs.declared.field.Field.TheVariants.{Filter, Gc
 use Rattle.gs_tables_document.specs.declared.error.ItemFault.{ItemFault}
 use Rattle.gs_tables_document.specs.declared.error.ItemFault.TheVariants.{Bad, Memory}
 
--- ---- what may stand in an item
+-- ---- the parts of an item
 
 -- trusted, own: the field of a name
 abbrev pub field_of : List ℕ → Option Field
@@ -30,7 +30,7 @@ field_of name =
 abbrev pub held : ℕ → ℕ → Option ℕ
 held bits n = if nat_lt n (2 ^ bits) then Some n else None
 
--- trusted, own: bits, as a text of the digits 0 and 1
+-- trusted, own: the bits of a text of the digits 0 and 1
 abbrev pub bits_of : List ℕ → Option (List ℕ)
 bits_of text = if are_bit_digits text then Some (map (λ c. c - 48) text) else None
 
@@ -60,7 +60,7 @@ short_arg i d = option_and_then (held 16) (number_arg i d)
 abbrev pub FieldItem : Type 0
 FieldItem = Option Field × Item
 
--- trusted, own: the items that are there
+-- trusted, own: the items that are not absent
 abbrev pub present : List (Option FieldItem) → List FieldItem
 present entries = flat_map option_to_list entries
 
@@ -80,7 +80,7 @@ sized n d answer = if items_count d == n then answer else None
 abbrev pub with_field : Data → Option Item → Option FieldItem
 with_field d item = option_and_then (λ field. option_map (λ i. (Some field, i)) item) (field_arg 1 d)
 
--- trusted, own: an item whose value stands for no field
+-- trusted, own: an item whose value belongs to no field
 abbrev pub no_field : Option Item → Option FieldItem
 no_field item = option_map (λ i. (None, i)) item
 
@@ -177,7 +177,7 @@ item_in true answer = answer
 item_in false answer =
     option_and_then (λ (i : FieldItem). if is_first_field i.0 && is_first_item i.1 then Some i else None) answer
 
--- trusted, own: the answer is this one, and `Bad` exactly where there is none
+-- trusted, own: the answer is this one, and `Bad` if and only if there is none
 abbrev pub Reads : {X : Type 0} → Result X ItemFault → Option X → Type 0
 Reads (Ok x) answer = answer ≡ Some x
 Reads (Err Bad) answer = answer ≡ None

@@ -1,4 +1,4 @@
--- What proofs and private functions say beside the definitions of Items.antt.
+-- Definitions for proofs and private functions, in addition to Items.antt.
 use Rattle.std.specs.Prelude.{ℕ, ◌+◌, ◌==◌, if◌then◌else◌, List, Option, Some, None, option_map, option_and_then}
 use Rattle.serde_json.specs.Data.{Data}
 use Rattle.gs_json.specs.Answers.{items_count}

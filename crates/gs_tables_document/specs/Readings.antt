@@ -17,7 +17,7 @@ IsJson bytes d = IsUtf8 bytes × (read_text bytes ≡ Some d)
 abbrev pub Holds : List ℕ → Document → Type 0
 Holds bytes document = (d : Data) × IsJson bytes d × (document_errors d ≡ []) × IsDocument d document
 
--- trusted, own: the bytes are no JSON text
+-- trusted, own: the bytes are not JSON text
 abbrev pub IsNoJson : List ℕ → JsonFault → Type 0
 IsNoJson bytes error = (error ≡ Syntax) × (IsUtf8 bytes → read_text bytes ≡ None)
 

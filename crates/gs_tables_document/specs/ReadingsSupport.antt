@@ -1,4 +1,4 @@
--- What proofs and private functions say beside the definitions of Readings.antt.
+-- Definitions for proofs and private functions, in addition to Readings.antt.
 use Rattle.gs_json.specs.declared.error.JsonFault.{JsonFault}
 use Rattle.gs_json.specs.declared.error.JsonFault.TheVariants as json
 use Rattle.gs_tables_document.specs.declared.error.LoadFault.{LoadFault}

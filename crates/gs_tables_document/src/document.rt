@@ -13,9 +13,9 @@ pub struct KindRow {
     pub name: Text,
     /// The code of the key.
     pub key: Text,
-    /// How many digits of the key stand before the prefix and go with the rest.
+    /// How many digits of the key are before the prefix and go with the rest.
     pub lead: u64,
-    /// Where the serial stands: the code of its element, `tail`, or empty for nowhere.
+    /// The place of the serial: the AI of its element, `tail`, or empty for none.
     pub serial: Text,
     /// The names of the further fields, in their order. A document of version 1 has none.
     pub fields: List<Text>,
@@ -30,7 +30,7 @@ pub struct OptionRow {
     pub encoding: Text,
     /// How many digits or characters the GS1 Company Prefix has.
     pub gcp: u64,
-    /// The items, each absent where the document has none of the level there.
+    /// The items. One is absent if the document has an item there that is not of the level.
     pub items: List<Option<FieldItem>>,
 }
 

@@ -3,7 +3,7 @@ use gs_ai::AiFault;
 use gs_chars::{Memory, Text};
 use gs_json::JsonFault;
 
-/// What there may be only so many of.
+/// What there may be only that many of.
 #[derive(Clone, Copy, Debug)]
 pub enum LimitName {
     /// Rows of application identifiers, at most `MOST_ROWS`.
@@ -31,14 +31,14 @@ pub enum LoadFault {
     Ai(AiFault),
     /// The kind at this index breaks a rule.
     BadKind(usize),
-    /// The item at the last index, of the option of the level, is none of the level, or breaks a bound.
+    /// The item at the last index, of the option of the level, is not an item of the level or breaks a bound.
     BadItem(LevelName, usize, usize),
     /// The option of the level does not fit its kind.
     Mismatch(LevelName, usize),
     /// The options of the level at the two indexes have the same kind, encoding and prefix length.
     Duplicate(LevelName, usize, usize),
     /// The options of the level at the two indexes, which may be one option, are the first pair that shares a list of symbols,
-    /// and no earlier level has such a pair. The text shows one that they share, bits as `0` and `1`.
+    /// and no earlier level has such a pair. The text is one that they share, with bits as `0` and `1`.
     Ambiguous {
         /// The level.
         level: LevelName,
@@ -56,7 +56,7 @@ pub enum LoadFault {
 /// Why an item is not read.
 #[derive(Clone, Copy)]
 pub enum ItemFault {
-    /// It is no item of the level.
+    /// It is not an item of the level.
     Bad,
     /// Out of memory.
     Memory,

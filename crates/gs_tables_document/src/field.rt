@@ -8,9 +8,9 @@ pub enum Field {
     Filter,
     /// The GS1 Company Prefix.
     Gcp,
-    /// What follows the prefix in the key.
+    /// The digits or characters of the key after the company prefix.
     Rest,
-    /// The number of the piece, where the key has pieces.
+    /// The number of the piece, if the key has pieces.
     Piece,
     /// How many pieces there are.
     Total,
@@ -19,7 +19,7 @@ pub enum Field {
 }
 
 impl Field {
-    /// The field that is written so.
+    /// Returns the field that is written so.
     pub(crate) fn read(text: &[u8]) -> Option<Field>
         ensures { result ≡ field_of text.now }
     {

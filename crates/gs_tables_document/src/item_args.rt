@@ -12,7 +12,7 @@ use gs_chars::{Memory, Text};
 use serde_json::Value;
 use std::alloc::Global;
 
-/// Whether an array has so many parts.
+/// Returns whether an array has that many parts.
 pub(crate) fn must_have(item: &Value, count: usize) -> Option<()>
     ensures { result ≡ exactly count (items_count (view item.now)) }
 {
@@ -23,7 +23,7 @@ pub(crate) fn must_have(item: &Value, count: usize) -> Option<()>
     }
 }
 
-/// The text at a place of an array.
+/// Returns the text at a place of an array.
 pub(crate) fn text_arg(item: &Value, i: usize) -> Option<&str>
     ensures { option_map (λ text. text.now) result ≡ text_arg i (view item.now) }
 {
@@ -33,7 +33,7 @@ pub(crate) fn text_arg(item: &Value, i: usize) -> Option<&str>
     }
 }
 
-/// The number at a place of an array.
+/// Returns the number at a place of an array.
 pub(crate) fn number_arg(item: &Value, i: usize) -> Option<u64>
     ensures { result ≡ number_arg i (view item.now) }
 {
@@ -43,7 +43,7 @@ pub(crate) fn number_arg(item: &Value, i: usize) -> Option<u64>
     }
 }
 
-/// The number below 256 at a place of an array.
+/// Returns the number below 256 at a place of an array.
 pub(crate) fn byte_arg(item: &Value, i: usize) -> Option<u8>
     ensures { result ≡ byte_arg i (view item.now) }
 {
@@ -53,7 +53,7 @@ pub(crate) fn byte_arg(item: &Value, i: usize) -> Option<u8>
     }
 }
 
-/// The number below 65,536 at a place of an array.
+/// Returns the number below 65,536 at a place of an array.
 pub(crate) fn short_arg(item: &Value, i: usize) -> Option<u16>
     ensures { result ≡ short_arg i (view item.now) }
 {
@@ -63,7 +63,7 @@ pub(crate) fn short_arg(item: &Value, i: usize) -> Option<u16>
     }
 }
 
-/// The numbers below 256 at a place of an array and the next.
+/// Returns the numbers below 256 at a place of an array and the next.
 pub(crate) fn two_bytes(item: &Value, i: usize) -> Option<(u8, u8)>
     requires { i < 4 }
     ensures { result ≡ two_bytes i (view item.now) }
@@ -74,7 +74,7 @@ pub(crate) fn two_bytes(item: &Value, i: usize) -> Option<(u8, u8)>
     }
 }
 
-/// The field that the second part of an array of so many parts names.
+/// Returns the field that the second part of an array of that many parts names.
 pub(crate) fn field_arg(item: &Value, count: usize) -> Option<Field>
     ensures { result ≡ field_of_sized count (view item.now) }
 {
@@ -85,7 +85,7 @@ pub(crate) fn field_arg(item: &Value, count: usize) -> Option<Field>
     }
 }
 
-/// The bits that a text of the digits 0 and 1 writes.
+/// Returns the bits that a text of the digits 0 and 1 writes.
 pub(crate) fn bits_of(alloc: Global, text: &[u8]) -> Result<Text, ItemFault>
     ensures { Reads result (bits_of text.now) }
 {
@@ -98,7 +98,7 @@ pub(crate) fn bits_of(alloc: Global, text: &[u8]) -> Result<Text, ItemFault>
     }
 }
 
-/// The bits of digits 0 and 1.
+/// Returns the bits of digits 0 and 1.
 fn bits_of_digits(alloc: Global, text: &[u8]) -> Result<Vec<u8>, Memory>
     ensures { IfOk result (λ bits. bits.items ≡ map (λ c. c - 48) text.now) }
 {

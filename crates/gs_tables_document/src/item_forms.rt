@@ -13,7 +13,7 @@ use gs_grammar::Item;
 use serde_json::Value;
 use std::alloc::Global;
 
-/// The text of `["lit", TEXT]`.
+/// Returns the text of `["lit", TEXT]`.
 fn literal_text(item: &Value) -> Option<&str>
     ensures { option_map (λ text. text.now) result ≡ literal_text (view item.now) }
 {

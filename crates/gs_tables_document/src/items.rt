@@ -12,16 +12,16 @@ use gs_json::Node;
 use serde_json::Value;
 use std::alloc::Global;
 
-/// An item of an option, and the field that its value stands for, none for a literal and a fill. `Bad` comes exactly where
-/// the part is no array, or has an unknown name or a name of the other kind of level, a wrong number or kind of arguments,
-/// an unknown field, or a number that its place in the item cannot hold.
+/// Returns an item of an option with the field of its value; a literal and a fill have none. Returns `Bad` if and only if the
+/// part is not an array, has an unknown name or one of the other kind of level, a wrong number or kind of arguments, an unknown
+/// field, or a number that its place in the item cannot hold.
 pub fn read_item(alloc: Global, item: &Node<'_>, bit_level: bool) -> Result<FieldItem, ItemFault>
     ensures { Reads result (item_of bit_level (view item.now.tree)) }
 {
     read_value(alloc, item.value(), bit_level)
 }
 
-/// The item that an array is, on a bit level or a text level.
+/// Returns the item that an array is, on a bit level or a text level.
 pub(crate) fn read_value(
     alloc: Global,
     item: &Value,
@@ -36,7 +36,7 @@ pub(crate) fn read_value(
     }
 }
 
-/// The item, which is bad where there is none.
+/// Returns the item, or `Bad` if there is none.
 fn found(item: Option<FieldItem>) -> Result<FieldItem, ItemFault>
     ensures { Reads result item }
 {
@@ -46,7 +46,7 @@ fn found(item: Option<FieldItem>) -> Result<FieldItem, ItemFault>
     }
 }
 
-/// An item of a text level by its name.
+/// Returns an item of a text level by its name.
 fn read_text_item(alloc: Global, item: &Value, name: &[u8]) -> Result<FieldItem, ItemFault>
     ensures { Reads result (text_item name.now (view item.now)) }
 {
@@ -65,7 +65,7 @@ fn read_text_item(alloc: Global, item: &Value, name: &[u8]) -> Result<FieldItem,
     }
 }
 
-/// An item of a bit level by its name.
+/// Returns an item of a bit level by its name.
 fn read_bit_item(alloc: Global, item: &Value, name: &[u8]) -> Result<FieldItem, ItemFault>
     ensures { Reads result (bit_item name.now (view item.now)) }
 {

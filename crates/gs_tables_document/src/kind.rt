@@ -1,13 +1,13 @@
 use gs_chars::{List, Text};
 
-/// Where the serial of a kind of key stands.
+/// The place of the serial of a kind of key.
 #[derive(Drop)]
 pub enum SerialAt {
     /// The kind has none.
     Nowhere,
     /// At the end of the key's own value.
     Tail,
-    /// In an element of its own, with this code.
+    /// In a separate element with this AI.
     Ai(Text),
 }
 
@@ -17,11 +17,11 @@ pub struct Kind {
     pub name: Text,
     /// The code of the key.
     pub key: Text,
-    /// How many digits of the key, 0 or 1, stand before the prefix and go with the rest.
+    /// How many digits of the key, 0 or 1, are before the prefix and go with the rest.
     pub lead: u8,
-    /// Where the serial stands.
+    /// The place of the serial.
     pub serial: SerialAt,
-    /// How many digits the piece and the total have, which stand behind the check digit; empty for a kind without them.
+    /// How many digits the piece and the total have, which follow the check digit; empty for a kind without them.
     pub further: List<u8>,
 }
 

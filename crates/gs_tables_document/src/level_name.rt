@@ -13,7 +13,7 @@ pub enum LevelName {
 }
 
 impl LevelName {
-    /// Whether the symbols of the level are bits.
+    /// Returns whether the symbols of the level are bits.
     pub fn is_bits(self) -> bool
         ensures { result ≡ is_bits self }
     {

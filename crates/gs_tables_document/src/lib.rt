@@ -14,7 +14,7 @@
 //! gcp=pad:7
 //! ```
 //!
-//! # Where it differs from the standard
+//! # Differences from the standard
 //!
 //! - GS1 EPC Tag Data Translation publishes its tables as XML and JSON with patterns and functions. These documents have rows
 //!   of items instead (docs/FORMATS.md, 'The table document').

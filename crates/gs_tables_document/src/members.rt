@@ -9,21 +9,21 @@ use gs_json::{items_of, text_in};
 use serde_json::Value;
 use std::alloc::Global;
 
-/// The text that this is, and the empty one of what is no text.
+/// Returns the text of this value, and the empty text if it is not a text.
 pub(crate) fn str_of(value: &Value) -> &str
     ensures { result.now ≡ text_of (view value.now) }
 {
     value.as_str().unwrap_or("")
 }
 
-/// A copy of the text of the member of a name, and of the empty one where there is none.
+/// Returns a copy of the text of the named member, and of the empty text if there is none.
 pub(crate) fn copy_in(alloc: Global, object: &Value, name: &str) -> Result<Text, Memory>
     ensures { IfOk result (λ text. text ≡ text_in name.now (view object.now)) }
 {
     Text::from_bytes(alloc, text_in(object, name).as_bytes())
 }
 
-/// The number of items of an array, and 0 of what is no array.
+/// Returns the number of items of an array, and 0 if the value is not an array.
 pub(crate) fn items_len(array: &Value) -> usize
     ensures { result ≡ items_count (view array.now) }
 {

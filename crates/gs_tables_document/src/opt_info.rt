@@ -1,7 +1,7 @@
 use crate::field::Field;
 use gs_chars::{List, Text};
 
-/// What a table set says of an option beside its items.
+/// The facts that a table set has about an option, apart from its items.
 #[derive(Drop)]
 pub struct OptInfo {
     /// The index of its kind.

@@ -5,7 +5,7 @@ use gs_chars::{List, Memory};
 use gs_json::{Entry, Sort, plan_of};
 use std::alloc::Global;
 
-/// The members of the document.
+/// Returns the members of the document.
 pub(crate) fn document_plan(alloc: Global) -> Result<List<Entry>, Memory>
     ensures { IfOk result (λ plan. plan ≡ document_plan) }
 {
@@ -22,7 +22,7 @@ pub(crate) fn document_plan(alloc: Global) -> Result<List<Entry>, Memory>
     )
 }
 
-/// The members of a row of application identifiers.
+/// Returns the members of a row of application identifiers.
 pub(crate) fn ai_plan(alloc: Global) -> Result<List<Entry>, Memory>
     ensures { IfOk result (λ plan. plan ≡ ai_plan) }
 {
@@ -39,7 +39,7 @@ pub(crate) fn ai_plan(alloc: Global) -> Result<List<Entry>, Memory>
     )
 }
 
-/// The members of a kind, of a document of version 2 and of one of another version.
+/// Returns the members of a kind, of a document of version 2 and of one of another version.
 pub(crate) fn kind_plan(alloc: Global, second: bool) -> Result<List<Entry>, Memory>
     ensures { IfOk result (λ plan. plan ≡ kind_plan second) }
 {
@@ -66,7 +66,7 @@ pub(crate) fn kind_plan(alloc: Global, second: bool) -> Result<List<Entry>, Memo
     )
 }
 
-/// The members of an option.
+/// Returns the members of an option.
 pub(crate) fn option_plan(alloc: Global) -> Result<List<Entry>, Memory>
     ensures { IfOk result (λ plan. plan ≡ option_plan) }
 {

@@ -18,8 +18,8 @@ use gs_json::{Doc, Entry, JsonFault, Node, number_in};
 use serde_json::Value;
 use std::alloc::Global;
 
-/// The rows of the table document that the bytes are, or the first error of its form, as `Json`: the bytes are no JSON
-/// text, or the document or a row has not the form of its kind. `Memory` may come in place of any answer.
+/// Returns the rows of the table document that the bytes are, or the first error of its form, as `Json`: the bytes are not JSON
+/// text, or the document or a row has not the form of its kind. May return `Memory` instead.
 pub fn read_document(alloc: Global, bytes: &[u8]) -> Result<Document, LoadFault>
     ensures document { IfOk result (λ document. Holds bytes.now document) }
     ensures rejected { IfErr result (λ error. IsFormRejection bytes.now error) }
@@ -30,7 +30,7 @@ pub fn read_document(alloc: Global, bytes: &[u8]) -> Result<Document, LoadFault>
     }
 }
 
-/// The rows of the document of this tree, or the first error of its form.
+/// Returns the rows of the document of this tree, or the first error of its form.
 fn read_root(alloc: Global, root: &Node<'_>) -> Result<Document, LoadFault>
     requires { root.now.place ≡ [] }
     ensures document { IfOk result (λ document. (bytes : List ℕ) → IsJson bytes (view root.now.tree)
@@ -44,7 +44,7 @@ fn read_root(alloc: Global, root: &Node<'_>) -> Result<Document, LoadFault>
     }
 }
 
-/// An error of JSON, with out of memory as its own.
+/// Returns an error of JSON, with out of memory as its own.
 fn of_json(error: JsonFault) -> LoadFault
     ensures { result ≡ of_json error }
 {
@@ -54,7 +54,7 @@ fn of_json(error: JsonFault) -> LoadFault
     }
 }
 
-/// The first error of the form of a document: of its object, then of the rows of each array.
+/// Finds the first error of the form of a document: of its object, then of the rows of each array.
 fn judge_document(alloc: Global, root: &Node<'_>) -> Result<(), JsonFault>
     requires { root.now.place ≡ [] }
     ensures { OrMemory result (first_error (document_errors (view root.now.tree))) }
@@ -67,7 +67,7 @@ fn judge_document(alloc: Global, root: &Node<'_>) -> Result<(), JsonFault>
     judge_options(alloc, root, "pure")
 }
 
-/// The first error of the document's object.
+/// Finds the first error of the document's object.
 fn judge_object(alloc: Global, root: &Node<'_>) -> Result<(), JsonFault>
     requires { root.now.place ≡ [] }
     ensures { OrMemory result (first_error (object_errors [] document_plan (view root.now.tree))) }
@@ -76,7 +76,7 @@ fn judge_object(alloc: Global, root: &Node<'_>) -> Result<(), JsonFault>
     root.shaped(alloc, plan.items())
 }
 
-/// The first error of the rows of application identifiers.
+/// Finds the first error of the rows of application identifiers.
 fn judge_ais(alloc: Global, root: &Node<'_>) -> Result<(), JsonFault>
     requires { root.now.place ≡ [] }
     ensures { OrMemory result (first_error (rows_errors (codes "ais") ai_plan (view root.now.tree))) }
@@ -85,7 +85,7 @@ fn judge_ais(alloc: Global, root: &Node<'_>) -> Result<(), JsonFault>
     judge_rows(alloc, root, "ais", plan.items())
 }
 
-/// The first error of the rows of kinds.
+/// Finds the first error of the rows of kinds.
 fn judge_kinds(alloc: Global, root: &Node<'_>) -> Result<(), JsonFault>
     requires { root.now.place ≡ [] }
     ensures { OrMemory result (first_error
@@ -95,7 +95,7 @@ fn judge_kinds(alloc: Global, root: &Node<'_>) -> Result<(), JsonFault>
     judge_rows(alloc, root, "kinds", plan.items())
 }
 
-/// The first error of the rows of the options of a level.
+/// Finds the first error of the rows of the options of a level.
 fn judge_options(alloc: Global, root: &Node<'_>, name: &str) -> Result<(), JsonFault>
     requires { root.now.place ≡ [] }
     ensures { OrMemory result (first_error (rows_errors name.now option_plan (view root.now.tree))) }
@@ -104,7 +104,7 @@ fn judge_options(alloc: Global, root: &Node<'_>, name: &str) -> Result<(), JsonF
     judge_rows(alloc, root, name, plan.items())
 }
 
-/// The first error of the rows of the array of a name, row by row.
+/// Finds the first error of the rows of the named array, row by row.
 #[tactic(auto, unfolding(crate::specs::Documents::rows_errors))]
 fn judge_rows(alloc: Global, root: &Node<'_>, name: &str, plan: &[Entry]) -> Result<(), JsonFault>
     requires { root.now.place ≡ [] }
@@ -116,7 +116,7 @@ fn judge_rows(alloc: Global, root: &Node<'_>, name: &str, plan: &[Entry]) -> Res
     }
 }
 
-/// The first error of the rows of an array, row by row.
+/// Finds the first error of the rows of an array, row by row.
 fn judge_items(alloc: Global, array: &Node<'_>, plan: &[Entry]) -> Result<(), JsonFault>
     ensures { OrMemory result
         (first_error (row_errors array.now.place plan.now (items_of (view array.now.tree)))) }
@@ -129,14 +129,14 @@ fn judge_items(alloc: Global, array: &Node<'_>, plan: &[Entry]) -> Result<(), Js
     Ok(())
 }
 
-/// Whether the document is of version 2.
+/// Returns whether the document is of version 2.
 fn is_second(root: &Value) -> bool
     ensures { result ≡ is_second (view root.now) }
 {
     number_in(root, "version") == 2
 }
 
-/// How the options of the bit level of the document are read.
+/// Returns how to read the options of the document's bit level.
 fn of_bits(root: &Value) -> Reading
     ensures { result ≡ of_bits (view root.now) }
 {
@@ -146,7 +146,7 @@ fn of_bits(root: &Value) -> Reading
     }
 }
 
-/// How all other rows of the document are read.
+/// Returns how to read all other rows of the document.
 fn of_texts(root: &Value) -> Reading
     ensures { result ≡ of_texts (view root.now) }
 {
@@ -156,7 +156,7 @@ fn of_texts(root: &Value) -> Reading
     }
 }
 
-/// The rows of a document.
+/// Returns the rows of a document.
 fn rows_of(alloc: Global, root: &Value) -> Result<Document, Memory>
     ensures { IfOk result (λ document. IsDocument (view root.now) document) }
 {
@@ -175,7 +175,7 @@ fn rows_of(alloc: Global, root: &Value) -> Result<Document, Memory>
     })
 }
 
-/// The rows of the options of the levels: binary, tag and pure.
+/// Returns the rows of the options of the levels: binary, tag and pure.
 fn options_of(
     alloc: Global,
     root: &Value,

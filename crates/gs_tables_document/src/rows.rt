@@ -31,7 +31,7 @@ pub(crate) trait Row: Drop {
         ensures { IfOk result (λ row. reads reading (view value.now) row) };
 }
 
-/// The rows that these are read as, in their order.
+/// Returns the rows that these are read as, in their order.
 fn read_items<R: Row>(alloc: Global, items: &[Value], reading: Reading) -> Result<List<R>, Memory>
     ensures { IfOk result (λ rows. Each (R.reads reading) (map view items.now) rows) }
 {
@@ -42,7 +42,7 @@ fn read_items<R: Row>(alloc: Global, items: &[Value], reading: Reading) -> Resul
     Ok(List::from_vec(rows))
 }
 
-/// The rows of the array that is the member of a name, and none where there is no such array.
+/// Returns the rows of the array that is the member of a name, and none if there is no such array.
 pub(crate) fn read_rows<R: Row>(
     alloc: Global,
     object: &Value,
@@ -75,7 +75,7 @@ impl Row for Part {
     }
 }
 
-/// What a document of version 2 reads the part as, and one of another version.
+/// Returns the part that a document of version 2, or of another version, reads here.
 fn part_in(part: Part, second: bool) -> Part
     ensures { result ≡ part_in second part }
 {
@@ -85,7 +85,7 @@ fn part_in(part: Part, second: bool) -> Part
     }
 }
 
-/// What a document of version 2 reads the item as, and one of another version.
+/// Returns the item that a document of version 2, or of another version, reads here.
 fn item_in(item: FieldItem, second: bool) -> Option<FieldItem>
     ensures { result ≡ item_in second (Some item) }
 {
@@ -96,28 +96,28 @@ fn item_in(item: FieldItem, second: bool) -> Option<FieldItem>
     }
 }
 
-/// Whether the field is one of version 1.
+/// Returns whether the field is one of version 1.
 fn is_first_field(field: Option<Field>) -> bool
     ensures { result ≡ is_first_field field }
 {
     !matches!(field, Some(Field::Piece | Field::Total))
 }
 
-/// Whether the item is one of version 1.
+/// Returns whether the item is one of version 1.
 fn is_first_item(item: &Item) -> bool
     ensures { result ≡ is_first_item item.now }
 {
     !matches!(item, Item::Digits { .. } | Item::NumStr { .. })
 }
 
-/// The role that the member `role` names.
+/// Returns the role that the member `role` names.
 fn role_in(object: &Value) -> Role
     ensures { IsRole (text_in (codes "role") (view object.now)) result }
 {
     Role::read(text_in(object, "role").as_bytes())
 }
 
-/// The parts and the qualifiers of an application identifier.
+/// Returns the parts and the qualifiers of an application identifier.
 fn lists_in(
     alloc: Global,
     object: &Value,

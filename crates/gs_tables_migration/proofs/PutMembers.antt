@@ -1,4 +1,4 @@
--- A member that is put into an object: what is found there, and the errors of the object by a plan.
+-- A member that is put into an object: the members found afterwards, and the errors of the object by a plan.
 use Rattle.std.proofs.Common.{◌≡◌, ℕ, ◌+◌, true, false, Bool, ◌||◌, List, [], ◌∷◌, ◌++◌, map, Option, Some, None, Ordering, Less, Equal, Greater, is_eq, refl, ap, sym, ◌∙◌}
 use Rattle.std.specs.Prelude.{if◌then◌else◌}
 use Rattle.std.specs.Cmp.Lexicographic.{slice_cmp}
@@ -28,7 +28,7 @@ some_name l names h = absurd (cc)
 pub other_name : (a b : List ℕ) → bytes_eq a b ≡ false → a ≡ b → ⊥
 other_name a b h same = absurd (let g = rw (same, same_bytes b) at h in let bad : true ≡ false = g in cc)
 
--- the names that a plan does not name are the same where one is put that it names
+-- putting a member that the plan names leaves the names that it does not name unchanged
 module _ (plan : List Entry) (k : List ℕ) (d : Data) (named : is_named plan k ≡ true) where
   unknown_by : (o : Ordering) (l : List ℕ) (e : Data) (ms : Members) → unknown_among plan (names_of_members (put k d ms)) ≡ unknown_among plan (names_of_members ms)
       → unknown_among plan (names_of_members (match_ordering o (member k d (member l e ms)) (member l d ms) (member l e (put k d ms)))) ≡ unknown_among plan (names_of_members (member l e ms))
@@ -81,7 +81,7 @@ flat_more f (y ∷ xs) x none own =
     let parts = nil_parts (f y) (flat_map f xs) none in
     none_of_both (f y) (flat_map f (xs ++ x ∷ [])) parts.0 (flat_more f xs x parts.1 own)
 
--- where the plan does not name it, the value has no errors
+-- if the plan does not name it, the value has no errors
 apart_errors : (place k : List ℕ) (d : Data) (plan : List Entry) → is_named plan k ≡ false → flat_map (put_errors place k d) plan ≡ []
 apart_errors place k d [] apart = refl
 apart_errors place k d (entry ∷ plan) apart =
@@ -96,7 +96,7 @@ module _ (place k : List ℕ) (d : Data) (ms : Members) where
       rw here (rw is at fits)
   entry_by entry false is none fits = rw (get_member-put_other entry.name k d ms (other_name entry.name k is)) none
 
-  -- an object without errors has none where a value without errors is put into it
+  -- an object without errors has none if a value without errors is put into it
   pub entries_put : (plan : List Entry) → flat_map (entry_errors place ms) plan ≡ [] → flat_map (put_errors place k d) plan ≡ [] → flat_map (entry_errors place (put k d ms)) plan ≡ []
   entries_put [] none fits = refl
   entries_put (entry ∷ plan) none fits =
@@ -121,7 +121,7 @@ module _ (place k : List ℕ) (d : Data) (ms : Members) where
       let known = none_unknown plan entry (names_of_members ms) (map_none _ (unknown_among plan (names_of_members ms)) parts.1) in
       none_of_both _ _ (flat_more (entry_errors place (put k d ms)) plan entry front own) (rw (unknown_put (plan ++ entry ∷ []) k d named ms, known) refl)
 
--- a name that a plan without errors does not name is no member's
+-- a name that a plan without errors does not name is not a member's
 absent_by : (o : Ordering) (k l : List ℕ) (e : Data) (rest : Option Data) → slice_cmp nat_cmp k l ≡ o → (k ≡ l → ⊥) → rest ≡ None → match_ordering o rest (Some e) rest ≡ None
 absent_by Less k l e rest is other none = none
 absent_by Equal k l e rest is other none = absurd (other (equal_bytes k l (sym (is_eq-slice_cmp k l) ∙ ap is_eq is)))

@@ -81,7 +81,7 @@ module _ (bits : Bool) where
 
 -- ---- kinds
 
--- a member of another name, where the further fields are put
+-- a member of another name than `fields`, after the further fields are put
 module _ (k : List ℕ) (other : bytes_eq k (codes "fields") ≡ false) (ms : Members) where
   beside_fields : get_member k (put (codes "fields") (array no_items) ms) ≡ get_member k ms
   beside_fields = get_member-put_other k (codes "fields") (array no_items) ms (other_name k (codes "fields") other)

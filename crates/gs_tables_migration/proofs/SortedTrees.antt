@@ -1,4 +1,4 @@
--- Trees whose objects have each name once, in ascending order: what is read of a text is one.
+-- Trees whose objects have each name once, in ascending order. Each tree that is read from a text is one.
 use Rattle.std.proofs.Common.{◌≡◌, ℕ, List, [], ◌∷◌, Option, Some, None, option_map, option_and_then, Ordering, Less, Equal, Greater, ap, ◌∙◌, refl, subst, ◌⊎◌, inl, inr}
 use Rattle.std.specs.Prelude.{⊤}
 use Rattle.std.specs.Cmp.Lexicographic.{slice_cmp}
@@ -59,7 +59,7 @@ pub sorted_put : (k : List ℕ) (d : Data) (ms : Members) → IsSorted d → Hav
 sorted_put k d no_members own all = (own, tt, tt)
 sorted_put k d (member l e ms) own all = sorted_by (slice_cmp nat_cmp k l) k l d e ms refl own all (sorted_put k d ms own all.2)
 
--- ---- what is read
+-- ---- trees that are read from a text
 
 abbrev Holds : {A : Type 0} → (A → Type 0) → Option A → Type 0
 Holds P None = ⊤
@@ -104,7 +104,7 @@ sorted_value (Some j) = sorted_json j
 abbrev parsed : List ℕ → Option json.Json
 parsed text = option_and_then (λ p. json.if_last p.0 p.1) (json.value max_depth (tokens text))
 
--- what is read of a text has each name once, in ascending order
+-- a tree that is read from a text has each name once, in ascending order
 pub sorted_read : (text : List ℕ) (d : Data) → read text ≡ Some d → IsSorted d
 sorted_read text d e = subst (Holds IsSorted) e (sorted_value (parsed text))
 

@@ -1,4 +1,4 @@
--- An array that is an item has no fraction: it is its name, and texts and whole numbers behind it.
+-- An array that is an item has no fraction: it is its name, and texts and whole numbers after it.
 use Rattle.std.proofs.Common.{◌≡◌, ℕ, zero, suc, ◌==◌, true, false, Bool, List, Option, Some, None, option_map, option_and_then, codes, refl, rules, tests}
 use Rattle.std.specs.Prelude.{⊤, if◌then◌else◌}
 use Rattle.std.specs.Str.{bytes_eq}
@@ -12,7 +12,7 @@ use Rattle.gs_grammar.specs.declared.item.Item.TheVariants.{Lit, Pad, Digits, In
 use Rattle.gs_json.specs.Answers.{items_count}
 use Rattle.gs_tables_document.specs.Items.{FieldItem, ascii7, bit_item, bit_literal, both, bits_of, byte_arg, field_arg, field_of, fill, held, int, item_of, literal, no_field, num, number_arg, pad, short_arg, sized, text_arg, text_item, with_field}
 
--- ---- answers that are there
+-- ---- optional results that are present
 
 pub then_some : {X Y : Type 0} (f : X → Option Y) (o : Option X) (y : Y) → option_and_then f o ≡ Some y → (x : X) × (o ≡ Some x) × (f x ≡ Some y)
 then_some f None y h = absurd (let g : None ≡ Some y = h in cc)
@@ -33,7 +33,7 @@ both_parts a b make i h =
 
 -- ---- parts without a fraction
 
--- what stands here, where there is something, has no fraction
+-- the value, if there is one, has no fraction
 abbrev Leaf : Option Data → Type 0
 Leaf None = ⊤
 Leaf (Some d) = has_float d ≡ false
@@ -111,7 +111,7 @@ module _ (ds : Items) where
         let thing = mapped_some (λ i. (None, i)) made x size.1 in
         leaves_whole (suc n) ds size.0 (text_leaf (get_item 0 ds) name begins, parts thing.0 thing.1)
 
-    -- two numbers of a byte behind the field
+    -- two numbers of a byte after the field
     bytes_parts : (make : ℕ → ℕ → Item) → sized 4 (array ds) (with_field (array ds) (both (byte_arg 2 (array ds)) (byte_arg 3 (array ds)) make)) ≡ Some x → items_have_float ds ≡ false
     bytes_parts make h =
         with_parts 2 (both (byte_arg 2 (array ds)) (byte_arg 3 (array ds)) make) (λ i is. let two = two_bytes 2 3 make i is in (two.0, (two.1, tt))) h
@@ -162,7 +162,7 @@ module _ (ds : Items) where
     none_whole : None ≡ Some x → items_have_float ds ≡ false
     none_whole h = absurd (cc)
 
-    -- the item of a name, or one of the names behind it
+    -- the item of a name, or one of the names after it
     by_name : (b : Bool) (own others : Option FieldItem) → (own ≡ Some x → items_have_float ds ≡ false) → (others ≡ Some x → items_have_float ds ≡ false) → (if b then own else others) ≡ Some x → items_have_float ds ≡ false
     by_name true own others here behind h = here h
     by_name false own others here behind h = behind h

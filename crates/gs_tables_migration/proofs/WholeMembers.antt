@@ -1,4 +1,4 @@
--- An object without errors by a plan has no fraction, where none of its arrays has one.
+-- An object without errors by a plan has no fraction if none of its arrays has one.
 use Rattle.std.proofs.Common.{◌≡◌, ℕ, ◌+◌, true, false, Bool, not, List, [], ◌∷◌, map, Some, refl, inl, inr}
 use Rattle.std.specs.Prelude.{filter}
 use Rattle.std.specs.List.{AllByRecursion, enumerate_from, flat_map}
@@ -16,7 +16,7 @@ use Rattle.gs_json.specs.declared.plan.Sort.TheVariants as sort
 use Rattle.gs_tables_document.specs.Documents.{Each, object_errors}
 use Rattle.gs_tables_migration.proofs.SortedTrees.{AreSorted, HasMember, HaveSorted, IsSorted, found_member}
 
--- ---- what is of a sort
+-- ---- values of a sort
 
 pub some_error : {X : Type 0} (x : X) (xs : List X) → x ∷ xs ≡ [] → ⊥
 some_error x xs h = absurd (cc)
@@ -75,7 +75,7 @@ texts_sort place (object ms) h = absurd (some_error (Kind place) [] h)
 
 -- ---- the members of an object
 
--- what the value of an entry's name is, where it is of the entry's sort
+-- the value of an entry's name, if it is of the entry's sort, has no fraction
 abbrev pub IsWhole : List ℕ → Members → Entry → Type 0
 IsWhole place members entry =
     (d : Data) → get_member entry.name members ≡ Some d → sort_errors (member_place place entry.name) entry.sort d ≡ [] → has_float d ≡ false
@@ -107,7 +107,7 @@ whole_members : (ms : Members) → ((k : List ℕ) (d : Data) → HasMember k d 
 whole_members no_members each = refl
 whole_members (member k d ms) each = rw (each k d (inl (refl, refl))) (whole_members ms (λ l e has. each l e (inr has)))
 
--- an object without errors has no fraction, where no value of its plan has one
+-- an object without errors has no fraction if no value of its plan has one
 pub object_whole : (place : List ℕ) (plan : List Entry) (ms : Members) → HaveSorted ms → members_errors place plan (Some ms) ≡ [] → AllByRecursion (IsWhole place ms) plan → members_have_float ms ≡ false
 object_whole place plan ms sorted none whole =
     let parts = nil_parts (flat_map (entry_errors place ms) plan) (unknown_errors place plan ms) none in

@@ -15,7 +15,7 @@ use Rattle.gs_tables_document.specs.Documents.{is_second}
 use Rattle.gs_tables_document.specs.declared.document.Document.{Document}
 use Rattle.gs_tables_document.specs.declared.document.OptionRow.{OptionRow}
 
--- trusted, own: an object with this value at a name, in place of the one that it had there; what is no object stays
+-- trusted, own: the object with this value at a name, instead of its earlier value; a value that is not an object is unchanged
 abbrev pub with_member : List ℕ → Data → Data → Data
 with_member name value d = option_map_or (λ members. object (put name value members)) (as_object d) d
 
@@ -27,14 +27,14 @@ with_fields kind = with_member (codes "fields") (array no_items) kind
 abbrev pub kinds_with_fields : Data → Data
 kinds_with_fields d = array (listed (map with_fields (items_in (codes "kinds") d)))
 
--- trusted, own: a document of version 1 as one of version 2; one of version 2 stays as it is
+-- trusted, own: the document of version 2 for one of version 1; a document of version 2 is unchanged
 unfoldable pub second_version : Data → Data
 second_version d =
     if is_second d then d
     else with_member (codes "version") (number (unsigned 2)) (with_member (codes "kinds") (kinds_with_fields d) d)
 
 -- trusted, own: the migrated text of a document: the JSON text of its second version, with no space and the members of each
--- object in ascending order of name; and nothing of bytes that are no JSON text
+-- object in ascending order of name; and nothing of bytes that are not JSON text
 abbrev pub migrated : List ℕ → List ℕ
 migrated bytes = option_map_or (λ d. compact_text (second_version d)) (document_of bytes) []
 
@@ -55,7 +55,7 @@ is_known_part _ = true
 abbrev pub has_parts : AiRow → Bool
 has_parts row = list_all is_known_part row.parts
 
--- trusted, own: the rows of a document of version 1 or 2 have parts and items of the profile alone
+-- trusted, own: holds if the rows of the document of version 1 or 2 have only parts and items of the profile
 pub record IsKnown (document : Document) : Type 0 where
   pub version : (document.version == 1 || document.version == 2) ≡ true
   pub ais : list_all has_parts document.ais ≡ true

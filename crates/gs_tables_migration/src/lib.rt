@@ -13,12 +13,12 @@
 //! {"ais":[{"code":"00","parts":["n18c"],"role":"key"}],"binary":[],"kinds":[{"fields":[],"key":"00","lead":1,"name":"sscc","serial":""}],"pure":[],"tag":[],"version":2}
 //! ```
 //!
-//! # Where it differs from the standards
+//! # Differences from the standards
 //!
 //! - The document and its versions are this project's own (docs/FORMATS.md, 'The table document'). No way leads from version 2
 //!   back to version 1.
-//! - Members of the tree that the profile does not name are none of an accepted document's, so that none is lost; spaces, the
-//!   order of members, escapes that need not be, and members given twice are.
+//! - An accepted document has no members that the profile does not name, so none is lost. Spaces, the order of members,
+//!   unnecessary escapes and repeated members are.
 #![tactic(auto)]
 
 mod texts;

@@ -12,7 +12,7 @@ use gs_chars::{Memory, Text};
 use serde_json::Value;
 use std::alloc::Global;
 
-/// The tree of the JSON text that the bytes are.
+/// Returns the tree of the JSON text that the bytes are.
 fn tree_of(alloc: Global, bytes: &[u8]) -> Result<Value, Memory>
     requires { (d : Data) × IsJson bytes.now d }
     ensures { IfOk result (λ tree. IsJson bytes.now (view tree)) }
@@ -24,7 +24,7 @@ fn tree_of(alloc: Global, bytes: &[u8]) -> Result<Value, Memory>
     }
 }
 
-/// The JSON text of a tree, with no space and the members of each object in ascending order of name.
+/// Returns the JSON text of a tree, with no space and the members of each object in ascending order of name.
 fn text_of(alloc: Global, tree: Value) -> Result<Text, Memory>
     ensures text { IfOk result (λ text. has_float (view tree) ≡ false → text ≡ compact_text (view tree)) }
     ensures utf8 { IfOk result IsUtf8 }
@@ -34,10 +34,10 @@ fn text_of(alloc: Global, tree: Value) -> Result<Text, Memory>
     Ok(Text::from_vec(tree.to_vec(alloc)?))
 }
 
-/// The text of a table document as one of version 2: the JSON text of the same tree with the version 2 and, in each kind, no
-/// further fields, or of the tree itself where it is of version 2. It has no space, the members of each object in ascending
-/// order of name, and of members with one name the last. It is a document of version 2 with the rows of the bytes, which are a
-/// document of version 1 or 2 whose parts and items are all known. The one error is out of memory.
+/// Returns the text of a table document as one of version 2: the JSON text of the same tree with the version 2 and, in each kind,
+/// no further fields, or of the tree itself if it is of version 2. It has no spaces, the members of each object in ascending
+/// order of name, and only the last of the members with one name. It is a document of version 2 with the rows of the bytes. These
+/// are a document of version 1 or 2 whose parts and items are all known. Fails only with `Memory`.
 pub fn second_text(alloc: Global, bytes: &[u8]) -> Result<Text, Memory>
     requires known { (document : Document) × Holds bytes.now document × IsKnown document }
     ensures text { IfOk result (IsMigrated bytes.now) }

@@ -8,7 +8,7 @@ use gs_json::{items_in, number_in};
 use serde_json::{Map, Value};
 use std::alloc::Global;
 
-/// Puts a value at a name of an object, in place of the one that it had there.
+/// Puts a value at a name of an object, instead of the one that it had there.
 fn put(
     alloc: Global,
     members: &mut Map<String, Value>,
@@ -22,7 +22,7 @@ fn put(
     Ok(())
 }
 
-/// An object with this value at a name; what is no object stays.
+/// Returns the object with this value at a name. A value that is not an object is unchanged.
 fn with_member(alloc: Global, tree: Value, name: &str, value: Value) -> Result<Value, Memory>
     ensures { IfOk result (λ with. view with ≡ with_member name.now (view value) (view tree)) }
 {
@@ -35,7 +35,7 @@ fn with_member(alloc: Global, tree: Value, name: &str, value: Value) -> Result<V
     }
 }
 
-/// A kind with no further fields.
+/// Returns a kind with no further fields.
 fn with_fields(alloc: Global, kind: &Value) -> Result<Value, Memory>
     ensures { IfOk result (λ with. view with ≡ with_fields (view kind.now)) }
 {
@@ -43,7 +43,7 @@ fn with_fields(alloc: Global, kind: &Value) -> Result<Value, Memory>
     with_member(alloc, kind.clone()?, "fields", none)
 }
 
-/// The kinds of a document, each with no further fields.
+/// Returns the kinds of a document, each with no further fields.
 fn kinds_with_fields(alloc: Global, document: &Value) -> Result<Value, Memory>
     ensures { IfOk result (λ kinds. view kinds ≡ kinds_with_fields (view document.now)) }
 {
@@ -54,7 +54,7 @@ fn kinds_with_fields(alloc: Global, document: &Value) -> Result<Value, Memory>
     Ok(Value::Array(kinds))
 }
 
-/// A document of version 1 as one of version 2; one of version 2 stays as it is.
+/// Returns the document of version 2 for one of version 1. A document of version 2 is unchanged.
 #[tactic(auto, unfolding(crate::specs::Migrations::second_version))]
 pub(crate) fn second_version(alloc: Global, document: Value) -> Result<Value, Memory>
     ensures { IfOk result (λ second. view second ≡ second_version (view document)) }

@@ -1,4 +1,4 @@
--- The parts of a template, their errors, and what stands for them.
+-- The parts of a template, their errors, and their expansions.
 use Rattle.std.proofs.Common.{◌≡◌, ◌≤◌, ◌<◌, ℕ, zero, suc, ◌+◌, ◌-◌, ◌==◌, ◌&&◌, ◌||◌, Bool, true, false, All, if◌then◌else◌, List, [], ◌∷◌, ◌++◌, length, take, drop, filter, find, get_or, codes, Some, None, slice_get, refl, sym, ap, ◌∙◌, subst, arith}
 use Rattle.std.specs.Prelude.{Ok, Err}
 use Rattle.std.specs.List.{flat_map, list_all, list_any}
@@ -23,7 +23,7 @@ use Rattle.gs_template.specs.declared.error.PlaceFault.{PlaceFault}
 
 -- ---- lists
 
-take_front : {X : Type 0} (xs ys : List X) → take (length xs) (xs ++ ys) ≡ xs
+pub take_front : {X : Type 0} (xs ys : List X) → take (length xs) (xs ++ ys) ≡ xs
 take_front [] [] = refl
 take_front [] (y ∷ ys) = refl
 take_front (x ∷ xs) ys = ap (λ zs. x ∷ zs) (take_front xs ys)
@@ -37,13 +37,13 @@ at_front : (xs ys : List ℕ) (c : ℕ) → get_or (xs ++ c ∷ ys) (length xs) 
 at_front [] ys c = refl
 at_front (x ∷ xs) ys c = at_front xs ys c
 
-length_taken : {X : Type 0} (k : ℕ) (xs : List X) → k ≤ length xs → length (take k xs) ≡ k
+pub length_taken : {X : Type 0} (k : ℕ) (xs : List X) → k ≤ length xs → length (take k xs) ≡ k
 length_taken zero [] h = refl
 length_taken zero (x ∷ xs) h = refl
 length_taken (suc k) [] h = absurd (omega arith)
 length_taken (suc k) (x ∷ xs) h = ap suc (length_taken k xs (omega arith))
 
--- what is at a place, and behind it
+-- the item at an index, and the items after it
 drop_at : (xs : List ℕ) (i x : ℕ) → i < length xs → x ≡ get_or xs i 0 → drop i xs ≡ x ∷ drop (i + 1) xs
 drop_at xs i x h e = let next : i + 1 ≡ suc i = omega arith in rw next (by xs i h e)
   where
@@ -56,7 +56,7 @@ drop_at xs i x h e = let next : i + 1 ≡ suc i = omega arith in rw next (by xs 
     by (y ∷ ys) zero h e = rw (e, start ys) refl
     by (y ∷ ys) (suc i) h e = by ys i (omega arith) e
 
--- what is behind a place, as a slice gives it
+-- the items after an index, as a slice gives them
 pub rest_whole : (xs : List ℕ) (n : ℕ) → take (length xs - n) (drop n xs) ≡ drop n xs
 rest_whole xs n = take_all (length xs - n) (drop n xs) (let size = length-drop n xs in omega (arith, size))
 
@@ -66,7 +66,7 @@ drop_all [] (suc i) h = refl
 drop_all (x ∷ xs) zero h = absurd (omega arith)
 drop_all (x ∷ xs) (suc i) h = drop_all xs i (omega arith)
 
-drop_zero : {X : Type 0} (xs : List X) → drop 0 xs ≡ xs
+pub drop_zero : {X : Type 0} (xs : List X) → drop 0 xs ≡ xs
 drop_zero [] = refl
 drop_zero (x ∷ xs) = refl
 
@@ -86,7 +86,7 @@ code_closed text n h = by (is_closed 2 text) (is_closed 3 text) (is_closed 4 tex
     by false false true e f g h = subst (λ m. is_closed m text ≡ true) h g
     by false false false e f g h = absurd (let k : 0 ≡ suc n = h in cc)
 
-size_is : (c : ℕ) (text : List ℕ) (n : ℕ) → place_size c text ≡ suc n → (c ≡ 123) × (is_closed (suc n) text ≡ true)
+pub size_is : (c : ℕ) (text : List ℕ) (n : ℕ) → place_size c text ≡ suc n → (c ≡ 123) × (is_closed (suc n) text ≡ true)
 size_is c text n h = by (c == 123) refl h
   where
     by : (b : Bool) → (c == 123) ≡ b → (if b then code_size text else 0) ≡ suc n → (c ≡ 123) × (is_closed (suc n) text ≡ true)
@@ -98,7 +98,7 @@ abbrev raw : Part → List ℕ
 raw (itself c) = c ∷ []
 raw (place code) = 123 ∷ (code ++ 125 ∷ [])
 
-closed_at : (text : List ℕ) (n : ℕ) → option_map_or (λ c. c == 125) (slice_get text n) false ≡ true → (take n text ++ 125 ∷ []) ++ drop (suc n) text ≡ text
+pub closed_at : (text : List ℕ) (n : ℕ) → option_map_or (λ c. c == 125) (slice_get text n) false ≡ true → (take n text ++ 125 ∷ []) ++ drop (suc n) text ≡ text
 closed_at [] n h = absurd (let k : false ≡ true = h in cc)
 closed_at (c ∷ text) zero h = rw (eqb-true c 125 h, drop_zero text) refl
 closed_at (c ∷ text) (suc n) h = ap (λ xs. c ∷ xs) (closed_at text n h)
@@ -112,7 +112,7 @@ cut_of c text (suc n) h =
     let closed = closed_at text (suc n) (and_first (option_map_or (λ c. c == 125) (slice_get text (suc n)) false) (are_digits (take (suc n) text)) parts.1) in
     rw brace (ap (λ xs. 123 ∷ xs) closed)
 
-closed_within : (text : List ℕ) (n : ℕ) → option_map_or (λ c. c == 125) (slice_get text n) false ≡ true → n < length text
+pub closed_within : (text : List ℕ) (n : ℕ) → option_map_or (λ c. c == 125) (slice_get text n) false ≡ true → n < length text
 closed_within [] n h = absurd (let k : false ≡ true = h in cc)
 closed_within (c ∷ text) zero h = omega arith
 closed_within (c ∷ text) (suc n) h = let low = closed_within text n h in omega (arith, low)
@@ -214,7 +214,7 @@ place_filtered code h =
     filter-append is_delimiter (123 ∷ []) (code ++ 125 ∷ [])
     ∙ rw (braces.0, filter-append is_delimiter code (125 ∷ []), inert_filtered code (digits_plain code h), braces.1) refl
 
--- a part, and what stands for it, have the same delimiters
+-- a part and its expansion have the same delimiters
 same_delimiters : (identity : Elements) (c : ℕ) (text : List ℕ) (n : ℕ) → place_size c text ≡ n → is_inert identity (part_of c text n) ≡ true → filter is_delimiter (stands_for identity (part_of c text n)) ≡ filter is_delimiter (raw (part_of c text n))
 same_delimiters identity c text zero is inert = refl
 same_delimiters identity c text (suc n) is inert =

@@ -12,7 +12,7 @@ use Rattle.gs_template.specs.declared.error.PlaceFault.TheVariants.{Brace, Code}
 abbrev pub is_brace : ℕ → Bool
 is_brace c = c == 123 || c == 125
 
--- trusted, own: the codes that may have places beside a key: its own, and those that its row lists as qualifiers
+-- trusted, own: the codes that a place may have for a key: the key's own code, and the qualifiers that its row lists
 abbrev pub codes_beside : List AiRow → List ℕ → List (List ℕ)
 codes_beside table key = key ∷ option_map_or (λ row. row.qualifiers) (find (has_code key) table) []
 
@@ -26,12 +26,12 @@ abbrev pub part_size : Part → ℕ
 part_size (itself c) = 1
 part_size (place code) = length code + 2
 
--- trusted, own: the errors of parts, of which the first stands at this place of the template
+-- trusted, own: the errors of parts; the first part is at this offset of the template
 abbrev pub errors_from : List (List ℕ) → ℕ → List Part → List PlaceFault
 errors_from codes at [] = []
 errors_from codes at (part ∷ parts) = part_errors codes at part ++ errors_from codes (at + part_size part) parts
 
--- trusted, own: the errors of a template beside a key, from the start
+-- trusted, own: the errors of a template for a key, from the start
 unfoldable pub place_errors : List AiRow → List ℕ → List ℕ → List PlaceFault
 place_errors table key href = errors_from (codes_beside table key) 0 (parts href)
 

@@ -1,4 +1,4 @@
-/// What is wrong with a template. Its bytes are counted from 0.
+/// The errors of a template. Offsets count its bytes from 0.
 #[derive(Clone, Copy, Debug)]
 pub enum PlaceFault {
     /// The brace at this place is outside a place: no 2 to 4 digits and a closing brace follow it, or it ends none.

@@ -13,14 +13,14 @@ use gs_chars::{Memory, Text};
 use gs_ident::{Identity, append_escaped, is_coded};
 use std::alloc::Global;
 
-/// The first pair with a code.
+/// Returns the first pair with a code.
 fn pair_with<'a>(pairs: &'a [Pair], code: &[u8]) -> Option<&'a Pair>
     ensures { option_copied result ≡ find (is_coded code.now) pairs.now }
 {
     pairs.iter().find(|pair| is_coded(code, pair))
 }
 
-/// The value of the first pair with a code, and nothing where none has it.
+/// Returns the value of the first pair with a code, and nothing if none has it.
 fn value_among<'a>(pairs: &'a [Pair], code: &[u8]) -> &'a [u8]
     ensures { result.now ≡ value_of (find (is_coded code.now) pairs.now) }
 {
@@ -30,7 +30,7 @@ fn value_among<'a>(pairs: &'a [Pair], code: &[u8]) -> &'a [u8]
     }
 }
 
-/// The value of an identity under a code, and nothing where it has none.
+/// Returns the value of an identity under a code, and nothing if it has none.
 fn value_under<'a>(identity: &'a Identity, code: &[u8]) -> &'a [u8]
     ensures { result.now ≡ value_under identity.now code.now }
 {
@@ -43,7 +43,7 @@ fn value_under<'a>(identity: &'a Identity, code: &[u8]) -> &'a [u8]
     }
 }
 
-/// Appends what stands for a place that has this value.
+/// Appends the percent-encoded value.
 fn append_value(out: &mut Vec<u8>, value: &[u8]) -> Result<(), Memory>
     ensures text { IfOk result (λ _. out.new.items ≡ out.old.items ++ percent_encoded value.now) }
     ensures inert { list_all is_place_byte (percent_encoded value.now) ≡ true }
@@ -51,8 +51,7 @@ fn append_value(out: &mut Vec<u8>, value: &[u8]) -> Result<(), Memory>
     append_escaped(out, value)
 }
 
-/// Appends what stands for the part that begins with this byte and those behind it, and gives how many bytes of it follow its
-/// first one.
+/// Appends the expansion of the part that begins with this byte, and returns the number of its bytes after the first.
 fn append_part(
     out: &mut Vec<u8>,
     byte: u8,
@@ -74,10 +73,10 @@ fn append_part(
     Ok(size + 1)
 }
 
-/// The template with each place `{CODE}` filled by the identity's value under its code, escaped as in a Digital Link, and by
-/// nothing where it has no such pair; all other bytes stand as they are (RFC 6570, section 3.2.2). A place is an opening brace,
-/// 2 to 4 digits and a closing brace. No value adds a delimiter, and a template that is UTF-8 stays so. The one rejection is want
-/// of memory.
+/// Returns the template with each place `{CODE}` replaced by the identity's value of this AI, escaped as in a Digital Link URI,
+/// or by nothing if the identity has no such element. All other bytes are unchanged (RFC 6570, section 3.2.2). A place is an
+/// opening brace, 2 to 4 digits and a closing brace. No value adds a delimiter, and a template that is valid UTF-8 expands to
+/// valid UTF-8. Fails only with `Memory`.
 pub fn expand(alloc: Global, href: &[u8], identity: &Identity) -> Result<Text, Memory>
     ensures text { IfOk result (λ text. text ≡ filled href.now identity.now) }
     ensures delimiters { IfOk result (λ text. filter is_delimiter text ≡ filter is_delimiter href.now) }

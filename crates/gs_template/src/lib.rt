@@ -1,7 +1,7 @@
 //! Templates of references: a link's target with places for the values of an identity, so that one link serves all serial numbers
 //! of a trade item. A place is `{CODE}`, the simple expansion of RFC 6570 with the codes of application identifiers as names.
 //!
-//! - `places_ok` tells the first brace outside a place, or the first place whose code does not belong to the key.
+//! - `places_ok` finds the first brace outside a place, or the first place whose AI does not belong to the key.
 //! - `expand` fills the places. No value adds a delimiter to the reference.
 //!
 //! # Example
@@ -14,10 +14,10 @@
 //! https://shop.example/p/09506000134352?s=A%2FB&l=
 //! ```
 //!
-//! # Where it differs from the standard
+//! # Differences from the standard
 //!
-//! - A name is 2 to 4 digits; a brace that belongs to no place stands for itself, where RFC 6570 has an error.
-//! - The tilde is escaped too, as in a canonical link; no value has it.
+//! - A name is 2 to 4 digits. A brace outside a place is literal, where RFC 6570 has an error.
+//! - The tilde is escaped too, as in a canonical link; no value contains one.
 #![tactic(auto)]
 
 mod error;
@@ -28,5 +28,5 @@ mod places;
 
 pub use error::PlaceFault;
 pub use expansion::expand;
-pub use laws::{places_hold_plain_bytes, values_add_no_delimiter};
+pub use laws::{parts_of_a_template, places_hold_plain_bytes, values_add_no_delimiter};
 pub use places::places_ok;

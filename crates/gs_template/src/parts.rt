@@ -2,14 +2,14 @@ ghost use Rattle.std.specs.Prelude.{◌≡◌, ◌≤◌, length};
 ghost use Rattle.gs_chars.specs.Characters.{are_digits};
 ghost use Rattle.gs_template.specs.Templates.{code_size, is_closed, place_size};
 
-/// Whether each byte is a digit.
+/// Returns whether each byte is a digit.
 fn are_digits(text: &[u8]) -> bool
     ensures { result ≡ are_digits text.now }
 {
     text.iter().all(|c| c.is_ascii_digit())
 }
 
-/// Whether a text begins with so many digits and then a closing brace.
+/// Returns whether a text begins with that many digits and then a closing brace.
 fn is_closed(size: usize, text: &[u8]) -> bool
     ensures { result ≡ is_closed size text.now }
 {
@@ -19,7 +19,7 @@ fn is_closed(size: usize, text: &[u8]) -> bool
     }
 }
 
-/// How many digits, 2 to 4, stand before a closing brace, and 0 where there is no such code.
+/// Returns how many digits, 2 to 4, are before a closing brace, and 0 if there is no such code.
 #[tactic(auto, unfolding(crate::specs::Templates::code_size))]
 fn code_size(text: &[u8]) -> usize
     ensures size { result ≡ code_size text.now }
@@ -36,7 +36,7 @@ fn code_size(text: &[u8]) -> usize
     }
 }
 
-/// How many digits the code of a place has that begins with this byte and these behind it; 0 where none begins there.
+/// Returns how many digits the code of a place has that begins with this byte and these after it; 0 if none begins there.
 pub(crate) fn place_size(byte: u8, behind: &[u8]) -> usize
     ensures size { result ≡ place_size byte behind.now }
     ensures within { result ≤ length behind.now }

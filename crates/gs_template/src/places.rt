@@ -10,7 +10,7 @@ use crate::parts::place_size;
 use gs_ai::AiTable;
 use gs_chars::Text;
 
-/// The codes of the qualifiers of a key, and none where no row has it.
+/// Returns the codes of the qualifiers of a key, and none if no row has it.
 fn qualifiers_of<'a>(table: &'a AiTable, key: &[u8]) -> &'a [Text]
     ensures { result.now ≡ option_map_or (λ row. row.qualifiers) (find (has_code key.now) table.now) [] }
 {
@@ -20,14 +20,14 @@ fn qualifiers_of<'a>(table: &'a AiTable, key: &[u8]) -> &'a [Text]
     }
 }
 
-/// Whether the byte is a brace.
+/// Returns whether the byte is a brace.
 fn is_brace(byte: u8) -> bool
     ensures { result ≡ is_brace byte }
 {
     byte == b'{' || byte == b'}'
 }
 
-/// Whether a code may have a place beside a key with these qualifiers.
+/// Returns whether a place may have this AI for a key with these qualifiers.
 fn is_beside(key: &[u8], qualifiers: &[Text], code: &[u8]) -> bool
     ensures { result ≡ list_any (bytes_eq code.now) (key.now ∷ qualifiers.now) }
 {
@@ -42,8 +42,7 @@ fn is_beside(key: &[u8], qualifiers: &[Text], code: &[u8]) -> bool
     false
 }
 
-/// Judges the part that begins at a place of a template, with this byte and those behind it, and gives how many bytes of it
-/// follow its first one.
+/// Checks the part that begins at an offset of a template, and returns the number of its bytes after the first.
 fn judge(
     key: &[u8],
     qualifiers: &[Text],
@@ -73,10 +72,10 @@ fn judge(
     }
 }
 
-/// Whether the braces of a template are those of places, and each place has the code of the key or of one of its qualifiers.
-/// Going from the start the first error is the answer. `Brace`: an opening brace that 2 to 4 digits and a closing brace do not
-/// follow, or a closing brace that ends no place. `Code`: a place of another code. The row of the table with the code `key` lists
-/// the qualifiers; where there is none, the key's own code alone may have places. It takes no memory.
+/// Checks that each brace of a template belongs to a place, and that each place has the AI of the key or of one of its
+/// qualifiers. Returns the first error from the start. `Brace`: an opening brace without 2 to 4 digits and a closing brace after
+/// it, or a closing brace outside a place. `Code`: a place with another AI. The row of `key` in the table lists the qualifiers;
+/// without a row, only the key's own AI is allowed. Does not allocate.
 #[tactic(auto, unfolding(crate::specs::Errors::place_errors))]
 pub fn places_ok(table: &AiTable, key: &[u8], href: &[u8]) -> Result<(), PlaceFault>
     ensures { result ≡ first_error (place_errors table.now key.now href.now) }

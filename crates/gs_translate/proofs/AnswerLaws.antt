@@ -1,4 +1,4 @@
--- A text has at most one meaning and one answer, and one by tables that keep their rules.
+-- A text has at most one meaning and one answer, and one by tables that satisfy their rules.
 use Rattle.std.proofs.Common.{◌≡◌, ℕ, zero, suc, ◌≤◌, ◌⊎◌, true, List, [], ◌∷◌, Option, Some, None, refl, sym, ◌∙◌, ap, inl, inr, length, take, get_or, arith}
 use Rattle.std.specs.Prelude.{◌≢◌, ◌%◌, is_some, Result, Ok, Err}
 use Rattle.std.specs.List.{AllPass}
@@ -33,14 +33,15 @@ use Rattle.gs_epc.proofs.ReadingFacts.{hex_answer, of_set, said_of, says}
 use Rattle.gs_translate.specs.declared.form.Form.{Form}
 use Rattle.gs_translate.specs.declared.form.Form.TheVariants as form
 use Rattle.gs_translate.specs.declared.meaning.Meaning.{Meaning}
-use Rattle.gs_translate.specs.declared.reason.Reason.{Reason}
-use Rattle.gs_translate.specs.declared.reason.Reason.TheVariants.{CannotHold, Element, Epc as NoEpc, Extra, Ident, Long, Missing, NoKeyPath, NoKind, NoOption, NotHttp, Memory as NoMemory}
+use Rattle.gs_translate.specs.declared.reason.Reason.TheVariants.{Epc as NoEpc, Long}
 use Rattle.gs_translate.specs.Answers.{IsAnswer, IsCanonical}
 use Rattle.gs_translate.specs.Conditions.{AsksForOne, AsksForSome}
-use Rattle.gs_translate.specs.Meanings.{IsRead, MeaningOf, Means, MeansEpc, ReadsBracketed, ReadsLink, ReadsRaw, epc_meaning, short, too_long}
+use Rattle.gs_translate.specs.Meanings.{IsRead, Means, MeansEpc, ReadsBracketed, ReadsRaw, epc_meaning, short, too_long}
+use Rattle.gs_translate.specs.MeaningsSupport.{ReadsLink}
+use Rattle.gs_translate.specs.Steps.{Reworded, Then, goes_on, rejects}
 use Rattle.gs_translate.specs.StepsSupport.{HasOne, HasSome}
 use Rattle.gs_translate.proofs.PairLaws.{ais_kept, one_bracketed, one_link, one_of_pairs, one_raw, some_bracketed, some_link, some_of_pairs, some_raw}
-use Rattle.gs_translate.proofs.StepLaws.{then_one, then_some}
+use Rattle.gs_translate.proofs.StepLaws.{gives_err, gives_ok, one_reworded, then_one, then_some}
 
 -- the answer is not out of memory
 abbrev IsKnown : Result Epc EpcFault → Type 0
@@ -85,7 +86,7 @@ same_error text (BadDigit place) OddDigits f g = absurd (let even = f.0 in omega
 same_error text (BadDigit place) Full f g = absurd (let short = f.1 in let long = g.1 in omega arith)
 same_error text (BadDigit place) (BadDigit place') f g = ap BadDigit (first_bad_same text place place' f.2 g.2)
 
--- why the text is no hexadecimal one, or the answer to its bits
+-- why the text is not a hexadecimal one, or the answer to its bits
 abbrev HexCase : TableRows → List ℕ → Result Epc EpcFault → Type 0
 HexCase set text answer = ((error : HexFault) × (answer ≡ Err (Hex error)) × IsHexFault text error) ⊎ (IsHex text × ReadsAs set level.Binary (bits_of_hex text) answer)
 
@@ -114,59 +115,18 @@ same_laid set epc epc' one other e a b =
     let kind = same_at set.kinds epc.kind epc'.kind a.kind b.kind a.named b.named (ap (λ (x : Epc). x.kind) e) in
     a.laid ∙ ap (λ (x : Epc). lay set.ais a.kind (fields_in x)) e ∙ ap (λ k. lay set.ais k (fields_in epc')) kind ∙ sym b.laid
 
--- a reading that means something is known
-means_known : (set : TableRows) (said : Result Epc EpcFault) (answer : Result Meaning Reason) → MeaningOf set said answer → IsKnown said
-means_known set (Ok epc) answer m = tt
-means_known set (Err error) (Err (NoEpc reason)) m = m.1
-means_known set (Err error) (Err Long) m = absurd m
-means_known set (Err error) (Err (Element other)) m = absurd m
-means_known set (Err error) (Err (Ident other)) m = absurd m
-means_known set (Err error) (Err NotHttp) m = absurd m
-means_known set (Err error) (Err NoKeyPath) m = absurd m
-means_known set (Err error) (Err NoKind) m = absurd m
-means_known set (Err error) (Err (Extra code)) m = absurd m
-means_known set (Err error) (Err (Missing name)) m = absurd m
-means_known set (Err error) (Err NoOption) m = absurd m
-means_known set (Err error) (Err (CannotHold field why)) m = absurd m
-means_known set (Err error) (Err NoMemory) m = absurd m
-means_known set (Err error) (Ok meaning) m = absurd m
+known_of : (said : Result Epc EpcFault) → said ≢ Err Memory → IsKnown said
+known_of (Ok epc) t = tt
+known_of (Err error) t = λ e. t (ap Err e)
 
-same_meaning : (set : TableRows) (said : Result Epc EpcFault) (one other : Result Meaning Reason) → MeaningOf set said one → MeaningOf set said other → one ≡ other
-same_meaning set (Ok epc) (Ok m) (Ok n) a b =
-    ap Ok (a.is ∙ ap (epc_meaning epc) (same_laid set epc epc a.elements b.elements refl a.laid b.laid) ∙ sym b.is)
-same_meaning set (Ok epc) (Ok m) (Err reason) a b = absurd b
-same_meaning set (Ok epc) (Err reason) other a b = absurd a
-same_meaning set (Err error) (Err (NoEpc reason)) (Err (NoEpc reason')) a b = ap (λ (f : EpcFault). Err (NoEpc f)) (a.0 ∙ sym b.0)
-same_meaning set (Err error) (Err (NoEpc reason)) (Err Long) a b = absurd b
-same_meaning set (Err error) (Err (NoEpc reason)) (Err (Element other)) a b = absurd b
-same_meaning set (Err error) (Err (NoEpc reason)) (Err (Ident other)) a b = absurd b
-same_meaning set (Err error) (Err (NoEpc reason)) (Err NotHttp) a b = absurd b
-same_meaning set (Err error) (Err (NoEpc reason)) (Err NoKeyPath) a b = absurd b
-same_meaning set (Err error) (Err (NoEpc reason)) (Err NoKind) a b = absurd b
-same_meaning set (Err error) (Err (NoEpc reason)) (Err (Extra code)) a b = absurd b
-same_meaning set (Err error) (Err (NoEpc reason)) (Err (Missing name)) a b = absurd b
-same_meaning set (Err error) (Err (NoEpc reason)) (Err NoOption) a b = absurd b
-same_meaning set (Err error) (Err (NoEpc reason)) (Err (CannotHold field why)) a b = absurd b
-same_meaning set (Err error) (Err (NoEpc reason)) (Err NoMemory) a b = absurd b
-same_meaning set (Err error) (Err (NoEpc reason)) (Ok meaning) a b = absurd b
-same_meaning set (Err error) (Err Long) other a b = absurd a
-same_meaning set (Err error) (Err (Element element)) other a b = absurd a
-same_meaning set (Err error) (Err (Ident ident)) other a b = absurd a
-same_meaning set (Err error) (Err NotHttp) other a b = absurd a
-same_meaning set (Err error) (Err NoKeyPath) other a b = absurd a
-same_meaning set (Err error) (Err NoKind) other a b = absurd a
-same_meaning set (Err error) (Err (Extra code)) other a b = absurd a
-same_meaning set (Err error) (Err (Missing name)) other a b = absurd a
-same_meaning set (Err error) (Err NoOption) other a b = absurd a
-same_meaning set (Err error) (Err (CannotHold field why)) other a b = absurd a
-same_meaning set (Err error) (Err NoMemory) other a b = absurd a
-same_meaning set (Err error) (Ok meaning) other a b = absurd a
+one_epc : (set : TableRows) (epc : Epc) → HasOne (MeansEpc set epc)
+one_epc set epc one other a b =
+    a.2 ∙ ap (λ (x : Elements). Ok (epc_meaning epc x)) (same_laid set epc epc a.0 b.0 refl a.1 b.1) ∙ sym b.2
 
-means_one : (set : TableRows) (Reads : Result Epc EpcFault → Type 0) → ((one other : Result Epc EpcFault) → IsKnown one → IsKnown other → Reads one → Reads other → one ≡ other) → HasOne (MeansEpc set Reads)
-means_one set Reads same one other a b =
-    let said : a.said ≡ b.said = same a.said b.said (means_known set a.said one a.means) (means_known set b.said other b.means) a.read b.read in
-    let means : MeaningOf set a.said other = rw said b.means in
-    same_meaning set a.said one other a.means means
+means_one : (set : TableRows) (Reads : Result Epc EpcFault → Type 0) → ((one other : Result Epc EpcFault) → IsKnown one → IsKnown other → Reads one → Reads other → one ≡ other) → HasOne (Then (Reworded Memory NoEpc Reads) (MeansEpc set))
+means_one set Reads same =
+    then_one (Reworded Memory NoEpc Reads) (MeansEpc set)
+    (one_reworded Memory NoEpc Reads (λ one other t u a b. same one other (known_of one t) (known_of other u) a b)) (one_epc set)
 
 one_meaning : (set : TableRows) (form : Form) (text : List ℕ) → AsksForOne form set → HasOne (Means set form text)
 one_meaning set form.Hex text asks = means_one set (ReadsHex set text) (same_hex set text)
@@ -195,7 +155,7 @@ data Known (set : TableRows) (Reads : Result Epc EpcFault → Type 0) : Type 0 w
   says_epc : (epc : Epc) → Reads (Ok epc) → IsOfSet set epc → Known set Reads
   has_error : (error : EpcFault) → error ≢ Memory → Reads (Err error) → Known set Reads
 
--- what is read at a place, or behind the last one anything
+-- the facts at an index, or any after the last one
 some_info : (infos : List OptInfo) (i : ℕ) → (info : OptInfo) × (info ≡ get_or infos i info)
 some_info [] i = (record { kind = 0; encoding = []; gcp = 0; fields = [] }, refl)
 some_info (info ∷ infos) zero = (info, refl)
@@ -217,7 +177,7 @@ known_level set level symbols loaded = known_counted set level symbols loaded (e
 
 -- ---- an answer to hexadecimal digits
 
--- all bytes are digits, or one is the first that is none
+-- all bytes are digits, or one is the first that is not
 abbrev AreKnown : List ℕ → Type 0
 AreKnown text = AllPass is_hex_digit text ⊎ ((place : ℕ) × FirstBadDigit text place)
 
@@ -256,13 +216,13 @@ known_hex set text loaded = elim (cases_eq (length text % 2) 0) as (λ _. Known 
 
 -- ---- a meaning of a text
 
-means_some : (set : TableRows) (Reads : Result Epc EpcFault → Type 0) → IsShaped set → Known set Reads → HasSome (MeansEpc set Reads)
-means_some set Reads shaped (has_error error t read) = (Err (NoEpc error), record { said = Err error; read = read; means = (refl, t) })
+means_some : (set : TableRows) (Reads : Result Epc EpcFault → Type 0) → IsShaped set → Known set Reads → HasSome (Then (Reworded Memory NoEpc Reads) (MeansEpc set))
+means_some set Reads shaped (has_error error t read) = (Err (NoEpc error), rejects (NoEpc error) (gives_err Memory NoEpc Reads error t read) refl)
 means_some set Reads shaped (says_epc epc read of) =
     let kind = fit_kind set epc shaped of in
     let elements = lay set.ais kind.0 (fields_in epc) in
     let laid : IsLaidOut set epc elements = record { kind = kind.0; named = kind.1; laid = refl } in
-    (Ok (epc_meaning epc elements), record { said = Ok epc; read = read; means = record { elements = elements; laid = laid; is = refl } })
+    (Ok (epc_meaning epc elements), goes_on epc (gives_ok Memory NoEpc Reads epc read) (elements, laid, refl))
 
 some_meaning : (set : TableRows) (form : Form) (text : List ℕ) → AsksForSome form set → HasSome (Means set form text)
 some_meaning set form.Hex text loaded = means_some set (ReadsHex set text) loaded.shaped (known_hex set text loaded)

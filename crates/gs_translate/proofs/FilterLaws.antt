@@ -1,4 +1,4 @@
--- The filter value that a text tells is one of 0 to 7.
+-- The filter value of a text is one of 0 to 7.
 use Rattle.std.proofs.Common.{◌≡◌, ℕ, ◌≤◌, ◌+◌, ◌-◌, ◌*◌, Bool, true, false, true≢false, List, [], ◌∷◌, Option, Some, None, refl, sym, subst, arith}
 use Rattle.std.specs.Prelude.{IfSome, Result, Ok, Err}
 use Rattle.std.specs.Option.{option_map}
@@ -9,6 +9,7 @@ use Rattle.gs_tables_document.specs.declared.level_name.LevelName.{LevelName}
 use Rattle.gs_tables_document.specs.declared.level_name.LevelName.TheVariants as level
 use Rattle.gs_epc.specs.declared.epc.Epc.{Epc}
 use Rattle.gs_epc.specs.declared.error.EpcFault.{EpcFault}
+use Rattle.gs_epc.specs.declared.error.EpcFault.TheVariants.{Memory as NoRoom}
 use Rattle.gs_epc.specs.Epcs.{value_at}
 use Rattle.gs_epc.specs.Filters.{IsFilter}
 use Rattle.gs_epc.specs.Readings.{ReadsAs, ReadsHex, Says}
@@ -22,9 +23,11 @@ use Rattle.gs_translate.specs.declared.form.Form.{Form}
 use Rattle.gs_translate.specs.declared.form.Form.TheVariants as form
 use Rattle.gs_translate.specs.declared.meaning.Meaning.{Meaning}
 use Rattle.gs_translate.specs.declared.reason.Reason.{Reason}
-use Rattle.gs_translate.specs.declared.reason.Reason.TheVariants.{Ident}
-use Rattle.gs_translate.specs.Meanings.{IsRead, identity_meaning, MeaningOf, Means, MeansEpc, MeansPairs, ReadsBracketed, ReadsLink, ReadsRaw, identified, short, too_long}
-use Rattle.gs_translate.specs.Steps.{goes_on, rejects}
+use Rattle.gs_translate.specs.declared.reason.Reason.TheVariants.{Epc as NoEpc, Ident}
+use Rattle.gs_translate.specs.Meanings.{IsIdentified, IsRead, epc_meaning, identity_meaning, Means, MeansEpc, ReadsBracketed, ReadsRaw, short, too_long}
+use Rattle.gs_translate.specs.MeaningsSupport.{ReadsLink, identified}
+use Rattle.gs_translate.specs.Steps.{Reworded, Then, goes_on, rejects}
+use Rattle.gs_translate.proofs.StepLaws.{given_ok}
 use Rattle.gs_translate.specs.Targets.{FitsFilter, kept}
 
 -- ---- tags and EPC URIs
@@ -51,16 +54,15 @@ said_fits set level symbols epc shaped says =
     let fits = value_fits (value_at Filter says.info.fields says.values) (filter_of_said set level says.option says.values says.info shaped is) in
     subst (λ (e : Epc). FitsFilter e.filter) (sym says.fields) fits
 
--- what a reader says of a text has a filter value that fits
+-- the EPC that a reader reads from a text has a filter value that fits
 abbrev Fits : (Result Epc EpcFault → Type 0) → Type 0
 Fits Reads = (epc : Epc) → Reads (Ok epc) → FitsFilter epc.filter
 
-meaning_fits : (set : TableRows) (said : Result Epc EpcFault) (meaning : Meaning) → ((epc : Epc) → said ≡ Ok epc → FitsFilter epc.filter) → MeaningOf set said (Ok meaning) → FitsFilter meaning.filter
-meaning_fits set (Ok epc) meaning fits m = subst (λ (x : Meaning). FitsFilter x.filter) (sym m.is) (fits epc refl)
-meaning_fits set (Err error) meaning fits m = absurd m
-
-epc_fits : (set : TableRows) (Reads : Result Epc EpcFault → Type 0) (meaning : Meaning) → Fits Reads → MeansEpc set Reads (Ok meaning) → FitsFilter meaning.filter
-epc_fits set Reads meaning fits m = meaning_fits set m.said meaning (λ epc e. fits epc (subst Reads e m.read)) m.means
+epc_fits : (set : TableRows) (Reads : Result Epc EpcFault → Type 0) (meaning : Meaning) → Fits Reads → Then (Reworded NoRoom NoEpc Reads) (MeansEpc set) (Ok meaning) → FitsFilter meaning.filter
+epc_fits set Reads meaning fits (rejects error read e) = absurd (let f : Ok meaning ≡ Err error = e in cc)
+epc_fits set Reads meaning fits (goes_on epc read (elements, laid, is)) =
+    let same : meaning ≡ epc_meaning epc elements = (let f : Ok meaning ≡ Ok (epc_meaning epc elements) = is in cc) in
+    subst (λ (x : Meaning). FitsFilter x.filter) (sym same) (fits epc (given_ok NoRoom NoEpc Reads epc read))
 
 -- ---- element strings and links
 
@@ -68,7 +70,7 @@ identified_fits : (made : Result Elements IdentFault) (meaning : Meaning) → Ok
 identified_fits (Ok identity) meaning e = let same : meaning ≡ identity_meaning identity = let f : Ok meaning ≡ Ok (identity_meaning identity) = e in cc in rw same tt
 identified_fits (Err error) meaning e = absurd (let f : Ok meaning ≡ Err (Ident error) = e in cc)
 
-pairs_fit : (set : TableRows) (Reads : Result (List Pair) Reason → Type 0) (meaning : Meaning) → MeansPairs set Reads (Ok meaning) → FitsFilter meaning.filter
+pairs_fit : (set : TableRows) (Reads : Result (List Pair) Reason → Type 0) (meaning : Meaning) → Then Reads (IsIdentified set) (Ok meaning) → FitsFilter meaning.filter
 pairs_fit set Reads meaning (rejects error read e) = absurd (let f : Ok meaning ≡ Err error = e in cc)
 pairs_fit set Reads meaning (goes_on pairs read e) = identified_fits (identity_of_pairs set.ais pairs) meaning e
 

@@ -17,6 +17,7 @@ use Rattle.gs_element.specs.Joins.{Form as ElementForm, Joined}
 use Rattle.gs_element.specs.Raw.{IsRaw, IsRawElement, body_of}
 use Rattle.gs_epc.specs.declared.epc.Epc.{Epc}
 use Rattle.gs_epc.specs.declared.error.EpcFault.{EpcFault}
+use Rattle.gs_epc.specs.declared.error.EpcFault.TheVariants.{Memory as NoRoom}
 use Rattle.gs_epc.specs.Epcs.{IsOfSet}
 use Rattle.gs_epc.specs.Layout.{IsLaidOut, key_pair, lay, fields_in}
 use Rattle.gs_epc.specs.LayoutSupport.{serial_pairs}
@@ -33,12 +34,14 @@ use Rattle.gs_translate.specs.declared.form.Form.{Form}
 use Rattle.gs_translate.specs.declared.form.Form.TheVariants as form
 use Rattle.gs_translate.specs.declared.meaning.Meaning.{Meaning}
 use Rattle.gs_translate.specs.declared.reason.Reason.{Reason}
-use Rattle.gs_translate.specs.declared.reason.Reason.TheVariants.{Ident}
-use Rattle.gs_translate.specs.Meanings.{IsRead, MeaningOf, Means, MeansEpc, MeansPairs, ReadsBracketed, ReadsLink, ReadsRaw, identified, identity_meaning, short, too_long}
-use Rattle.gs_translate.specs.Steps.{goes_on, rejects}
+use Rattle.gs_translate.specs.declared.reason.Reason.TheVariants.{Epc as NoEpc, Ident}
+use Rattle.gs_translate.specs.Meanings.{IsIdentified, IsRead, Means, MeansEpc, ReadsBracketed, ReadsRaw, epc_meaning, identity_meaning, link_reason, short, too_long}
+use Rattle.gs_translate.specs.MeaningsSupport.{ReadsLink, identified}
+use Rattle.gs_translate.specs.Steps.{Reworded, Then, goes_on, rejects}
 use Rattle.gs_translate.proofs.PairLaws.{ais_kept}
+use Rattle.gs_translate.proofs.StepLaws.{given_ok, said_ok}
 
--- ---- pairs that are read are in order
+-- ---- pairs that are read are valid
 
 joined_in_order : (table : List AiRow) (Element : ElementForm) → ((pair : Pair) (text after : List ℕ) → Element pair text after → IsInOrder table pair) → (pairs : List Pair) (text rest : List ℕ) → Joined Element pairs text rest → All (IsInOrder table) pairs
 joined_in_order table Element own [] text rest j = All-nil (IsInOrder table)
@@ -79,7 +82,7 @@ identified_made table pairs (Ok identity) meaning all own e =
     subst (λ (x : Meaning). IsMadeWith table x.identity) (sym same) (made_with table pairs identity all own)
 identified_made table pairs (Err error) meaning all own e = absurd (let f : Ok meaning ≡ Err (Ident error) = e in cc)
 
-pairs_made : (set : TableRows) (Reads : Result (List Pair) Reason → Type 0) (meaning : Meaning) → ((pairs : List Pair) → Reads (Ok pairs) → All (IsInOrder set.ais) pairs) → MeansPairs set Reads (Ok meaning) → IsMadeWith set.ais meaning.identity
+pairs_made : (set : TableRows) (Reads : Result (List Pair) Reason → Type 0) (meaning : Meaning) → ((pairs : List Pair) → Reads (Ok pairs) → All (IsInOrder set.ais) pairs) → Then Reads (IsIdentified set) (Ok meaning) → IsMadeWith set.ais meaning.identity
 pairs_made set Reads meaning all (rejects error read e) = absurd (let f : Ok meaning ≡ Err error = e in cc)
 pairs_made set Reads meaning all (goes_on pairs read e) = identified_made set.ais pairs (identity_of_pairs set.ais pairs) meaning (all pairs read) refl e
 
@@ -108,12 +111,11 @@ laid_made set epc elements shaped of laid =
     let made = made_with set.ais pairs (lay set.ais kind.0 (fields_in epc)) (laid_in_order set.ais kind.0 (fields_in epc) kind.2 rules) (laid_identity set.ais kind.0 (fields_in epc) kind.2 rules) in
     subst (λ (e : Elements). IsMadeWith set.ais e) (sym is) made
 
-meaning_made : (set : TableRows) (said : Result Epc EpcFault) (meaning : Meaning) → IsShaped set → ((epc : Epc) → said ≡ Ok epc → IsOfSet set epc) → MeaningOf set said (Ok meaning) → IsMadeWith set.ais meaning.identity
-meaning_made set (Ok epc) meaning shaped of m = subst (λ (x : Meaning). IsMadeWith set.ais x.identity) (sym m.is) (laid_made set epc m.elements shaped (of epc refl) m.laid)
-meaning_made set (Err error) meaning shaped of m = absurd m
-
-epc_made : (set : TableRows) (Reads : Result Epc EpcFault → Type 0) (meaning : Meaning) → IsShaped set → ((epc : Epc) → Reads (Ok epc) → IsOfSet set epc) → MeansEpc set Reads (Ok meaning) → IsMadeWith set.ais meaning.identity
-epc_made set Reads meaning shaped of m = meaning_made set m.said meaning shaped (λ epc e. of epc (subst Reads e m.read)) m.means
+epc_made : (set : TableRows) (Reads : Result Epc EpcFault → Type 0) (meaning : Meaning) → IsShaped set → ((epc : Epc) → Reads (Ok epc) → IsOfSet set epc) → Then (Reworded NoRoom NoEpc Reads) (MeansEpc set) (Ok meaning) → IsMadeWith set.ais meaning.identity
+epc_made set Reads meaning shaped of (rejects error read e) = absurd (let f : Ok meaning ≡ Err error = e in cc)
+epc_made set Reads meaning shaped of (goes_on epc read (elements, laid, is)) =
+    let same : meaning ≡ epc_meaning epc elements = (let f : Ok meaning ≡ Ok (epc_meaning epc elements) = is in cc) in
+    subst (λ (x : Meaning). IsMadeWith set.ais x.identity) (sym same) (laid_made set epc elements shaped (of epc (given_ok NoRoom NoEpc Reads epc read)) laid)
 
 -- ---- the identity of a text
 
@@ -123,7 +125,7 @@ means_made set form.Tag text meaning shaped m = epc_made set (ReadsAs set level.
 means_made set form.Pure text meaning shaped m = epc_made set (ReadsAs set level.Pure text) meaning shaped (λ epc read. says_of_set set level.Pure text epc read) m
 means_made set form.Raw text meaning shaped m = pairs_made set (ReadsRaw set text) meaning (λ pairs read. raw_in_order set.ais text pairs read) m
 means_made set form.Bracketed text meaning shaped m = pairs_made set (ReadsBracketed set text) meaning (λ pairs read. bracketed_in_order set.ais text pairs read) m
-means_made set form.Link text meaning shaped m = pairs_made set (ReadsLink set text) meaning (λ pairs read. link_in_order set.ais text pairs read) m
+means_made set form.Link text meaning shaped m = pairs_made set (ReadsLink set text) meaning (λ pairs read. link_in_order set.ais text pairs (said_ok link_reason (link_answer set.ais text) pairs read)) m
 
 pub made_of_read : (set : TableRows) (form : Form) (text : List ℕ) (meaning : Meaning) → IsShaped set → IsRead set form text (Ok meaning) → IsMadeWith set.ais meaning.identity
 made_of_read set form text meaning shaped (too_long more e) = absurd (cc)

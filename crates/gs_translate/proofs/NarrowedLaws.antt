@@ -1,4 +1,4 @@
--- An identity of which only the key is kept, with one qualifier or none, is made with the table too.
+-- An identity that keeps only its key, with one qualifier or none, is made with the table too.
 use Rattle.std.proofs.Common.{◌≡◌, ◌⊎◌, true, false, List, [], ◌∷◌, ◌++◌, Some, None, Ok, bytes_eq, filter, find, not, refl, sym, ap, subst, ◌∙◌, inl, inr, ℕ}
 use Rattle.std.specs.List.{filter_map, list_any}
 use Rattle.std.proofs.lemmas.List.Elements.{All-cons, All-filter, All-head, All-nil, filter_passes}

@@ -15,9 +15,12 @@ use Rattle.gs_translate.specs.declared.target.Target.{Target}
 use Rattle.gs_translate.specs.declared.target.Target.TheVariants.{Hex, Tag, Pure, Raw, Bracketed, Link, Canon}
 use Rattle.gs_translate.specs.Conditions.{AsksForOne, AsksForSome}
 use Rattle.gs_translate.specs.Meanings.{IsRead}
+use Rattle.gs_epc.specs.declared.write_error.EpcWriteFault.TheVariants as write
+use Rattle.gs_epc.specs.Writes.{WritesAs}
+use Rattle.gs_translate.specs.Steps.{Reworded}
 use Rattle.gs_translate.specs.StepsSupport.{HasOne, HasSome}
 use Rattle.gs_translate.specs.Targets.{epc_for, kept}
-use Rattle.gs_translate.specs.Translations.{IsOfLevel, IsSpelling, IsTranslation, IsWritten}
+use Rattle.gs_translate.specs.Translations.{IsOfLevel, IsSpelling, IsTranslation, write_reason}
 use Rattle.gs_translate.proofs.AnswerLaws.{one_read, some_read}
 use Rattle.gs_translate.proofs.OneWriting.{one_written}
 use Rattle.gs_translate.proofs.SomeWriting.{some_written}
@@ -26,7 +29,7 @@ use Rattle.gs_translate.proofs.StepLaws.{then_one, then_some}
 module _ (set : TableRows) (prefixes : List PrefixEntry) (options : Options) where
   one_of_level : (level : LevelName) (meaning : Meaning) → HasOne (IsOfLevel set prefixes options level meaning)
   one_of_level level meaning =
-      then_one (λ epc. epc ≡ epc_for set prefixes options level meaning) (IsWritten set level) (λ one other a b. a ∙ sym b) (λ epc. one_written set level epc)
+      then_one (λ epc. epc ≡ epc_for set prefixes options level meaning) (λ epc. Reworded write.Memory write_reason (WritesAs set level epc)) (λ one other a b. a ∙ sym b) (λ epc. one_written set level epc)
 
   one_spelling : (to : Target) (meaning : Meaning) → HasOne (IsSpelling set prefixes options to meaning)
   one_spelling Hex meaning = one_of_level level.Binary meaning
@@ -43,7 +46,7 @@ module _ (set : TableRows) (prefixes : List PrefixEntry) (options : Options) whe
 
   some_of_level : (level : LevelName) (meaning : Meaning) → HasSome (IsOfLevel set prefixes options level meaning)
   some_of_level level meaning =
-      then_some (λ epc. epc ≡ epc_for set prefixes options level meaning) (IsWritten set level) (epc_for set prefixes options level meaning, refl) (λ epc said. some_written set level epc)
+      then_some (λ epc. epc ≡ epc_for set prefixes options level meaning) (λ epc. Reworded write.Memory write_reason (WritesAs set level epc)) (epc_for set prefixes options level meaning, refl) (λ epc said. some_written set level epc)
 
   some_spelling : (to : Target) (meaning : Meaning) → HasSome (IsSpelling set prefixes options to meaning)
   some_spelling Hex meaning = some_of_level level.Binary meaning

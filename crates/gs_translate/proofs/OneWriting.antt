@@ -1,6 +1,6 @@
 -- An EPC is written in a level in at most one way, or is rejected for one reason.
 use Rattle.std.proofs.Common.{◌≡◌, ◌⊎◌, ℕ, ◌<◌, suc, List, Option, Some, None, Ok, Err, refl, sym, ap, ◌∙◌, inl, inr, arith}
-use Rattle.std.specs.Prelude.{◌≢◌}
+use Rattle.std.specs.Prelude.{◌≢◌, Result}
 use Rattle.std.proofs.lemmas.Bool.Decides.{leb_tells}
 use Rattle.std.proofs.lemmas.Option.{slice_get_within}
 use Rattle.gs_chars.proofs.TruthsAndLists.{same_at}
@@ -18,8 +18,10 @@ use Rattle.gs_epc.specs.declared.write_error.EpcWriteFault.TheVariants as write
 use Rattle.gs_epc.specs.Candidates.{Candidate, left_out, values_for}
 use Rattle.gs_epc.specs.Epcs.{options_of}
 use Rattle.gs_epc.specs.Writes.{LastRejects, Rejects, Writes, WritesAs, field_at, text_on}
+use Rattle.gs_translate.specs.Steps.{Reworded, UnlessMemory}
 use Rattle.gs_translate.specs.StepsSupport.{HasOne}
-use Rattle.gs_translate.specs.Translations.{IsWritten, write_reason}
+use Rattle.gs_translate.specs.Translations.{write_reason}
+use Rattle.gs_translate.proofs.StepLaws.{gives_err, one_reworded}
 
 -- ---- rejections of one option
 
@@ -62,7 +64,7 @@ abbrev pub Says : List Item → List (List ℕ) → List (Option Field) → Opti
 Says items values fields out field why =
     ((k : ℕ) × IsFirstRejection items values k why × (field ≡ field_at fields k)) ⊎ (AreHeld items values × (out ≡ Some field) × (why ≡ Length))
 
--- where a rejection says something, not every field is held
+-- if there is a rejection, not every field is held
 pub not_says : (items : List Item) (values : List (List ℕ)) (fields : List (Option Field)) (out : Option Field) (field : Field) (why : Why) → Says items values fields out field why → AreHeld items values → out ≡ None → ⊥
 not_says items values fields out field why (inl a) held none = not_held items values a.0 why a.1 held
 not_says items values fields out field why (inr a) held none = let both : Some field ≡ None = sym a.1 ∙ none in cc
@@ -124,8 +126,17 @@ module _ (set : TableRows) (level : LevelName) (epc : Epc) where
   not_both text (write.CannotHold field why) t a b = b.none (suc a.option) a.option a.candidate (omega arith) a.holds
   not_both text write.Memory t a b = t refl
 
-  pub one_written : HasOne (IsWritten set level epc)
-  one_written (Ok text) (Ok other) a b = ap Ok (one_text text other a b)
-  one_written (Ok text) (Err reason) a b = absurd (not_both text b.0 b.1 a b.2)
-  one_written (Err reason) (Ok text) a b = absurd (not_both text a.0 a.1 b a.2)
-  one_written (Err reason) (Err other) a b = ap Err (a.3 ∙ ap write_reason (one_error a.0 b.0 a.1 b.1 a.2 b.2) ∙ sym b.3)
+  pub writes_one : (one other : Result (List ℕ) EpcWriteFault) → one ≢ Err write.Memory → other ≢ Err write.Memory → WritesAs set level epc one → WritesAs set level epc other → one ≡ other
+  writes_one (Ok text) (Ok other) t u a b = ap Ok (one_text text other a b)
+  writes_one (Ok text) (Err error) t u a b = absurd (not_both text error (λ e. u (ap Err e)) a b)
+  writes_one (Err error) (Ok text) t u a b = absurd (not_both text error (λ e. t (ap Err e)) b a)
+  writes_one (Err error) (Err other) t u a b = ap Err (one_error error other (λ e. t (ap Err e)) (λ e. u (ap Err e)) a b)
+
+  pub one_written : HasOne (Reworded write.Memory write_reason (WritesAs set level epc))
+  one_written = one_reworded write.Memory write_reason (WritesAs set level epc) writes_one
+
+-- why nothing is written is why there is no spelling
+pub written_none : (set : TableRows) (level : LevelName) (epc : Epc) (error : EpcWriteFault) → WritesAs set level epc (Err error) → UnlessMemory {X = List ℕ} (Err (write_reason error)) (Reworded write.Memory write_reason (WritesAs set level epc) (Err (write_reason error)))
+written_none set level epc write.NoOption w = gives_err write.Memory write_reason (WritesAs set level epc) write.NoOption (λ e. cc) w
+written_none set level epc (write.CannotHold field why) w = gives_err write.Memory write_reason (WritesAs set level epc) (write.CannotHold field why) (λ e. cc) w
+written_none set level epc write.Memory w = tt

@@ -1,6 +1,6 @@
--- What element strings and links mean: one thing, by tables that keep their rules.
+-- What element strings and links mean: one thing, by tables that satisfy their rules.
 use Rattle.std.proofs.Common.{◌≡◌, ◌⊎◌, inl, inr, ℕ, List, [], ◌∷◌, map, refl, sym, ◌∙◌, ap, arith}
-use Rattle.std.specs.Prelude.{◌≢◌, Option, Some, Result, Ok, Err, MatchResult}
+use Rattle.std.specs.Prelude.{◌≢◌, Some, None, Result, Ok, Err, MatchResult}
 use Rattle.gs_chars.proofs.TruthsAndLists.{none_behind, none_in_front}
 use Rattle.gs_ai.specs.declared.errors.ElementFault.{ElementFault}
 use Rattle.gs_ai.specs.declared.pair.Pair.{Pair}
@@ -8,8 +8,7 @@ use Rattle.gs_ai.specs.Tables.{KeepsRules, table_errors}
 use Rattle.gs_ai.proofs.RuleLemmas.{rules_kept}
 use Rattle.gs_dlink.specs.declared.error.LinkFault.{LinkFault}
 use Rattle.gs_dlink.specs.declared.error.LinkFault.TheVariants as link
-use Rattle.gs_dlink.specs.Answers.{IsLink, link_error}
-use Rattle.gs_dlink.proofs.AnswerLaws as dlink
+use Rattle.gs_dlink.specs.Answers.{error_in, link_answer, link_error}
 use Rattle.gs_tables_document.specs.declared.document.Document.{Document}
 use Rattle.gs_tables_document.specs.declared.error.LoadFault.TheVariants.{Ai}
 use Rattle.gs_element.specs.declared.errors.ElementsFault.{ElementsFault}
@@ -25,13 +24,13 @@ use Rattle.gs_tables.specs.Tables.{IsShaped, TableRows, row_rejections}
 use Rattle.gs_translate.specs.declared.meaning.Meaning.{Meaning}
 use Rattle.gs_translate.specs.declared.reason.Reason.{Reason}
 use Rattle.gs_translate.specs.declared.reason.Reason.TheVariants.{Element, NoKeyPath, NotHttp}
-use Rattle.gs_translate.specs.Meanings.{IsIdentified, MeansPairs, OfElement, OfLink, ReadsBracketed, ReadsLink, ReadsRaw, identified, link_reason}
-use Rattle.gs_translate.specs.MeaningsSupport.{elements_reason}
-use Rattle.gs_translate.specs.Steps.{UnlessMemory, rejects}
+use Rattle.gs_translate.specs.Meanings.{IsIdentified, OfElement, ReadsBracketed, ReadsRaw, link_reason}
+use Rattle.gs_translate.specs.MeaningsSupport.{ReadsLink, elements_reason, identified}
+use Rattle.gs_translate.specs.Steps.{Then, UnlessMemory, rejects, reworded}
 use Rattle.gs_translate.specs.StepsSupport.{HasOne, HasSome}
 use Rattle.gs_translate.proofs.StepLaws.{then_one, then_some}
 
--- ---- the application identifiers of a set keep their rules
+-- ---- the application identifiers of a set satisfy their rules
 
 none_mapped : {X Y : Type 0} (f : X → Y) (xs : List X) → map f xs ≡ [] → xs ≡ []
 none_mapped f [] e = refl
@@ -72,16 +71,8 @@ module _ (set : TableRows) (text : List ℕ) (rules : KeepsRules set.ais) where
       (one_of_element (IsBracketedError set.ais text) (λ a b f g. one_error (IsBracketedElement set.ais) (bracketed_error set.ais) known text text a b f g))
       (λ pairs why j w. no_error (IsBracketedElement set.ais) (bracketed_error set.ais) known pairs text text w.0 j w.2)
 
-one_of_link : (found : Option LinkFault) → HasOne (OfLink found)
-one_of_link found a b f g =
-    let same : Some f.0 ≡ Some g.0 = sym f.2 ∙ g.2 in
-    let error : f.0 ≡ g.0 = cc in
-    f.3 ∙ ap link_reason error ∙ sym g.3
-
 pub one_link : (set : TableRows) (text : List ℕ) → HasOne (ReadsLink set text)
-one_link set text =
-    one_of_two (IsLink set.ais text) (OfLink (link_error set.ais text)) (dlink.one_list set.ais text) (one_of_link (link_error set.ais text))
-    (λ pairs why j w. dlink.no_error set.ais text pairs w.0 j w.2)
+one_link set text one other a b = a ∙ sym b
 
 -- ---- a reading
 
@@ -96,34 +87,37 @@ module _ (set : TableRows) (text : List ℕ) (rules : KeepsRules set.ais) where
   pub some_bracketed : HasSome (ReadsBracketed set text)
   some_bracketed = some_of_two (IsBracketed set.ais text) (IsBracketedError set.ais text) (answered (IsBracketedElement set.ais) (bracketed_error set.ais) (bracketed_known set.ais rules) text text (omega arith))
 
-some_of_link : (set : TableRows) (text : List ℕ) → HasSome (IsLink set.ais text) ⊎ ((error : LinkFault) × (error ≢ link.Memory) × (link_error set.ais text ≡ Some error)) → HasSome (ReadsLink set text)
-some_of_link set text (inl a) = (Ok a.0, a.1)
-some_of_link set text (inr f) = (Err (link_reason f.0), (f.0, f.1, f.2, refl))
-
 pub some_link : (set : TableRows) (text : List ℕ) → HasSome (ReadsLink set text)
-some_link set text = some_of_link set text (dlink.answered set.ais text)
+some_link set text = (reworded link_reason (link_answer set.ais text), refl)
+
+error_said : (said : Result (List Pair) LinkFault) (error : LinkFault) → error_in said ≡ Some error → said ≡ Err error
+error_said (Ok pairs) error e = absurd (let f : None ≡ Some error = e in cc)
+error_said (Err own) error e = let same : own ≡ error = (let f : Some own ≡ Some error = e in cc) in ap Err same
 
 -- ---- the meaning of pairs
 
 one_identified : (set : TableRows) (pairs : List Pair) → HasOne (IsIdentified set pairs)
 one_identified set pairs one other a b = a ∙ sym b
 
-pub one_of_pairs : (set : TableRows) (Reads : Result (List Pair) Reason → Type 0) → HasOne Reads → HasOne (MeansPairs set Reads)
+pub one_of_pairs : (set : TableRows) (Reads : Result (List Pair) Reason → Type 0) → HasOne Reads → HasOne (Then Reads (IsIdentified set))
 one_of_pairs set Reads one = then_one Reads (IsIdentified set) one (one_identified set)
 
-pub some_of_pairs : (set : TableRows) (Reads : Result (List Pair) Reason → Type 0) → HasSome Reads → HasSome (MeansPairs set Reads)
+pub some_of_pairs : (set : TableRows) (Reads : Result (List Pair) Reason → Type 0) → HasSome Reads → HasSome (Then Reads (IsIdentified set))
 some_of_pairs set Reads some = then_some Reads (IsIdentified set) some (λ pairs read. (identified (identity_of_pairs set.ais pairs), refl))
 
 -- ---- why none are read
 
 -- a rejection of a reader of element strings is that of the text
-pub elements_rejected : (set : TableRows) (Are : List Pair → Type 0) (IsError : ElementFault → Type 0) (Rejects : ElementsFault → Type 0) (error : ElementsFault) → ((f : ElementFault) → Rejects (WrongElement f) → IsError f) → Rejects error → UnlessMemory {X = Meaning} (Err (elements_reason error)) (MeansPairs set (λ answer. MatchResult answer Are (OfElement IsError)) (Err (elements_reason error)))
+pub elements_rejected : (set : TableRows) (Are : List Pair → Type 0) (IsError : ElementFault → Type 0) (Rejects : ElementsFault → Type 0) (error : ElementsFault) → ((f : ElementFault) → Rejects (WrongElement f) → IsError f) → Rejects error → UnlessMemory {X = Meaning} (Err (elements_reason error)) (Then (λ answer. MatchResult answer Are (OfElement IsError)) (IsIdentified set) (Err (elements_reason error)))
 elements_rejected set Are IsError Rejects (WrongElement error) f r = rejects (Element error) (error, refl, f error r) refl
 elements_rejected set Are IsError Rejects NoMemory f r = tt
 
+why_said : (set : TableRows) (text : List ℕ) (error : LinkFault) → link_error set.ais text ≡ Some error → ReadsLink set text (Err (link_reason error))
+why_said set text error e = ap (reworded link_reason) (sym (error_said (link_answer set.ais text) error e))
+
 -- a rejection of the reader of links is that of the text
-pub link_rejected : (set : TableRows) (text : List ℕ) (error : LinkFault) → (error ≢ link.Memory → link_error set.ais text ≡ Some error) → UnlessMemory {X = Meaning} (Err (link_reason error)) (MeansPairs set (ReadsLink set text) (Err (link_reason error)))
-link_rejected set text link.NotHttp f = rejects NotHttp (link.NotHttp, (λ e. cc), f (λ e. cc), refl) refl
-link_rejected set text link.NoKeyPath f = rejects NoKeyPath (link.NoKeyPath, (λ e. cc), f (λ e. cc), refl) refl
-link_rejected set text (link.Element error) f = rejects (Element error) (link.Element error, (λ e. cc), f (λ e. cc), refl) refl
+pub link_rejected : (set : TableRows) (text : List ℕ) (error : LinkFault) → (error ≢ link.Memory → link_error set.ais text ≡ Some error) → UnlessMemory {X = Meaning} (Err (link_reason error)) (Then (ReadsLink set text) (IsIdentified set) (Err (link_reason error)))
+link_rejected set text link.NotHttp f = rejects NotHttp (why_said set text link.NotHttp (f (λ e. cc))) refl
+link_rejected set text link.NoKeyPath f = rejects NoKeyPath (why_said set text link.NoKeyPath (f (λ e. cc))) refl
+link_rejected set text (link.Element error) f = rejects (Element error) (why_said set text (link.Element error) (f (λ e. cc))) refl
 link_rejected set text link.Memory f = tt

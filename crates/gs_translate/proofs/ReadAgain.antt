@@ -18,8 +18,9 @@ use Rattle.gs_translate.specs.declared.options.Options.{Options}
 use Rattle.gs_translate.specs.declared.reason.Reason.{Reason}
 use Rattle.gs_translate.specs.declared.target.Target.{Target}
 use Rattle.gs_translate.specs.declared.target.Target.TheVariants.{Hex, Tag, Pure, Raw, Bracketed, Link, Canon}
-use Rattle.gs_translate.specs.Meanings.{IsRead, MeansPairs, ReadsBracketed, ReadsLink, ReadsRaw, identified, identity_meaning}
-use Rattle.gs_translate.specs.Steps.{goes_on, rejects}
+use Rattle.gs_translate.specs.Meanings.{IsIdentified, IsRead, ReadsBracketed, ReadsRaw, identity_meaning, link_reason}
+use Rattle.gs_translate.specs.MeaningsSupport.{ReadsLink, identified}
+use Rattle.gs_translate.specs.Steps.{Then, goes_on, rejects, reworded}
 use Rattle.gs_translate.specs.Targets.{has_key, kept, narrowed}
 use Rattle.gs_translate.specs.Translations.{AreInOrder, IsOfPairs, IsSpelling, IsTranslation, MeansIdentity}
 use Rattle.gs_translate.proofs.MadeLaws.{made_of_read}
@@ -27,7 +28,7 @@ use Rattle.gs_translate.proofs.NarrowedLaws.{alone_is_made, serial_is_made}
 use Rattle.gs_translate.proofs.PairLaws.{ais_kept}
 use Rattle.gs_translate.proofs.SameLinks.{same_meaning}
 
--- ---- what is kept of an identity is made with the table
+-- ---- the kept part of an identity is made with the table
 
 kind_kept : (set : TableRows) (identity : Elements) (kind : Option Kind) → IsShaped set → IsMadeWith set.ais identity → find (has_key identity.key.code) set.kinds ≡ kind → IsMadeWith set.ais (narrowed set identity)
 kind_kept set identity None shaped made e = rw e (alone_is_made set.ais identity (ais_kept set shaped) made)
@@ -40,7 +41,7 @@ kept_made set false meaning shaped made = made
 -- ---- pairs that are read of a spelling
 
 -- a text whose pairs are those of an identity means it
-pairs_mean : (set : TableRows) (Reads : Result (List Pair) Reason → Type 0) (identity : Elements) → IsMadeWith set.ais identity → Reads (Ok (pairs_of identity)) → MeansPairs set Reads (Ok (identity_meaning identity))
+pairs_mean : (set : TableRows) (Reads : Result (List Pair) Reason → Type 0) (identity : Elements) → IsMadeWith set.ais identity → Reads (Ok (pairs_of identity)) → Then Reads (IsIdentified set) (Ok (identity_meaning identity))
 pairs_mean set Reads identity made read = goes_on (pairs_of identity) read (ap identified (sym made.given_back))
 
 module _ (set : TableRows) (prefixes : List PrefixEntry) (options : Options) (shaped : IsShaped set) (in_order : AreInOrder options) (source : Meaning) (made : IsMadeWith set.ais source.identity) where
@@ -50,24 +51,24 @@ module _ (set : TableRows) (prefixes : List PrefixEntry) (options : Options) (sh
   raw_again : (answer : List ℕ) → answer ≡ raw_text (pairs_of identity) → MeansIdentity set Raw answer identity
   raw_again answer e = record {
     meaning = identity_meaning identity;
-    means = subst (λ (t : List ℕ). MeansPairs set (ReadsRaw set t) (Ok (identity_meaning identity))) (sym e) (pairs_mean set (ReadsRaw set (raw_text (pairs_of identity))) identity made (raw_read set.ais (ais_kept set shaped) identity made));
+    means = subst (λ (t : List ℕ). Then (ReadsRaw set t) (IsIdentified set) (Ok (identity_meaning identity))) (sym e) (pairs_mean set (ReadsRaw set (raw_text (pairs_of identity))) identity made (raw_read set.ais (ais_kept set shaped) identity made));
     same = refl;
   }
 
   bracketed_again : (answer : List ℕ) → answer ≡ bracketed_text (pairs_of identity) → MeansIdentity set Bracketed answer identity
   bracketed_again answer e = record {
     meaning = identity_meaning identity;
-    means = subst (λ (t : List ℕ). MeansPairs set (ReadsBracketed set t) (Ok (identity_meaning identity))) (sym e) (pairs_mean set (ReadsBracketed set (bracketed_text (pairs_of identity))) identity made (bracketed_read set.ais (ais_kept set shaped) identity made));
+    means = subst (λ (t : List ℕ). Then (ReadsBracketed set t) (IsIdentified set) (Ok (identity_meaning identity))) (sym e) (pairs_mean set (ReadsBracketed set (bracketed_text (pairs_of identity))) identity made (bracketed_read set.ais (ais_kept set shaped) identity made));
     same = refl;
   }
 
-  link_means : (answer : List ℕ) → answer ≡ spelled options.stem identity → MeansPairs set (ReadsLink set answer) (Ok (identity_meaning identity))
+  link_means : (answer : List ℕ) → answer ≡ spelled options.stem identity → Then (ReadsLink set answer) (IsIdentified set) (Ok (identity_meaning identity))
   link_means answer e =
-      subst (λ (t : List ℕ). MeansPairs set (ReadsLink set t) (Ok (identity_meaning identity))) (sym e) (pairs_mean set (ReadsLink set (spelled options.stem identity)) identity made (link_read set.ais (ais_kept set shaped) identity made options.stem in_order.stem))
+      subst (λ (t : List ℕ). Then (ReadsLink set t) (IsIdentified set) (Ok (identity_meaning identity))) (sym e) (pairs_mean set (ReadsLink set (spelled options.stem identity)) identity made (ap (reworded link_reason) (sym (link_read set.ais (ais_kept set shaped) identity made options.stem in_order.stem))))
 
-  canon_means : (answer : List ℕ) → answer ≡ canonical_link identity → MeansPairs set (ReadsLink set answer) (Ok (identity_meaning identity))
+  canon_means : (answer : List ℕ) → answer ≡ canonical_link identity → Then (ReadsLink set answer) (IsIdentified set) (Ok (identity_meaning identity))
   canon_means answer e =
-      subst (λ (t : List ℕ). MeansPairs set (ReadsLink set t) (Ok (identity_meaning identity))) (sym e) (pairs_mean set (ReadsLink set (canonical_link identity)) identity made (link_read set.ais (ais_kept set shaped) identity made (codes "https://id.gs1.org") canonical_stem_ok))
+      subst (λ (t : List ℕ). Then (ReadsLink set t) (IsIdentified set) (Ok (identity_meaning identity))) (sym e) (pairs_mean set (ReadsLink set (canonical_link identity)) identity made (ap (reworded link_reason) (sym (link_read set.ais (ais_kept set shaped) identity made (codes "https://id.gs1.org") canonical_stem_ok))))
 
   spelling_again : (to : Target) (answer : List ℕ) → IsOfPairs to → IsSpelling set prefixes options to source (Ok answer) → MeansIdentity set to answer identity
   spelling_again Hex answer of s = absurd of

@@ -1,5 +1,6 @@
 -- An EPC is written in a level, or is rejected for a reason.
 use Rattle.std.proofs.Common.{◌≡◌, ◌⊎◌, ℕ, zero, suc, ◌<◌, Bool, true, false, List, Option, Some, None, Ok, Err, slice_get, length, refl, sym, ap, ◌∙◌, inl, inr, arith}
+use Rattle.std.specs.Prelude.{◌≢◌, Result}
 use Rattle.std.proofs.lemmas.Bool.{cases_eq}
 use Rattle.std.proofs.lemmas.Option.{slice_get_within}
 use Rattle.gs_tables_document.specs.declared.field.Field.{Field}
@@ -11,15 +12,18 @@ use Rattle.gs_grammar.specs.declared.item.Item.{Item}
 use Rattle.gs_grammar.specs.WrittenWords.{AreHeldBefore, IsFirstRejection, why_not, written}
 use Rattle.gs_tables.specs.Tables.{TableRows, level_rows}
 use Rattle.gs_epc.specs.declared.epc.Epc.{Epc}
+use Rattle.gs_epc.specs.declared.write_error.EpcWriteFault.{EpcWriteFault}
 use Rattle.gs_epc.specs.declared.write_error.EpcWriteFault.TheVariants as write
 use Rattle.gs_epc.specs.Candidates.{Candidate, is_candidate, left_out, values_for}
 use Rattle.gs_epc.specs.Epcs.{options_of}
-use Rattle.gs_epc.specs.Writes.{HoldsAll, NoneHoldsBefore, Rejects, Writes, field_at, text_on}
+use Rattle.gs_epc.specs.Writes.{HoldsAll, NoneHoldsBefore, Rejects, Writes, WritesAs, field_at, text_on}
+use Rattle.gs_translate.specs.Steps.{Reworded}
 use Rattle.gs_translate.specs.StepsSupport.{HasSome}
-use Rattle.gs_translate.specs.Translations.{IsWritten, write_reason}
+use Rattle.gs_translate.specs.Translations.{write_reason}
+use Rattle.gs_translate.proofs.StepLaws.{some_reworded}
 use Rattle.gs_translate.proofs.OneWriting.{Says, not_says, says_of, same_info, same_items}
 
--- an option is there, or it is not
+-- an optional value is present or absent
 one_or_none : {X : Type 0} (o : Option X) → ((x : X) × (o ≡ Some x)) ⊎ (o ≡ None)
 one_or_none (Some x) = inl (x, refl)
 one_or_none None = inr refl
@@ -105,7 +109,7 @@ module _ (set : TableRows) (level : LevelName) (epc : Epc) where
     no_candidate : ((i : ℕ) → i < n → Candidate set level epc i → ⊥) → Tried n
     rejected : Refused n → Tried n
 
-  -- a candidate of which a rejection speaks does not hold every field
+  -- a candidate that a rejection names does not hold every field
   not_all : (i j : ℕ) (one : Candidate set level epc i) (other : Candidate set level epc j) (field : Field) (why : Why) → i ≡ j → Rejects set level epc one field why → HoldsAll set level epc other → ⊥
   not_all i j one other field why same rejects holds =
       let items = same_items set level epc i j one other same in
@@ -172,24 +176,23 @@ module _ (set : TableRows) (level : LevelName) (epc : Epc) where
   within : (i : ℕ) → Candidate set level epc i → i < length (options_of level set)
   within i candidate = slice_get_within (options_of level set) i candidate.items candidate.of_level
 
-  some_of : Tried (length (options_of level set)) → HasSome (IsWritten set level epc)
-  some_of (writes text w) = (Ok text, w)
-  some_of (no_candidate none) = (Err (write_reason write.NoOption), (write.NoOption, (λ e. cc), (λ i candidate. none i (within i candidate) candidate), refl))
+  some_of : Tried (length (options_of level set)) → (given : Result (List ℕ) EpcWriteFault) × (given ≢ Err write.Memory) × WritesAs set level epc given
+  some_of (writes text w) = (Ok text, (λ e. let f : Ok text ≡ Err write.Memory = e in cc), w)
+  some_of (no_candidate none) = (Err write.NoOption, (λ e. let f : Err write.NoOption ≡ Err write.Memory = e in cc), (λ i candidate. none i (within i candidate) candidate))
   some_of (rejected r) = (
-    Err (write_reason (write.CannotHold r.field r.why)),
-    (
-      write.CannotHold r.field r.why,
-      (λ e. cc),
-      record {
-        option = r.option;
-        candidate = r.candidate;
-        rejects = r.rejects;
-        last = λ i more candidate. r.last i more (within i candidate) candidate;
-        none = λ n i candidate less holds. r.none i candidate (within i candidate) holds;
-      },
-      refl,
-    ),
+    Err (write.CannotHold r.field r.why),
+    (λ e. let f : Err (write.CannotHold r.field r.why) ≡ Err write.Memory = e in cc),
+    record {
+      option = r.option;
+      candidate = r.candidate;
+      rejects = r.rejects;
+      last = λ i more candidate. r.last i more (within i candidate) candidate;
+      none = λ n i candidate less holds. r.none i candidate (within i candidate) holds;
+    },
   )
 
-  pub some_written : HasSome (IsWritten set level epc)
-  some_written = some_of (tried (length (options_of level set)))
+  pub writes_some : (given : Result (List ℕ) EpcWriteFault) × (given ≢ Err write.Memory) × WritesAs set level epc given
+  writes_some = some_of (tried (length (options_of level set)))
+
+  pub some_written : HasSome (Reworded write.Memory write_reason (WritesAs set level epc))
+  some_written = some_reworded write.Memory write_reason (WritesAs set level epc) writes_some

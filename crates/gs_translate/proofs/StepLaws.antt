@@ -1,9 +1,9 @@
--- Answers that are found in steps have one answer where each step has one.
-use Rattle.std.proofs.Common.{◌≡◌, ℕ, List, [], ◌++◌, refl}
-use Rattle.std.specs.Prelude.{Result, Ok, Err}
+-- Results that are found in steps are unique if the result of each step is.
+use Rattle.std.proofs.Common.{◌≡◌, ℕ, List, [], ◌++◌, refl, sym, ◌∙◌, ap, subst}
+use Rattle.std.specs.Prelude.{◌≢◌, Result, Ok, Err}
 use Rattle.gs_translate.specs.declared.reason.Reason.{Reason}
 use Rattle.gs_translate.specs.declared.reason.Reason.TheVariants.{CannotHold, Element, Epc, Extra, Ident, Long, Memory, Missing, NoKeyPath, NoKind, NoOption, NotHttp}
-use Rattle.gs_translate.specs.Steps.{AppendsText, Then, UnlessMemory, goes_on, rejects}
+use Rattle.gs_translate.specs.Steps.{AppendsText, Reworded, Then, UnlessMemory, goes_on, rejects, reworded}
 use Rattle.gs_translate.specs.StepsSupport.{HasOne, HasSome}
 
 pub then_one : {A B E : Type 0} (First : Result A E → Type 0) (Next : A → Result B E → Type 0) → HasOne First → ((a : A) → HasOne (Next a)) → HasOne (Then First Next)
@@ -27,6 +27,27 @@ then_some_from First Next (Err error) f next = (Err error, rejects error f refl)
 
 pub then_some : {A B E : Type 0} (First : Result A E → Type 0) (Next : A → Result B E → Type 0) → HasSome First → ((a : A) → First (Ok a) → HasSome (Next a)) → HasSome (Then First Next)
 then_some First Next first next = then_some_from First Next first.0 first.1 next
+
+-- an answer whose reason is said in other words is the one that is given
+pub said_ok : {A E R : Type 0} (say : E → R) (given : Result A E) (a : A) → Ok a ≡ reworded say given → given ≡ Ok a
+said_ok say (Ok own) a e = let same : own ≡ a = (let f : Ok a ≡ Ok own = e in cc) in ap Ok same
+said_ok say (Err error) a e = absurd (let f : Ok a ≡ Err (say error) = e in cc)
+
+module _ {A E R : Type 0} (memory : E) (say : E → R) (Answer : Result A E → Type 0) where
+  pub one_reworded : ((one other : Result A E) → one ≢ Err memory → other ≢ Err memory → Answer one → Answer other → one ≡ other) → HasOne (Reworded memory say Answer)
+  one_reworded unique one other a b = a.is ∙ ap (reworded say) (unique a.given b.given a.enough b.enough a.is_given b.is_given) ∙ sym b.is
+
+  pub some_reworded : ((given : Result A E) × (given ≢ Err memory) × Answer given) → HasSome (Reworded memory say Answer)
+  some_reworded some = (reworded say some.0, record { given = some.0; enough = some.1; is_given = some.2; is = refl })
+
+  pub gives_ok : (a : A) → Answer (Ok a) → Reworded memory say Answer (Ok a)
+  gives_ok a given = record { given = Ok a; enough = λ e. (let f : Ok a ≡ Err memory = e in cc); is_given = given; is = refl }
+
+  pub gives_err : (error : E) → error ≢ memory → Answer (Err error) → Reworded memory say Answer (Err (say error))
+  gives_err error other given = record { given = Err error; enough = λ e. other (let f : Err error ≡ Err memory = e in cc); is_given = given; is = refl }
+
+  pub given_ok : (a : A) → Reworded memory say Answer (Ok a) → Answer (Ok a)
+  given_ok a read = subst Answer (said_ok say read.given a read.is) read.is_given
 
 -- a fact about an answer that is not out of memory
 pub known_answer : {X : Type 0} (answer : Result X Reason) (fact : Type 0) → (answer ≡ Err Memory → ⊥) → UnlessMemory answer fact → fact
@@ -86,6 +107,6 @@ pub then_appended : {A Done : Type 0} (First : Result A Reason → Type 0) (Next
 then_appended First Next a before now result first next =
     unless_map result (appends_map (Next a) (Then First Next) before now result (λ answer is. goes_on a first is)) next
 
--- what was appended to nothing is the text that answers
+-- text appended to nothing is the answer
 pub appended_alone : (Answer : Result (List ℕ) Reason → Type 0) (before now text whole : List ℕ) → before ≡ [] → now ≡ before ++ text → whole ≡ now → Answer (Ok text) → Answer (Ok whole)
 appended_alone Answer before now text whole none appended is answer = rw (is, appended, none) answer

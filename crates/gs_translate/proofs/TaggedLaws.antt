@@ -19,11 +19,13 @@ use Rattle.gs_tables_document.specs.declared.level_name.LevelName.{LevelName}
 use Rattle.gs_tables_document.specs.declared.level_name.LevelName.TheVariants as level
 use Rattle.gs_epc.specs.declared.epc.Epc.{Epc}
 use Rattle.gs_epc.specs.declared.error.EpcFault.{EpcFault}
+use Rattle.gs_epc.specs.declared.error.EpcFault.TheVariants.{Memory as NoRoom}
 use Rattle.gs_epc.specs.Candidates.{Candidate, HasFilterOn}
 use Rattle.gs_epc.specs.Layout.{IsLaidOut, KeyFields}
 use Rattle.gs_epc.specs.Readings.{ReadsAs, ReadsHex}
 use Rattle.gs_epc.specs.KeyParts.{IsOfKind, epc_at, epc_of_key, take_apart}
-use Rattle.gs_epc.specs.Writes.{ReadsText, Writes, same_fields}
+use Rattle.gs_epc.specs.Writes.{ReadsText, Writes, WritesAs, same_fields}
+use Rattle.gs_epc.specs.declared.write_error.EpcWriteFault.TheVariants as write
 use Rattle.gs_epc.proofs.LaidLaws.{laid_again}
 use Rattle.gs_epc.proofs.LaidSets.{no_pairs}
 use Rattle.gs_epc.proofs.ReadLaws.{read_back}
@@ -42,16 +44,17 @@ use Rattle.gs_translate.specs.declared.form.Form.{Form}
 use Rattle.gs_translate.specs.declared.meaning.Meaning.{Meaning}
 use Rattle.gs_translate.specs.declared.options.Options.{Options}
 use Rattle.gs_translate.specs.declared.reason.Reason.{Reason}
-use Rattle.gs_translate.specs.declared.reason.Reason.TheVariants.{Extra, Missing, NoKind}
+use Rattle.gs_translate.specs.declared.reason.Reason.TheVariants.{Epc as NoEpc, Extra, Missing, NoKind}
 use Rattle.gs_translate.specs.declared.target.Target.{Target}
 use Rattle.gs_translate.specs.declared.target.Target.TheVariants.{Hex, Tag, Pure, Raw, Bracketed, Link, Canon}
 use Rattle.gs_translate.specs.Meanings.{IsRead, MeansEpc, epc_meaning}
-use Rattle.gs_translate.specs.Steps.{goes_on, rejects}
+use Rattle.gs_translate.specs.Steps.{Reworded, Then, goes_on, rejects}
 use Rattle.gs_translate.specs.Targets.{FitsFilter, and_then, else_rejected, encoding_for, epc_for, extra_pair, filter_for, has_key, is_serial, kept, kind_for, lacks_filter, length_for, unless_extra, with_tag}
-use Rattle.gs_translate.specs.Translations.{AreInOrder, IsOfLevel, IsSpelling, IsTranslation, MeansIdentity}
+use Rattle.gs_translate.specs.Translations.{AreInOrder, IsOfLevel, IsSpelling, IsTranslation, MeansIdentity, write_reason}
 use Rattle.gs_translate.proofs.FilterLaws.{filter_fits, kept_fits}
 use Rattle.gs_translate.proofs.MadeLaws.{made_of_read}
 use Rattle.gs_translate.proofs.PairLaws.{ais_kept}
+use Rattle.gs_translate.proofs.StepLaws.{given_ok, gives_ok}
 use Rattle.gs_translate.proofs.ReadAgain.{kept_made, means_again}
 use Rattle.gs_translate.proofs.SameLinks.{same_meaning}
 
@@ -71,7 +74,7 @@ none_extra : (i n : ℕ) (extra : Option Pair) → option_map_or (λ (pair : Pai
 none_extra i n None e = (let f : Ok i ≡ Ok n = e in cc, refl)
 none_extra i n (Some pair) e = absurd (let f : Err (Extra pair.code) ≡ Ok n = e in cc)
 
--- the identity has the key of the kind at this place, and no pair beside it that is not the kind's serial
+-- the identity has the key of the kind at this index, and only the kind's serial as another pair
 record IsOfKindAt (set : TableRows) (identity : Elements) (kind : ℕ) : Type 0 where
   row : Kind
   named : slice_get set.kinds kind ≡ Some row
@@ -90,7 +93,7 @@ kind_found set identity kind e =
     let has : test row.0 ≡ true = rw here at passes in
     record { row = row.0; named = ap (slice_get set.kinds) (sym none.0) ∙ named; key = equal_bytes identity.key.code row.0.key has; alone = none.1 }
 
--- ---- nothing beside the key and its serial
+-- ---- only the key and its serial
 
 own_serial : (serial : SerialAt) (pair : Pair) → not (is_serial serial pair) ≡ false → serial ≡ Ai pair.code
 own_serial (Ai code) pair e = elim (true_or_false (bytes_eq code pair.code)) as (λ _. Ai code ≡ Ai pair.code) [
@@ -100,7 +103,7 @@ own_serial (Ai code) pair e = elim (true_or_false (bytes_eq code pair.code)) as 
 own_serial Nowhere pair e = absurd (let f : true ≡ false = e in cc)
 own_serial Tail pair e = absurd (let f : true ≡ false = e in cc)
 
--- the code of an attribute is none that the key's row lists
+-- the code of an attribute is not among those that the key's row lists
 not_listed : (ais : List AiRow) (identity : Elements) (row : AiRow) → IsMadeWith ais identity → find (has_code identity.key.code) ais ≡ Some row → (i : ℕ) (pair : Pair) → slice_get identity.attributes i ≡ Some pair → list_any (bytes_eq pair.code) row.qualifiers ≡ false
 unfolding elements_of
 not_listed ais identity row made found i pair at =
@@ -159,7 +162,7 @@ unless_lacking : (lacks : Bool) (tagged epc : Epc) → (if lacks then Err (Missi
 unless_lacking true tagged epc e = absurd (let f : Err (Missing Filter) ≡ Ok epc = e in cc)
 unless_lacking false tagged epc e = (refl, let f : Ok tagged ≡ Ok epc = e in let same : tagged ≡ epc = cc in sym same)
 
--- what is written of an identity: its fields by its kind, with a filter value where the level has one
+-- the EPC that is written of an identity: its fields by its kind, with a filter value if the level has one
 record IsTaken (set : TableRows) (name : LevelName) (identity : Elements) (epc : Epc) : Type 0 where
   kind : ℕ
   n : ℕ
@@ -191,7 +194,7 @@ taken_of set prefixes options name meaning epc own fits e =
       has = has;
     }
 
--- ---- what is read of the text
+-- ---- the identity that is read from the text
 
 -- the text says fields that are laid out to the identity
 record SaysAgain (set : TableRows) (name : LevelName) (text : List ℕ) (identity : Elements) : Type 0 where
@@ -228,8 +231,8 @@ says_again set name identity epc text loaded made t writes =
 -- ---- spellings
 
 -- a text means the identity that an EPC is laid out to, which is read of it
-epc_means : (set : TableRows) (Reads : Result Epc EpcFault → Type 0) (epc : Epc) (identity : Elements) → Reads (Ok epc) → IsLaidOut set epc identity → MeansEpc set Reads (Ok (epc_meaning epc identity))
-epc_means set Reads epc identity read laid = record { said = Ok epc; read = read; means = record { elements = identity; laid = laid; is = refl } }
+epc_means : (set : TableRows) (Reads : Result Epc EpcFault → Type 0) (epc : Epc) (identity : Elements) → Reads (Ok epc) → IsLaidOut set epc identity → Then (Reworded NoRoom NoEpc Reads) (MeansEpc set) (Ok (epc_meaning epc identity))
+epc_means set Reads epc identity read laid = goes_on epc (gives_ok NoRoom NoEpc Reads epc read) (identity, laid, refl)
 
 module _ (set : TableRows) (prefixes : List PrefixEntry) (options : Options) (from : Form) (text answer : List ℕ) (source : Meaning) (loaded : IsLoaded set) (in_order : AreInOrder options) (read : IsRead set from text (Ok source)) where
   abbrev narrow : Meaning
@@ -241,7 +244,7 @@ module _ (set : TableRows) (prefixes : List PrefixEntry) (options : Options) (fr
   fits : FitsFilter narrow.filter
   fits = kept_fits set options.keys_only source (filter_fits set from text source loaded.shaped read)
 
-  -- the spelling is that of what is kept of the source
+  -- the spelling is that of the kept part of the source
   spelling_kept : (to : Target) → IsTranslation set prefixes options from to text (Ok answer) → IsSpelling set prefixes options to narrow (Ok answer)
   spelling_kept to (rejects error first e) = absurd (let f : Ok answer ≡ Err error = e in cc)
   spelling_kept to (goes_on own first spelling) =
@@ -249,7 +252,7 @@ module _ (set : TableRows) (prefixes : List PrefixEntry) (options : Options) (fr
 
   said_again : (name : LevelName) → IsOfLevel set prefixes options name narrow (Ok answer) → SaysAgain set name answer narrow.identity
   said_again name (rejects error first e) = absurd (let f : Ok answer ≡ Err error = e in cc)
-  said_again name (goes_on epc first writes) = says_again set name narrow.identity epc answer loaded made (taken_of set prefixes options name narrow epc in_order.filter fits (sym first)) writes
+  said_again name (goes_on epc first writes) = says_again set name narrow.identity epc answer loaded made (taken_of set prefixes options name narrow epc in_order.filter fits (sym first)) (given_ok write.Memory write_reason (WritesAs set name epc) answer writes)
 
   meant : (to : Target) → IsTranslation set prefixes options from to text (Ok answer) → MeansIdentity set to answer narrow.identity
   meant Hex t =

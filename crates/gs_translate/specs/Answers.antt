@@ -12,6 +12,6 @@ use Rattle.gs_translate.specs.Steps.{Then}
 abbrev pub IsCanonical : Meaning → Result (List ℕ) Reason → Type 0
 IsCanonical meaning answer = answer ≡ Ok (canonical_link meaning.identity)
 
--- trusted, own: The answer to a text of a form: why it is rejected, else the canonical link of what it means.
+-- trusted, own: The answer to a text of a form: why it is rejected, otherwise the canonical link of what it means.
 abbrev pub IsAnswer : TableRows → Form → List ℕ → Result (List ℕ) Reason → Type 0
 IsAnswer set form text answer = Then (IsRead set form text) IsCanonical answer

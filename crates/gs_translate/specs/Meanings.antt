@@ -1,21 +1,20 @@
 -- What a text of a form means: TDS 2.0, sections 6 and 12 (URIs), 14 (tag bits) and 7 (keys); GS1 General Specifications,
 -- sections 7.8 and 4 (element strings); GS1 Digital Link URI Syntax, section 3 (links).
-use Rattle.std.specs.Prelude.{◌≡◌, ◌≢◌, ℕ, ◌<◌, ◌≤◌, List, [], length, Option, Some, None, Result, Ok, Err, MatchResult}
+use Rattle.std.specs.Prelude.{◌≡◌, ℕ, ◌<◌, ◌≤◌, List, [], length, Some, None, Result, Ok, Err, MatchResult}
+use Rattle.std.specs.Result.{result_map_both}
 use Rattle.gs_chars.specs.Limits.{longest_text}
 use Rattle.gs_ai.specs.declared.errors.ElementFault.{ElementFault}
 use Rattle.gs_ai.specs.declared.pair.Pair.{Pair}
 use Rattle.gs_tables_document.specs.declared.level_name.LevelName.TheVariants as level
 use Rattle.gs_dlink.specs.declared.error.LinkFault.{LinkFault}
 use Rattle.gs_dlink.specs.declared.error.LinkFault.TheVariants as link
-use Rattle.gs_dlink.specs.Answers.{IsLink, link_error}
+use Rattle.gs_dlink.specs.Answers.{link_answer}
 use Rattle.gs_element.specs.BracketedTexts.{IsBracketed, IsBracketedError}
 use Rattle.gs_element.specs.Raw.{IsRaw, IsRawError}
 use Rattle.gs_epc.specs.declared.epc.Epc.{Epc}
-use Rattle.gs_epc.specs.declared.error.EpcFault.{EpcFault}
 use Rattle.gs_epc.specs.declared.error.EpcFault.TheVariants.{Memory}
 use Rattle.gs_epc.specs.Layout.{IsLaidOut}
 use Rattle.gs_epc.specs.Readings.{ReadsAs, ReadsHex}
-use Rattle.gs_ident.specs.declared.errors.IdentFault.{IdentFault}
 use Rattle.gs_ident.specs.Elements.{Elements}
 use Rattle.gs_ident.specs.Identities.{identity_of_pairs}
 use Rattle.gs_tables.specs.Tables.{TableRows}
@@ -24,7 +23,7 @@ use Rattle.gs_translate.specs.declared.form.Form.TheVariants.{Hex, Tag, Pure, Ra
 use Rattle.gs_translate.specs.declared.meaning.Meaning.{Meaning}
 use Rattle.gs_translate.specs.declared.reason.Reason.{Reason}
 use Rattle.gs_translate.specs.declared.reason.Reason.TheVariants.{Epc as NoEpc, Element, Ident, Long, NoKeyPath, NotHttp, Memory as OutOfMemory}
-use Rattle.gs_translate.specs.Steps.{Then}
+use Rattle.gs_translate.specs.Steps.{Reworded, Then, reworded}
 
 -- ---- of what a tag or an EPC URI says
 
@@ -33,24 +32,9 @@ abbrev pub epc_meaning : Epc → Elements → Meaning
 epc_meaning epc elements =
     record { identity = elements; gcp = Some epc.gcp; filter = epc.filter; encoding = epc.encoding }
 
--- trusted, own: the meaning is that of the EPC, and names the elements that its key is laid out by
-pub record IsMeaning (set : TableRows) (epc : Epc) (meaning : Meaning) : Type 0 where
-  pub elements : Elements
-  pub laid : IsLaidOut set epc elements
-  pub is : meaning ≡ epc_meaning epc elements
-
--- trusted, own: the meaning of what a tag or an EPC URI says, or why it says none
-abbrev pub MeaningOf : TableRows → Result Epc EpcFault → Result Meaning Reason → Type 0
-MeaningOf set (Ok epc) (Ok meaning) = IsMeaning set epc meaning
-MeaningOf set (Err error) (Err (NoEpc reason)) = (reason ≡ error) × (error ≢ Memory)
-MeaningOf set _ _ = ⊥
-
--- trusted, own: the meaning of a text by the EPC that it says
-pub record MeansEpc (set : TableRows) (Reads : Result Epc EpcFault → Type 0) (answer : Result Meaning Reason)
-    : Type 0 where
-  pub said : Result Epc EpcFault
-  pub read : Reads said
-  pub means : MeaningOf set said answer
+-- trusted, own: the meaning of an EPC, which names the elements that its key is laid out by
+abbrev pub MeansEpc : TableRows → Epc → Result Meaning Reason → Type 0
+MeansEpc set epc answer = (elements : Elements) × IsLaidOut set epc elements × (answer ≡ Ok (epc_meaning epc elements))
 
 -- ---- of pairs
 
@@ -62,7 +46,7 @@ OfElement IsError reason = (error : ElementFault) × (reason ≡ Element error) 
 abbrev pub ReadsRaw : TableRows → List ℕ → Result (List Pair) Reason → Type 0
 ReadsRaw set text answer = MatchResult answer (IsRaw set.ais text) (OfElement (IsRawError set.ais text))
 
--- trusted, own: the pairs of an element string as it is printed below a symbol, or why it has none
+-- trusted, own: the pairs of a bracketed element string (human readable interpretation), or why it has none
 abbrev pub ReadsBracketed : TableRows → List ℕ → Result (List Pair) Reason → Type 0
 ReadsBracketed set text answer =
     MatchResult answer (IsBracketed set.ais text) (OfElement (IsBracketedError set.ais text))
@@ -74,44 +58,26 @@ link_reason link.NoKeyPath = NoKeyPath
 link_reason (link.Element error) = Element error
 link_reason link.Memory = OutOfMemory
 
--- trusted, own: the reason is the error of a link
-abbrev pub OfLink : Option LinkFault → Reason → Type 0
-OfLink found reason =
-    (error : LinkFault) × (error ≢ link.Memory) × (found ≡ Some error) × (reason ≡ link_reason error)
-
--- trusted, own: the pairs that a link names, or why it names none
-abbrev pub ReadsLink : TableRows → List ℕ → Result (List Pair) Reason → Type 0
-ReadsLink set text answer = MatchResult answer (IsLink set.ais text) (OfLink (link_error set.ais text))
-
 -- trusted, own: the meaning of an identity that no EPC names: there is neither a prefix length nor a filter value nor an
 -- encoding
 abbrev pub identity_meaning : Elements → Meaning
 identity_meaning identity = record { identity = identity; gcp = None; filter = None; encoding = [] }
 
--- trusted, own: the meaning of the identity of pairs, or why they have none
-abbrev pub identified : Result Elements IdentFault → Result Meaning Reason
-identified (Ok identity) = Ok (identity_meaning identity)
-identified (Err error) = Err (Ident error)
-
 -- trusted, own: the meaning of pairs is their identity, or why they have none
 abbrev pub IsIdentified : TableRows → List Pair → Result Meaning Reason → Type 0
-IsIdentified set pairs answer = answer ≡ identified (identity_of_pairs set.ais pairs)
-
--- trusted, own: the meaning of a text by the pairs that are read of it: why none are read comes first
-abbrev pub MeansPairs : TableRows → (Result (List Pair) Reason → Type 0) → Result Meaning Reason → Type 0
-MeansPairs set Reads answer = Then Reads (IsIdentified set) answer
+IsIdentified set pairs answer = answer ≡ result_map_both identity_meaning Ident (identity_of_pairs set.ais pairs)
 
 -- ---- of a text
 
 -- trusted, TDS 2.0, sections 6, 7, 12 and 14; GS1 General Specifications, sections 4 and 7.8; GS1 Digital Link URI Syntax,
 -- section 3: the meaning of a text of a form, or why it has none
 abbrev pub Means : TableRows → Form → List ℕ → Result Meaning Reason → Type 0
-Means set Hex text answer = MeansEpc set (ReadsHex set text) answer
-Means set Tag text answer = MeansEpc set (ReadsAs set level.Tag text) answer
-Means set Pure text answer = MeansEpc set (ReadsAs set level.Pure text) answer
-Means set Raw text answer = MeansPairs set (ReadsRaw set text) answer
-Means set Bracketed text answer = MeansPairs set (ReadsBracketed set text) answer
-Means set Link text answer = MeansPairs set (ReadsLink set text) answer
+Means set Hex text answer = Then (Reworded Memory NoEpc (ReadsHex set text)) (MeansEpc set) answer
+Means set Tag text answer = Then (Reworded Memory NoEpc (ReadsAs set level.Tag text)) (MeansEpc set) answer
+Means set Pure text answer = Then (Reworded Memory NoEpc (ReadsAs set level.Pure text)) (MeansEpc set) answer
+Means set Raw text answer = Then (ReadsRaw set text) (IsIdentified set) answer
+Means set Bracketed text answer = Then (ReadsBracketed set text) (IsIdentified set) answer
+Means set Link text answer = Then (λ pairs. pairs ≡ reworded link_reason (link_answer set.ais text)) (IsIdentified set) answer
 
 -- trusted, own: A text of more than 2,048 bytes is rejected as long; of any other it is the meaning, or why it has none.
 pub data IsRead (set : TableRows) (form : Form) (text : List ℕ) (answer : Result Meaning Reason)

@@ -1,18 +1,36 @@
--- What proofs and private functions say beside the definitions of Meanings.antt.
+-- Definitions for proofs and private functions, in addition to Meanings.antt.
+use Rattle.std.specs.Prelude.{◌≡◌, ℕ, List, Result}
+use Rattle.std.specs.Result.{result_map_both}
+use Rattle.gs_ai.specs.declared.pair.Pair.{Pair}
+use Rattle.gs_dlink.specs.Answers.{link_answer}
 use Rattle.gs_element.specs.declared.errors.ElementsFault.{ElementsFault}
 use Rattle.gs_element.specs.declared.errors.ElementsFault.TheVariants.{Element as WrongElement, Memory as NoMemory}
 use Rattle.gs_epc.specs.declared.error.EpcFault.{EpcFault}
 use Rattle.gs_epc.specs.declared.error.EpcFault.TheVariants.{Hex, NoReading, Memory as NoRoom}
+use Rattle.gs_ident.specs.declared.errors.IdentFault.{IdentFault}
+use Rattle.gs_ident.specs.Elements.{Elements}
+use Rattle.gs_tables.specs.Tables.{TableRows}
+use Rattle.gs_translate.specs.declared.meaning.Meaning.{Meaning}
 use Rattle.gs_translate.specs.declared.reason.Reason.{Reason}
-use Rattle.gs_translate.specs.declared.reason.Reason.TheVariants.{Element, Epc as NoEpc, Memory as OutOfMemory}
+use Rattle.gs_translate.specs.declared.reason.Reason.TheVariants.{Element, Epc as NoEpc, Ident, Memory as OutOfMemory}
+use Rattle.gs_translate.specs.Meanings.{identity_meaning, link_reason}
+use Rattle.gs_translate.specs.Steps.{reworded}
 
--- the reason by which a reader of element strings rejects a text
+-- trusted, own: the reason by which a reader of element strings rejects a text
 abbrev pub elements_reason : ElementsFault → Reason
 elements_reason (WrongElement error) = Element error
 elements_reason NoMemory = OutOfMemory
 
--- the reason by which a reader of EPCs rejects a text
+-- trusted, own: the reason by which a reader of EPCs rejects a text
 abbrev pub epc_reason : EpcFault → Reason
 epc_reason NoRoom = OutOfMemory
 epc_reason (Hex error) = NoEpc (Hex error)
 epc_reason NoReading = NoEpc NoReading
+
+-- the pairs that a link names, or why it names none
+abbrev pub ReadsLink : TableRows → List ℕ → Result (List Pair) Reason → Type 0
+ReadsLink set text answer = answer ≡ reworded link_reason (link_answer set.ais text)
+
+-- the meaning of the identity of pairs, or why they have none
+abbrev pub identified : Result Elements IdentFault → Result Meaning Reason
+identified made = result_map_both identity_meaning Ident made

@@ -1,4 +1,4 @@
--- Reasons as they are printed.
+-- The printed reasons.
 use Rattle.std.specs.Prelude.{ℕ, List, ◌∷◌, ◌++◌, codes, decimal}
 use Rattle.gs_ai.specs.declared.errors.ElementFault.{ElementFault}
 use Rattle.gs_ai.specs.declared.errors.ElementWhy.{ElementWhy}
@@ -24,7 +24,7 @@ use Rattle.gs_translate.specs.declared.reason.Reason.TheVariants as reason
 abbrev pub numbered : List ℕ → ℕ → List ℕ
 numbered word n = word ++ (32 ∷ decimal n)
 
--- trusted, own: why a text is no hexadecimal text
+-- trusted, own: why a text is not a hexadecimal text
 abbrev pub hex_text : HexFault → List ℕ
 hex_text OddDigits = codes "odd"
 hex_text Full = codes "full"
@@ -44,13 +44,13 @@ value_text at (Char place) = numbered (codes "char") at ++ (32 ∷ decimal place
 value_text at Check = numbered (codes "check") at
 value_text at Date = numbered (codes "date") at
 
--- trusted, own: why an element is not in order, with the place of its code
+-- trusted, own: why an element is not valid, with the place of its code
 abbrev pub why_text : ℕ → ElementWhy → List ℕ
 why_text at (Value error) = value_text at error
 why_text at Escape = numbered (codes "escape") at
 why_text at Bracket = numbered (codes "bracket") at
 
--- trusted, own: an element that is not in order
+-- trusted, own: an element that is not valid
 abbrev pub element_text : ElementFault → List ℕ
 element_text error = why_text error.at error.why
 
@@ -61,7 +61,7 @@ ident_text ident.NoKey = codes "key"
 ident_text (ident.TwoKeys code) = codes "keys " ++ code
 ident_text ident.Memory = codes "memory"
 
--- trusted, own: what is lacking
+-- trusted, own: the name of the missing field
 abbrev pub missing_text : FieldName → List ℕ
 missing_text missing.Gcp = codes "gcp"
 missing_text missing.Serial = codes "serial"

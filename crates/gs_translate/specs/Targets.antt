@@ -30,7 +30,7 @@ use Rattle.gs_translate.specs.declared.reason.Reason.TheVariants.{NoKind, Extra,
 abbrev pub has_key : List ℕ → Kind → Bool
 has_key code kind = bytes_eq code kind.key
 
--- trusted, own: the pair is the serial, which has an element of its own
+-- trusted, own: holds if the pair is the serial, in a separate element
 abbrev pub is_serial : SerialAt → Pair → Bool
 is_serial (Ai code) pair = bytes_eq code pair.code
 is_serial Nowhere pair = false
@@ -38,29 +38,29 @@ is_serial Tail pair = false
 
 -- ---- narrowing
 
--- trusted, own: the key, with its serial where that has an element of its own; such an element is a qualifier
+-- trusted, own: the key with its serial, if that is a separate element; such an element is a key qualifier
 abbrev pub key_and_serial : SerialAt → Elements → Elements
 key_and_serial (Ai code) identity = with_qualifier code identity
 key_and_serial Nowhere identity = key_alone identity
 key_and_serial Tail identity = key_alone identity
 
--- trusted, own: an identity of which only the key is kept, by the kind of the key; the key alone where it is of no kind
+-- trusted, own: the identity with only its key kept, by the kind of the key; just the key if it is of no kind
 abbrev pub narrowed : TableRows → Elements → Elements
 narrowed set identity =
     option_map_or (λ (kind : Kind). key_and_serial kind.serial identity) (find (has_key identity.key.code) set.kinds) (key_alone identity)
 
--- trusted, own: the meaning, narrowed where only keys are kept
+-- trusted, own: the meaning, narrowed if only keys are kept
 abbrev pub kept : TableRows → Bool → Meaning → Meaning
 kept set true meaning = record meaning { identity = narrowed set meaning.identity }
 kept set false meaning = meaning
 
 -- ---- rejections in steps
 
--- trusted, own: what is there, or the reason where there is nothing
+-- trusted, own: the value if there is one, otherwise the reason
 abbrev pub else_rejected : {X : Type 0} → Reason → Option X → Result X Reason
 else_rejected reason found = option_map_or Ok found (Err reason)
 
--- trusted, own: the step behind an answer, which is made unless that rejects
+-- trusted, own: the step after an answer, which is made unless that rejects
 abbrev pub and_then : {A B : Type 0} → Result A Reason → (A → Result B Reason) → Result B Reason
 and_then (Ok a) next = next a
 and_then (Err reason) next = Err reason
@@ -83,12 +83,12 @@ kind_for set identity =
 
 -- ---- the length of the company prefix
 
--- trusted, own: the digits in which the value of the key goes on from the company prefix, up to the first byte that is no
+-- trusted, own: the digits in which the value of the key goes on from the company prefix, up to the first byte that is not a
 -- digit
 abbrev pub digits_from_prefix : TableRows → ℕ → List ℕ → List ℕ
 digits_from_prefix set kind value = take_while is_digit (value_from_prefix set kind value)
 
--- trusted, own: the length that the text gives, else that of the options, else that of the list
+-- trusted, own: the length that the text gives, otherwise that of the options, otherwise that of the list
 abbrev pub known_length : TableRows → List PrefixEntry → Options → Meaning → ℕ → Option ℕ
 known_length set prefixes options meaning kind =
     option_or meaning.gcp (option_or options.gcp (prefix_length prefixes (digits_from_prefix set kind meaning.identity.key.value)))
@@ -102,29 +102,29 @@ abbrev pub has_option : TableRows → ℕ → ℕ → Bool
 has_option set kind n =
     list_any (is_option_of kind n) set.binary.info || list_any (is_option_of kind n) set.tag.info || list_any (is_option_of kind n) set.pure.info
 
--- trusted, own: the length of the company prefix, of which there is an option
+-- trusted, own: the company prefix length, if there is an option of this length
 abbrev pub length_for : TableRows → List PrefixEntry → Options → Meaning → ℕ → Result ℕ Reason
 length_for set prefixes options meaning kind =
     and_then (else_rejected (Missing Gcp) (known_length set prefixes options meaning kind)) (λ n.
     if has_option set kind n then Ok n else Err NoOption)
 
--- ---- what a tag says beside its key
+-- ---- the facts of a tag apart from its key
 
--- trusted, own: a filter value, where there is one, is one of 0 to 7
+-- trusted, own: holds if the filter value, if there is one, is one of 0 to 7
 abbrev pub FitsFilter : Option ℕ → Type 0
 FitsFilter filter = IfSome filter (λ number. number ≤ 7)
 
--- trusted, own: the filter value that the text gives, else that of the options
+-- trusted, own: the filter value that the text gives, otherwise that of the options
 abbrev pub filter_for : Options → Meaning → Option ℕ
 filter_for options meaning = option_or meaning.filter options.filter
 
--- trusted, own: a filter value is lacking; a pure identity needs none
+-- trusted, own: a filter value is missing; a pure identity needs none
 abbrev pub lacks_filter : LevelName → Option ℕ → Bool
 lacks_filter Pure filter = false
 lacks_filter Tag filter = is_none filter
 lacks_filter Binary filter = is_none filter
 
--- trusted, own: the encoding of the options, else that of the text
+-- trusted, own: the encoding of the options, otherwise that of the text
 abbrev pub encoding_for : Options → Meaning → List ℕ
 encoding_for options meaning = if is_empty options.encoding then meaning.encoding else options.encoding
 
@@ -136,9 +136,9 @@ with_tag options level meaning epc =
 
 -- ---- the EPC
 
--- trusted, TDS 2.0, section 7; the order is own: What is written of a meaning as a tag or an EPC URI, or the first reason
--- why it is not: there is no kind of the key; a pair is neither the key nor the serial; the length of the company prefix is
--- missing; no option of any level has it; the serial is missing; a filter value is missing.
+-- trusted, TDS 2.0, section 7; the order is own: The EPC that is written of a meaning as a tag or an EPC URI, or the first reason
+-- why there is none: the key has no kind; a pair is neither the key nor the serial; the company prefix length is missing; no
+-- option of any level has it; the serial is missing; a filter value is missing.
 abbrev pub epc_for : TableRows → List PrefixEntry → Options → LevelName → Meaning → Result Epc Reason
 epc_for set prefixes options level meaning =
     and_then (kind_for set meaning.identity) (λ kind.

@@ -1,14 +1,13 @@
--- The translation of a text: one spelling in the form that is asked for, or the first reason why there is none.
-use Rattle.std.specs.Prelude.{◌≡◌, ◌≢◌, true, ℕ, List, Result, Ok, Err, MatchResult}
+-- The translation of a text: one spelling in the requested form, or the first reason why there is none.
+use Rattle.std.specs.Prelude.{◌≡◌, true, ℕ, List, Result, Ok}
 use Rattle.gs_dlink.specs.Stems.{stem_ok}
 use Rattle.gs_tables_document.specs.declared.level_name.LevelName.{LevelName}
 use Rattle.gs_tables_document.specs.declared.level_name.LevelName.TheVariants as level
 use Rattle.gs_element.specs.BracketedTexts.{bracketed_text}
 use Rattle.gs_element.specs.Raw.{raw_text}
-use Rattle.gs_epc.specs.declared.epc.Epc.{Epc}
 use Rattle.gs_epc.specs.declared.write_error.EpcWriteFault.{EpcWriteFault}
 use Rattle.gs_epc.specs.declared.write_error.EpcWriteFault.TheVariants as write
-use Rattle.gs_epc.specs.Writes.{Writes, WritesAs}
+use Rattle.gs_epc.specs.Writes.{WritesAs}
 use Rattle.gs_ident.specs.Elements.{Elements, pairs_of}
 use Rattle.gs_ident.specs.Links.{spelled}
 use Rattle.gs_prefix.specs.declared.entry.PrefixEntry.{PrefixEntry}
@@ -23,7 +22,7 @@ use Rattle.gs_translate.specs.declared.target.Target.{Target}
 use Rattle.gs_translate.specs.declared.target.Target.TheVariants.{Hex, Tag, Pure, Raw, Bracketed, Link, Canon}
 use Rattle.gs_translate.specs.Answers.{IsCanonical}
 use Rattle.gs_translate.specs.Meanings.{IsRead, Means}
-use Rattle.gs_translate.specs.Steps.{Then}
+use Rattle.gs_translate.specs.Steps.{Reworded, Then}
 use Rattle.gs_translate.specs.Targets.{FitsFilter, epc_for, kept}
 
 -- trusted, own: what options keep: a filter value of 0 to 7, and a stem that a link may have
@@ -39,23 +38,16 @@ write_reason write.NoOption = NoOption
 write_reason (write.CannotHold field why) = CannotHold field why
 write_reason write.Memory = Memory
 
--- trusted, own: the reason is why no option of the level writes the EPC
-abbrev pub OfWriting : TableRows → LevelName → Epc → Reason → Type 0
-OfWriting set level epc reason =
-    (error : EpcWriteFault) × (error ≢ write.Memory) × WritesAs set level epc (Err error) × (reason ≡ write_reason error)
-
--- trusted, own: the text of the first option that holds the EPC, or why there is none
-abbrev pub IsWritten : TableRows → LevelName → Epc → Result (List ℕ) Reason → Type 0
-IsWritten set level epc answer = MatchResult answer (Writes set level epc) (OfWriting set level epc)
-
--- trusted, own: the text of a level of what a text means, or the first reason why there is none
+-- trusted, own: the text of a level of what a text means, by the first option that holds the EPC, or the first reason why there
+-- is none
 abbrev pub IsOfLevel : TableRows → List PrefixEntry → Options → LevelName → Meaning → Result (List ℕ) Reason → Type 0
 IsOfLevel set prefixes options level meaning answer =
-    Then (λ epc. epc ≡ epc_for set prefixes options level meaning) (IsWritten set level) answer
+    Then (λ epc. epc ≡ epc_for set prefixes options level meaning)
+    (λ epc. Reworded write.Memory write_reason (WritesAs set level epc)) answer
 
 -- ---- each form
 
--- trusted, own: the one spelling of a meaning in the form that is asked for, or the first reason why there is none
+-- trusted, own: holds if the result is the one spelling of a meaning in the requested form, or the first reason why there is none
 abbrev pub IsSpelling : TableRows → List PrefixEntry → Options → Target → Meaning → Result (List ℕ) Reason → Type 0
 IsSpelling set prefixes options Hex meaning answer = IsOfLevel set prefixes options level.Binary meaning answer
 IsSpelling set prefixes options Tag meaning answer = IsOfLevel set prefixes options level.Tag meaning answer
@@ -66,8 +58,8 @@ IsSpelling set prefixes options Link meaning answer = answer ≡ Ok (spelled opt
 IsSpelling set prefixes options Canon meaning answer = IsCanonical meaning answer
 
 -- trusted, TDS 2.0, sections 6, 7, 12 and 14; GS1 General Specifications, sections 4 and 7.8; GS1 Digital Link URI Syntax,
--- sections 4 and 5; the reasons are own: The translation of a text of a form: why it is rejected, else the spelling of what
--- it means, narrowed where only keys are kept.
+-- sections 4 and 5; the reasons are own: Holds if the result is the translation of a text of a form: why it is rejected,
+-- otherwise the spelling of its meaning, narrowed if only keys are kept.
 abbrev pub IsTranslation : TableRows → List PrefixEntry → Options → Form → Target → List ℕ → Result (List ℕ) Reason → Type 0
 IsTranslation set prefixes options from to text answer =
     Then (IsRead set from text) (λ meaning. IsSpelling set prefixes options to (kept set options.keys_only meaning)) answer
@@ -88,7 +80,7 @@ translating_by set prefixes options from to = record { set = set; prefixes = pre
 abbrev pub IsTranslated : Translating → List ℕ → Result (List ℕ) Reason → Type 0
 IsTranslated t text answer = IsTranslation t.set t.prefixes t.options t.from t.to text answer
 
--- ---- what laws say of texts
+-- ---- the facts that laws state about texts
 
 -- trusted, own: two texts that mean something name the same elements
 abbrev pub NameOne : TableRows → Form → List ℕ → Form → List ℕ → Type 0
@@ -105,7 +97,7 @@ form_of Bracketed = form.Bracketed
 form_of Link = form.Link
 form_of Canon = form.Link
 
--- trusted, own: element strings and links: the targets that are written of an identity as it is
+-- trusted, own: element strings and links: the targets that are written of an identity directly
 abbrev pub IsOfPairs : Target → Type 0
 IsOfPairs Hex = ⊥
 IsOfPairs Tag = ⊥

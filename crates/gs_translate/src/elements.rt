@@ -1,7 +1,8 @@
 ghost use Rattle.std.specs.Prelude.{All, IfOk};
 ghost use Rattle.gs_ident.specs.Identities.{IsInOrder, IsMadeWith};
-ghost use Rattle.gs_translate.specs.Meanings.{IsIdentified, MeansPairs, ReadsBracketed, ReadsLink, ReadsRaw};
-ghost use Rattle.gs_translate.specs.Steps.{UnlessMemory};
+ghost use Rattle.gs_translate.specs.Meanings.{IsIdentified, ReadsBracketed, ReadsRaw};
+ghost use Rattle.gs_translate.specs.MeaningsSupport.{ReadsLink};
+ghost use Rattle.gs_translate.specs.Steps.{Then, UnlessMemory};
 
 use crate::meaning::Meaning;
 use crate::reason::Reason;
@@ -13,7 +14,8 @@ use gs_ident::{IdentFault, make};
 use gs_tables::TableSet;
 use std::alloc::Global;
 
-/// The meaning of pairs: their identity, and nothing beside it. `Ident` comes exactly where they have none, for that reason.
+/// Returns the meaning of pairs: their identity, and nothing else. Returns `Ident` if and only if they have none, with the
+/// reason.
 fn meaning_of_pairs(alloc: Global, set: &TableSet, pairs: Vec<Pair>) -> Result<Meaning, Reason>
     requires { All (IsInOrder set.now.ais) pairs.items }
     ensures meaning { UnlessMemory result (IsIdentified set.now pairs.items result) }
@@ -31,31 +33,31 @@ fn meaning_of_pairs(alloc: Global, set: &TableSet, pairs: Vec<Pair>) -> Result<M
     }
 }
 
-/// The meaning of an element string as a reader of symbols gives it.
+/// Returns the meaning of an element string as a reader of symbols gives it.
 pub(crate) fn raw_meaning(alloc: Global, set: &TableSet, text: &[u8]) -> Result<Meaning, Reason>
-    ensures meaning { UnlessMemory result (MeansPairs set.now (ReadsRaw set.now text.now) result) }
+    ensures meaning { UnlessMemory result (Then (ReadsRaw set.now text.now) (IsIdentified set.now) result) }
     ensures with_table { IfOk result (λ meaning. IsMadeWith set.now.ais meaning.identity) }
 {
     let pairs = read_raw(alloc, set.ais(), text)?;
     meaning_of_pairs(alloc, set, pairs)
 }
 
-/// The meaning of an element string as it is printed below a symbol.
+/// Returns the meaning of a bracketed element string (human readable interpretation).
 pub(crate) fn bracketed_meaning(
     alloc: Global,
     set: &TableSet,
     text: &[u8],
 ) -> Result<Meaning, Reason>
-    ensures meaning { UnlessMemory result (MeansPairs set.now (ReadsBracketed set.now text.now) result) }
+    ensures meaning { UnlessMemory result (Then (ReadsBracketed set.now text.now) (IsIdentified set.now) result) }
     ensures with_table { IfOk result (λ meaning. IsMadeWith set.now.ais meaning.identity) }
 {
     let pairs = read_bracketed(alloc, set.ais(), text)?;
     meaning_of_pairs(alloc, set, pairs)
 }
 
-/// The meaning of a link.
+/// Returns the meaning of a link.
 pub(crate) fn link_meaning(alloc: Global, set: &TableSet, text: &[u8]) -> Result<Meaning, Reason>
-    ensures meaning { UnlessMemory result (MeansPairs set.now (ReadsLink set.now text.now) result) }
+    ensures meaning { UnlessMemory result (Then (ReadsLink set.now text.now) (IsIdentified set.now) result) }
     ensures with_table { IfOk result (λ meaning. IsMadeWith set.now.ais meaning.identity) }
 {
     let pairs = read_link(alloc, set.ais(), text)?;

@@ -1,4 +1,4 @@
-/// What an EPC says that an identity alone may lack.
+/// The facts of an EPC that an identity may lack.
 #[derive(Clone, Copy)]
 pub enum FieldName {
     /// The length of the GS1 Company Prefix.

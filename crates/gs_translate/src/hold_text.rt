@@ -7,7 +7,7 @@ use gs_chars::Memory;
 use gs_grammar::Why;
 use gs_tables_document::Field;
 
-/// Appends what is missing.
+/// Appends the name of the missing field.
 pub(crate) fn append_missing(out: &mut Vec<u8>, name: FieldName) -> Result<(), Memory>
     ensures { OnOk result (out.new.items ≡ out.old.items ++ (codes "missing " ++ missing_text name)) }
 {
@@ -18,7 +18,7 @@ pub(crate) fn append_missing(out: &mut Vec<u8>, name: FieldName) -> Result<(), M
     }
 }
 
-/// The name of a field.
+/// Returns the name of a field.
 fn field_name(field: Field) -> &'static [u8]
     ensures { result.now ≡ field_text field }
 {
@@ -32,7 +32,7 @@ fn field_name(field: Field) -> &'static [u8]
     }
 }
 
-/// Why an item does not hold a value, in one word.
+/// Returns why an item does not hold a value, in one word.
 fn why_word(why: Why) -> &'static [u8]
     ensures { result.now ≡ held_text why }
 {

@@ -9,8 +9,8 @@ ghost use Rattle.gs_translate.specs.Conditions.{AsksForOne, AsksForSome};
 ghost use Rattle.gs_translate.specs.Meanings.{IsRead};
 ghost use Rattle.gs_translate.specs.StepsSupport.{HasOne, HasSome};
 
-/// A text means at most one thing in a form, and it means something or is rejected, by tables that keep what the form asks for.
-/// Tables that are loaded keep it for every form.
+/// States that a text has at most one meaning in a form, and that it has one or is rejected, by tables that meet the form's
+/// conditions. Loaded tables meet them for every form.
 pub fn each_text_has_one_meaning()
     ensures at_most_one { (set : TableRows) (form : Form) (text : List ℕ) → AsksForOne form set
         → HasOne (IsRead set form text) }
@@ -18,7 +18,7 @@ pub fn each_text_has_one_meaning()
         → HasSome (IsRead set form text) }
 {}
 
-/// A text has at most one answer, and one, by tables that keep what its form asks for.
+/// States that a text has exactly one answer, by tables that meet its form's conditions.
 pub fn each_text_has_one_answer()
     ensures at_most_one { (set : TableRows) (form : Form) (text : List ℕ) → AsksForOne form set
         → HasOne (IsAnswer set form text) }

@@ -1,10 +1,10 @@
 //! What texts mean in the forms of GS1 identities, the answers to them, and their translations.
 //!
-//! The six forms are tag bits in hexadecimal digits, EPC tag URIs, pure identity URIs, element strings as scanners send them and
-//! with brackets, and GS1 Digital Links.
+//! The six forms are tag bits in hexadecimal digits, EPC tag URIs, pure identity URIs, element strings as barcode scanners
+//! transmit them and in brackets, and GS1 Digital Links.
 //!
-//! - `read` tells what a text means, or the first reason why it means nothing.
-//! - `translate` gives the one spelling of that in a form that is asked for, and `Translator` does so for one text after another.
+//! - `read` returns the meaning of a text, or the first reason why it has none.
+//! - `translate` returns its one spelling in a requested form, and `Translator` does so for one text after another.
 //! - `reason_text` is the text of a reason; `append_reason` appends it, and `append_ident` that of elements that have no identity.
 //!
 //! # Example
@@ -17,13 +17,13 @@
 //! urn:epc:tag:sgtin-96:3.0614141.812345.6789
 //! ```
 //!
-//! # Where it differs from the standards
+//! # Differences from the standards
 //!
 //! - A translation goes by the identity, the elements that are named, and not from pattern to pattern as in GS1 EPC Tag Data
 //!   Translation: element strings and links take part, and an EPC that becomes another keeps its filter value.
 //! - The order of the reasons, and what a text of more than 2,048 bytes gets, are this project's own.
-//! - Which elements the GS1 General Specifications ask for or forbid beside others is not checked, but for two keys: such a text
-//!   names two things, and is rejected.
+//! - The rules of the GS1 General Specifications on elements that require or exclude each other are not checked, except for two
+//!   keys: such a text names two things and is rejected.
 #![tactic(auto)]
 
 mod elements;
@@ -49,12 +49,18 @@ mod write_reasons;
 
 pub use field_name::FieldName;
 pub use form::Form;
+pub use laws::{each_text_has_one_answer, each_text_has_one_meaning, loaded_tables_suit_each_form};
 pub use meaning::Meaning;
+pub use migration_laws::migrated_tables_translate_alike;
 pub use options::Options;
 pub use reader::read;
 pub use reason::Reason;
 pub use reason_texts::{append_ident, append_reason, reason_text};
 pub use target::Target;
 pub use translation::translate;
+pub use translation_laws::{
+    a_spelling_means_the_same, canonical_links_are_translations, each_text_has_one_translation,
+    equal_links_name_the_same,
+};
 pub use translator::Translator;
 pub use words::{append_number, append_numbered, append_word};

@@ -11,11 +11,11 @@ use gs_tables::TableSet;
 pub struct Meaning {
     /// The identity that it names.
     pub identity: Identity,
-    /// How many digits the GS1 Company Prefix has, where the form gives it.
+    /// The number of digits of the GS1 Company Prefix, if the form has it.
     pub gcp: Option<u8>,
-    /// The filter value, where the form gives it.
+    /// The filter value, if the form has it.
     pub filter: Option<u8>,
-    /// The name of the encoding, empty where the form has none.
+    /// The name of the encoding, empty if the form has none.
     pub encoding: Text,
 }
 
@@ -32,7 +32,7 @@ impl Drop for Meaning {
 }
 
 impl Meaning {
-    /// The meaning with the key alone, and its serial where that has an element of its own. No pair is copied.
+    /// Returns the meaning with only the key, and its serial if that is a separate element. Copies no pair.
     pub(crate) fn narrow(self, set: &TableSet) -> Meaning
         requires { IsMadeWith set.now.ais self.identity }
         ensures narrowed { result ≡ kept set.now true self }

@@ -4,8 +4,8 @@ ghost use Rattle.gs_tables.specs.Shapes.{LoadAnswer};
 ghost use Rattle.gs_tables.specs.Tables.{TableRows};
 ghost use Rattle.gs_translate.specs.MigratedTables.{TranslateAlike};
 
-/// Where a text loads to the set that bytes load to, as the migrated text of a table document does, each text has the same
-/// translations by both sets, whatever the prefixes, the options and the forms.
+/// States that if a text loads to the set that bytes load to, as the migrated text of a table document does, then each text has
+/// the same translations by both sets, for any prefixes, options and forms.
 pub fn migrated_tables_translate_alike()
     ensures { (bytes text : List ℕ) (set other : TableRows) → LoadsAlike bytes text
         → LoadAnswer bytes (Ok set) → LoadAnswer text (Ok other) → TranslateAlike set other }

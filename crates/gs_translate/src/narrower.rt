@@ -6,7 +6,7 @@ ghost use Rattle.gs_translate.specs.Targets.{has_key, key_and_serial, narrowed};
 use gs_ident::{Identity, Pair};
 use gs_tables::{Kind, SerialAt, TableSet};
 
-/// The key, with its serial where that has an element of its own.
+/// Returns the key, with its serial if that is a separate element.
 fn key_and_serial(serial: &SerialAt, identity: Identity) -> Identity
     ensures { result ≡ key_and_serial serial.now identity }
 {
@@ -16,20 +16,20 @@ fn key_and_serial(serial: &SerialAt, identity: Identity) -> Identity
     }
 }
 
-/// The kind of a key.
+/// Returns the kind of a key.
 fn kind_of<'a>(set: &'a TableSet, key: &Pair) -> Option<&'a Kind>
     ensures { option_copied result ≡ find (has_key key.now.code) set.now.kinds }
 {
     set.kinds().iter().find(|kind| key.code == kind.key)
 }
 
-/// The identity of which only the key is kept, by the kind of the key.
+/// Returns the identity with only its key kept, by the kind of the key.
 pub(crate) fn narrowed(set: &TableSet, identity: Identity) -> Identity
     requires { IsMadeWith set.now.ais identity }
     ensures narrowed { result ≡ narrowed set.now identity }
     ensures with_table { IsMadeWith set.now.ais result }
 {
-    // the proof alone reads it: the rows keep the rules of application identifiers
+    // only for the proof: the rows satisfy the rules of application identifiers
     let _ = set.ais();
     match kind_of(set, identity.key()) {
         Some(kind) => key_and_serial(&kind.serial, identity),

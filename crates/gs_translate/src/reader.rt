@@ -1,12 +1,14 @@
-ghost use Rattle.std.specs.Prelude.{◌≡◌, IfOk};
+ghost use Rattle.std.specs.Prelude.{◌≡◌, IfOk, Ok};
 ghost use Rattle.gs_epc.specs.declared.epc.Epc.{Epc};
+ghost use Rattle.gs_epc.specs.declared.error.EpcFault.TheVariants.{Memory as NoRoom};
 ghost use Rattle.gs_epc.specs.Namings.{IsNamed};
 ghost use Rattle.gs_epc.specs.Readings.{ReadsAs, ReadsHex};
 ghost use Rattle.gs_ident.specs.Identities.{IsMadeWith};
 ghost use Rattle.gs_tables.specs.Tables.{TableRows};
 ghost use Rattle.gs_tables_document.specs.declared.level_name.LevelName.{LevelName};
-ghost use Rattle.gs_translate.specs.Meanings.{IsMeaning, IsRead, MeansEpc};
-ghost use Rattle.gs_translate.specs.Steps.{UnlessMemory};
+ghost use Rattle.gs_translate.specs.declared.reason.Reason.TheVariants.{Epc as NoEpc};
+ghost use Rattle.gs_translate.specs.Meanings.{IsRead, MeansEpc};
+ghost use Rattle.gs_translate.specs.Steps.{Reworded, Then, UnlessMemory};
 
 use crate::elements::{bracketed_meaning, link_meaning, raw_meaning};
 use crate::form::Form;
@@ -17,9 +19,9 @@ use gs_epc::{Named, name_hex, name_pure, name_tag};
 use gs_tables::TableSet;
 use std::alloc::Global;
 
-/// The meaning of what a tag or an EPC URI names.
+/// Returns the meaning of what a tag or an EPC URI names.
 fn meaning_of(named: Named) -> Meaning
-    ensures meaning { (set : TableRows) → (epc : Epc) → IsNamed set epc named → IsMeaning set epc result }
+    ensures meaning { (set : TableRows) → (epc : Epc) → IsNamed set epc named → MeansEpc set epc (Ok result) }
     ensures identity { result.identity ≡ named.identity }
 {
     let Named {
@@ -36,40 +38,41 @@ fn meaning_of(named: Named) -> Meaning
     }
 }
 
-/// The meaning of the bits of a tag.
+/// Returns the meaning of the bits of a tag.
 fn hex_meaning(alloc: Global, set: &TableSet, text: &[u8]) -> Result<Meaning, Reason>
-    ensures meaning { UnlessMemory result (MeansEpc set.now (ReadsHex set.now text.now) result) }
+    ensures meaning { UnlessMemory result
+        (Then (Reworded NoRoom NoEpc (ReadsHex set.now text.now)) (MeansEpc set.now) result) }
     ensures with_table { IfOk result (λ meaning. IsMadeWith set.now.ais meaning.identity) }
 {
     let named = name_hex(alloc, set, text)?;
     Ok(meaning_of(named))
 }
 
-/// The meaning of an EPC tag URI.
+/// Returns the meaning of an EPC tag URI.
 fn tag_meaning(alloc: Global, set: &TableSet, text: &[u8]) -> Result<Meaning, Reason>
     ensures meaning { UnlessMemory result
-        (MeansEpc set.now (ReadsAs set.now LevelName.Tag text.now) result) }
+        (Then (Reworded NoRoom NoEpc (ReadsAs set.now LevelName.Tag text.now)) (MeansEpc set.now) result) }
     ensures with_table { IfOk result (λ meaning. IsMadeWith set.now.ais meaning.identity) }
 {
     let named = name_tag(alloc, set, text)?;
     Ok(meaning_of(named))
 }
 
-/// The meaning of an EPC pure identity URI.
+/// Returns the meaning of an EPC pure identity URI.
 fn pure_meaning(alloc: Global, set: &TableSet, text: &[u8]) -> Result<Meaning, Reason>
     ensures meaning { UnlessMemory result
-        (MeansEpc set.now (ReadsAs set.now LevelName.Pure text.now) result) }
+        (Then (Reworded NoRoom NoEpc (ReadsAs set.now LevelName.Pure text.now)) (MeansEpc set.now) result) }
     ensures with_table { IfOk result (λ meaning. IsMadeWith set.now.ais meaning.identity) }
 {
     let named = name_pure(alloc, set, text)?;
     Ok(meaning_of(named))
 }
 
-/// What a text of a form means, or why it is rejected. `Long` comes exactly where the text has more than 2,048 bytes, and
-/// before every other reason. Of a text of bits and of an EPC URI, `Epc` comes exactly where it says no EPC for that reason.
-/// Of an element string, `Element` comes exactly where an element is not in order, and names the first such; of a link,
-/// `NotHttp`, `NoKeyPath` and `Element` come exactly where it has that error, in this order. Of both, `Ident` comes exactly
-/// where there is none of these and the elements have no identity for that reason.
+/// Returns the meaning of a text of a form, or why it is rejected. Returns `Long` if and only if the text has more than 2,048
+/// bytes, before every other reason. For bits and EPC URIs, returns `Epc` if and only if the text is not an EPC, with the reason.
+/// For an element string, returns `Element` if and only if an element is invalid, and names the first; for a link, `NotHttp`,
+/// `NoKeyPath` and `Element` if and only if it has that error, in this order. For both, returns `Ident` if and only if there is
+/// none of these and the elements have no identity, with the reason.
 pub fn read(alloc: Global, set: &TableSet, form: Form, text: &[u8]) -> Result<Meaning, Reason>
     ensures meaning { UnlessMemory result (IsRead set.now form text.now result) }
     ensures with_table { IfOk result (λ meaning. IsMadeWith set.now.ais meaning.identity) }

@@ -15,7 +15,7 @@ pub enum Reason {
     Long,
     /// The text says no EPC, for this reason, which is never out of memory.
     Epc(EpcFault),
-    /// An element of the text is not in order: where, and why.
+    /// An element of the text is not valid: where, and why.
     Element(ElementFault),
     /// The text does not begin with `http://` or `https://` and an authority.
     NotHttp,
@@ -27,7 +27,7 @@ pub enum Reason {
     NoKind,
     /// An element is neither the key nor its serial, so no EPC says it: its code.
     Extra(Text),
-    /// Neither the text nor what is said beside it tells this.
+    /// Neither the text nor the options give this.
     Missing(FieldName),
     /// The tables have no option for the kind, the length of the company prefix and the encoding.
     NoOption,

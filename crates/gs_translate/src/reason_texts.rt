@@ -11,7 +11,7 @@ use gs_epc::EpcFault;
 use gs_ident::IdentFault;
 use std::alloc::Global;
 
-/// The text of a reason, as it is printed behind `no `, and `memory` of `Memory`.
+/// Returns the printed text of a reason, without the `no ` before it, and `memory` for `Memory`.
 pub fn reason_text(alloc: Global, reason: &Reason) -> Result<Text, Memory>
     ensures { IfOk result (λ text. text ≡ reason_text reason.now) }
 {
@@ -20,7 +20,7 @@ pub fn reason_text(alloc: Global, reason: &Reason) -> Result<Text, Memory>
     Ok(Text::from_vec(text))
 }
 
-/// Appends why a text is rejected, as it is printed.
+/// Appends the printed reason why a text is rejected.
 pub fn append_reason(alloc: Global, out: &mut Vec<u8>, reason: &Reason) -> Result<(), Memory>
     ensures { OnOk result (out.new.items ≡ out.old.items ++ reason_text reason.now) }
 {
@@ -51,7 +51,7 @@ fn append_epc(alloc: Global, out: &mut Vec<u8>, error: EpcFault) -> Result<(), M
     }
 }
 
-/// Appends why a text is no hexadecimal text.
+/// Appends why a text is not a hexadecimal text.
 fn append_hex(alloc: Global, out: &mut Vec<u8>, error: HexFault) -> Result<(), Memory>
     ensures { OnOk result (out.new.items ≡ out.old.items ++ hex_text error) }
 {
@@ -62,7 +62,7 @@ fn append_hex(alloc: Global, out: &mut Vec<u8>, error: HexFault) -> Result<(), M
     }
 }
 
-/// Appends what is wrong with an element, and where.
+/// Appends the error of an element, and its place.
 fn append_element(alloc: Global, out: &mut Vec<u8>, error: ElementFault) -> Result<(), Memory>
     ensures { OnOk result (out.new.items ≡ out.old.items ++ element_text error) }
 {
@@ -81,7 +81,7 @@ fn append_char(alloc: Global, out: &mut Vec<u8>, at: usize, place: usize) -> Res
     append_number(alloc, out, place)
 }
 
-/// Appends why a value is none of its code, and the place of the code.
+/// Appends why a value is invalid for its code, and the place of the code.
 fn append_value(
     alloc: Global,
     out: &mut Vec<u8>,
@@ -99,7 +99,7 @@ fn append_value(
     }
 }
 
-/// Appends why elements have no identity, as it is printed.
+/// Appends the printed reason why elements have no identity.
 pub fn append_ident(out: &mut Vec<u8>, error: &IdentFault) -> Result<(), Memory>
     ensures { OnOk result (out.new.items ≡ out.old.items ++ ident_text error.now) }
 {

@@ -1,9 +1,11 @@
 ghost use Rattle.std.specs.Prelude.{◌≡◌};
+ghost use Rattle.gs_epc.specs.declared.write_error.EpcWriteFault.TheVariants as write;
 ghost use Rattle.gs_epc.specs.Candidates.{HasFilterOn};
+ghost use Rattle.gs_epc.specs.Writes.{WritesAs};
 ghost use Rattle.gs_ident.specs.Identities.{IsMadeWith};
-ghost use Rattle.gs_translate.specs.Steps.{AppendsText, UnlessMemory};
+ghost use Rattle.gs_translate.specs.Steps.{AppendsText, Reworded, UnlessMemory};
 ghost use Rattle.gs_translate.specs.Targets.{FitsFilter};
-ghost use Rattle.gs_translate.specs.Translations.{AreInOrder, IsOfLevel, IsSpelling, IsWritten};
+ghost use Rattle.gs_translate.specs.Translations.{AreInOrder, IsOfLevel, IsSpelling, write_reason};
 
 use crate::meaning::Meaning;
 use crate::options::Options;
@@ -20,7 +22,7 @@ use gs_prefix::PrefixList;
 use gs_tables::{LevelName, TableSet};
 use std::alloc::Global;
 
-/// The text of an EPC in a level, or why there is none.
+/// Returns the text of an EPC in a level, or why there is none.
 fn write_epc(
     alloc: Global,
     set: &TableSet,
@@ -28,12 +30,13 @@ fn write_epc(
     epc: &LentEpc<'_>,
 ) -> Result<Text, Reason>
     requires { HasFilterOn level epc.now.filter }
-    ensures { UnlessMemory result (IsWritten set.now level epc.now result) }
+    ensures { UnlessMemory result
+        (Reworded write.Memory write_reason (WritesAs set.now level epc.now) result) }
 {
     Ok(write_lent(alloc, set, level, epc)?)
 }
 
-/// The text of a level of what a text means, or the first reason why there is none.
+/// Returns the text of a level of what a text means, or the first reason why there is none.
 fn write_meaning(
     alloc: Global,
     set: &TableSet,
@@ -69,8 +72,8 @@ fn append_meaning(
     Ok(append_word(out, text.as_bytes())?)
 }
 
-/// Appends the one spelling of a meaning in the form that is asked for, or gives the first reason why there is none. To a link or
-/// an element string no fields are taken apart.
+/// Appends the one spelling of a meaning in the requested form, or returns the first reason why there is none. For a link or an
+/// element string it takes no fields apart.
 pub(crate) fn append_spelling(
     alloc: Global,
     set: &TableSet,

@@ -17,14 +17,14 @@ use gs_prefix::PrefixList;
 use gs_tables::{LevelName, OptInfo, SerialAt, TableSet};
 use std::alloc::Global;
 
-/// The index of the kind of the key.
+/// Returns the index of the kind of the key.
 fn kind_place(set: &TableSet, key: &Pair) -> Option<usize>
     ensures { result ≡ position (has_key key.now.code) set.now.kinds }
 {
     set.kinds().iter().position(|kind| key.code == kind.key)
 }
 
-/// Whether the pair is the serial, which has an element of its own.
+/// Returns whether the pair is the serial, in a separate element.
 fn is_serial(serial: &SerialAt, pair: &Pair) -> bool
     ensures { result ≡ is_serial serial.now pair.now }
 {
@@ -34,14 +34,14 @@ fn is_serial(serial: &SerialAt, pair: &Pair) -> bool
     }
 }
 
-/// The first pair that is not the serial.
+/// Returns the first pair that is not the serial.
 fn first_other<'a>(serial: &SerialAt, pairs: &'a [Pair]) -> Option<&'a Pair>
     ensures { option_copied result ≡ find (λ pair. not (is_serial serial.now pair)) pairs.now }
 {
     pairs.iter().find(|pair| !is_serial(serial, pair))
 }
 
-/// The first pair that no EPC says.
+/// Returns the first pair that no EPC says.
 fn extra_pair<'a>(serial: &SerialAt, identity: &'a Identity) -> Option<&'a Pair>
     ensures { option_copied result ≡ extra_pair serial.now identity.now }
 {
@@ -51,7 +51,7 @@ fn extra_pair<'a>(serial: &SerialAt, identity: &'a Identity) -> Option<&'a Pair>
     }
 }
 
-/// The index of the kind of the key, where an EPC of it says the whole identity.
+/// Returns the index of the kind of the key, if an EPC of it holds the whole identity.
 fn kind_for(alloc: Global, set: &TableSet, identity: &Identity) -> Result<usize, Reason>
     ensures kind { UnlessMemory result (result ≡ kind_for set.now identity.now) }
     ensures within { IfOk result (λ kind. kind < length set.now.kinds) }
@@ -65,7 +65,7 @@ fn kind_for(alloc: Global, set: &TableSet, identity: &Identity) -> Result<usize,
     }
 }
 
-/// The digits in which the value of a key goes on from the company prefix.
+/// Returns the digits in which the value of a key goes on from the company prefix.
 fn digits_from_prefix<'a>(set: &TableSet, kind: usize, value: &'a [u8]) -> &'a [u8]
     requires { kind < length set.now.kinds }
     ensures { result.now ≡ digits_from_prefix set.now kind value.now }
@@ -74,7 +74,7 @@ fn digits_from_prefix<'a>(set: &TableSet, kind: usize, value: &'a [u8]) -> &'a [
     &value[..count_digits(value)]
 }
 
-/// The length of the company prefix that the text gives, else that of the options, else that of the list.
+/// Returns the length of the company prefix that the text gives, otherwise that of the options, otherwise that of the list.
 fn known_length(
     set: &TableSet,
     prefixes: &PrefixList,
@@ -92,7 +92,7 @@ fn known_length(
     }
 }
 
-/// Whether one of the options is of the kind and the length of the company prefix.
+/// Returns whether one of the options is of the kind and the length of the company prefix.
 fn is_option_of(options: &[OptInfo], kind: usize, gcp: u8) -> bool
     ensures { result ≡ list_any (is_option_of kind gcp) options.now }
 {
@@ -101,7 +101,7 @@ fn is_option_of(options: &[OptInfo], kind: usize, gcp: u8) -> bool
         .any(|info| info.kind == kind && info.gcp == gcp)
 }
 
-/// Whether an option of any level is of the kind and the length of the company prefix.
+/// Returns whether an option of any level is of the kind and the length of the company prefix.
 fn has_option(set: &TableSet, kind: usize, gcp: u8) -> bool
     ensures { result ≡ has_option set.now kind gcp }
 {
@@ -110,7 +110,7 @@ fn has_option(set: &TableSet, kind: usize, gcp: u8) -> bool
         || is_option_of(set.info(LevelName::Pure), kind, gcp)
 }
 
-/// The length of the company prefix, of which there is an option.
+/// Returns the company prefix length, if there is an option of this length.
 fn length_for(
     set: &TableSet,
     prefixes: &PrefixList,
@@ -131,14 +131,14 @@ fn length_for(
     }
 }
 
-/// The filter value that the text gives, else that of the options.
+/// Returns the filter value that the text gives, otherwise that of the options.
 fn filter_for(options: &Options, meaning: &Meaning) -> Option<u8>
     ensures { result ≡ filter_for options.now meaning.now }
 {
     meaning.filter.or(options.filter)
 }
 
-/// Whether a filter value is lacking, which a pure identity does not need.
+/// Returns whether a filter value is missing, which a pure identity does not need.
 fn lacks_filter(level: LevelName, filter: Option<u8>) -> bool
     ensures { result ≡ lacks_filter level filter }
 {
@@ -148,7 +148,7 @@ fn lacks_filter(level: LevelName, filter: Option<u8>) -> bool
     }
 }
 
-/// The encoding of the options, else that of the text.
+/// Returns the encoding of the options, otherwise that of the text.
 fn encoding_for<'a>(options: &'a Options, meaning: &'a Meaning) -> &'a [u8]
     ensures { result.now ≡ encoding_for options.now meaning.now }
 {
@@ -160,7 +160,7 @@ fn encoding_for<'a>(options: &'a Options, meaning: &'a Meaning) -> &'a [u8]
     }
 }
 
-/// The EPC with the encoding and the filter value of a tag.
+/// Returns the EPC with the encoding and the filter value of a tag.
 fn with_tag<'a>(
     options: &'a Options,
     level: LevelName,
@@ -182,7 +182,7 @@ fn with_tag<'a>(
     Ok(epc)
 }
 
-/// What is written of a meaning as a tag or an EPC URI, or the first reason why it is not.
+/// Returns the EPC that is written of a meaning as a tag or an EPC URI, or the first reason why there is none.
 pub(crate) fn epc_for<'a>(
     alloc: Global,
     set: &'a TableSet,

@@ -9,8 +9,7 @@ pub enum Target {
     Pure,
     /// Element strings without anything at the start (GS1 General Specifications, section 7.8).
     Raw,
-    /// Element strings as they are printed below a symbol (GS1 General Specifications, section 4, human readable
-    /// interpretation).
+    /// Bracketed element strings (GS1 General Specifications, section 4, human readable interpretation).
     Bracketed,
     /// GS1 Digital Links under the stem of the options (GS1 Digital Link URI Syntax, section 4).
     Link,

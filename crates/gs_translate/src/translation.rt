@@ -11,19 +11,18 @@ use gs_prefix::PrefixList;
 use gs_tables::TableSet;
 use std::alloc::Global;
 
-/// The translation of a text of a form to the form that is asked for: the one spelling of the identity that it names, or why it
-/// is rejected, which is the first that fits. With `keys_only` the identity keeps its key alone, and its serial where that has
-/// an element of its own.
+/// Returns the translation of a text of a form to the requested form: the one spelling of the identity that it names, or the
+/// first reason why it is rejected. With `keys_only` the identity keeps only its key, and its serial if that is a separate
+/// element.
 ///
-/// The reasons of `read` come first. Element strings, links and canonical links are then written of every identity. Of bits and
-/// EPC URIs, `NoKind` comes exactly where no kind of the tables has the key; `Extra` where a pair is neither the key nor its
-/// serial, and names the first; `Missing(Gcp)` where neither the text nor the options nor the list, asked in this order, tells
-/// the length of the company prefix; `NoOption` where no option of any level has this kind and length; `Missing(Serial)` where
-/// the identity lacks the serial and no text stands for its absence; `Missing(Filter)`, which a pure identity does not need,
-/// where neither the text nor the options, asked in this order, tell a filter value; then `NoOption` and `CannotHold` as
-/// `write_hex`, `write_tag` and `write_pure` of gs_epc say, by the encoding of the options or, where that is empty, of the
-/// text. `Memory` may come in place of any answer. The filter value of the options, where one is given, is at most 7, and
-/// `stem_ok` allows their stem.
+/// The reasons of `read` come first. Element strings, links and canonical links are then written of every identity. For bits and
+/// EPC URIs, returns these in order. `NoKind`: no kind of the tables has the key. `Extra`: a pair is neither the key nor its
+/// serial; names the first. `Missing(Gcp)`: neither the text nor the options nor the list, in this order, give the company prefix
+/// length. `NoOption`: no option of any level has this kind and length. `Missing(Serial)`: the identity has no serial, and no
+/// text means its absence. `Missing(Filter)`, except for a pure identity: neither the text nor the options, in this order, give a
+/// filter value. Then `NoOption` and `CannotHold` as `write_hex`, `write_tag` and `write_pure` of gs_epc return them, by the
+/// encoding of the options or, if that is empty, of the text. May return `Memory` instead. The filter value of the options is at
+/// most 7, and `stem_ok` allows their stem.
 pub fn translate(
     alloc: Global,
     set: &TableSet,

@@ -14,7 +14,7 @@ ghost use Rattle.gs_translate.specs.StepsSupport.{HasOne, HasSome};
 ghost use Rattle.gs_translate.specs.Targets.{kept};
 ghost use Rattle.gs_translate.specs.Translations.{AreInOrder, IsOfPairs, IsTranslation, MeansIdentity, NameOne};
 
-/// A text has at most one translation, and one, by tables that keep what its form asks for.
+/// States that a text has exactly one translation, by tables that meet its form's conditions.
 pub fn each_text_has_one_translation()
     ensures at_most_one { (set : TableRows) (prefixes : List PrefixEntry) (options : Options) (from : Form)
         (to : Target) (text : List ℕ) → AsksForOne from set
@@ -24,16 +24,16 @@ pub fn each_text_has_one_translation()
         → HasSome (IsTranslation set prefixes options from to text) }
 {}
 
-/// The canonical link that answers a text is its translation to the canonical link, where more than keys is kept.
+/// States that the canonical link that answers a text is its translation to the canonical link, if more than keys is kept.
 pub fn canonical_links_are_translations()
     ensures { (set : TableRows) (prefixes : List PrefixEntry) (options : Options) (form : Form)
         (text : List ℕ) (answer : Result (List ℕ) Reason) → options.keys_only ≡ false
         → IsTranslation set prefixes options form Target.Canon text answer ↔ IsAnswer set form text answer }
 {}
 
-/// What a text is translated to means, in the form of the target, the identity of the text, narrowed where only keys
-/// are kept: in each form by tables that are loaded, and as an element string or a link by any that keep their rules.
-/// The limit of the length of a text is not part of this: an answer may be longer than a text that is read.
+/// States that the translation of a text means, in the form of the target, the identity of the text, narrowed if only keys are
+/// kept. This holds in each form by loaded tables, and for element strings and links by any tables that satisfy their rules. The
+/// limit on the length of a text is not part of it: an answer may be longer than a text that is read.
 pub fn a_spelling_means_the_same()
     ensures of_pairs { (set : TableRows) (prefixes : List PrefixEntry) (options : Options) (from : Form)
         (to : Target) (text answer : List ℕ) (source : Meaning)
@@ -47,7 +47,8 @@ pub fn a_spelling_means_the_same()
         → MeansIdentity set to answer (kept set options.keys_only source).identity }
 {}
 
-/// Two texts, each of any form, that are answered have equal canonical links exactly where they name the same elements.
+/// States that two texts, each of any form, that are answered have equal canonical links if and only if they name the same
+/// elements.
 pub fn equal_links_name_the_same()
     ensures { (set : TableRows) (form other : Form) (text given link wanted : List ℕ) → IsShaped set
         → IsAnswer set form text (Ok link) → IsAnswer set other given (Ok wanted)

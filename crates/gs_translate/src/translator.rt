@@ -14,15 +14,15 @@ use gs_tables::TableSet;
 use std::alloc::Global;
 use std::marker::Model;
 
-/// What texts are translated by, and from which form to which. The filter value of the options, where one is given, is at most
-/// 7, and `stem_ok` allows their stem.
+/// The tables, options and forms by which texts are translated. The filter value of the options is at most 7, and `stem_ok`
+/// allows their stem.
 #[derive(Drop)]
 pub struct Translator<'a> {
     /// The tables.
     pub set: &'a TableSet,
     /// The company prefix lengths.
     pub prefixes: &'a PrefixList,
-    /// What is said beside the texts and the forms.
+    /// The options, in addition to the texts and the forms.
     pub options: &'a Options,
     /// The form of the texts.
     pub from: Form,
@@ -46,7 +46,7 @@ impl<'a> Model for Translator<'a> {
     ghost invariant = { λ t. AreInOrder t.options.now };
 }
 
-/// A place for a text, with the memory that most texts take.
+/// Returns a place for a text, with the memory that most texts take.
 fn new_text(alloc: Global) -> Result<Vec<u8>, Memory>
     ensures { IfOk result (λ text. text.items ≡ []) }
 {
@@ -54,13 +54,13 @@ fn new_text(alloc: Global) -> Result<Vec<u8>, Memory>
 }
 
 impl Translator<'_> {
-    /// Appends the translation of a text, or gives why it is rejected, as `translate` says. After a rejection `out` is as it was;
+    /// Appends the translation of a text, or gives why it is rejected, as `translate` says. After a rejection `out` is unchanged;
     /// after out of memory it may have a part of the translation more.
     pub fn append(&self, alloc: Global, text: &[u8], out: &mut Vec<u8>) -> Result<(), Reason>
         ensures { UnlessMemory result (AppendsText
             (IsTranslated self.now text.now) out.old.items out.new.items result) }
     {
-        // the proof alone reads it: the rows keep the rules of tables
+        // only for the proof: the rows satisfy the rules of tables
         let _ = self.set.ais();
         let meaning = read(alloc, self.set, self.from, text)?;
         if !self.options.keys_only {
@@ -86,7 +86,7 @@ impl Translator<'_> {
         )
     }
 
-    /// The translation of a text, or why it is rejected, as `translate` says.
+    /// Returns the translation of a text, or why it is rejected, as `translate` says.
     pub fn translate(&self, alloc: Global, text: &[u8]) -> Result<Text, Reason>
         ensures { UnlessMemory result (IsTranslated self.now text.now result) }
     {

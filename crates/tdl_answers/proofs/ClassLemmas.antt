@@ -15,12 +15,12 @@ use Rattle.gs_translate.specs.declared.meaning.Meaning.{Meaning}
 use Rattle.gs_translate.specs.declared.reason.Reason.{Reason}
 use Rattle.gs_translate.specs.declared.reason.Reason.TheVariants as reason
 use Rattle.gs_translate.specs.Meanings.{IsRead}
-use Rattle.gs_translate.specs.Steps.{UnlessMemory, goes_on, rejects}
+use Rattle.gs_translate.specs.Steps.{UnlessMemory, goes_on, rejects, reworded}
 use Rattle.gs_translate.proofs.StepLaws.{known_answer}
 use Rattle.tdl_answers.specs.declared.class_reason.ClassReason.TheVariants.{Common}
 use Rattle.tdl_answers.specs.ClassAnswers.{ClassWriting, IsClassLink, IsClassText}
 use Rattle.tdl_answers.specs.ClassReasons.{of_class, of_class_writing}
-use Rattle.tdl_answers.specs.LongTexts.{is_short, reworded}
+use Rattle.tdl_answers.specs.LongTexts.{is_short}
 use Rattle.gs_chars.specs.Limits.{longest_text}
 
 -- ---- class URIs
@@ -37,14 +37,14 @@ module _ (set : ClassRows) (text : List ℕ) (few : length text ≤ longest_text
 -- ---- links
 
 module _ (by : ClassWriting) (text : List ℕ) where
-  -- the text is no link
+  -- the text is not a link
   pub link_rejects : (error : Reason) → (Common error ≡ Common reason.Memory → ⊥) → UnlessMemory {X = Meaning} (Err error) (IsRead by.tables Link text (Err error)) → IsClassText by text (Err (Common error))
   link_rejects error enough is =
       let given : Result Meaning Reason = Err error in
       let read = known_answer given (IsRead by.tables Link text given) (λ e. enough (let f : given ≡ Err reason.Memory = e in let same : error ≡ reason.Memory = cc in ap Common same)) is in
       rejects (Common error) (record { given = given; is_given = read; is = refl }) refl
 
-  -- what is written of its meaning
+  -- the class URI that is written of its meaning
   pub class_writes : (meaning : Meaning) (answer : Result (List ℕ) ClassWriteFault) → IsRead by.tables Link text (Ok meaning) → answer ≢ Err writing.Memory → OrMemory answer (class_answer by.classes by.prefixes by.gcp meaning.identity) → IsClassText by text (reworded of_class_writing answer)
   class_writes meaning answer read enough (inl memory) = absurd (enough memory)
   class_writes meaning answer read enough (inr is) = goes_on meaning (record { given = Ok meaning; is_given = read; is = refl }) (ap (reworded of_class_writing) is)

@@ -18,15 +18,16 @@ use Rattle.gs_translate.specs.declared.form.Form.TheVariants.{Link}
 use Rattle.gs_translate.specs.declared.reason.Reason.TheVariants.{Long}
 use Rattle.gs_translate.specs.Meanings.{IsRead}
 use Rattle.gs_translate.proofs.AnswerLaws.{one_read, some_read}
-use Rattle.gs_translate.proofs.StepLaws.{then_one, then_some}
+use Rattle.gs_translate.proofs.StepLaws.{one_reworded, some_reworded, then_one, then_some}
+use Rattle.gs_translate.specs.Steps.{Reworded, reworded}
 use Rattle.tdl_answers.specs.declared.class_reason.ClassReason.TheVariants.{Common}
-use Rattle.tdl_answers.specs.ClassAnswers.{ClassWriting, IsClassCanonLine, IsClassLink, IsClassOf, IsClassText, IsClassUriLine, IsLinkOf, IsLinkRead, IsOfClass, LinksClass}
+use Rattle.tdl_answers.specs.ClassAnswers.{ClassWriting, IsClassCanonLine, IsClassLink, IsClassText, IsClassUriLine, LinksClass}
 use Rattle.tdl_answers.specs.ClassReasons.{class_text, of_class, of_class_writing}
-use Rattle.tdl_answers.specs.LongTexts.{reworded}
+use Rattle.tdl_answers.specs.LongTexts.{Restated}
 use Rattle.gs_class.specs.Written.{class_answer}
 use Rattle.tdl_lines.specs.OutputsSupport.{HasAnswers, HasOneAnswer}
 use Rattle.tdl_answers.proofs.LineLemmas.{one_line, some_line}
-use Rattle.tdl_answers.proofs.LongTextLemmas.{one_after_long, one_restated, one_reworded, some_after_long, some_restated, some_reworded}
+use Rattle.tdl_answers.proofs.LongTextLemmas.{one_after_long, one_restated, some_after_long, some_restated}
 
 -- ---- class URIs
 
@@ -59,12 +60,12 @@ module _ (ais : List AiRow) (set : ClassRows) (text : List ℕ) (of : IsOfTable 
   some_class = counted_class (each_counted (item_lists set.level.options) text)
 
 pub one_class_read : (set : ClassRows) → IsClear set → HasOneAnswer (IsClassCanonLine set)
-one_class_read set clear = one_line class_text (IsClassLink set) (one_after_long (Common Long) (LinksClass set) (λ text few. then_one (IsOfClass set text) IsLinkOf
+one_class_read set clear = one_line class_text (IsClassLink set) (one_after_long (Common Long) (LinksClass set) (λ text few. then_one (Reworded reading.Memory of_class (ReadsAs set text)) (λ identity link. link ≡ Ok (canonical_link identity))
     (one_reworded reading.Memory of_class (ReadsAs set text) (one_class set text clear))
     (λ identity one other a b. a ∙ sym b)))
 
 pub some_class_read : (ais : List AiRow) (set : ClassRows) → IsOfTable ais set → IsClear set → HasAnswers (IsClassCanonLine set)
-some_class_read ais set of clear = some_line class_text (IsClassLink set) (some_after_long (Common Long) (LinksClass set) (λ text few. then_some (IsOfClass set text) IsLinkOf
+some_class_read ais set of clear = some_line class_text (IsClassLink set) (some_after_long (Common Long) (LinksClass set) (λ text few. then_some (Reworded reading.Memory of_class (ReadsAs set text)) (λ identity link. link ≡ Ok (canonical_link identity))
     (some_reworded reading.Memory of_class (ReadsAs set text) (some_class ais set text of clear))
     (λ identity is. (Ok (canonical_link identity), refl))))
 
@@ -72,11 +73,11 @@ some_class_read ais set of clear = some_line class_text (IsClassLink set) (some_
 
 module _ (by : ClassWriting) where
   pub one_class_written : HasOneAnswer (IsClassUriLine by)
-  one_class_written = one_line class_text (IsClassText by) (λ text. then_one (IsLinkRead by.tables text) (IsClassOf by)
+  one_class_written = one_line class_text (IsClassText by) (λ text. then_one (Restated Common (IsRead by.tables Link text)) (λ meaning written. written ≡ reworded of_class_writing (class_answer by.classes by.prefixes by.gcp meaning.identity))
       (one_restated Common (IsRead by.tables Link text) (one_read by.tables Link text tt))
       (λ meaning one other a b. a ∙ sym b))
 
   pub some_class_written : HasAnswers (IsClassUriLine by)
-  some_class_written = some_line class_text (IsClassText by) (λ text. then_some (IsLinkRead by.tables text) (IsClassOf by)
+  some_class_written = some_line class_text (IsClassText by) (λ text. then_some (Restated Common (IsRead by.tables Link text)) (λ meaning written. written ≡ reworded of_class_writing (class_answer by.classes by.prefixes by.gcp meaning.identity))
       (some_restated Common (IsRead by.tables Link text) (some_read by.tables Link text tt))
       (λ meaning is. (reworded of_class_writing (class_answer by.classes by.prefixes by.gcp meaning.identity), refl)))

@@ -34,27 +34,26 @@ use Rattle.gs_translate.specs.declared.form.Form.TheVariants as form
 use Rattle.gs_translate.specs.declared.meaning.Meaning.{Meaning}
 use Rattle.gs_translate.specs.declared.reason.Reason.{Reason}
 use Rattle.gs_translate.specs.declared.reason.Reason.TheVariants as reason
-use Rattle.gs_translate.specs.Meanings.{IsRead, MeaningOf, short, too_long}
+use Rattle.gs_translate.specs.Meanings.{IsRead, MeansEpc, short, too_long}
+use Rattle.gs_translate.specs.Steps.{Reworded, Then, goes_on, rejects}
 use Rattle.gs_translate.specs.StepsSupport.{HasSome}
-use Rattle.gs_translate.specs.Translations.{IsWritten, write_reason}
 use Rattle.gs_translate.proofs.AnswerLaws.{some_read}
-use Rattle.gs_translate.proofs.OneWriting.{one_written}
-use Rattle.gs_translate.proofs.SomeWriting.{some_written}
+use Rattle.gs_translate.proofs.OneWriting.{writes_one}
+use Rattle.gs_translate.proofs.SomeWriting.{writes_some}
 use Rattle.gs_chars.specs.Limits.{longest_text}
 
--- ---- what is read of an EPC, by what texts mean
+-- ---- reading an EPC, by the meanings of texts
 
-known_said : (set : TableRows) (said : Result Epc EpcFault) (answer : Result Meaning Reason) → MeaningOf set said answer → said ≢ Err epc.Memory
-known_said set (Ok e) answer m = λ f. (let g : Ok e ≡ Err epc.Memory = f in cc)
-known_said set (Err error) (Err (reason.Epc other)) m = λ f. m.1 (let g : Err error ≡ Err epc.Memory = f in cc)
-known_said set (Err error) answer m = absurd m
+known_said : (set : TableRows) (Reads : Result Epc EpcFault → Type 0) (answer : Result Meaning Reason) → Then (Reworded epc.Memory reason.Epc Reads) (MeansEpc set) answer → SomeKnown epc.Memory Reads
+known_said set Reads answer (rejects error read e) = (read.given, read.enough, read.is_given)
+known_said set Reads answer (goes_on epc read next) = (read.given, read.enough, read.is_given)
 
 tag_read : (set : TableRows) (text : List ℕ) → IsLoaded set → length text ≤ longest_text → SomeKnown epc.Memory (ReadsAs set level.Tag text)
 tag_read set text loaded few = by (some_read set form.Tag text loaded)
   where
     by_read : (answer : Result Meaning Reason) → IsRead set form.Tag text answer → SomeKnown epc.Memory (ReadsAs set level.Tag text)
     by_read answer (too_long more e) = absurd (omega (arith, few, more))
-    by_read answer (short few' m) = (m.said, known_said set m.said answer m.means, m.read)
+    by_read answer (short few' m) = known_said set (ReadsAs set level.Tag text) answer m
 
     by : HasSome (IsRead set form.Tag text) → SomeKnown epc.Memory (ReadsAs set level.Tag text)
     by some = by_read some.0 some.1
@@ -64,51 +63,10 @@ hex_read set text loaded few = by (some_read set form.Hex text loaded)
   where
     by_read : (answer : Result Meaning Reason) → IsRead set form.Hex text answer → SomeKnown epc.Memory (ReadsHex set text)
     by_read answer (too_long more e) = absurd (omega (arith, few, more))
-    by_read answer (short few' m) = (m.said, known_said set m.said answer m.means, m.read)
+    by_read answer (short few' m) = known_said set (ReadsHex set text) answer m
 
     by : HasSome (IsRead set form.Hex text) → SomeKnown epc.Memory (ReadsHex set text)
     by some = by_read some.0 some.1
-
--- ---- what is written of an EPC
-
-module _ (set : TableRows) (level : LevelName) (epc : Epc) where
-  writes_some : SomeKnown write.Memory (WritesAs set level epc)
-  writes_some = by (some_written set level epc)
-    where
-      by_written : (answer : Result (List ℕ) Reason) → IsWritten set level epc answer → SomeKnown write.Memory (WritesAs set level epc)
-      by_written (Ok text) w = (Ok text, (λ e. let f : Ok text ≡ Err write.Memory = e in cc), w)
-      by_written (Err reason) w = (Err w.0, (λ e. w.1 (let f : Err w.0 ≡ Err write.Memory = e in cc)), w.2)
-
-      by : HasSome (IsWritten set level epc) → SomeKnown write.Memory (WritesAs set level epc)
-      by some = by_written some.0 some.1
-
-  same_reason_written : (error other : EpcWriteFault) → error ≢ write.Memory → other ≢ write.Memory → write_reason error ≡ write_reason other → error ≡ other
-  same_reason_written write.NoOption write.NoOption t u e = refl
-  same_reason_written write.NoOption (write.CannotHold field why) t u e = absurd (let f : reason.NoOption ≡ reason.CannotHold field why = e in cc)
-  same_reason_written (write.CannotHold field why) write.NoOption t u e = absurd (let f : reason.CannotHold field why ≡ reason.NoOption = e in cc)
-  same_reason_written (write.CannotHold field why) (write.CannotHold field' why') t u e =
-      let f : reason.CannotHold field why ≡ reason.CannotHold field' why' = e in
-      let fields : field ≡ field' = cc in
-      let whys : why ≡ why' = cc in
-      rw (fields, whys) refl
-  same_reason_written write.Memory other t u e = absurd (t refl)
-  same_reason_written error write.Memory t u e = absurd (u refl)
-
-  writes_one : (one other : Result (List ℕ) EpcWriteFault) → one ≢ Err write.Memory → other ≢ Err write.Memory → WritesAs set level epc one → WritesAs set level epc other → one ≡ other
-  writes_one (Ok text) (Ok other) t u a b =
-      let both = one_written set level epc (Ok text) (Ok other) a b in
-      let same : text ≡ other = cc in
-      ap Ok same
-  writes_one (Ok text) (Err error) t u a b =
-      let both = one_written set level epc (Ok text) (Err (write_reason error)) a (error, (λ e. u (ap Err e)), b, refl) in
-      absurd cc
-  writes_one (Err error) (Ok text) t u a b =
-      let both = one_written set level epc (Err (write_reason error)) (Ok text) (error, (λ e. t (ap Err e)), a, refl) b in
-      absurd cc
-  writes_one (Err error) (Err other) t u a b =
-      let both = one_written set level epc (Err (write_reason error)) (Err (write_reason other)) (error, (λ e. t (ap Err e)), a, refl) (other, (λ e. u (ap Err e)), b, refl) in
-      let same : write_reason error ≡ write_reason other = cc in
-      ap Err (same_reason_written error other (λ e. t (ap Err e)) (λ e. u (ap Err e)) same)
 
 -- ---- dumps that are shown
 

@@ -2,13 +2,13 @@
 use Rattle.std.proofs.Common.{◌≡◌, ◌≢◌, ◌≤◌, ℕ, List, length, refl}
 use Rattle.std.specs.Prelude.{Result, Ok, Err}
 use Rattle.gs_translate.specs.declared.reason.Reason.TheVariants as reason
-use Rattle.gs_translate.specs.Steps.{Then, goes_on, rejects}
+use Rattle.gs_translate.specs.Steps.{Reworded, Then, goes_on, rejects, reworded}
 use Rattle.tdl_answers.specs.declared.dump_reason.DumpReason.{DumpReason}
 use Rattle.tdl_answers.specs.declared.dump_reason.DumpReason.TheVariants.{Common}
-use Rattle.tdl_answers.specs.LongTexts.{AfterLong, Reworded, is_short, reworded}
+use Rattle.tdl_answers.specs.LongTexts.{AfterLong, is_short}
 use Rattle.gs_chars.specs.Limits.{longest_text}
 
--- two steps, whose errors are said in other words
+-- two steps whose errors are reworded
 module _ {A E F : Type 0} (memory : E) (say : E → DumpReason) (memory' : F) (say' : F → DumpReason) (First : List ℕ → Result A E → Type 0) (Next : A → Result (List ℕ) F → Type 0) (text : List ℕ) where
   abbrev pub TwoSteps : List ℕ → Result (List ℕ) DumpReason → Type 0
   TwoSteps text answer = Then (Reworded memory say (First text)) (λ a. Reworded memory' say' (Next a)) answer

@@ -17,7 +17,7 @@ use Rattle.gs_translate.proofs.OneTranslation.{one_translation, some_translation
 use Rattle.gs_translate.proofs.StepLaws.{known_answer}
 use Rattle.tdl_answers.specs.TranslatedAnswers.{IsTranslatedLine}
 
--- ---- lines, by what is an answer to a text and the texts of the reasons
+-- ---- lines, by the answers to texts and the texts of reasons
 
 module _ {R : Type 0} (show : R → List ℕ) (Answer : List ℕ → Result (List ℕ) R → Type 0) where
   -- the line that was added is that of an answer
@@ -41,7 +41,7 @@ module _ {R : Type 0} (show : R → List ℕ) (Answer : List ℕ → Result (Lis
 
 -- ---- translated lines
 
--- the translation stands behind `ok `, and a line feed behind it
+-- the translation follows `ok `, and a line feed after it
 pub adds_accepted : (t : Translating) (text before marked appended written now : List ℕ) → marked ≡ before ++ codes "ok " → written ≡ marked ++ appended → IsTranslated t text (Ok appended) → now ≡ written ++ 10 ∷ [] → AddsAnswer (IsTranslatedLine t) text before now false
 adds_accepted t text before marked appended written now mark append is feed = record {
   answer = accepted appended;
@@ -53,7 +53,7 @@ adds_accepted t text before marked appended written now mark append is feed = re
 same_reason : (reason : Reason) (given none : Result (Unit {0}) Reason) → given ≡ Err reason → none ≡ Err Memory → given ≡ none → reason ≡ Memory
 same_reason reason given none e f g = cc
 
--- the translation appended nothing, `ok ` was taken back, and the reason is no want of memory
+-- the translation appended nothing, `ok ` was taken back, and the reason is not a want of memory
 pub adds_rejected : (t : Translating) (text before marked written cut now : List ℕ) (size : ℕ) (reason : Reason) → size ≡ length before → marked ≡ before ++ codes "ok " → UnlessMemory {X = Unit {0}} (Err reason) (AppendsText {Done = Unit {0}} (IsTranslated t text) marked written (Err reason)) → cut ≡ take size written → (reason ≡ Memory → ⊥) → now ≡ cut ++ printed (rejected (reason_text reason)) → AddsAnswer (IsTranslatedLine t) text before now true
 adds_rejected t text before marked written cut now size reason len mark given back enough line =
     let known = known_answer {X = Unit {0}} (Err reason) (AppendsText {Done = Unit {0}} (IsTranslated t text) marked written (Err reason)) (λ e. enough (same_reason reason _ _ refl refl e)) given in

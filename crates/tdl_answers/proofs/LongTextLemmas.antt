@@ -1,11 +1,12 @@
--- Long texts, and answers whose reasons are said in other words: one answer, and some answer.
-use Rattle.std.proofs.Common.{◌≡◌, ◌≤◌, ℕ, List, length, refl, sym, ◌∙◌, ap, inl, inr}
-use Rattle.std.specs.Prelude.{◌≢◌, Result, Err}
+-- Long texts, and answers with reworded reasons: at most one answer, and at least one.
+use Rattle.std.proofs.Common.{◌≤◌, ℕ, List, length, refl, sym, ◌∙◌, ap, inl, inr}
+use Rattle.std.specs.Prelude.{Result, Err}
 use Rattle.std.proofs.Math.Nat.{not-le_of_lt}
 use Rattle.std.proofs.lemmas.Bool.Decides.{leb_tells}
 use Rattle.gs_chars.specs.Limits.{longest_text}
 use Rattle.gs_translate.specs.StepsSupport.{HasOne, HasSome}
-use Rattle.tdl_answers.specs.LongTexts.{AfterLong, Restated, Reworded, is_long, is_short, reworded}
+use Rattle.gs_translate.specs.Steps.{reworded}
+use Rattle.tdl_answers.specs.LongTexts.{AfterLong, Restated, is_long, is_short}
 
 module _ {A E : Type 0} (long : E) (Short : List ℕ → Result A E → Type 0) where
   pub one_after_long : ((text : List ℕ) → length text ≤ longest_text → HasOne (Short text)) → (text : List ℕ) → HasOne (AfterLong long Short text)
@@ -19,13 +20,6 @@ module _ {A E : Type 0} (long : E) (Short : List ℕ → Result A E → Type 0) 
     | inl few ↦ let s = some text few.1 in (s.0, is_short few.1 s.1)
     | inr more ↦ (Err long, is_long more.1 refl)
   ]
-
-module _ {A E R : Type 0} (memory : E) (say : E → R) (Answer : Result A E → Type 0) where
-  pub one_reworded : ((one other : Result A E) → one ≢ Err memory → other ≢ Err memory → Answer one → Answer other → one ≡ other) → HasOne (Reworded memory say Answer)
-  one_reworded unique one other a b = a.is ∙ ap (reworded say) (unique a.given b.given a.enough b.enough a.is_given b.is_given) ∙ sym b.is
-
-  pub some_reworded : ((given : Result A E) × (given ≢ Err memory) × Answer given) → HasSome (Reworded memory say Answer)
-  some_reworded some = (reworded say some.0, record { given = some.0; enough = some.1; is_given = some.2; is = refl })
 
 module _ {A E R : Type 0} (say : E → R) (Answer : Result A E → Type 0) where
   pub one_restated : HasOne Answer → HasOne (Restated say Answer)

@@ -1,23 +1,21 @@
--- The answers to class URIs, and to the links of what is written as one.
+-- The answers to class URIs, and to links that are written as class URIs.
 use Rattle.std.specs.Prelude.{◌≡◌, ℕ, List, Option, Result, Ok}
 use Rattle.gs_ai.specs.declared.row.AiRow.{AiRow}
 use Rattle.gs_class.specs.declared.error.ClassFault.TheVariants.{Memory}
 use Rattle.gs_class.specs.Meanings.{ReadsAs}
 use Rattle.gs_class.specs.Sets.{ClassRows}
 use Rattle.gs_class.specs.Written.{class_answer}
-use Rattle.gs_ident.specs.Elements.{Elements}
 use Rattle.gs_ident.specs.Links.{canonical_link}
 use Rattle.gs_prefix.specs.declared.entry.PrefixEntry.{PrefixEntry}
 use Rattle.gs_tables.specs.Tables.{TableRows}
 use Rattle.gs_translate.specs.declared.form.Form.TheVariants.{Link}
-use Rattle.gs_translate.specs.declared.meaning.Meaning.{Meaning}
 use Rattle.gs_translate.specs.declared.reason.Reason.TheVariants.{Long}
 use Rattle.gs_translate.specs.Meanings.{IsRead}
-use Rattle.gs_translate.specs.Steps.{Then}
+use Rattle.gs_translate.specs.Steps.{Reworded, Then, reworded}
 use Rattle.tdl_answers.specs.declared.class_reason.ClassReason.{ClassReason}
 use Rattle.tdl_answers.specs.declared.class_reason.ClassReason.TheVariants.{Common}
 use Rattle.tdl_answers.specs.ClassReasons.{class_text, of_class, of_class_writing}
-use Rattle.tdl_answers.specs.LongTexts.{AfterLong, Restated, Reworded, reworded}
+use Rattle.tdl_answers.specs.LongTexts.{AfterLong, Restated}
 use Rattle.tdl_messages.specs.AnswerLines.{IsLineOf}
 use Rattle.tdl_lines.specs.Outputs.{LineAnswer}
 
@@ -32,17 +30,11 @@ pub record ClassReading : Type 0 where
 abbrev pub reading_by : List AiRow → ClassRows → ClassReading
 reading_by ais classes = record { ais = ais; classes = classes }
 
--- trusted, own: the identity that a text is a class URI of, or why it is none
-abbrev pub IsOfClass : ClassRows → List ℕ → Result Elements ClassReason → Type 0
-IsOfClass set text answer = Reworded Memory of_class (ReadsAs set text) answer
-
--- trusted, own: the canonical link of an identity
-abbrev pub IsLinkOf : Elements → Result (List ℕ) ClassReason → Type 0
-IsLinkOf identity answer = answer ≡ Ok (canonical_link identity)
-
--- trusted, own: the answer to a text that is not long: the canonical link of the identity that it is a class URI of
+-- trusted, own: the answer to a text that is not long: the canonical link of the identity that it is a class URI of, or why it
+-- is none
 abbrev pub LinksClass : ClassRows → List ℕ → Result (List ℕ) ClassReason → Type 0
-LinksClass set text answer = Then (IsOfClass set text) IsLinkOf answer
+LinksClass set text answer =
+    Then (Reworded Memory of_class (ReadsAs set text)) (λ identity link. link ≡ Ok (canonical_link identity)) answer
 
 -- trusted, own: the answer to a text, by the canonical link of the identity that it is a class URI of
 abbrev pub IsClassLink : ClassRows → List ℕ → Result (List ℕ) ClassReason → Type 0
@@ -65,17 +57,11 @@ pub record ClassWriting : Type 0 where
 abbrev pub writing_by : TableRows → List PrefixEntry → ClassRows → Option ℕ → ClassWriting
 writing_by tables prefixes classes gcp = record { tables = tables; prefixes = prefixes; classes = classes; gcp = gcp }
 
--- trusted, own: what a text means as a link, or why it means nothing; a long one is rejected as long
-abbrev pub IsLinkRead : TableRows → List ℕ → Result Meaning ClassReason → Type 0
-IsLinkRead set text answer = Restated Common (IsRead set Link text) answer
-
--- trusted, own: the class URI of what a text means, or why there is none
-abbrev pub IsClassOf : ClassWriting → Meaning → Result (List ℕ) ClassReason → Type 0
-IsClassOf by meaning answer = answer ≡ reworded of_class_writing (class_answer by.classes by.prefixes by.gcp meaning.identity)
-
--- trusted, own: the answer to a text, by the class URI of what it means as a link
+-- trusted, own: the class URI of what a text means as a link, or why there is none; a long text is rejected as long
 abbrev pub IsClassText : ClassWriting → List ℕ → Result (List ℕ) ClassReason → Type 0
-IsClassText by text answer = Then (IsLinkRead by.tables text) (IsClassOf by) answer
+IsClassText by text answer =
+    Then (Restated Common (IsRead by.tables Link text))
+    (λ meaning written. written ≡ reworded of_class_writing (class_answer by.classes by.prefixes by.gcp meaning.identity)) answer
 
 -- trusted, own: the answer line of a text, by the class URI of what it means as a link
 abbrev pub IsClassUriLine : ClassWriting → List ℕ → LineAnswer → Type 0

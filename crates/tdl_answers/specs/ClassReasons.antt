@@ -1,4 +1,4 @@
--- Why class URIs name nothing, and what links name is not written as a class URI, as it is printed.
+-- The printed reasons why class URIs name nothing, and why the identities of links are not written as class URIs.
 use Rattle.std.specs.Prelude.{ℕ, List, codes}
 use Rattle.gs_class.specs.declared.error.ClassFault.{ClassFault}
 use Rattle.gs_class.specs.declared.error.ClassFault.TheVariants as reading
@@ -12,7 +12,7 @@ use Rattle.gs_translate.specs.Reasons.{reason_text}
 use Rattle.tdl_answers.specs.declared.class_reason.ClassReason.{ClassReason}
 use Rattle.tdl_answers.specs.declared.class_reason.ClassReason.TheVariants.{Common, NoClass, MissingElement}
 
--- trusted, own: why a text is no class URI
+-- trusted, own: why a text is not class URI
 abbrev pub of_class : ClassFault → ClassReason
 of_class reading.NoReading = Common (reason.Epc epc.NoReading)
 of_class reading.Memory = Common reason.Memory

@@ -1,33 +1,25 @@
 -- The answers to dumps, and to the lines that show them.
 use Rattle.std.specs.Prelude.{ℕ, List, Result}
-use Rattle.gs_membank.specs.declared.dump.Dump.{Dump}
 use Rattle.gs_membank.specs.declared.error.DumpFault.TheVariants.{Memory}
 use Rattle.gs_membank.specs.declared.error.DumpLineFault.TheVariants.{Memory as LineMemory}
 use Rattle.gs_membank.specs.declared.error.DumpWriteFault.TheVariants.{Memory as WriteMemory}
 use Rattle.gs_membank.specs.Answers.{ReadsDump, ReadsShown, ShowsDump, WritesDump}
 use Rattle.gs_tables.specs.Tables.{TableRows}
 use Rattle.gs_translate.specs.declared.reason.Reason.TheVariants.{Long}
-use Rattle.gs_translate.specs.Steps.{Then}
+use Rattle.gs_translate.specs.Steps.{Reworded, Then}
 use Rattle.tdl_answers.specs.declared.dump_reason.DumpReason.{DumpReason}
 use Rattle.tdl_answers.specs.declared.dump_reason.DumpReason.TheVariants.{Common}
 use Rattle.tdl_answers.specs.DumpReasons.{dump_text, of_line, of_reading, of_writing}
-use Rattle.tdl_answers.specs.LongTexts.{AfterLong, Reworded}
+use Rattle.tdl_answers.specs.LongTexts.{AfterLong}
 use Rattle.tdl_messages.specs.AnswerLines.{IsLineOf}
 use Rattle.tdl_lines.specs.Outputs.{LineAnswer}
 
 -- ---- dumps
 
--- trusted, own: the dump that a text is, or why it is none
-abbrev pub IsDump : TableRows → List ℕ → Result Dump DumpReason → Type 0
-IsDump set text answer = Reworded Memory of_reading (ReadsDump set text) answer
-
--- trusted, own: the line that shows a dump, or why none does
-abbrev pub IsShownText : TableRows → Dump → Result (List ℕ) DumpReason → Type 0
-IsShownText set dump answer = Reworded WriteMemory of_writing (ShowsDump set dump) answer
-
--- trusted, own: the answer to a text that is not long: the line that shows the dump that it is
+-- trusted, own: the answer to a text that is not long: the line that shows the dump that it is, or why there is none
 abbrev pub ShowsText : TableRows → List ℕ → Result (List ℕ) DumpReason → Type 0
-ShowsText set text answer = Then (IsDump set text) (IsShownText set) answer
+ShowsText set text answer =
+    Then (Reworded Memory of_reading (ReadsDump set text)) (λ dump. Reworded WriteMemory of_writing (ShowsDump set dump)) answer
 
 -- trusted, own: the answer to a text, by the line that shows the dump that it is
 abbrev pub IsDumpShown : TableRows → List ℕ → Result (List ℕ) DumpReason → Type 0
@@ -39,17 +31,10 @@ IsDumpReadLine set text line = IsLineOf dump_text (IsDumpShown set text) line
 
 -- ---- lines that show dumps
 
--- trusted, own: the dump that a line shows, or why it shows none
-abbrev pub IsShownDump : TableRows → List ℕ → Result Dump DumpReason → Type 0
-IsShownDump set text answer = Reworded LineMemory of_line (ReadsShown set text) answer
-
--- trusted, own: the text of a dump, or why it has none
-abbrev pub IsWrittenText : TableRows → Dump → Result (List ℕ) DumpReason → Type 0
-IsWrittenText set dump answer = Reworded WriteMemory of_writing (WritesDump set dump) answer
-
--- trusted, own: the answer to a text that is not long: the text of the dump that it shows
+-- trusted, own: the answer to a text that is not long: the text of the dump that it shows, or why there is none
 abbrev pub WritesText : TableRows → List ℕ → Result (List ℕ) DumpReason → Type 0
-WritesText set text answer = Then (IsShownDump set text) (IsWrittenText set) answer
+WritesText set text answer =
+    Then (Reworded LineMemory of_line (ReadsShown set text)) (λ dump. Reworded WriteMemory of_writing (WritesDump set dump)) answer
 
 -- trusted, own: the answer to a text, by the text of the dump that it shows
 abbrev pub IsDumpWritten : TableRows → List ℕ → Result (List ℕ) DumpReason → Type 0

@@ -1,4 +1,4 @@
--- Why dumps are not shown, and shown lines are not written as dumps, as it is printed.
+-- The printed reasons why dumps are not shown, and why shown lines are not written as dumps.
 use Rattle.std.specs.Prelude.{ℕ, List, ◌∷◌, ◌++◌, codes, decimal}
 use Rattle.gs_epc.specs.declared.error.EpcFault.TheVariants as epc
 use Rattle.gs_membank.specs.declared.error.DumpFault.{DumpFault}
@@ -12,7 +12,7 @@ use Rattle.gs_translate.specs.Reasons.{numbered, reason_text}
 use Rattle.tdl_answers.specs.declared.dump_reason.DumpReason.{DumpReason}
 use Rattle.tdl_answers.specs.declared.dump_reason.DumpReason.TheVariants.{Common, NoWord, Extended, Toggle, Words, Line, TooLong}
 
--- trusted, own: why a text is no dump
+-- trusted, own: why a text is not a dump
 abbrev pub of_reading : DumpFault → DumpReason
 of_reading (reading.Hex error) = Common (reason.Epc (epc.Hex error))
 of_reading reading.NoWord = NoWord

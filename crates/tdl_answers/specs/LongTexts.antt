@@ -1,23 +1,12 @@
--- Long texts, and answers whose reasons are said in other words.
-use Rattle.std.specs.Prelude.{◌≡◌, ◌≢◌, ◌<◌, ◌≤◌, ℕ, List, length, Result, Ok, Err}
+-- Long texts, and answers with reworded reasons.
+use Rattle.std.specs.Prelude.{◌≡◌, ◌<◌, ◌≤◌, ℕ, List, length, Result, Err}
 use Rattle.gs_chars.specs.Limits.{longest_text}
+use Rattle.gs_translate.specs.Steps.{reworded}
 
 -- trusted, own: An answer to a text: a text of more than 2,048 bytes is long, and any other is answered so.
 pub data AfterLong {A E : Type 0} (long : E) (Short : List ℕ → Result A E → Type 0) (text : List ℕ) (answer : Result A E) : Type 0 where
   is_long : longest_text < length text → answer ≡ Err long → AfterLong long Short text answer
   is_short : length text ≤ longest_text → Short text answer → AfterLong long Short text answer
-
--- trusted, own: an answer with its reason said in other words
-abbrev pub reworded : {A E R : Type 0} → (E → R) → Result A E → Result A R
-reworded say (Ok a) = Ok a
-reworded say (Err error) = Err (say error)
-
--- trusted, own: an answer that is not that memory ran out, with its reason said in other words
-pub record Reworded {A E R : Type 0} (memory : E) (say : E → R) (Answer : Result A E → Type 0) (answer : Result A R) : Type 0 where
-  pub given : Result A E
-  pub enough : given ≢ Err memory
-  pub is_given : Answer given
-  pub is : answer ≡ reworded say given
 
 -- trusted, own: an answer, with its reason said in other words
 pub record Restated {A E R : Type 0} (say : E → R) (Answer : Result A E → Type 0) (answer : Result A R) : Type 0 where

@@ -18,7 +18,7 @@ use std::marker::Model;
 use tdl_lines::Answerer;
 use tdl_messages::append_line;
 
-/// The canonical link of the identity that a text is a class URI of.
+/// Returns the canonical link of the identity that a text is a class URI of.
 fn link_text(
     alloc: Global,
     table: &AiTable,
@@ -35,7 +35,7 @@ fn link_text(
     Ok(canonical(alloc, &identity)?)
 }
 
-/// Answers the texts of lines, class URIs, by the canonical links of what they name. The classes are of the table.
+/// An answerer of class URIs by the canonical links of the things that they name. The classes are of the table.
 #[derive(Drop)]
 pub struct ClassCanonLines<'a> {
     /// The application identifiers.
@@ -56,7 +56,7 @@ impl<'a> Model for ClassCanonLines<'a> {
 }
 
 impl<'a> ClassCanonLines<'a> {
-    /// What answers by these application identifiers and these classes.
+    /// Returns the answerer by these application identifiers and classes.
     pub fn new(table: &'a AiTable, classes: &'a ClassSet) -> Self
         requires { IsOfTable table.now classes.now }
         ensures { result ≡ reading_by table.now classes.now }
@@ -78,7 +78,7 @@ impl Answerer for ClassCanonLines<'_> {
     ghost long_alike = { λ s. long_classes_read s.classes };
 }
 
-/// Answers the texts of lines, links, by the class URIs of what they name. The classes are of the table of the tables.
+/// An answerer of links by the class URIs of the things that they name. The classes are of the table of the tables.
 #[derive(Drop)]
 pub struct ClassUriLines<'a> {
     /// The tables that links are read by.
@@ -87,7 +87,7 @@ pub struct ClassUriLines<'a> {
     prefixes: &'a PrefixList,
     /// The classes.
     classes: &'a ClassSet,
-    /// The number of digits of the company prefix, where it is named.
+    /// The number of digits of the company prefix, if it is given.
     gcp: Option<u8>,
 }
 
@@ -108,7 +108,7 @@ impl<'a> Model for ClassUriLines<'a> {
 }
 
 impl<'a> ClassUriLines<'a> {
-    /// What answers by these tables, prefixes and classes, and by this length of the company prefix where one is given.
+    /// Returns the answerer by these tables, prefixes and classes, and by this company prefix length if it is given.
     pub fn new(
         tables: &'a TableSet,
         prefixes: &'a PrefixList,
@@ -126,7 +126,7 @@ impl<'a> ClassUriLines<'a> {
         }
     }
 
-    /// The class URI of what a text means as a link.
+    /// Returns the class URI of what a text means as a link.
     fn class_text(&self, alloc: Global, text: &[u8]) -> Result<Text, ClassReason>
         ensures { HasMemory (λ reason. reason ≡ Common OutOfMemory) result → IsClassText self.now text.now result }
     {

@@ -9,7 +9,7 @@ use tdl_messages::Reasoned;
 /// Why a class URI names nothing, or what a link names is not written as a class URI.
 #[derive(Drop)]
 pub enum ClassReason {
-    /// A reason that translations have too: the text is long or has no reading, is no link, or its identity is not written.
+    /// A reason that translations have too: the text is long or has no reading, is not a link, or its identity is not written.
     Common(Reason),
     /// No class has the key of the identity.
     NoClass,

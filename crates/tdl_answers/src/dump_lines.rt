@@ -13,7 +13,7 @@ use std::alloc::Global;
 use tdl_lines::Answerer;
 use tdl_messages::append_line;
 
-/// The line that shows the dump that a text is.
+/// Returns the line that shows the dump that a text is.
 fn shown_text(alloc: Global, set: &TableSet, text: &[u8]) -> Result<Text, DumpReason>
     ensures { HasMemory (λ reason. reason ≡ Common OutOfMemory) result → IsDumpShown set.now text.now result }
 {
@@ -24,7 +24,7 @@ fn shown_text(alloc: Global, set: &TableSet, text: &[u8]) -> Result<Text, DumpRe
     Ok(show_dump(alloc, set, &dump)?)
 }
 
-/// The text of the dump that a line shows.
+/// Returns the text of the dump that a line shows.
 fn written_text(alloc: Global, set: &TableSet, text: &[u8]) -> Result<Text, DumpReason>
     ensures { HasMemory (λ reason. reason ≡ Common OutOfMemory) result → IsDumpWritten set.now text.now result }
 {
@@ -35,7 +35,7 @@ fn written_text(alloc: Global, set: &TableSet, text: &[u8]) -> Result<Text, Dump
     Ok(write_dump(alloc, set, &dump)?)
 }
 
-/// Answers the texts of lines, dumps in hexadecimal digits, by the lines that show them.
+/// An answerer of dumps in hexadecimal digits by the lines that show them.
 #[derive(Drop)]
 pub struct DumpReadLines<'a> {
     /// The tables that the EPC of a dump is read by.
@@ -55,7 +55,7 @@ impl Answerer for DumpReadLines<'_> {
     ghost long_alike = { λ s. long_dumps_read s.set.now };
 }
 
-/// Answers the texts of lines that show dumps by the dumps in hexadecimal digits.
+/// An answerer of lines that show dumps by the dumps in hexadecimal digits.
 #[derive(Drop)]
 pub struct DumpWriteLines<'a> {
     /// The tables that the EPC of a dump is read and written by.

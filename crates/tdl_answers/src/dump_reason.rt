@@ -8,7 +8,8 @@ use tdl_messages::Reasoned;
 /// Why a dump is not shown, or a line that shows one is not written as a dump.
 #[derive(Drop)]
 pub enum DumpReason {
-    /// A reason that translations have too: the text is long, is no hexadecimal text or has no reading, or the EPC is not written.
+    /// A reason that translations have too: the text is long, is not a hexadecimal text or has no reading, or the EPC is not
+    /// written.
     Common(Reason),
     /// There are fewer bits than a protocol control word has.
     NoWord,
@@ -16,11 +17,11 @@ pub enum DumpReason {
     Extended,
     /// The bit of the word that says that the bank holds no EPC is 1.
     Toggle,
-    /// The bits behind the word are not as many as the words that it says.
+    /// The bits after the word are not as many as the words that it says.
     Words {
         /// How many words it says.
         said: u8,
-        /// How many bits are behind it.
+        /// How many bits are after it.
         bits: u16,
     },
     /// The line does not begin with the user memory bit and the attribute bits.

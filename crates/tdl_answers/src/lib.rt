@@ -4,17 +4,17 @@
 //!
 //! # Example
 //!
-//! Two lines of at most 38 bytes, of which the second is no pure identity. The gate runs this case, for which
-//! crates/vectors_runs/src/translated_lines.rt makes the call: the status, the output, and what is left of the input.
+//! Two lines of at most 38 bytes; the second is not a pure identity. The gate runs this case, for which
+//! crates/vectors_runs/src/translated_lines.rt makes the call: the status, the output, and the bytes of the input that are left.
 //!
 //! ```text
 //! tdl_answers::answer_lines Pure Canon - - \e no https://id.gs1.org \e 38 / 1 - urn:epc:id:sgtin:0614141.812345.6789\x0Ax / 1000 -
 //! SomeRefused ok\x20https://id.gs1.org/01/80614141123458/21/6789\x0Ano\x20reading\x0A \e
 //! ```
 //!
-//! # Where it differs from the standards
+//! # Differences from the standards
 //!
-//! - No standard has lines of texts and answers: their form is this project's own (docs/FORMATS.md, 'Lines').
+//! - No standard defines lines of texts and answers: their form is this project's own (docs/CLI.md, 'Lines').
 #![tactic(auto)]
 
 mod class_lines;

@@ -1,9 +1,10 @@
 ghost use Rattle.std.specs.Prelude.{◌≢◌, ◌+◌, ◌<◌, ◌≤◌, ◌^◌};
+ghost use Rattle.std.specs.Bool.{OnTrue};
 ghost use Rattle.gs_port.specs.Counts.{Rises};
 ghost use Rattle.gs_translate.specs.Translations.{AreInOrder, translating_by};
 ghost use Rattle.tdl_lines.specs.Inputs.{IsAtEnd, TakesAtMost, TakesMoreThan};
 ghost use Rattle.tdl_lines.specs.Outputs.{Appends, WritesAnswers};
-ghost use Rattle.tdl_lines.specs.Statuses.{OnAnswered, OnInputLong, OnReadFault, OnWriteFault};
+ghost use Rattle.tdl_lines.specs.Statuses.{is_answered, is_status};
 ghost use Rattle.tdl_answers.specs.TranslatedAnswers.{IsTranslatedLine};
 ghost use Rattle.tdl_answers.specs.LongLines.{long_translated};
 
@@ -16,7 +17,7 @@ use std::alloc::Global;
 use tdl_lines::{Answerer, Status};
 use tdl_messages::append_rejected;
 
-/// Answers the texts of lines by their translations.
+/// An answerer of texts by their translations.
 #[derive(Drop)]
 pub struct TranslatedLines<'a> {
     /// What translates the texts.
@@ -29,7 +30,7 @@ impl Answerer for TranslatedLines<'_> {
     ghost is_answer = { λ s. IsTranslatedLine s.translator };
 
     fn append_answer(&self, alloc: Global, text: &[u8], out: &mut Vec<u8>) -> Result<bool, Memory> {
-        // the text is appended where it stands in its line, and `ok ` is taken back where there is none
+        // the text is appended in place in its line, and `ok ` is taken back if there is none
         let before = out.len();
         out.extend_from_slice(b"ok ")?;
         match self.translator.append(alloc, text, out) {
@@ -49,13 +50,12 @@ impl Answerer for TranslatedLines<'_> {
 }
 
 /// Answers each line of the input by its translation, from one form to another, by these tables, prefixes and options: `ok TEXT`
-/// or `no REASON`, when the line has ended. The filter value of the options, where one is given, is at most 7, and `stem_ok`
-/// allows their stem.
+/// or `no REASON`, once the line has ended. The filter value of the options is at most 7, and `stem_ok` allows their stem.
 ///
-/// Lines, what is held of them, `limit` and the statuses are those of `answer_lines` of tdl_lines: at most `limit` bytes are
-/// answered and at most one byte more is taken; `ReadFault` comes only where the input counted an error, `WriteFault` only where
-/// the output did, and `InputLong` exactly where more than `limit` bytes were taken. Neither `Usage` nor `Refused` comes. `limit`
-/// is below 2^63.
+/// Treats lines, the held part of a line, `limit` and the statuses as `answer_lines` of tdl_lines does: answers at most `limit`
+/// bytes and takes at most one byte more. Returns `ReadFault` only if the input counted an error, `WriteFault` only if the output
+/// did, and `InputLong` if and only if more than `limit` bytes were taken. Never returns `Usage` or `Refused`. `limit` is below
+/// 2^63.
 pub fn answer_lines<S: Source, K: Sink>(
     alloc: Global,
     set: &TableSet,
@@ -70,21 +70,24 @@ pub fn answer_lines<S: Source, K: Sink>(
     requires options { AreInOrder options.now }
     requires limit { limit < 2 ^ 63 }
 
-    // What was written: all answers with their status, whatever count rose, or what was done before an error.
+    // The written bytes: all answers with their status if no count rose, or those before an error.
     ensures written { Appends (K.held output.old) (K.held output.new) (λ out.
         WritesAnswers (IsTranslatedLine (translating_by set.now prefixes.now options.now from to)) limit
         (S.left input.old) (S.left input.new) out result) }
     ensures no_usage { result ≢ Status.Usage }
     ensures no_rejection { result ≢ Status.Refused }
 
-    // What was taken.
-    ensures read_to_end { OnAnswered result (IsAtEnd (S.left input.new)) }
-    ensures input_long { OnInputLong result (TakesMoreThan limit (S.left input.old) (S.left input.new)) }
+    // The bytes taken.
+    ensures read_to_end { OnTrue (is_answered result) (IsAtEnd (S.left input.new)) }
+    ensures input_long { OnTrue (is_status result Status.InputLong)
+        (TakesMoreThan limit (S.left input.old) (S.left input.new)) }
     ensures few { TakesAtMost (limit + 1) (S.left input.old) (S.left input.new) }
 
     // Each error.
-    ensures read_error { OnReadFault result (Rises (S.errors input.old) (S.errors input.new)) }
-    ensures write_error { OnWriteFault result (Rises (K.errors output.old) (K.errors output.new)) }
+    ensures read_error { OnTrue (is_status result Status.ReadFault)
+        (Rises (S.errors input.old) (S.errors input.new)) }
+    ensures write_error { OnTrue (is_status result Status.WriteFault)
+        (Rises (K.errors output.old) (K.errors output.new)) }
     ensures input_counts { S.errors input.old ≤ S.errors input.new }
     ensures output_counts { K.errors output.old ≤ K.errors output.new }
 {

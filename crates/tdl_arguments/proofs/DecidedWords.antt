@@ -11,7 +11,7 @@ use Rattle.tdl_arguments.specs.Requests.{Asked, Asks, WordsInOrder, asked_of, ma
 use Rattle.tdl_arguments.proofs.PairLemmas.{TakesBeside, not_behind, not_taken, of_no_word, of_one_word, one_more, same_pairs}
 use Rattle.tdl_arguments.proofs.RequestLemmas.{asks_of, not_in_order, order_of}
 
--- a thing of which the fact holds, or none
+-- a value with the property, or none
 abbrev pub Decided : {X : Type 0} → (X → Type 0) → Type 0
 Decided {X = X} Fact = HasSome Fact ⊎ ((x : X) → Fact x → ⊥)
 
@@ -20,7 +20,7 @@ Decided {X = X} Fact = HasSome Fact ⊎ ((x : X) → Fact x → ⊥)
 abbrev ArePairsOf : List NameRow → List (List ℕ) → Type 0
 ArePairsOf rows words = Decided (λ (pairs : List (List ℕ × List ℕ)). AreOfRows rows words pairs)
 
--- what is taken is taken beside all lists of pairs that the arguments are, since they are one list
+-- a name is taken next to all lists of pairs that the arguments form, since they are one list
 taken_beside : (rows : List NameRow) (n v : List ℕ) (words : List (List ℕ)) (pairs : List (List ℕ × List ℕ)) → AreOfRows rows words pairs → TakesBeside rows n v words (takes rows n v pairs)
 taken_beside rows n v words pairs of others are = ap (takes rows n v) (same_pairs words pairs others of.are are)
 
@@ -38,7 +38,7 @@ pairs_or_none rows (n ∷ v ∷ words) = elim (pairs_or_none rows words) as (λ 
   | inr none ↦ inr (λ pairs. not_behind rows n v words pairs none)
 ]
 
--- ---- what is asked
+-- ---- the request
 
 lacks : (command : Command) (words : List (List ℕ)) (pairs : List (List ℕ × List ℕ)) → AreOfRows (names_of command) words pairs → has_required (names_of command) pairs ≡ false → (asked : Asked) → Asks command words asked → ⊥
 lacks command words pairs of lacking asked a =

@@ -18,7 +18,7 @@ of_one_word rows [] pairs e of = absurd (omega arith)
 of_one_word rows (x ∷ []) pairs e of = one_word_no_pair x pairs of.are
 of_one_word rows (x ∷ y ∷ words) pairs e of = absurd (omega arith)
 
--- the other pairs, and that the first is taken beside them
+-- the other pairs; the first is taken next to them
 record Behind (rows : List NameRow) (n v : List ℕ) (words : List (List ℕ)) : Type 0 where
   others : List (List ℕ × List ℕ)
   of_rows : AreOfRows rows words others
@@ -33,7 +33,7 @@ behind_of rows n v words pairs (one_pair _ _ _ others are) taken = behind_from r
 pub not_behind : (rows : List NameRow) (n v : List ℕ) (words : List (List ℕ)) (pairs : List (List ℕ × List ℕ)) → ((others : List (List ℕ × List ℕ)) → AreOfRows rows words others → ⊥) → AreOfRows rows (n ∷ v ∷ words) pairs → ⊥
 not_behind rows n v words pairs none of = let b = behind_of rows n v words pairs of.are of.taken in none b.others b.of_rows
 
--- whether a pair is taken beside the pairs that the other arguments are
+-- whether a pair is taken next to the pairs of the other arguments
 abbrev pub TakesBeside : List NameRow → List ℕ → List ℕ → List (List ℕ) → Bool → Type 0
 TakesBeside rows n v words taken = (others : List (List ℕ × List ℕ)) → ArePairs words others → taken ≡ takes rows n v others
 
@@ -49,14 +49,14 @@ one_more rows n v words taken behind e beside =
     let first : takes rows n v behind.0 ≡ true = sym (beside behind.0 behind.1.are) ∙ e in
     ((n, v) ∷ behind.0, record { are = one_pair n v words behind.0 behind.1.are; taken = one_taken n v behind.0 first behind.1.taken })
 
--- no argument is no pair, and is taken
+-- no argument is not a pair, and is taken
 pub of_empty : {S : Type 0} (bytes : S → List ℕ) (rows : List NameRow) (words : List S) → true ≡ (length words == 0) → (pairs : List (List ℕ × List ℕ)) × AreOfRows rows (map bytes words) pairs
 of_empty bytes rows [] e = ([], of_no_word rows)
 of_empty bytes rows (x ∷ words) e = absurd (let n : length (x ∷ words) ≡ 0 = eqb-true (length (x ∷ words)) 0 (sym e) in omega arith)
 
 -- ---- one request
 
--- arguments are the pairs of one list alone
+-- arguments are the pairs of only one list
 pub same_pairs : (words : List (List ℕ)) (one other : List (List ℕ × List ℕ)) → ArePairs words one → ArePairs words other → one ≡ other
 same_pairs words one other no_pair no_pair = refl
 same_pairs words one other (one_pair n v rest pairs a) (one_pair _ _ _ pairs' b) =

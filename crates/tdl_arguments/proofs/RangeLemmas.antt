@@ -10,7 +10,7 @@ use Rattle.gs_grammar.specs.Words.{decimal_value}
 use Rattle.gs_grammar.proofs.Numbers.{own}
 use Rattle.tdl_arguments.specs.Ranges.{is_numeral, number_within}
 
--- what is parsed of a numeral
+-- the parsed value of a numeral
 parsed : {E : Type 0} (word : List ℕ) (r : Result ℕ E) → ParsesUnsigned 32 10 word r → is_numeral word ≡ true → OkIff r ((0 < length word) × (decimal_value word < 2 ^ 32)) (decimal_value word)
 parsed word r h numeral = parse_digits own 32 word r h (and_parts _ _ numeral).0
 
@@ -27,7 +27,7 @@ read_err word r error h numeral e small =
     let p : OkIff (Err error) ((0 < length word) × (decimal_value word < 2 ^ 32)) (decimal_value word) = rw e at (parsed word r h numeral) in
     p (not_empty word numeral, small)
 
--- a number that is not within the bounds is none
+-- a number outside the bounds is not in the range
 pub outside : (least greatest : ℕ) (word : List ℕ) → (least ≤ decimal_value word → decimal_value word ≤ greatest → ⊥) → None ≡ number_within least greatest word
 outside least greatest word out = elim (true_or_false (is_numeral word && (nat_le least (decimal_value word) && nat_le (decimal_value word) greatest))) as (λ _. None ≡ number_within least greatest word) [
   | inl all ↦

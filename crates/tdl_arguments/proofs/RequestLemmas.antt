@@ -48,7 +48,7 @@ target_spelled word target e = equal_bytes word (target_word target) (found_pass
 
 -- ---- commands by their words
 
--- a command with its operands, and the arguments behind it
+-- a command with its operands, and the arguments after it
 abbrev Parts : Type 0
 Parts = Command × List (List ℕ)
 
@@ -72,11 +72,11 @@ command_read (Gen lines) behind fits =
     let few : lines ≤ most_lines = leb-true lines most_lines fits in
     rw (number_read 0 most_lines lines (omega arith) (omega arith) few) refl
 
--- the arguments are those of a command, whose operands are in range, and what stands behind them
+-- the arguments are those of a command whose operands are in range, and the rest
 abbrev AreOf : List (List ℕ) → Parts → Type 0
 AreOf words parts = (words ≡ command_words parts.0 ++ parts.1) × (operands_in_range parts.0 ≡ true)
 
--- words that stand in front of arguments, and what stands behind them
+-- words before arguments, and the rest
 stands_split : (front words : List (List ℕ)) → stands_before front words ≡ true → words ≡ front ++ drop (length front) words
 stands_split [] words e = refl
 stands_split (word ∷ front) [] e = absurd (let f : false ≡ true = e in cc)
@@ -84,7 +84,7 @@ stands_split (word ∷ front) (first ∷ words) e =
     let both = and_parts (bytes_eq first word) (stands_before front words) e in
     rw (equal_bytes first word both.0) (ap (λ ws. word ∷ ws) (stands_split front words both.1))
 
--- what is found among those that all have a property has it
+-- an item that is found among items with a property has it
 found_has : {X : Type 0} (p property : X → Bool) (xs : List X) (x : X) → list_all property xs ≡ true → find p xs ≡ Some x → property x ≡ true
 found_has p property [] x all e = absurd (let f : None ≡ Some x = e in cc)
 found_has p property (y ∷ xs) x all e = elim (true_or_false (p y)) as (λ _. property x ≡ true) [
@@ -113,7 +113,7 @@ plain_spelled words parts e =
     let of_found : AreOf words (behind_name words m.0) = rw (no_word (operands_of m.0) plain.0, append-nil (command_name m.0)) (split, plain.1) in
     subst (λ (p : Parts). AreOf words p) m.2 of_found
 
--- words that stand in front of arguments are no more than these
+-- words that are in front of arguments are no more than these
 stands_length : (front words : List (List ℕ)) → stands_before front words ≡ true → length front ≤ length words
 stands_length [] words e = omega arith
 stands_length (word ∷ front) [] e = absurd (let f : false ≡ true = e in cc)
@@ -180,7 +180,7 @@ command_spelled words parts e = by (plain_of words) refl e
     by None m f = operated_spelled words parts f
     by (Some found) m f = plain_spelled words parts (m ∙ f)
 
--- ---- what is asked
+-- ---- the request
 
 pub order_of : (words : List (List ℕ)) (parts : Parts) (asked : Asked) → command_of words ≡ Some parts → Asks parts.0 parts.1 asked → WordsInOrder words asked
 order_of words parts asked e a = let spelled = command_spelled words parts e in record { command = parts.0; behind = parts.1; spelled = spelled.0; in_range = spelled.1; asks = a }
@@ -202,7 +202,7 @@ same_asks command words one other a b =
     let pairs = same_pairs words a.pairs b.pairs a.of_rows.are b.of_rows.are in
     a.is ∙ ap (asked_of command) pairs ∙ sym b.is
 
--- a command and what stands behind it and its operands
+-- a command, and the rest after it and its operands
 record SameCommand (one other : Command) (behind behind' : List (List ℕ)) : Type 0 where
   commands : one ≡ other
   behinds : behind ≡ behind'

@@ -102,7 +102,7 @@ unfolding stem_ok
 stem_fits None ok = refl
 stem_fits (Some stem) ok = ok stem refl
 
--- the options that arguments name are in order
+-- the options that arguments name are valid
 pub options_fit : (words : List (List ℕ)) (asked : Asked) → WordsInOrder words asked → AreInOrder (options_of asked.values)
 options_fit words asked o =
     let a = o.asks in
@@ -112,7 +112,7 @@ options_fit words asked o =
       stem = stem_fits stem (λ s e. named_in_range _ a.pairs Stem s a.of_rows.taken e);
     })
 
--- the options where nothing is named are in order
+-- the default options are valid
 pub no_options_fit : AreInOrder no_options
 no_options_fit = record { filter = filter_fits None; stem = stem_fits None (λ stem e. absurd (let f : None ≡ Some stem = e in cc)) }
 
@@ -130,7 +130,7 @@ vocabulary_fits words asked o =
 
 -- ---- the tables that are migrated
 
--- the one name of the one row that must be there is there
+-- the only name of the only required row is given
 required_one : (given : Bool) → ((given || false) && true) ≡ true → given ≡ true
 required_one true e = refl
 required_one false e = e

@@ -23,7 +23,7 @@ first_words bytes (x ∷ y ∷ words) first second a b n e f p q =
     let whole : take (length words) words ≡ words = take_all (length words) words (omega arith) in
     rw (one, two, count, whole) refl
 
--- a fact where nothing is answered, and one about what is answered, follow from others
+-- a fact about no result, and one about a result, follow from others
 pub if_none_map : {X A B : Type 0} (o : Option X) → (A → B) → IfNone o A → IfNone o B
 if_none_map None f a = f a
 if_none_map (Some x) f a = tt

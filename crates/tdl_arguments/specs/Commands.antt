@@ -69,11 +69,11 @@ optional name = record { name = name; instead = None; required = false }
 abbrev pub needed : Name → NameRow
 needed name = record { name = name; instead = None; required = true }
 
--- trusted, own: a name, or another in its stead, that may be absent
+-- trusted, own: a name, or another instead, that may be absent
 abbrev pub optional_either : Name → Name → NameRow
 optional_either name other = record { name = name; instead = Some other; required = false }
 
--- trusted, own: a name that must be there, or another in its stead
+-- trusted, own: a name that must be there, or another instead
 abbrev pub needed_either : Name → Name → NameRow
 needed_either name other = record { name = name; instead = Some other; required = true }
 
@@ -94,8 +94,8 @@ names_of DumpRead = optional Tables ∷ []
 names_of DumpWrite = optional Tables ∷ []
 names_of Merge = needed Links ∷ needed Second ∷ optional Third ∷ optional Tables ∷ optional Voc ∷ []
 
--- trusted, own: what a command works on: the lines of the input, the heads of the input, as those of one connection, the
--- door, or none of these
+-- trusted, own: the work of a command: on the lines of the input, on its request heads as those of one connection, on the door,
+-- or on none of these
 pub data Work : Type 0 where
   on_lines : Work
   on_heads : Work
@@ -127,7 +127,7 @@ abbrev pub is_on_heads : Work → Bool
 is_on_heads on_heads = true
 is_on_heads work = false
 
--- trusted, own: the work is on the door
+-- trusted, own: holds if the work is on the door
 abbrev pub is_on_door : Work → Bool
 is_on_door on_door = true
 is_on_door work = false
@@ -136,7 +136,7 @@ is_on_door work = false
 abbrev pub answers_lines : Command → Bool
 answers_lines command = is_on_lines (work_of command)
 
--- trusted, own: the command answers the heads of the input, as those of one connection
+-- trusted, own: holds if the command answers the heads of the input as those of one connection
 abbrev pub answers_heads : Command → Bool
 answers_heads command = is_on_heads (work_of command)
 
@@ -144,6 +144,6 @@ answers_heads command = is_on_heads (work_of command)
 abbrev pub reads_input : Command → Bool
 reads_input command = answers_lines command || answers_heads command
 
--- trusted, own: the command uses the door
+-- trusted, own: holds if the command uses the door
 abbrev pub uses_door : Command → Bool
 uses_door command = is_on_door (work_of command)

@@ -1,4 +1,4 @@
--- Pairs of a name and its value, as they stand among the arguments of the command line.
+-- Pairs of a name and its value among the arguments of the command line.
 use Rattle.std.specs.Prelude.{◌≡◌, ℕ, ◌&&◌, ◌||◌, nat_lt, Bool, true, not, List, [], ◌∷◌, length, codes, Option, is_some, option_to_list, bytes_eq}
 use Rattle.std.specs.List.{find, list_all, list_any}
 use Rattle.std.specs.Option.{option_map}
@@ -64,7 +64,7 @@ look_up name pairs = option_map (λ (pair : List ℕ × List ℕ). pair.1) (find
 abbrev pub is_named : NamedPairs → Name → Bool
 is_named pairs name = is_some (look_up (name_word name) pairs)
 
--- trusted, own: one of the names of a row, its own or that in its stead, has the property
+-- trusted, own: one of the names of a row, its own or that instead, has the property
 abbrev pub has_name : (Name → Bool) → NameRow → Bool
 has_name property row = list_any property (row.name ∷ option_to_list row.instead)
 
@@ -99,18 +99,18 @@ pub record AreOfRows (rows : List NameRow) (words : List (List ℕ)) (pairs : Na
   pub are : ArePairs words pairs
   pub taken : AreTaken rows pairs
 
--- trusted, own: the arguments are pairs that the rows take, each row at most one
+-- the arguments are pairs that the rows take, each row at most one
 abbrev pub HasPairs : List NameRow → List (List ℕ) → Type 0
 HasPairs rows words = (pairs : NamedPairs) × AreOfRows rows words pairs
 
--- trusted, own: the arguments are no pairs that the rows take, each row at most one
+-- the arguments are not pairs that the rows take, each row at most one
 abbrev pub HasNoPairs : List NameRow → List (List ℕ) → Type 0
 HasNoPairs rows words = (pairs : NamedPairs) → AreOfRows rows words pairs → ⊥
 
--- trusted, own: a fact of the pairs that the arguments are, where they are pairs
+-- holds if the arguments are not pairs, or the fact holds of the pairs
 abbrev pub OfPairs : List (List ℕ) → (NamedPairs → Type 0) → Type 0
 OfPairs words Fact = (pairs : NamedPairs) → ArePairs words pairs → Fact pairs
 
--- trusted, own: each row that must be there is there by one of its names
+-- trusted, own: holds if each required row is given by one of its names
 abbrev pub has_required : List NameRow → NamedPairs → Bool
 has_required rows pairs = list_all (λ (row : NameRow). not row.required || is_given pairs row) rows

@@ -1,5 +1,5 @@
--- What the arguments of the command line ask for.
-use Rattle.std.specs.Prelude.{◌≡◌, ℕ, Bool, true, List, [], ◌∷◌, ◌++◌, codes, Option, Some, None, option_and_then, option_map, option_to_list, unwrap_or, bytes_eq, map, String, string_bytes}
+-- The requests of command line arguments.
+use Rattle.std.specs.Prelude.{◌≡◌, ◌⊎◌, ℕ, Bool, false, true, List, [], ◌∷◌, ◌++◌, codes, Option, Some, None, option_and_then, option_map, option_to_list, unwrap_or, bytes_eq, map, String, string_bytes}
 use Rattle.std.specs.Borrow.{Bor}
 use Rattle.std.specs.List.{Contains}
 use Rattle.gs_ident.specs.Links.{canonical_stem}
@@ -14,19 +14,19 @@ use Rattle.tdl_arguments.specs.declared.request.LinksFile.TheVariants.{Json, Tex
 use Rattle.tdl_arguments.specs.declared.request.NamedFiles.{NamedFiles}
 use Rattle.tdl_arguments.specs.declared.request.NamedValues.{NamedValues}
 use Rattle.tdl_arguments.specs.declared.request.Request.{Request}
-use Rattle.tdl_arguments.specs.Commands.{answers_heads, answers_lines, command_words, names_of, operands_in_range, reads_input, uses_door}
+use Rattle.tdl_arguments.specs.Commands.{command_words, names_of, operands_in_range}
 use Rattle.tdl_arguments.specs.Names.{AreOfRows, NamedPairs, has_required, look_up, name_word}
 use Rattle.tdl_arguments.specs.Ranges.{count_of, filter_of, gcp_of}
 
--- trusted, own: the arguments of the command line, as contracts see them
+-- trusted, own: the words of the arguments of the command line
 abbrev pub known_words : {Z : Type 0} → List (String Z) → List (List ℕ)
 known_words words = map string_bytes words
 
--- trusted, own: the name of a file of links, a linkset in JSON or as text
+-- trusted, own: the name of a file of links: a linkset in JSON, or one as text
 pub data LinksName : Type 0 where
   in_json as_text : List ℕ → LinksName
 
--- trusted, own: the names of the files that are asked for
+-- trusted, own: the names of the files of a request
 pub record FileNames : Type 0 where
   pub tables : Option (List ℕ)
   pub prefixes : Option (List ℕ)
@@ -36,7 +36,7 @@ pub record FileNames : Type 0 where
   pub describe : Option (List ℕ)
   pub classes : Option (List ℕ)
 
--- trusted, own: the values of the names that name no files
+-- trusted, own: the values of a request that are not names of files
 pub record Values : Type 0 where
   pub voc : List ℕ
   pub templates : Bool
@@ -48,22 +48,22 @@ pub record Values : Type 0 where
   pub keys_only : Bool
   pub stem : List ℕ
 
--- trusted, own: what is asked: a command with its operands, over these files and by these values
+-- trusted, own: a request: a command with its operands, the names of its files, and its values
 pub record Asked : Type 0 where
   pub command : Command
   pub files : FileNames
   pub values : Values
 
--- trusted, own: a file of links by the name of one in JSON, or by that of one as text
+-- trusted, own: the name of the file of links, by the name of one in JSON or of one as text
 abbrev pub links_by : Option (List ℕ) → Option (List ℕ) → Option LinksName
 links_by (Some name) text = Some (in_json name)
 links_by None text = option_map as_text text
 
--- trusted, own: the file of links that pairs name
+-- trusted, own: the name of the file of links in the pairs
 abbrev pub links_of_pairs : NamedPairs → Option LinksName
 links_of_pairs pairs = links_by (look_up (name_word Links) pairs) (look_up (name_word LinkText) pairs)
 
--- trusted, own: the files that pairs name
+-- trusted, own: the names of files in the pairs
 abbrev pub named_files : NamedPairs → FileNames
 named_files pairs = record {
   tables = look_up (name_word Tables) pairs;
@@ -75,29 +75,28 @@ named_files pairs = record {
   classes = look_up (name_word Classes) pairs;
 }
 
--- trusted, own: what stands for `gs1:` in relations where that is not named
+-- trusted, own: the vocabulary that stands for `gs1:` in link types, if the pairs name none
 abbrev pub default_voc : List ℕ
 default_voc = codes "https://ref.gs1.org/voc/"
 
--- trusted, own: the address of a server where it is not named
+-- trusted, own: the address of the server, if the pairs name none
 abbrev pub default_listen : List ℕ
 default_listen = codes "127.0.0.1:8080"
 
--- trusted, own: the value of a name, or what stands in its place
+-- trusted, own: the value of a name in the pairs, or the default
 abbrev pub value_or : List ℕ → Name → NamedPairs → List ℕ
 value_or default name pairs = unwrap_or (look_up (name_word name) pairs) default
 
--- trusted, own: the number that is the value of a name
+-- trusted, own: the number that is the value of a name in the pairs
 abbrev pub number_named : (List ℕ → Option ℕ) → Name → NamedPairs → Option ℕ
 number_named number_of name pairs = option_and_then number_of (look_up (name_word name) pairs)
 
--- trusted, own: the number of connections that pairs name, and 0 where they name none
+-- trusted, own: the number of connections in the pairs, or 0 if they name none
 abbrev pub count_named : NamedPairs → ℕ
 count_named pairs = unwrap_or (number_named count_of Count pairs) 0
 
--- trusted, own: The values of names in pairs, with their defaults: references that are no templates, no connection, since the
--- command that serves some must name their number, no filter value, no length of a company prefix, no encoding, all elements kept, and the stem of
--- canonical links.
+-- trusted, own: The values of the names in the pairs, with their defaults. Those are references that are not templates, no
+-- connection, no filter value, no company prefix length, no encoding, all elements kept, and the stem of canonical links.
 abbrev pub named_values : NamedPairs → Values
 named_values pairs = record {
   voc = value_or default_voc Voc pairs;
@@ -111,19 +110,17 @@ named_values pairs = record {
   stem = value_or canonical_stem Stem pairs;
 }
 
--- trusted, own: what pairs ask of a command: the look-up of the names, with their defaults
+-- trusted, own: the request of a command with pairs: the look-up of the names, with their defaults
 abbrev pub asked_of : Command → NamedPairs → Asked
 asked_of command pairs = record { command = command; files = named_files pairs; values = named_values pairs }
 
--- trusted, own: the command may have these values, which are in the ranges of their names: what is merged needs a vocabulary
--- that keeps names
+-- trusted, own: holds if the command may have these values: the vocabulary of `merge` keeps names (`keeps_names`)
 abbrev pub may_have : Command → Values → Bool
 may_have Merge values = keeps_names values.voc
 may_have command values = true
 
--- trusted, own: Arguments behind a command and its operands ask for this: they are pairs that the command takes, each row of
--- its names at most once and those there that it must have, with values that it may have, and what is asked is the look-up of
--- the names.
+-- trusted, own: Holds if the words after a command and its operands are pairs that ask for this. The command takes these names,
+-- each row at most once and the required ones present, and may have these values.
 pub record Asks (command : Command) (words : List (List ℕ)) (asked : Asked) : Type 0 where
   pub pairs : NamedPairs
   pub of_rows : AreOfRows (names_of command) words pairs
@@ -131,7 +128,7 @@ pub record Asks (command : Command) (words : List (List ℕ)) (asked : Asked) : 
   pub fits : may_have command (named_values pairs) ≡ true
   pub is : asked ≡ asked_of command pairs
 
--- trusted, own: The arguments are in order, and ask for this: a command, its operands, which are in range, and pairs.
+-- trusted, own: holds if the words are valid and ask for this: a command, operands in range, and pairs
 pub record WordsInOrder (words : List (List ℕ)) (asked : Asked) : Type 0 where
   pub command : Command
   pub behind : List (List ℕ)
@@ -139,50 +136,43 @@ pub record WordsInOrder (words : List (List ℕ)) (asked : Asked) : Type 0 where
   pub in_range : operands_in_range command ≡ true
   pub asks : Asks command behind asked
 
--- trusted, own: no request has these arguments
+-- trusted, own: holds if the words are invalid: they ask for nothing
 abbrev pub NotInOrder : List (List ℕ) → Type 0
 NotInOrder words = (asked : Asked) → WordsInOrder words asked → ⊥
 
--- trusted, own: the arguments ask for a command that passes a test
-pub record AsksFor (test : Command → Bool) (words : List (List ℕ)) : Type 0 where
+-- trusted, own: holds if the words are valid, and the fact holds of what they ask for
+pub record Asking (words : List (List ℕ)) (Fact : Asked → Type 0) : Type 0 where
   pub asked : Asked
   pub order : WordsInOrder words asked
-  pub passes : test asked.command ≡ true
+  pub fact : Fact asked
 
--- trusted, own: the arguments ask for a command that answers the lines of the input
-abbrev pub AsksForLines : List (List ℕ) → Type 0
-AsksForLines words = AsksFor answers_lines words
+-- trusted, own: holds if the words are valid and the fact holds of what they ask for, or if they are invalid and the other fact
+-- holds
+abbrev pub AskingOr : List (List ℕ) → (Asked → Type 0) → Type 0 → Type 0
+AskingOr words Fact Other = Asking words Fact ⊎ (NotInOrder words × Other)
 
--- trusted, own: the arguments ask for a command that answers the heads of the input
-abbrev pub AsksForHeads : List (List ℕ) → Type 0
-AsksForHeads words = AsksFor answers_heads words
+-- trusted, own: holds if the words are valid, and the command that they ask for passes the test
+abbrev pub AsksFor : (Command → Bool) → List (List ℕ) → Type 0
+AsksFor test words = Asking words (λ asked. test asked.command ≡ true)
 
--- trusted, own: the arguments ask for a command that uses the input
-abbrev pub AsksForInput : List (List ℕ) → Type 0
-AsksForInput words = AsksFor reads_input words
-
--- trusted, own: the arguments ask for a command that uses the door
-abbrev pub AsksForDoor : List (List ℕ) → Type 0
-AsksForDoor words = AsksFor uses_door words
-
--- trusted, own: what is said of translations by values
+-- trusted, own: the options of translations, by the values of a request
 abbrev pub options_of : Values → Options
 options_of values = record { filter = values.filter; gcp = values.gcp; encoding = values.encoding; keys_only = values.keys_only; stem = values.stem }
 
--- trusted, own: the options where nothing is named
+-- trusted, own: the options of `canon`, which are those of words that name none
 abbrev pub no_options : Options
-no_options = options_of (named_values [])
+no_options = record { filter = None; gcp = None; encoding = []; keys_only = false; stem = canonical_stem }
 
--- trusted, own: the names of the files of tables and of company prefix lengths, in their order
+-- trusted, own: the names of the files of tables and company prefix lengths, in their order
 abbrev pub tables_named : FileNames → List (List ℕ)
 tables_named files = option_to_list files.tables ++ option_to_list files.prefixes
 
--- trusted, own: the name of a file of links
+-- trusted, own: the name itself of a file of links
 abbrev pub name_of_links : LinksName → List ℕ
 name_of_links (in_json name) = name
 name_of_links (as_text name) = name
 
--- trusted, own: the names of the file of links
+-- trusted, own: the name of the file of links, if any
 abbrev pub first_named : FileNames → List (List ℕ)
 first_named files = option_to_list (option_map name_of_links files.links)
 
@@ -194,11 +184,11 @@ others_named files = option_to_list files.second ++ option_to_list files.third
 abbrev pub links_named : FileNames → List (List ℕ)
 links_named files = first_named files ++ others_named files
 
--- trusted, own: the names of the files of the description of a resolver
+-- trusted, own: the name of the file with the resolver description, if any
 abbrev pub description_named : FileNames → List (List ℕ)
 description_named files = option_to_list files.describe
 
--- trusted, own: the names of the files of classes
+-- trusted, own: the name of the file of classes, if any
 abbrev pub classes_named : FileNames → List (List ℕ)
 classes_named files = option_to_list files.classes
 
@@ -206,33 +196,27 @@ classes_named files = option_to_list files.classes
 abbrev pub names_in_order : FileNames → List (List ℕ)
 names_in_order files = tables_named files ++ (links_named files ++ (description_named files ++ classes_named files))
 
--- trusted, own: the arguments name a file
-pub record NamesFile (words : List (List ℕ)) (name : List ℕ) : Type 0 where
-  pub asked : Asked
-  pub order : WordsInOrder words asked
-  pub named : Contains (names_in_order asked.files) name
-
--- trusted, own: the arguments name no file
+-- trusted, own: holds if the words name no file
 abbrev pub NamesNoFile : List (List ℕ) → Type 0
-NamesNoFile words = (name : List ℕ) → NamesFile words name → ⊥
+NamesNoFile words = (name : List ℕ) → Asking words (λ asked. Contains (names_in_order asked.files) name) → ⊥
 
--- trusted, own: what is printed where the arguments are not in order
+-- trusted, own: the line that is printed if the words are invalid
 abbrev pub usage_line : List ℕ
 usage_line =
     codes "usage: tdl canon FORM | translate FROM TO | check | resolve | serve | gen N | migrate | class canon | class uri | dump read | dump write | merge, then --name value pairs" ++ 10 ∷ []
 
--- trusted, own: the name of a file in a request
+-- trusted, own: the name of a file in the code's request
 abbrev pub known_name : Option (Bor (List ℕ)) → Option (List ℕ)
 known_name None = None
 known_name (Some name) = Some name.now
 
--- trusted, own: the name of a file of links in a request
+-- trusted, own: the name of the file of links in the code's request
 abbrev pub known_links : Option LinksFile → Option LinksName
 known_links None = None
 known_links (Some (Json name)) = Some (in_json name.now)
 known_links (Some (Text name)) = Some (as_text name.now)
 
--- trusted, own: the files of a request
+-- trusted, own: the names of the files in the code's request
 abbrev pub known_files : NamedFiles → FileNames
 known_files files = record {
   tables = known_name files.tables;
@@ -244,14 +228,14 @@ known_files files = record {
   classes = known_name files.classes;
 }
 
--- trusted, own: the names of the files of a request, in the order in which they are read
+-- trusted, own: the names of the files in the code's request, in their order
 abbrev pub all_named : Request → List (List ℕ)
 all_named request = names_in_order (known_files request.files)
 
--- trusted, own: the values of a request
+-- trusted, own: the values in the code's request
 abbrev pub known_values : NamedValues → Values
 known_values values = record { voc = values.voc.now; templates = values.templates; listen = values.listen.now; count = values.count; filter = values.filter; gcp = values.gcp; encoding = values.encoding.now; keys_only = values.keys_only; stem = values.stem.now }
 
--- trusted, own: what a request asks for
+-- trusted, own: the request that the code's request stands for
 abbrev pub known_request : Request → Asked
 known_request request = record { command = request.command; files = known_files request.files; values = known_values request.values }

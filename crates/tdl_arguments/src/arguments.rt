@@ -12,16 +12,16 @@ use crate::value_reader::{named_files, named_values};
 use gs_links::keeps_names;
 use gs_translate::{Form, Target};
 
-/// A command with its operands, and the arguments behind them.
+/// A command with its operands, and the arguments after them.
 #[derive(Clone, Copy)]
 pub struct Split<'a> {
     /// The command with its operands.
     pub command: Command,
-    /// The arguments behind them.
+    /// The arguments after them.
     pub behind: &'a [String],
 }
 
-/// The word of a form.
+/// Returns the word of a form.
 fn form_word(form: Form) -> &'static str
     ensures { result.now ≡ form_word form }
 {
@@ -35,7 +35,7 @@ fn form_word(form: Form) -> &'static str
     }
 }
 
-/// The word of a form that texts are translated to.
+/// Returns the word of a form that texts are translated to.
 fn target_word(target: Target) -> &'static str
     ensures { result.now ≡ target_word target }
 {
@@ -50,7 +50,7 @@ fn target_word(target: Target) -> &'static str
     }
 }
 
-/// The form of a word.
+/// Returns the form of a word.
 fn form_named(word: &str) -> Option<Form>
     ensures { result ≡ form_named word.now }
 {
@@ -67,7 +67,7 @@ fn form_named(word: &str) -> Option<Form>
     .copied()
 }
 
-/// The form of a word that texts are translated to.
+/// Returns the form of a word that texts are translated to.
 fn target_named(word: &str) -> Option<Target>
     ensures { result ≡ target_named word.now }
 {
@@ -85,7 +85,7 @@ fn target_named(word: &str) -> Option<Target>
     .copied()
 }
 
-/// The command `canon` of the word of a form, and the arguments behind it.
+/// Returns the command `canon` of the word of a form, and the arguments after it.
 fn canon_by<'a>(word: &str, behind: &'a [String]) -> Option<Split<'a>>
     ensures { known_split result ≡ canon_of (word.now ∷ map string_bytes behind.now) }
 {
@@ -96,7 +96,7 @@ fn canon_by<'a>(word: &str, behind: &'a [String]) -> Option<Split<'a>>
     })
 }
 
-/// The command `translate` of the arguments of two forms, and the arguments behind it.
+/// Returns the command `translate` of the arguments of two forms, and the arguments after it.
 fn translation_by<'a>(from: &str, to: &str, behind: &'a [String]) -> Option<Split<'a>>
     ensures { known_split result ≡ translation_of (from.now ∷ to.now ∷ map string_bytes behind.now) }
 {
@@ -108,7 +108,7 @@ fn translation_by<'a>(from: &str, to: &str, behind: &'a [String]) -> Option<Spli
     })
 }
 
-/// The command `canon` of the arguments behind that word.
+/// Returns the command `canon` of the arguments after that word.
 fn canon_of(words: &[String]) -> Option<Split<'_>>
     ensures { known_split result ≡ canon_of (map string_bytes words.now) }
 {
@@ -118,7 +118,7 @@ fn canon_of(words: &[String]) -> Option<Split<'_>>
     canon_by(words[0].as_str(), &words[1..])
 }
 
-/// The command `translate` of the arguments behind that word.
+/// Returns the command `translate` of the arguments after that word.
 fn translation_of(words: &[String]) -> Option<Split<'_>>
     ensures { known_split result ≡ translation_of (map string_bytes words.now) }
 {
@@ -128,7 +128,7 @@ fn translation_of(words: &[String]) -> Option<Split<'_>>
     translation_by(words[0].as_str(), words[1].as_str(), &words[2..])
 }
 
-/// The command `gen` of the word of a number of lines, and the arguments behind it.
+/// Returns the command `gen` of the word of a number of lines, and the arguments after it.
 fn gen_by<'a>(word: &str, behind: &'a [String]) -> Option<Split<'a>>
     ensures { known_split result ≡ gen_of (word.now ∷ map string_bytes behind.now) }
 {
@@ -139,7 +139,7 @@ fn gen_by<'a>(word: &str, behind: &'a [String]) -> Option<Split<'a>>
     })
 }
 
-/// The command `gen` of the arguments behind that word.
+/// Returns the command `gen` of the arguments after that word.
 fn gen_of(words: &[String]) -> Option<Split<'_>>
     ensures { known_split result ≡ gen_of (map string_bytes words.now) }
 {
@@ -149,7 +149,7 @@ fn gen_of(words: &[String]) -> Option<Split<'_>>
     gen_by(words[0].as_str(), &words[1..])
 }
 
-/// Whether the words stand in front of the arguments.
+/// Returns whether the words are in front of the arguments.
 fn stands_before(front: &[&str], words: &[String]) -> bool
     ensures { result ≡ stands_before (known_front front.now) (map string_bytes words.now) }
 {
@@ -162,7 +162,7 @@ fn stands_before(front: &[&str], words: &[String]) -> bool
     words[0].as_str() == front[0] && stands_before(&front[1..], &words[1..])
 }
 
-/// The command without operands that the arguments begin with.
+/// Returns the command without operands that the arguments begin with.
 fn plain_command(words: &[String]) -> Option<Command>
     ensures { result ≡ plain_command (map string_bytes words.now) }
 {
@@ -182,7 +182,7 @@ fn plain_command(words: &[String]) -> Option<Command>
     .copied()
 }
 
-/// The command without operands that the arguments begin with, and the arguments behind it.
+/// Returns the command without operands that the arguments begin with, and the arguments after it.
 fn plain_of(words: &[String]) -> Option<Split<'_>>
     ensures { known_split result ≡ plain_of (map string_bytes words.now) }
 {
@@ -193,7 +193,7 @@ fn plain_of(words: &[String]) -> Option<Split<'_>>
     })
 }
 
-/// The command with operands of a word and of the arguments behind it.
+/// Returns the command with operands of a word and of the arguments after it.
 fn command_by<'a>(word: &str, behind: &'a [String]) -> Option<Split<'a>>
     ensures { known_split result ≡ command_by word.now (map string_bytes behind.now) }
 {
@@ -209,7 +209,7 @@ fn command_by<'a>(word: &str, behind: &'a [String]) -> Option<Split<'a>>
     None
 }
 
-/// The command with operands that the arguments begin with, and the arguments behind it and its operands.
+/// Returns the command with operands that the arguments begin with, and the arguments after it and its operands.
 fn operated_of(words: &[String]) -> Option<Split<'_>>
     ensures { known_split result ≡ operated_of (map string_bytes words.now) }
 {
@@ -219,7 +219,7 @@ fn operated_of(words: &[String]) -> Option<Split<'_>>
     command_by(words[0].as_str(), &words[1..])
 }
 
-/// The command that the arguments begin with, and the arguments behind it and its operands.
+/// Returns the command that the arguments begin with, and the arguments after it and its operands.
 fn command_of(words: &[String]) -> Option<Split<'_>>
     ensures { known_split result ≡ command_of (map string_bytes words.now) }
 {
@@ -229,7 +229,7 @@ fn command_of(words: &[String]) -> Option<Split<'_>>
     }
 }
 
-/// Whether the command may have these values, which are in the ranges of their names: what is merged needs a vocabulary that
+/// Returns whether the command may have these values, which are in the ranges of their names: `merge` needs a vocabulary that
 /// keeps names.
 fn may_have(command: Command, values: NamedValues<'_>) -> bool
     ensures { result ≡ may_have command (known_values values.entry) }
@@ -240,8 +240,8 @@ fn may_have(command: Command, values: NamedValues<'_>) -> bool
     }
 }
 
-/// The request of a command with the arguments behind its operands. `None` comes exactly where these are no pairs that the
-/// command takes, lack a name that it must have, or have a value that this command may not have.
+/// Returns the request of a command with the arguments after its operands. Returns `None` if and only if these are not pairs that
+/// the command takes, a required name is missing, or this command may not have a value.
 fn request_of(command: Command, words: &[String]) -> Option<Request<'_>>
     ensures request { IfSome result (λ request. Asks command (known_words words.now) (known_request request)) }
     ensures none { IfNone result (AsksNothing command (known_words words.now)) }
@@ -263,7 +263,7 @@ fn request_of(command: Command, words: &[String]) -> Option<Request<'_>>
     })
 }
 
-/// The request that the arguments spell. `None` comes exactly where they are not in order.
+/// Returns the request that the arguments spell. `None` is returned if and only if they are not valid.
 pub fn read_arguments(words: &[String]) -> Option<Request<'_>>
     ensures request { IfSome result (λ request. WordsInOrder (known_words words.now) (known_request request)) }
     ensures none { IfNone result (NotInOrder (known_words words.now)) }

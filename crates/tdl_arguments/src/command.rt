@@ -8,23 +8,23 @@ use gs_translate::{Form, Target};
 /// A command with its operands.
 #[derive(Clone, Copy)]
 pub enum Command {
-    /// Answers each line of the input, a text of the form, by the canonical link of what it names.
+    /// Answers each line of the input, a text of the form, by the canonical link of its identity.
     Canon(Form),
     /// Answers each line of the input, a text of the first form, by its translation to the second.
     Translate(Form, Target),
     /// Loads the files, and counts what they have.
     Check,
-    /// Answers the requests that the input is, as one connection.
+    /// Answers the requests of the input, as those of one connection.
     Resolve,
-    /// Answers the requests of the connections that come at a door.
+    /// Answers the requests of the connections that a listener accepts.
     Serve,
-    /// Translates so many generated lines, and counts the answers.
+    /// Translates that many generated lines, and counts the answers.
     Gen(u32),
     /// Prints the text of a table document as one of version 2.
     Migrate,
-    /// Answers each line of the input, a class URI, by the canonical link of what it names.
+    /// Answers each line of the input, a class URI, by the canonical link of the things that it names.
     ClassCanon,
-    /// Answers each line of the input, a link, by the class URI of what it names.
+    /// Answers each line of the input, a link, by the class URI of the things that it names.
     ClassUri,
     /// Answers each line of the input, a dump of the EPC memory bank, by the line that shows it.
     DumpRead,
@@ -153,7 +153,7 @@ const ENCODING: NameRow = NameRow {
     required: false,
 };
 
-/// The name of whether keys alone are kept, which may be absent.
+/// The name of whether only keys are kept, which may be absent.
 const KEYS_ONLY: NameRow = NameRow {
     name: Name::KeysOnly,
     instead: None,
@@ -168,7 +168,7 @@ const STEM: NameRow = NameRow {
 };
 
 impl Command {
-    /// The words of the command, one or two, without its operands.
+    /// Returns the words of the command, one or two, without its operands.
     pub fn words(self) -> &'static [&'static str]
         ensures { known_front result.now ≡ command_name self }
     {
@@ -188,7 +188,7 @@ impl Command {
         }
     }
 
-    /// The names that the command takes.
+    /// Returns the names that the command takes.
     pub fn names(self) -> &'static [NameRow]
         ensures { result.now ≡ names_of self }
     {

@@ -1,11 +1,11 @@
-//! The arguments of the command line: what they ask for, or that they are not in order.
+//! The arguments of the command line: what they ask for, or that they are not valid.
 //!
 //! - `read_arguments` gives the request of arguments: a command with its operands, the files that they name, and their values, each in range.
 //!   `without_program_name` gives the arguments of a process without the program's name.
 //!
 //! # Example
 //!
-//! The filter value of a translation, and its other values by default: no length of a company prefix, no encoding, not keys alone,
+//! The filter value of a translation, and its other values by default: no company prefix length, no encoding, all elements kept,
 //! and the stem. The gate runs this case, for which crates/vectors_runs/src/arguments.rt makes the call.
 //!
 //! ```text
@@ -13,10 +13,10 @@
 //! Some(1) None \e false https://id.gs1.org
 //! ```
 //!
-//! # Where it differs from the standards
+//! # Differences from the standards
 //!
 //! - No standard has a command line for these translations: the commands, names and values are this project's own
-//!   (docs/FORMATS.md, 'The command line').
+//!   (docs/CLI.md, 'Options').
 #![tactic(auto)]
 
 mod arguments;

@@ -4,7 +4,7 @@ ghost use Rattle.tdl_arguments.specs.Names.{in_range, name_takes, name_word, row
 use crate::ranges::{count_of, filter_of, gcp_of, is_vocabulary};
 use gs_dlink::stem_ok;
 
-/// A name that stands before its value among the arguments.
+/// A name that is before its value among the arguments.
 #[derive(Clone, Copy)]
 pub enum Name {
     /// The file of tables.
@@ -23,7 +23,7 @@ pub enum Name {
     Describe,
     /// The file of the classes of class URIs.
     Classes,
-    /// What stands for `gs1:` in relations.
+    /// The expansion of `gs1:` in relations.
     Voc,
     /// Whether the references of links are templates.
     Templates,
@@ -37,14 +37,14 @@ pub enum Name {
     Gcp,
     /// The name of an encoding of tags.
     Encoding,
-    /// Whether of an identity its key alone is kept.
+    /// Whether an identity keeps only its key.
     KeysOnly,
     /// The stem of links.
     Stem,
 }
 
 impl Name {
-    /// The word of the name.
+    /// Returns the word of the name.
     pub fn word(self) -> &'static str
         ensures { result.now ≡ name_word self }
     {
@@ -69,7 +69,7 @@ impl Name {
         }
     }
 
-    /// Whether the name may have this value. A file may have any name, and an address may be any text.
+    /// Returns whether the name may have this value. A file may have any name, and an address may be any text.
     pub fn has_in_range(self, value: &str) -> bool
         ensures { result ≡ in_range self value.now }
     {
@@ -88,7 +88,7 @@ impl Name {
 }
 
 impl Name {
-    /// Whether the word is that of the name, and the name may have the value.
+    /// Returns whether the word is that of the name, and the name may have the value.
     pub fn takes(self, word: &str, value: &str) -> bool
         ensures { result ≡ name_takes self word.now value.now }
     {
@@ -96,19 +96,19 @@ impl Name {
     }
 }
 
-/// A row of the names of a command: a name, or another in its stead, of which one is given at most.
+/// A row of a command's names: a name, or another instead of it; at most one of them is given.
 #[derive(Clone, Copy)]
 pub struct NameRow {
     /// The name.
     pub name: Name,
-    /// The name that may stand in its stead.
+    /// The name that may be instead.
     pub instead: Option<Name>,
     /// Whether the command must have one of the two.
     pub required: bool,
 }
 
 impl NameRow {
-    /// Whether one of the names of the row has this word, and may have this value.
+    /// Returns whether one of the names of the row has this word, and may have this value.
     pub fn takes(self, word: &str, value: &str) -> bool
         ensures { result ≡ row_takes self word.now value.now }
     {

@@ -5,7 +5,7 @@ ghost use Rattle.tdl_arguments.specs.Requests.{known_name, known_words};
 
 use crate::name::{Name, NameRow};
 
-/// The value of the first pair with the name, where the arguments are pairs.
+/// Returns the value of the first pair with the name, if the arguments are pairs.
 pub fn look_up<'a>(words: &'a [String], name: &str) -> Option<&'a str>
     ensures { OfPairs (known_words words.now) (λ pairs. known_name result ≡ look_up name.now pairs) }
 {
@@ -18,14 +18,14 @@ pub fn look_up<'a>(words: &'a [String], name: &str) -> Option<&'a str>
     look_up(&words[2..], name)
 }
 
-/// Whether the name has a value, where the arguments are pairs.
+/// Returns whether the name has a value, if the arguments are pairs.
 fn is_named(words: &[String], name: Name) -> bool
     ensures { OfPairs (known_words words.now) (λ pairs. result ≡ is_named pairs name) }
 {
     look_up(words, name.word()).is_some()
 }
 
-/// Whether a name of the row has a value, where the arguments are pairs.
+/// Returns whether a name of the row has a value, if the arguments are pairs.
 fn is_given(words: &[String], row: NameRow) -> bool
     ensures { OfPairs (known_words words.now) (λ pairs. result ≡ is_given pairs row) }
 {
@@ -35,7 +35,7 @@ fn is_given(words: &[String], row: NameRow) -> bool
     }
 }
 
-/// Whether a row takes this name with this value, of which no name has a value among the others, where these are pairs.
+/// Returns whether a row takes this name with this value, and none of its names has a value among the others, if these are pairs.
 fn takes(rows: &[NameRow], name: &str, value: &str, others: &[String]) -> bool
     ensures { OfPairs (known_words others.now) (λ pairs. result ≡ takes rows.now name.now value.now pairs) }
 {
@@ -48,7 +48,7 @@ fn takes(rows: &[NameRow], name: &str, value: &str, others: &[String]) -> bool
     false
 }
 
-/// Whether the arguments are pairs of names and values that the rows take, each row at most once.
+/// Returns whether the arguments are pairs of names and values that the rows take, each row at most once.
 pub fn are_of_rows(words: &[String], rows: &[NameRow]) -> bool
     ensures pairs { result ≡ true → HasPairs rows.now (known_words words.now) }
     ensures none { result ≡ false → HasNoPairs rows.now (known_words words.now) }
@@ -66,7 +66,7 @@ pub fn are_of_rows(words: &[String], rows: &[NameRow]) -> bool
     takes(rows, words[0].as_str(), words[1].as_str(), others)
 }
 
-/// Whether each row that must be there is there by one of its names, where the arguments are pairs.
+/// Returns whether each required row is given by one of its names, if the arguments are pairs.
 pub fn has_required(words: &[String], rows: &[NameRow]) -> bool
     ensures { OfPairs (known_words words.now) (λ pairs. result ≡ has_required rows.now pairs) }
 {

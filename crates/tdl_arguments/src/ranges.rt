@@ -7,14 +7,14 @@ ghost use Rattle.tdl_arguments.specs.Ranges.{count_of, filter_of, gcp_of, is_num
 
 use gs_chars::are_digits;
 
-/// Whether digits begin with a zero that is not the whole of them.
+/// Returns whether digits begin with a zero that is not the whole of them.
 fn has_leading_zero(digits: &[u8]) -> bool
     ensures { result ≡ has_leading_zero digits.now }
 {
     digits.len() > 1 && digits[0] == b'0'
 }
 
-/// Whether the argument is decimal digits without a sign and without leading zeros.
+/// Returns whether the argument is decimal digits without a sign and without leading zeros.
 fn is_numeral(word: &str) -> bool
     ensures { result ≡ is_numeral word.now }
 {
@@ -22,7 +22,7 @@ fn is_numeral(word: &str) -> bool
     are_digits(digits) && !digits.is_empty() && !has_leading_zero(digits)
 }
 
-/// The number that digits write. The word is a numeral. `None` comes exactly where the number is not below 2^32.
+/// Returns the number that digits write. The word is a numeral. `None` is returned if and only if the number is not below 2^32.
 fn number_of(digits: &str) -> Option<u32>
     requires { is_numeral digits.now ≡ true }
     ensures { SomeIff result (decimal_value digits.now < 2 ^ 32) (decimal_value digits.now) }
@@ -33,8 +33,8 @@ fn number_of(digits: &str) -> Option<u32>
     }
 }
 
-/// The number from the least to the greatest that the argument writes. `None` comes exactly where the argument is no numeral, or its
-/// number is not between them.
+/// Returns the number from the least to the greatest that the argument writes. `None` is returned if and only if the argument is
+/// not a numeral, or its number is not between them.
 pub fn number_within(word: &str, least: u32, greatest: u32) -> Option<u32>
     ensures exact { result ≡ number_within least greatest word.now }
     ensures most { IfSome result (λ number. number ≤ greatest) }
@@ -49,28 +49,30 @@ pub fn number_within(word: &str, least: u32, greatest: u32) -> Option<u32>
     None
 }
 
-/// The filter value that the argument writes. `None` comes exactly where it writes no number from 0 to 7.
+/// Returns the filter value that the argument writes. `None` is returned if and only if it writes no number from 0 to 7.
 pub fn filter_of(word: &str) -> Option<u8>
     ensures { result ≡ filter_of word.now }
 {
     Some(number_within(word, 0, 7)? as u8)
 }
 
-/// The number of digits of a company prefix that the argument writes. `None` comes exactly where it writes no number from 1 to 12.
+/// Returns the number of digits of a company prefix that the argument writes. `None` is returned if and only if it writes no
+/// number from 1 to 12.
 pub fn gcp_of(word: &str) -> Option<u8>
     ensures { result ≡ gcp_of word.now }
 {
     Some(number_within(word, 1, 12)? as u8)
 }
 
-/// The number of connections that the argument writes. `None` comes exactly where it writes no number from 1 to 1,000,000.
+/// Returns the number of connections that the argument writes. `None` is returned if and only if it writes no number from 1 to
+/// 1,000,000.
 pub fn count_of(word: &str) -> Option<u32>
     ensures { result ≡ count_of word.now }
 {
     number_within(word, 1, 1_000_000)
 }
 
-/// The number of lines that the argument writes. `None` comes exactly where it writes no number from 0 to 100,000.
+/// Returns the number of lines that the argument writes. `None` is returned if and only if it writes no number from 0 to 100,000.
 pub fn lines_of(word: &str) -> Option<u32>
     ensures exact { result ≡ lines_of word.now }
     ensures most { IfSome result (λ lines. lines ≤ most_lines) }
@@ -78,14 +80,14 @@ pub fn lines_of(word: &str) -> Option<u32>
     number_within(word, 0, 100_000)
 }
 
-/// Whether each byte is a visible character of ISO 646.
+/// Returns whether each byte is a visible character of ISO 646.
 fn are_visible(bytes: &[u8]) -> bool
     ensures { result ≡ list_all is_ascii_graphic bytes.now }
 {
     bytes.iter().all(|c| c.is_ascii_graphic())
 }
 
-/// Whether the value may stand for `gs1:` in relations: 1 to 256 bytes from 33 to 126.
+/// Returns whether the value may stand for `gs1:` in relations: 1 to 256 bytes from 33 to 126.
 pub fn is_vocabulary(value: &str) -> bool
     ensures { result ≡ is_vocabulary value.now }
 {

@@ -31,13 +31,13 @@ pub struct NamedFiles<'a> {
 /// The values of the names that name no files, with their defaults.
 #[derive(Clone, Copy)]
 pub struct NamedValues<'a> {
-    /// What stands for `gs1:` in relations.
+    /// The expansion of `gs1:` in relations.
     pub voc: &'a str,
     /// Whether the references of links are templates.
     pub templates: bool,
     /// The address that a server listens at.
     pub listen: &'a str,
-    /// The number of connections that a server finishes, 1 to 1,000,000, and 0 where it is not named.
+    /// The number of connections that a server finishes, 1 to 1,000,000, and 0 if it is not named.
     pub count: u32,
     /// A filter value, 0 to 7.
     pub filter: Option<u8>,
@@ -45,7 +45,7 @@ pub struct NamedValues<'a> {
     pub gcp: Option<u8>,
     /// The name of an encoding of tags, or nothing.
     pub encoding: &'a str,
-    /// Whether of an identity its key alone is kept.
+    /// Whether an identity keeps only its key.
     pub keys_only: bool,
     /// The stem of links.
     pub stem: &'a str,

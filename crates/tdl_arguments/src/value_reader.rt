@@ -9,13 +9,13 @@ use crate::ranges::{count_of, filter_of, gcp_of};
 use crate::request::{LinksFile, NamedFiles, NamedValues};
 use gs_ident::CANONICAL_STEM;
 
-/// What stands for `gs1:` in relations where that is not named.
+/// The default expansion of `gs1:` in relations.
 const DEFAULT_VOC: &str = "https://ref.gs1.org/voc/";
 
-/// The address of a server where it is not named.
+/// The default address of a server.
 const DEFAULT_LISTEN: &str = "127.0.0.1:8080";
 
-/// The file of links that pairs name, in JSON or as text.
+/// Returns the file of links that pairs name, in JSON or as text.
 fn named_links(words: &[String]) -> Option<LinksFile<'_>>
     ensures { OfPairs (known_words words.now) (λ pairs. known_links result ≡ links_of_pairs pairs) }
 {
@@ -25,7 +25,7 @@ fn named_links(words: &[String]) -> Option<LinksFile<'_>>
     }
 }
 
-/// The files that pairs name.
+/// Returns the files that pairs name.
 pub fn named_files(words: &[String]) -> NamedFiles<'_>
     ensures { OfPairs (known_words words.now) (λ pairs. known_files result ≡ named_files pairs) }
 {
@@ -40,7 +40,7 @@ pub fn named_files(words: &[String]) -> NamedFiles<'_>
     }
 }
 
-/// The value of a name, or what stands in its place.
+/// Returns the value of a name, or the default.
 fn value_or<'a>(words: &'a [String], name: Name, default: &'a str) -> &'a str
     ensures { OfPairs (known_words words.now) (λ pairs. result.now ≡ value_or default.now name pairs) }
 {
@@ -50,7 +50,7 @@ fn value_or<'a>(words: &'a [String], name: Name, default: &'a str) -> &'a str
     }
 }
 
-/// The number of connections that is named, and 0 where none is.
+/// Returns the number of connections that is named, and 0 if none is.
 fn named_count(words: &[String]) -> u32
     ensures { OfPairs (known_words words.now) (λ pairs. result ≡ count_named pairs) }
 {
@@ -60,21 +60,21 @@ fn named_count(words: &[String]) -> u32
     count_of(value).unwrap_or(0)
 }
 
-/// The filter value that is named.
+/// Returns the filter value that is named.
 fn named_filter(words: &[String]) -> Option<u8>
     ensures { OfPairs (known_words words.now) (λ pairs. result ≡ number_named filter_of Name.Filter pairs) }
 {
     filter_of(look_up(words, Name::Filter.word())?)
 }
 
-/// The number of digits of a company prefix that is named.
+/// Returns the number of digits of a company prefix that is named.
 fn named_gcp(words: &[String]) -> Option<u8>
     ensures { OfPairs (known_words words.now) (λ pairs. result ≡ number_named gcp_of Name.Gcp pairs) }
 {
     gcp_of(look_up(words, Name::Gcp.word())?)
 }
 
-/// The values that pairs name, with their defaults.
+/// Returns the values that pairs name, with their defaults.
 pub fn named_values(words: &[String]) -> NamedValues<'_>
     ensures { OfPairs (known_words words.now) (λ pairs. known_values result ≡ named_values pairs) }
 {

@@ -1,6 +1,6 @@
 ghost use Rattle.std.specs.Prelude.{◌≡◌, drop};
 
-/// The arguments behind the first, which is the name that the program was called by.
+/// Returns the arguments after the first, which is the name that the program was called by.
 pub fn without_program_name(words: &[String]) -> &[String]
     ensures { result.now ≡ drop 1 words.now }
 {

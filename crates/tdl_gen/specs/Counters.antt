@@ -1,4 +1,4 @@
--- What counting has done at a moment, and what is written of the line of counts.
+-- The counts at a moment, and the written line of counts.
 use Rattle.std.specs.Prelude.{ℕ, List, Option}
 use Rattle.tdl_lines.specs.Outputs.{Appends}
 use Rattle.tdl_lines.specs.declared.status.Status.{Status}
@@ -11,6 +11,6 @@ use Rattle.tdl_gen.specs.Counts.{Generated}
 abbrev pub PrintsGenerated : TableRows → ℕ → List ℕ → Status → Type 0
 PrintsGenerated set lines output status = (line : List ℕ) × Generated set lines line × PrintedAs Done line output status
 
--- trusted, own: that was added to what a sink holds, where that is known
+-- trusted, own: holds if this was appended to the bytes that a sink holds, if they are known
 abbrev pub AppendsGenerated : TableRows → ℕ → Status → Option (List ℕ) → Option (List ℕ) → Type 0
 AppendsGenerated set lines status before now = Appends before now (λ output. PrintsGenerated set lines output status)

@@ -1,11 +1,11 @@
--- What proofs and private functions say beside the definitions of Counting.antt.
+-- Definitions for proofs and private functions, in addition to Counting.antt.
 use Rattle.std.specs.Prelude.{◌≡◌, ℕ, ◌+◌, List, [], ◌∷◌, Result, length}
 use Rattle.gs_tables.specs.Tables.{TableRows}
 use Rattle.gs_translate.specs.declared.reason.Reason.{Reason}
 use Rattle.tdl_gen.specs.declared.counts.Counts.{Counts}
 use Rattle.tdl_gen.specs.Counts.{AnswersFirst, answer_bytes, answered_bytes, ok_answers}
 
--- so many of the answers to the first lines are texts, and the lines of all of them have so many bytes
+-- that many of the answers to the first lines are texts, and the lines of all of them have that many bytes
 pub record CountsFirst (set : TableRows) (lines ok bytes : ℕ) : Type 0 where
   pub answers : List (Result (List ℕ) Reason)
   pub each : AnswersFirst set lines answers

@@ -1,4 +1,4 @@
--- What is counted of the answers to the first lines of the generator, and how the counts are printed.
+-- The counts of the answers to the first lines of the generator, and their printed form.
 use Rattle.std.specs.Prelude.{◌≡◌, ℕ, suc, false, List, [], ◌∷◌, ◌++◌, Result, Some, None, codes, decimal, count_by, flat_map, is_ok, length}
 use Rattle.gs_ident.specs.Links.{canonical_stem}
 use Rattle.tdl_messages.specs.AnswerLines.{line_of}
@@ -15,11 +15,11 @@ use Rattle.gs_translate.specs.Steps.{Then}
 use Rattle.gs_translate.specs.Translations.{IsTranslation}
 use Rattle.tdl_gen.specs.Generator.{generated_line}
 
--- trusted, own: what is said beside the lines: filter value 1, and all else as it is where nothing is named
+-- trusted, own: the options of the generator: filter value 1, and otherwise the defaults
 abbrev pub filter_one : Options
 filter_one = record { filter = Some 1; gcp = None; encoding = []; keys_only = false; stem = canonical_stem }
 
--- trusted, own: the translation of a text by no company prefix lengths, and by filter value 1 alone
+-- trusted, own: holds if the result is the translation of a text with only filter value 1 and no company prefix lengths
 unfoldable pub IsPlain : TableRows → Form → Target → List ℕ → Result (List ℕ) Reason → Type 0
 IsPlain set from to text answer = IsTranslation set [] filter_one from to text answer
 
@@ -29,7 +29,7 @@ abbrev pub IsLineAnswer : TableRows → List ℕ → Result (List ℕ) Reason �
 IsLineAnswer set line answer =
     Then (IsPlain set form.Pure target.Hex line) (IsPlain set form.Hex target.Canon) answer
 
--- trusted, own: these are the answers to the first lines of the generator, in their order, so many as there are
+-- trusted, own: these are the answers to the first lines of the generator, in their order, that many as there are
 pub data AnswersFirst (set : TableRows) : ℕ → List (Result (List ℕ) Reason) → Type 0 where
   no_line : AnswersFirst set 0 []
   one_more : (n : ℕ) (answers : List (Result (List ℕ) Reason)) (answer : Result (List ℕ) Reason) → AnswersFirst set n answers → IsLineAnswer set (generated_line n) answer → AnswersFirst set (suc n) (answers ++ answer ∷ [])
@@ -51,7 +51,7 @@ abbrev pub counts_text : ℕ → ℕ → ℕ → List ℕ
 counts_text lines ok bytes =
     codes "lines " ++ decimal lines ++ codes " ok " ++ decimal ok ++ codes " bytes " ++ decimal bytes ++ 10 ∷ []
 
--- trusted, own: the line that tells the counts of the answers to so many lines of the generator
+-- trusted, own: holds if the output is the line of counts of the answers to that many lines of the generator
 pub record Generated (set : TableRows) (lines : ℕ) (output : List ℕ) : Type 0 where
   pub answers : List (Result (List ℕ) Reason)
   pub each : AnswersFirst set lines answers

@@ -1,16 +1,16 @@
 -- The lines of the generator: EPC URIs of SGTINs (TDS 2.0, section 6.3.1) by the states of a linear congruential generator.
 use Rattle.std.specs.Prelude.{ℕ, zero, suc, ◌+◌, ◌-◌, ◌*◌, ◌/◌, ◌%◌, ◌^◌, List, ◌∷◌, ◌++◌, codes, decimal, length, replicate}
 
--- trusted, own: the state behind a state
+-- trusted, own: the state after a state
 abbrev pub next_state : ℕ → ℕ
 next_state x = (x * 6364136223846793005 + 1442695040888963407) % 2 ^ 64
 
--- trusted, own: the state after so many steps from 0
+-- trusted, own: the state after that many steps from 0
 abbrev pub state_after : ℕ → ℕ
 state_after zero = 0
 state_after (suc n) = next_state (state_after n)
 
--- trusted, own: a number in decimal, with leading zeros of it where it has fewer digits than these
+-- trusted, own: the decimal digits of a number, with leading zeros if it has fewer digits than these
 abbrev pub digits_in : ℕ → ℕ → List ℕ
 digits_in width n = replicate (width - length (decimal n)) 48 ++ decimal n
 

@@ -16,11 +16,11 @@ pub struct Answering<'a> {
     pub set: &'a TableSet,
     /// The company prefix lengths: none.
     pub prefixes: &'a PrefixList,
-    /// What is said beside the lines: filter value 1.
+    /// The options of the lines: filter value 1.
     pub options: &'a Options,
 }
 
-/// Filter value 1, and all else as it is where nothing is named.
+/// Returns filter value 1, and otherwise the default options.
 pub fn filter_one(alloc: Global) -> Result<Options, Memory>
     ensures { IfOk result (λ options. options ≡ filter_one) }
 {
@@ -33,7 +33,7 @@ pub fn filter_one(alloc: Global) -> Result<Options, Memory>
     })
 }
 
-/// The translation of a text, by no prefix lengths and by filter value 1 alone.
+/// Returns the translation of a text, with only filter value 1 and no company prefix lengths.
 fn translate_by(
     alloc: Global,
     by: Answering<'_>,
@@ -48,8 +48,8 @@ fn translate_by(
     translate(alloc, by.set, by.prefixes, by.options, from, to, text)
 }
 
-/// The answer to a line: the canonical link of its tag, or the first rejection. There is no list of prefix lengths, and the
-/// filter value is 1.
+/// Returns the answer to a line: the canonical link of its tag, or the first rejection. There is no list of prefix lengths, and
+/// the filter value is 1.
 pub fn answer_line(alloc: Global, by: Answering<'_>, line: &[u8]) -> Result<Text, Reason>
     requires prefixes { by.prefixes.now ≡ [] }
     requires options { by.options.now ≡ filter_one }

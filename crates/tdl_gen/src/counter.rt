@@ -11,24 +11,24 @@ use gs_chars::{Memory, Text};
 use gs_translate::{Reason, reason_text};
 use std::alloc::Global;
 
-/// The bytes of the line of an answer beside its text: `ok ` or `no ` and the line feed.
+/// The bytes of an answer's line apart from its text: `ok ` or `no ` and the line feed.
 const FRAME: u128 = 4;
 
-/// The number of bytes of a reason, as it is printed.
+/// Returns the number of bytes of a printed reason.
 fn reason_length(alloc: Global, reason: &Reason) -> Result<usize, Memory>
     ensures { IfOk result (λ len. len ≡ length (reason_text reason.now)) }
 {
     Ok(reason_text(alloc, reason)?.as_bytes().len())
 }
 
-/// The bytes of the line of an answer, by those of its text.
+/// Returns the bytes of the line of an answer, by those of its text.
 fn line_length(text: usize) -> u128
     ensures { result ≡ text + 4 }
 {
     text as u128 + FRAME
 }
 
-/// The counts with one answer more.
+/// Returns the counts with one answer more.
 fn count_answer(
     alloc: Global,
     counts: Counts,
@@ -56,7 +56,7 @@ fn count_answer(
     }
 }
 
-/// The counts of the answers to the first lines of the generator. One line is held at a time. There is no list of prefix
+/// Returns the counts of the answers to the first lines of the generator. One line is held at a time. There is no list of prefix
 /// lengths, and the filter value is 1.
 pub fn count_lines(alloc: Global, by: Answering<'_>, lines: u32) -> Result<Counts, Memory>
     requires prefixes { by.prefixes.now ≡ [] }

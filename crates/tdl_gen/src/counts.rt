@@ -4,7 +4,7 @@ ghost use Rattle.tdl_gen.specs.Counts.{counts_text};
 use gs_chars::Memory;
 use std::alloc::Global;
 
-/// What is counted of answers.
+/// The counts of answers.
 #[derive(Clone, Copy)]
 pub struct Counts {
     /// How many are texts.
@@ -13,7 +13,7 @@ pub struct Counts {
     pub bytes: u128,
 }
 
-/// The line of the counts of so many lines.
+/// Returns the line of the counts of that many lines.
 pub fn counts_text(alloc: Global, lines: u32, counts: Counts) -> Result<String, Memory>
     ensures { IfOk result (λ text. string_bytes text ≡ counts_text lines counts.ok counts.bytes) }
 {

@@ -30,14 +30,14 @@ impl Model for Generator {
 }
 
 impl Generator {
-    /// All lines.
+    /// Returns all lines.
     pub fn new() -> Generator
         ensures { result ≡ 0 }
     {
         Generator { state: 0, next: 0 }
     }
 
-    /// The next line. Its number is below 2^32.
+    /// Returns the next line. Its number is below 2^32.
     pub fn next_line(&mut self, alloc: Global) -> Result<String, Memory>
         requires { self.old < 2 ^ 32 }
         ensures line { IfOk result (λ line. string_bytes line ≡ generated_line self.old) }
@@ -50,14 +50,14 @@ impl Generator {
     }
 }
 
-/// The state behind a state.
+/// Returns the state after a state.
 fn next_state(state: u64) -> u64
     ensures { result ≡ next_state state }
 {
     state.wrapping_mul(FACTOR).wrapping_add(INCREMENT)
 }
 
-/// The pure identity of an SGTIN whose serial is this number, by a state.
+/// Returns the pure identity of an SGTIN whose serial is this number, by a state.
 fn sgtin_text(alloc: Global, state: u64, serial: u64) -> Result<String, Memory>
     ensures { IfOk result (λ text. string_bytes text ≡ sgtin_text state serial) }
 {

@@ -1,7 +1,7 @@
 //! The generator of lines: how many of its lines are answered, and how many bytes their answers have, by tables.
 //!
-//! - `generate` makes so many pure identity URIs of SGTIN, translates each to tag bits and these to the canonical link, and writes
-//!   one line of counts. So a load of any size needs no file, and its counts are known beforehand.
+//! - `generate` makes a number of pure identity URIs of SGTIN, translates each to tag bits and these to the canonical link, and
+//!   writes one line of counts. So a load of any size needs no file, and its counts are known beforehand.
 //!
 //! # Example
 //!
@@ -13,7 +13,7 @@
 //! Done lines\x201000\x20ok\x201000\x20bytes\x2046890\x0A
 //! ```
 //!
-//! # Where it differs from the standards
+//! # Differences from the standards
 //!
 //! - No standard has such lines. Their prefixes, item references and serial numbers are of the ranges of the standards, and belong
 //!   to nobody that was asked.

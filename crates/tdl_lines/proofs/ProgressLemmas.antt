@@ -219,13 +219,14 @@ nothing (b ∷ bytes) none = absurd (omega arith)
 pub after_read_error : {Is : List ℕ → LineAnswer → Type 0} (limit many : ℕ) (whole left before now : Option (List ℕ)) (held : List ℕ) (rejected : Bool) → Progress Is whole left before now held many rejected → many ≤ limit → Appends before now (λ output. WritesAnswers Is limit whole left output ReadFault)
 after_read_error limit many whole left before now held rejected p few =
     let a = p.answered in
+    let within : length p.bytes ≤ limit = let n = p.length_is in omega arith in
     let k = known_part p.bytes whole left p.taken in (
       a.0,
       a.1,
       record {
         all = tt;
-        first = begins_ended limit p.bytes a.0 whole left (let n = p.length_is in omega arith) k (all_begins (ended_lines p.bytes) a.0 rejected a.2);
-        ended = record { bytes = p.bytes; taken = p.taken; any_rejected = rejected; answered = a.2 };
+        first = begins_ended limit p.bytes a.0 whole left within k (all_begins (ended_lines p.bytes) a.0 rejected a.2);
+        ended = record { bytes = p.bytes; taken = p.taken; few = within; any_rejected = rejected; answered = a.2 };
       },
     )
 

@@ -1,23 +1,23 @@
-//! The lines of an input and their answers: where lines begin and end, the answer to each, and how a run over them ends.
+//! The lines of an input and their answers: where lines begin and end, the answer to each, and the status of a run over them.
 //!
-//! - `answer_lines` answers each line of a source, in pieces as they come, and writes the answers to a sink.
-//! - `Answerer` is what answers a text; `print_line` writes one line. `Status` says how a run ended.
+//! - `answer_lines` answers each line of a source, which it reads in pieces, and writes the answers to a sink.
+//! - `Answerer` is a trait of what answers a text; `print_line` writes one line. `Status` says how a run ended.
 //!
 //! # Example
 //!
 //! Three lines, read three bytes at a time and written two at a time, the last without a line feed: the status, the answers and
-//! what is left to read. The gate runs this case, for which crates/vectors_runs/src/lines.rt makes the call, with an answer
-//! `ok`.
+//! the bytes left to read. The gate runs this case: crates/vectors_runs/src/lines.rt makes the call, with an answerer that accepts
+//! each text.
 //!
 //! ```text
 //! tdl_lines::answer_lines 100 / 3 - a\x0Ab\x0D\x0Ac / 2 -
 //! Done ok\x20a\x0Aok\x20b\x0Aok\x20c\x0A \e
 //! ```
 //!
-//! # Where it differs from the standards
+//! # Differences from the standards
 //!
-//! - No standard has such an input. One carriage return before a line feed, or at the end of the input, is no part of a line.
-//! - A text of more than 2,048 bytes is too long, whatever it holds.
+//! - No standard has such an input. One carriage return before a line feed, or at the end of the input, is not part of a line.
+//! - A text of more than 2,048 bytes is too long, whatever its bytes are.
 #![tactic(auto)]
 
 mod answerer;

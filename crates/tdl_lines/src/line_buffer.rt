@@ -1,4 +1,4 @@
-ghost use Rattle.std.specs.Prelude.{◌≡◌, ◌<◌, ◌≤◌, [], IfOk, OnErr, drop, length, take};
+ghost use Rattle.std.specs.Prelude.{◌≡◌, ◌<◌, ◌≤◌, [], IfOk, drop, length, take};
 ghost use Rattle.gs_port.specs.Counts.{Rises};
 ghost use Rattle.gs_port.specs.Answers.{IfGot, OnReadFailed};
 ghost use Rattle.tdl_lines.specs.Inputs.{IsAtEnd};
@@ -10,14 +10,14 @@ use gs_port::{ReadAnswer, Source};
 use std::alloc::Global;
 use std::marker::Model;
 
-/// How many bytes there is room for.
+/// The number of bytes that fit.
 const ROOM: usize = 65_536;
 
-/// The most bytes that are held of a line that has not ended. A line of so many bytes is long, whatever follows, even where
+/// The most bytes that are held of a line that has not ended. A line with that many bytes is long, whatever follows, even if
 /// the last of them is a carriage return.
 const MOST_HELD: usize = LONGEST_TEXT + 2;
 
-/// Bytes of lines that are not answered yet: those that are held of a line, and those that were read behind them.
+/// The bytes of lines without an answer yet: those held of a line, and those read after them.
 #[derive(Drop)]
 pub struct LineBuffer {
     room: Vec<u8>,
@@ -35,7 +35,7 @@ impl Model for LineBuffer {
 }
 
 impl LineBuffer {
-    /// A buffer with no bytes.
+    /// Makes a buffer without bytes.
     pub fn new(alloc: Global) -> Result<LineBuffer, Memory>
         ensures { IfOk result (λ buffer. buffer ≡ []) }
     {
@@ -43,14 +43,14 @@ impl LineBuffer {
         Ok(LineBuffer { room, len: 0 })
     }
 
-    /// The bytes.
+    /// Returns the bytes.
     pub fn bytes(&self) -> &[u8]
         ensures { result.now ≡ self.now }
     {
         &self.room[..self.len]
     }
 
-    /// Reads behind the bytes, at most `most` of the input. At most the bytes of one line are held, and `most` is not 0.
+    /// Reads at most `most` bytes of the input after the bytes. The buffer holds at most one line, and `most` is not 0.
     pub fn read<S: Source>(&mut self, input: &mut S, most: u64) -> ReadAnswer
         requires held { length self.old ≤ most_held }
         requires some { 0 < most }
@@ -72,7 +72,7 @@ impl LineBuffer {
         }
     }
 
-    /// Drops the bytes before a place, and holds the first of those behind it. The place is not behind the bytes.
+    /// Drops the bytes before `start`, and holds the first of the others. `start` is at most the number of bytes.
     pub fn hold_from(&mut self, start: usize)
         requires { start ≤ length self.old }
         ensures { self.new ≡ take most_held (drop start self.old) }

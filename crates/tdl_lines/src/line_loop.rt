@@ -1,10 +1,11 @@
 ghost use Rattle.std.specs.Prelude.{◌≡◌, ◌≢◌, ◌+◌, ◌<◌, ◌≤◌, ◌^◌, ◌||◌, IfOk, length, take};
+ghost use Rattle.std.specs.Bool.{OnTrue};
 ghost use Rattle.gs_port.specs.Counts.{Rises};
 ghost use Rattle.tdl_lines.specs.LineLoops.{AddsBlock, OnSinkFault, OfLines, status_at_end};
 ghost use Rattle.tdl_lines.specs.Inputs.{IsAtEnd, TakesAtMost, TakesMoreThan};
 ghost use Rattle.tdl_lines.specs.Lines.{begun_line, ended_lines, most_held};
 ghost use Rattle.tdl_lines.specs.Outputs.{Appends, WritesAnswers};
-ghost use Rattle.tdl_lines.specs.Statuses.{OnAnswered, OnInputLong, OnReadFault, OnWriteFault};
+ghost use Rattle.tdl_lines.specs.Statuses.{is_answered, is_status};
 
 use crate::answerer::Answerer;
 use crate::line_buffer::LineBuffer;
@@ -14,24 +15,24 @@ use gs_chars::Memory;
 use gs_port::{ReadAnswer, Sink, Source, Whole, write_whole};
 use std::alloc::Global;
 
-/// How many bytes of answers are handed to the output at a time, and those of one answer more.
+/// The number of bytes of answers in one write. A write has at most one answer more.
 const BLOCK: usize = 65536;
 
-/// What is left of the bytes, and whether an answer is a rejection.
+/// The bytes that are left, and whether an answer is a rejection.
 #[derive(Clone, Copy)]
 struct Answered<'a> {
     rest: &'a [u8],
     rejected: bool,
 }
 
-/// Whether one of two holds.
+/// Returns `a || b`.
 fn either(a: bool, b: bool) -> bool
     ensures { result ≡ (a || b) }
 {
     a || b
 }
 
-/// Adds the answers to the first lines, until they are a block or nothing is left.
+/// Appends the answers to the first lines, until they fill a block or no line is left.
 fn answer_block<'a, A: Answerer>(
     alloc: Global,
     answerer: &A,
@@ -55,18 +56,18 @@ fn answer_block<'a, A: Answerer>(
     }
 }
 
-/// How the answering of lines ended.
+/// The outcome of answering lines.
 #[derive(Clone, Copy)]
 enum Answering {
-    /// All lines were answered, and an answer is a rejection or not.
+    /// All lines were answered; `rejected` tells whether an answer is a rejection.
     Whole { rejected: bool },
-    /// An error of the output was counted.
+    /// The output counted an error.
     SinkFault,
     /// Memory ran out.
     Memory,
 }
 
-/// Writes the answers to the lines of the bytes, in blocks that are gathered in `out`.
+/// Writes the answers to the lines of the bytes, in blocks collected in `out`.
 fn write_answers<A: Answerer, K: Sink>(
     alloc: Global,
     answerer: &A,
@@ -97,7 +98,7 @@ fn write_answers<A: Answerer, K: Sink>(
     Answering::Whole { rejected }
 }
 
-/// Writes the answers to the lines that have ended, and holds what is held of the line that has not.
+/// Writes the answers to the lines that have ended, and holds the first bytes of the line that has not.
 fn answer_ended<A: Answerer, K: Sink>(
     alloc: Global,
     answerer: &A,
@@ -118,7 +119,7 @@ fn answer_ended<A: Answerer, K: Sink>(
     answering
 }
 
-/// The status of an input that was read to its end, by an earlier rejection and the answering of its last line.
+/// Returns the status of an input that was read to its end, by an earlier rejection and the answering of its last line.
 fn status_after(earlier: bool, last: Answering) -> Status
     ensures { result ≡ status_at_end earlier last }
 {
@@ -131,14 +132,13 @@ fn status_after(earlier: bool, last: Answering) -> Status
     }
 }
 
-/// Answers each line of the input when it has ended, and writes the answers before the next read. A line goes up to a line
-/// feed or to the end of the input, and loses one carriage return at its end; from one read to the next at most 2,050 bytes
-/// of it are held. At most `limit` bytes are answered, those of the lines that end within them where the input has more, and
-/// at most one byte more is taken.
+/// Answers each line of the input once it has ended, and writes the answers before the next read. A line ends at a line feed or
+/// at the end of the input, and loses one carriage return at its end. Between two reads at most 2,050 bytes of a line are held.
+/// If the input has more than `limit` bytes, only the lines that end within them are answered; at most one byte more is taken.
 ///
-/// `ReadFault` comes only where the input's count of errors rose in this call; the lines that had ended are answered then.
-/// `WriteFault` comes only where the output's count rose. `InputLong` comes exactly where more than `limit` bytes were taken.
-/// After each of these and after `Memory`, what was written is a prefix of the answer lines. `limit` is below 2^63.
+/// `ReadFault` is returned only if the input's count of errors rose in this call; the lines that had ended are answered then.
+/// `WriteFault` is returned only if the output's count rose. `InputLong` is returned if and only if more than `limit` bytes were
+/// taken. After each of these, and after `Memory`, the output has gained a prefix of the answers. `limit` is below 2^63.
 pub fn answer_lines<A: Answerer, S: Source, K: Sink>(
     alloc: Global,
     answerer: &A,
@@ -148,20 +148,23 @@ pub fn answer_lines<A: Answerer, S: Source, K: Sink>(
 ) -> Status
     requires { limit < 2 ^ 63 }
 
-    // What was written: all answers with their status, whatever count rose, or what was done before an error.
+    // The output: all answers with their status, whatever count rose, or those before an error.
     ensures written { Appends (K.held output.old) (K.held output.new) (λ out.
         WritesAnswers (A.is_answer answerer.now) limit (S.left input.old) (S.left input.new) out result) }
     ensures no_usage { result ≢ Status.Usage }
     ensures no_rejection { result ≢ Status.Refused }
 
-    // What was taken.
-    ensures read_to_end { OnAnswered result (IsAtEnd (S.left input.new)) }
-    ensures input_long { OnInputLong result (TakesMoreThan limit (S.left input.old) (S.left input.new)) }
+    // The bytes taken.
+    ensures read_to_end { OnTrue (is_answered result) (IsAtEnd (S.left input.new)) }
+    ensures input_long { OnTrue (is_status result Status.InputLong)
+        (TakesMoreThan limit (S.left input.old) (S.left input.new)) }
     ensures few { TakesAtMost (limit + 1) (S.left input.old) (S.left input.new) }
 
     // Each error.
-    ensures read_error { OnReadFault result (Rises (S.errors input.old) (S.errors input.new)) }
-    ensures write_error { OnWriteFault result (Rises (K.errors output.old) (K.errors output.new)) }
+    ensures read_error { OnTrue (is_status result Status.ReadFault)
+        (Rises (S.errors input.old) (S.errors input.new)) }
+    ensures write_error { OnTrue (is_status result Status.WriteFault)
+        (Rises (K.errors output.old) (K.errors output.new)) }
     ensures input_counts { S.errors input.old ≤ S.errors input.new }
     ensures output_counts { K.errors output.old ≤ K.errors output.new }
 {

@@ -3,7 +3,7 @@ ghost use Rattle.tdl_lines.specs.Lines.{ended_lines, lines_of, text_of};
 
 use memchr::{memchr, memrchr};
 
-/// The first line of bytes that are not empty, and the bytes behind it and its line feed. There are some.
+/// Returns the first line, and the bytes after it and its line feed. There is at least one byte.
 pub fn first_line(bytes: &[u8]) -> (&[u8], &[u8])
     requires { 0 < length bytes.now }
     ensures lines { lines_of bytes.now ≡ result.0.now ∷ lines_of result.1.now }
@@ -15,7 +15,7 @@ pub fn first_line(bytes: &[u8]) -> (&[u8], &[u8])
     }
 }
 
-/// The bytes of the lines that have ended: those up to the last line feed, with it.
+/// Returns the bytes of the lines that have ended: those up to the last line feed, included.
 pub fn ended(bytes: &[u8]) -> &[u8]
     ensures { result.now ≡ ended_lines bytes.now }
 {
@@ -25,7 +25,7 @@ pub fn ended(bytes: &[u8]) -> &[u8]
     }
 }
 
-/// The line without one carriage return at its end.
+/// Returns the line without one carriage return at its end.
 pub fn without_return(line: &[u8]) -> &[u8]
     ensures { result.now ≡ text_of line.now }
 {

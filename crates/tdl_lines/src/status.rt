@@ -4,20 +4,20 @@ ghost use Rattle.tdl_lines.specs.Statuses.{number_of};
 
 use std::process::ExitCode;
 
-/// How a run ends.
+/// The status of a run.
 #[derive(Clone, Copy, Debug)]
 pub enum Status {
-    /// All was answered: each line by `ok`, each request by its reply, or the one line of a command that prints one.
+    /// All was answered: each line with `ok`, each request with its reply, or the line of a command that prints one.
     Done,
     /// The input was read to its end, and an answer is `no`.
     SomeRefused,
-    /// The arguments are not in order.
+    /// The arguments are invalid.
     Usage,
     /// A file is rejected.
     Refused,
-    /// An error of the input or of a file was counted, or a file is not there.
+    /// The input, a file or the door counted an error, or a file is missing.
     ReadFault,
-    /// An error of the output was counted.
+    /// The output counted an error.
     WriteFault,
     /// The input has more bytes than the limit.
     InputLong,
@@ -26,7 +26,7 @@ pub enum Status {
 }
 
 impl Status {
-    /// The number that the process ends with.
+    /// Returns the exit status of the process.
     pub fn number(self) -> u8
         ensures { result ≡ number_of self }
     {
@@ -42,7 +42,7 @@ impl Status {
         }
     }
 
-    /// The end of the process with the number of the status.
+    /// Returns the exit code of the process, by the number of the status.
     pub fn exit_code(self) -> ExitCode
         ensures { exit_status result ≡ number_of self }
     {

@@ -29,8 +29,9 @@ use Rattle.tdl_loads.specs.declared.loads.Loaded.{Loaded}
 use Rattle.tdl_loads.specs.declared.loads.Unloaded.{Unloaded}
 use Rattle.tdl_loads.specs.declared.loads.Unloaded.TheVariants as unloaded
 use Rattle.tdl_loads.specs.Loads.{ClassesGive, FilesGive, FilesInMemory, JudgesClasses, StandsFor, Stop, UnnamedClasses, absent, classes_verdict, is_of_classes, judged, missing, of_verdict, rejected, too_large}
-use Rattle.tdl_loads.specs.LoadsSupport.{AreKept, AreUnnamedClasses, LoadedBy}
+use Rattle.tdl_loads.specs.LoadsSupport.{AreKept, AreUnnamedClasses, LoadedBy, PartsGive}
 use Rattle.tdl_loads.specs.Reads.{ClassesUnloadedAs}
+use Rattle.tdl_loads.proofs.FlatLoads.{flat_parts}
 
 -- ---- sets that the rules make are of the table
 
@@ -85,7 +86,7 @@ unnamed_kept ais false verdict set u e =
     rw same (none_kept ais)
 
 file_kept : (files : Option FilesInMemory) (ais : List AiRow) (command : Command) (name : List ℕ) (set : ClassRows) → ClassesGive files ais command (Some name) (Ok set) → AreKept ais set
-file_kept files ais command name set (absent none e) = absurd (let f : Ok set ≡ Err missing = e in cc)
+file_kept files ais command name set (absent none e) = absurd (let f : Ok set ≡ Err (missing kind.Classes) = e in cc)
 file_kept files ais command name set (too_large bytes is more e) = absurd (let f : Ok set ≡ Err (rejected (record { kind = kind.Classes; error = Over })) = e in cc)
 file_kept files ais command name set (judged bytes verdict is few j e) = judged_kept ais (LoadAnswer ais bytes) verdict set (kept_of ais (ruled_bytes ais bytes) (of_table_bytes ais bytes)) j e
 
@@ -93,14 +94,17 @@ given_kept : (files : Option FilesInMemory) (ais : List AiRow) (command : Comman
 given_kept files ais command None set gives = unnamed_kept ais (is_of_classes command) gives.verdict set gives.judged gives.is
 given_kept files ais command (Some name) set gives = file_kept files ais command name set gives
 
-pub classes_kept : (files : Option FilesInMemory) (asked : Asked) (loaded : Loaded) → FilesGive files asked (Ok loaded) → AreKept loaded.tables.ais loaded.classes
-classes_kept files asked loaded (rejects stop gives e) = absurd (let f : Ok loaded ≡ Err stop = e in cc)
-classes_kept files asked loaded (goes_on tabled gives (rejects stop g e)) = absurd (let f : Ok loaded ≡ Err stop = e in cc)
-classes_kept files asked loaded (goes_on tabled gives (goes_on linked g (rejects stop h e))) = absurd (let f : Ok loaded ≡ Err stop = e in cc)
-classes_kept files asked loaded (goes_on tabled gives (goes_on linked g (goes_on settings h (rejects stop k e)))) = absurd (let f : Ok loaded ≡ Err stop = e in cc)
-classes_kept files asked loaded (goes_on tabled gives (goes_on linked g (goes_on settings h (goes_on classes k e)))) =
+parts_kept : (files : Option FilesInMemory) (asked : Asked) (loaded : Loaded) → PartsGive files asked (Ok loaded) → AreKept loaded.tables.ais loaded.classes
+parts_kept files asked loaded (rejects stop gives e) = absurd (let f : Ok loaded ≡ Err stop = e in cc)
+parts_kept files asked loaded (goes_on tabled gives (rejects stop g e)) = absurd (let f : Ok loaded ≡ Err stop = e in cc)
+parts_kept files asked loaded (goes_on tabled gives (goes_on linked g (rejects stop h e))) = absurd (let f : Ok loaded ≡ Err stop = e in cc)
+parts_kept files asked loaded (goes_on tabled gives (goes_on linked g (goes_on settings h (rejects stop k e)))) = absurd (let f : Ok loaded ≡ Err stop = e in cc)
+parts_kept files asked loaded (goes_on tabled gives (goes_on linked g (goes_on settings h (goes_on classes k e)))) =
     let same : loaded ≡ record { tables = tabled.tables; source = tabled.source; prefixes = tabled.prefixes; links = linked.links; merged = linked.merged; settings = settings; classes = classes } = cc in
     rw same (given_kept files tabled.tables.ais asked.command asked.files.classes classes k)
+
+pub classes_kept : (files : Option FilesInMemory) (asked : Asked) (loaded : Loaded) → FilesGive files asked (Ok loaded) → AreKept loaded.tables.ais loaded.classes
+classes_kept files asked loaded gives = parts_kept files asked loaded (flat_parts files asked (Ok loaded) gives)
 
 -- ---- how classes were loaded
 

@@ -18,7 +18,7 @@ use Rattle.tdl_loads.specs.Reads.{JudgedAs, JudgedBy, ReadBy}
 pub file_unloaded : {A : Type 0} (files : Option (List (List ℕ × List ℕ))) (kind : FileKind) (Judges : List ℕ → Result A FileFault → Type 0) (name : List ℕ) (before now : ℕ) (u : Unloaded) → ReadBy files kind name before now (Err u) → LoadedBy (FileGives files kind Judges name) before now (Err u)
 file_unloaded files kind Judges name before now unloaded.Memory r = tt
 file_unloaded files kind Judges name before now unloaded.ReadFault (inl rises) = inl rises
-file_unloaded files kind Judges name before now unloaded.ReadFault (inr none) = inr (absent none refl)
+file_unloaded files kind Judges name before now unloaded.ReadFault (inr none) = inr (kind, absent none refl)
 file_unloaded files kind Judges name before now (unloaded.Refused rejection) r = too_large r.0 r.1 r.2 (ap (λ x. Err (rejected x)) r.3)
 
 -- a file that was judged
@@ -49,7 +49,7 @@ unnamed_judged kind Unnamed before now verdict (Err (unloaded.Refused rejection)
 pub not_loaded : {A B : Type 0} (First : Result A Stop → Type 0) (Next : A → Result B Stop → Type 0) (before now : ℕ) (u : Unloaded) → LoadedBy First before now (Err u) → LoadedBy (Then First Next) before now (Err u)
 not_loaded First Next before now unloaded.Memory g = tt
 not_loaded First Next before now unloaded.ReadFault (inl rises) = inl rises
-not_loaded First Next before now unloaded.ReadFault (inr none) = inr (rejects missing none refl)
+not_loaded First Next before now unloaded.ReadFault (inr none) = inr (none.0, rejects (missing none.0) none.1 refl)
 not_loaded First Next before now (unloaded.Refused rejection) g = rejects (rejected rejection) g refl
 
 rises_before : (before between now : ℕ) → before ≤ between → Rises between now → Rises before now
@@ -60,5 +60,5 @@ pub loads_on : {A B : Type 0} (First : Result A Stop → Type 0) (Next : A → R
 loads_on First Next before between now a (Ok b) f less g = goes_on a f g
 loads_on First Next before between now a (Err unloaded.Memory) f less g = tt
 loads_on First Next before between now a (Err unloaded.ReadFault) f less (inl rises) = inl (rises_before before between now less rises)
-loads_on First Next before between now a (Err unloaded.ReadFault) f less (inr none) = inr (goes_on a f none)
+loads_on First Next before between now a (Err unloaded.ReadFault) f less (inr none) = inr (none.0, goes_on a f none.1)
 loads_on First Next before between now a (Err (unloaded.Refused rejection)) f less g = goes_on a f g

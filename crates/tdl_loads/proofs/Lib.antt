@@ -1,4 +1,5 @@
 pub mod FileLoads
+pub mod FlatLoads
 pub mod OpenedNames
 pub mod PrefixLoads
 pub mod LinkLoads
@@ -6,3 +7,4 @@ pub mod LoadSteps
 pub mod LoadLemmas
 pub mod ReadLemmas
 pub mod ClassLoads
+pub mod DecidedLoads

@@ -24,8 +24,8 @@ use Rattle.tdl_messages.specs.declared.rejection.FileFault.TheVariants.{Place}
 use Rattle.tdl_messages.specs.declared.rejection.Rejection.{Rejection}
 use Rattle.tdl_loads.specs.declared.loads.Unloaded.{Unloaded}
 use Rattle.tdl_loads.specs.declared.loads.Unloaded.TheVariants as unloaded
-use Rattle.tdl_loads.specs.Loads.{AreLinked, JudgesText, Stop, link_errors, linked_with, merge_verdict, merged_store, merged_with, merging, of_verdict, other_verdict, placed, places_errors, read_as, rejected, store_verdict, unread}
-use Rattle.tdl_loads.specs.LoadsSupport.{LoadedBy}
+use Rattle.tdl_loads.specs.Loads.{JudgesText, Stop, link_errors, merge_verdict, merged_store, merged_with, merging, of_verdict, other_verdict, placed, places_errors, read_as, rejected, store_verdict, unread}
+use Rattle.tdl_loads.specs.LoadsSupport.{AreLinked, LoadedBy, linked_with}
 use Rattle.tdl_loads.specs.Reads.{JudgedAs, JudgedBy, unread_text}
 
 -- ---- no link

@@ -37,9 +37,11 @@ use Rattle.tdl_arguments.specs.Requests.{Asked, FileNames, LinksName, Values, as
 use Rattle.tdl_loads.specs.declared.loads.Loaded.{Loaded}
 use Rattle.tdl_loads.specs.declared.loads.TablesWithSource.{TablesWithSource}
 use Rattle.tdl_loads.specs.declared.loads.Tabled.{Tabled}
-use Rattle.tdl_loads.specs.Loads.{AreSettings, ClassesGive, DescriptionGives, FileGives, FilesGive, Gives, GivesClasses, GivesLinks, GivesPrefixes, GivesSettings, IsLoadedOf, AreTabled, AreNone, IsNoLink, IsNoPrefix, AreBytes, JudgesLinks, JudgesPrefixes, JudgesClasses, JudgesTables, LinksGive, PrefixesGive, SettingsGive, Stop, TabledGive, TablesGive, UnnamedClasses, classes_verdict, is_of_classes, links_verdict, prefixes_verdict, absent, judged, missing, of_verdict, tables_verdict, too_large, AreLinked, GivesOthers, GivesThird, IsNoOther, JudgesFile, JudgesOther, JudgesText, LinkedGive, OtherGives, linked_with, merging, other_verdict, read_as, store_verdict, unread}
+use Rattle.tdl_loads.specs.Loads.{ClassesGive, FileGives, FilesGive, Gives, JudgesLinks, JudgesClasses, JudgesTables, LinksGive, PrefixesGive, Stop, TablesGive, UnnamedClasses, classes_verdict, is_of_classes, links_verdict, prefixes_verdict, absent, judged, missing, of_verdict, tables_verdict, too_large, JudgesFile, JudgesText, OtherGives, merging, other_verdict, read_as, store_verdict, unread}
 use Rattle.tdl_loads.specs.Loads.{Ambiguity, ambiguous, of_classes, of_tables}
+use Rattle.tdl_loads.specs.LoadsSupport.{AreBytes, AreLinked, AreNone, AreSettings, AreTabled, DescriptionGives, GivesClasses, GivesLinks, GivesOthers, GivesPrefixes, GivesSettings, GivesThird, IsLoadedOf, IsNoLink, IsNoOther, IsNoPrefix, JudgesOther, JudgesPrefixes, LinkedGive, PartsGive, SettingsGive, TabledGive, linked_with}
 use Rattle.tdl_loads.specs.declared.loads.Linked.{Linked}
+use Rattle.tdl_loads.proofs.FlatLoads.{flat_parts, parts_flat}
 
 -- ---- at most one answer
 
@@ -91,16 +93,16 @@ tables_one source Ruled ruling a b x y =
     rw (x.is, y.is) (alike_answers source x.answer y.answer (judged_alike Ruled ruling x.answer y.answer x.is_answer y.is_answer x.enough y.enough))
 
 -- what is given and a stop are not alike, and two of what is given that are alike are one
-not_alike : {A : Type 0} (stop : Stop) (a : A) → AlikeStops (Ok a) (Err stop) → ⊥
+pub not_alike : {A : Type 0} (stop : Stop) (a : A) → AlikeStops (Ok a) (Err stop) → ⊥
 not_alike stop a (one_stop e) = let f : Ok a ≡ Err stop = e in cc
 not_alike stop a (two_texts place text text' e f) = let g : Ok a ≡ Err (ambiguous place text) = e in cc
 
-same_given : {A : Type 0} (a a' : A) → AlikeStops (Ok a) (Ok a') → a ≡ a'
+pub same_given : {A : Type 0} (a a' : A) → AlikeStops (Ok a) (Ok a') → a ≡ a'
 same_given a a' (one_stop e) = let f : Ok a ≡ Ok a' = e in cc
 same_given a a' (two_texts place text text' e f) = absurd (let g : Ok a ≡ Err (ambiguous place text) = e in cc)
 
 -- the answers of a step are alike
-abbrev AreAlikeAll : {A : Type 0} → (Result A Stop → Type 0) → Type 0
+abbrev pub AreAlikeAll : {A : Type 0} → (Result A Stop → Type 0) → Type 0
 AreAlikeAll {A = A} Step = (one other : Result A Stop) → Step one → Step other → AlikeStops one other
 
 then_alike : {A B : Type 0} (First : Result A Stop → Type 0) (Next : A → Result B Stop → Type 0) → AreAlikeAll First → ((a : A) → AreAlikeAll (Next a)) → AreAlikeAll (Then First Next)
@@ -144,12 +146,12 @@ file_links_one templates ais voc None bytes = json_one templates ais voc bytes
 file_links_one templates ais voc (Some (in_json name)) bytes = json_one templates ais voc bytes
 file_links_one templates ais voc (Some (as_text name)) bytes = text_one templates ais voc bytes
 
-links_one : (files : List (List ℕ × List ℕ)) (templates : Bool) (ais : List AiRow) (voc : List ℕ) (name : Option LinksName) → AreAlikeAll (LinksGive (Some files) templates ais voc name)
+pub links_one : (files : List (List ℕ × List ℕ)) (templates : Bool) (ais : List AiRow) (voc : List ℕ) (name : Option LinksName) → AreAlikeAll (LinksGive (Some files) templates ais voc name)
 links_one files templates ais voc name = gives_one files kind.Links (JudgesFile templates ais voc name) IsNoLink (option_map name_of_links name)
     (file_links_one templates ais voc name)
     (λ x y e f. one_stop (ap (of_verdict kind.Links) (e ∙ sym f)))
 
-other_one : (files : List (List ℕ × List ℕ)) (kind : FileKind) (ais : List AiRow) (voc : List ℕ) (name : Option (List ℕ)) → AreAlikeAll (OtherGives (Some files) kind ais voc name)
+pub other_one : (files : List (List ℕ × List ℕ)) (kind : FileKind) (ais : List AiRow) (voc : List ℕ) (name : Option (List ℕ)) → AreAlikeAll (OtherGives (Some files) kind ais voc name)
 other_one files kind ais voc name = gives_one files kind (JudgesOther ais voc) IsNoOther name
     (λ bytes x y e f. one_stop (ap (of_verdict kind) (e ∙ sym f)))
     (λ x y e f. one_stop (ap (of_verdict kind) (e ∙ sym f)))
@@ -164,7 +166,7 @@ others_one files names ais voc links = then_alike (OtherGives (Some files) kind.
     (other_one files kind.Second ais voc names.second)
     (third_one files names ais voc links)
 
-linked_one : (files : List (List ℕ × List ℕ)) (names : FileNames) (values : Values) (ais : List AiRow) → AreAlikeAll (LinkedGive (Some files) names values ais)
+pub linked_one : (files : List (List ℕ × List ℕ)) (names : FileNames) (values : Values) (ais : List AiRow) → AreAlikeAll (LinkedGive (Some files) names values ais)
 linked_one files names values ais = then_alike (LinksGive (Some files) values.templates ais values.voc names.links) (GivesOthers (Some files) names ais values.voc)
     (links_one files values.templates ais values.voc names.links)
     (others_one files names ais values.voc)
@@ -174,7 +176,7 @@ description_one files name = gives_one files kind.Describe AreBytes AreNone name
     (λ bytes x y e f. one_stop (ap (of_verdict kind.Describe) (e ∙ sym f)))
     (λ x y e f. one_stop (ap (of_verdict kind.Describe) (e ∙ sym f)))
 
-settings_one : (files : List (List ℕ × List ℕ)) (names : FileNames) (values : Values) → AreAlikeAll (SettingsGive (Some files) names values)
+pub settings_one : (files : List (List ℕ × List ℕ)) (names : FileNames) (values : Values) → AreAlikeAll (SettingsGive (Some files) names values)
 settings_one files names values = then_alike (DescriptionGives (Some files) names.describe) (AreSettings values)
     (description_one files names.describe)
     (λ describe x y e f. one_stop (e ∙ sym f))
@@ -218,16 +220,23 @@ with_prefixes_one files names given = then_alike (PrefixesGive (Some files) name
     (prefixes_one files names.prefixes)
     (λ list x y e f. one_stop (e ∙ sym f))
 
-tabled_one : (files : List (List ℕ × List ℕ)) (names : FileNames) → AreAlikeAll (TabledGive (Some files) names)
+pub given_tables_one : (files : List (List ℕ × List ℕ)) (name : Option (List ℕ)) → AreAlikeAll (TablesGive (Some files) name)
+given_tables_one files name = gives_one files kind.Tables (λ bytes. JudgesTables bytes (LoadAnswer bytes)) (JudgesTables [] BuiltInAnswer) name
+    (λ bytes. tables_one bytes (Shape bytes) (ruling_of_bytes bytes))
+    (tables_one [] RuledRows ruling_of_builtin)
+
+pub tabled_one : (files : List (List ℕ × List ℕ)) (names : FileNames) → AreAlikeAll (TabledGive (Some files) names)
 tabled_one files names = then_alike (TablesGive (Some files) names.tables) (GivesPrefixes (Some files) names)
-    (gives_one files kind.Tables (λ bytes. JudgesTables bytes (LoadAnswer bytes)) (JudgesTables [] BuiltInAnswer) names.tables
-    (λ bytes. tables_one bytes (Shape bytes) (ruling_of_bytes bytes)) (tables_one [] RuledRows ruling_of_builtin))
+    (given_tables_one files names.tables)
     (with_prefixes_one files names)
 
-pub files_one : (files : List (List ℕ × List ℕ)) (asked : Asked) (a b : Result Loaded Stop) → FilesGive (Some files) asked a → FilesGive (Some files) asked b → AlikeStops a b
-files_one files asked = then_alike (TabledGive (Some files) asked.files) (GivesLinks (Some files) asked)
+parts_one : (files : List (List ℕ × List ℕ)) (asked : Asked) → AreAlikeAll (PartsGive (Some files) asked)
+parts_one files asked = then_alike (TabledGive (Some files) asked.files) (GivesLinks (Some files) asked)
     (tabled_one files asked.files)
     (with_links_one files asked)
+
+pub files_one : (files : List (List ℕ × List ℕ)) (asked : Asked) (a b : Result Loaded Stop) → FilesGive (Some files) asked a → FilesGive (Some files) asked b → AlikeStops a b
+files_one files asked a b x y = parts_one files asked a b (flat_parts (Some files) asked a x) (flat_parts (Some files) asked b y)
 
 -- ---- an answer
 
@@ -239,7 +248,7 @@ file_some_by files kind Judges name bytes is some = elim (leb_tells (length byte
 
 -- a known file, or its absence
 file_some_in : {A : Type 0} (files : List (List ℕ × List ℕ)) (kind : FileKind) (Judges : List ℕ → Result A FileFault → Type 0) (name : List ℕ) (found : Option (List ℕ)) → file_of files name ≡ found → ((bytes : List ℕ) → HasSome (Judges bytes)) → HasSome (FileGives (Some files) kind Judges name)
-file_some_in files kind Judges name None e some = (Err missing, absent e refl)
+file_some_in files kind Judges name None e some = (Err (missing kind), absent e refl)
 file_some_in files kind Judges name (Some bytes) e some = file_some_by (Some files) kind Judges name bytes e some
 
 file_some : {A : Type 0} (files : Option (List (List ℕ × List ℕ))) (kind : FileKind) (Judges : List ℕ → Result A FileFault → Type 0) (name : List ℕ) → ((bytes : List ℕ) → HasSome (Judges bytes)) → HasSome (FileGives files kind Judges name)
@@ -329,7 +338,10 @@ tabled_some files names = then_some (TablesGive files names.tables) (GivesPrefix
     (λ bytes. tables_some bytes (LoadAnswer bytes) (judged_some (Shape bytes) (ruling_of_bytes bytes))) (tables_some [] BuiltInAnswer (judged_some RuledRows ruling_of_builtin)))
     (λ given gives. with_prefixes_some files names given)
 
-pub files_some : (files : Option (List (List ℕ × List ℕ))) (asked : Asked) → HasSome (FilesGive files asked)
-files_some files asked = then_some (TabledGive files asked.files) (GivesLinks files asked)
+parts_some : (files : Option (List (List ℕ × List ℕ))) (asked : Asked) → HasSome (PartsGive files asked)
+parts_some files asked = then_some (TabledGive files asked.files) (GivesLinks files asked)
     (tabled_some files asked.files)
     (λ tabled gives. with_links_some files asked tabled)
+
+pub files_some : (files : Option (List (List ℕ × List ℕ))) (asked : Asked) → HasSome (FilesGive files asked)
+files_some files asked = let p = parts_some files asked in (p.0, parts_flat files asked p.0 p.1)

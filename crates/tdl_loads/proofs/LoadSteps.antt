@@ -9,8 +9,8 @@ use Rattle.tdl_messages.specs.declared.rejection.FileFault.TheVariants.{Over}
 use Rattle.tdl_messages.specs.Rejections.{file_limit}
 use Rattle.tdl_loads.specs.declared.loads.Unloaded.{Unloaded}
 use Rattle.tdl_loads.specs.declared.loads.Unloaded.TheVariants as unloaded
-use Rattle.tdl_loads.specs.Loads.{AreBytes, BytesGive, FileGives, FilesInMemory, Gives, OpensFirst, Stop, absent, judged, missing, of_verdict, rejected, too_large}
-use Rattle.tdl_loads.specs.LoadsSupport.{FilesKnown, LoadedBy, Loads}
+use Rattle.tdl_loads.specs.Loads.{BytesGive, FileGives, FilesInMemory, Gives, OpensFirst, Stop, absent, judged, missing, of_verdict, rejected, too_large}
+use Rattle.tdl_loads.specs.LoadsSupport.{AreBytes, FilesKnown, LoadedBy, Loads}
 use Rattle.tdl_loads.specs.Reads.{ReadBy}
 use Rattle.tdl_loads.proofs.FileLoads.{file_unloaded, loads_on, not_loaded}
 use Rattle.tdl_loads.proofs.OpenedNames.{adds_given, opens_all, opens_both, whatever_given}
@@ -25,7 +25,7 @@ pub record NamedBytes (files : Option FilesInMemory) (kind : FileKind) (name : O
   pub few : length bytes ≤ file_limit kind
 
 file_bytes : (files : Option FilesInMemory) (kind : FileKind) (file bytes : List ℕ) → FileGives files kind AreBytes file (Ok (Some bytes)) → NamedBytes files kind (Some file) bytes
-file_bytes files kind file bytes (absent none e) = absurd (let f : Ok (Some bytes) ≡ Err missing = e in cc)
+file_bytes files kind file bytes (absent none e) = absurd (let f : Ok (Some bytes) ≡ Err (missing kind) = e in cc)
 file_bytes files kind file bytes (too_large b is more e) = absurd (let f : Ok (Some bytes) ≡ Err (rejected (record { kind = kind; error = Over })) = e in cc)
 file_bytes files kind file bytes (judged b verdict is few j e) =
     let f : Ok (Some bytes) ≡ Ok (Some b) = e ∙ ap (of_verdict kind) j in
@@ -37,7 +37,7 @@ bytes_named files kind None bytes gives = absurd (let f : Ok (Some bytes) ≡ Ok
 bytes_named files kind (Some file) bytes gives = file_bytes files kind file bytes gives
 
 file_some : (files : Option FilesInMemory) (kind : FileKind) (file : List ℕ) → FileGives files kind AreBytes file (Ok None) → ⊥
-file_some files kind file (absent none e) = let none : Result (Option (List ℕ)) Stop = Ok None in let f : none ≡ Err missing = e in cc
+file_some files kind file (absent none e) = let none : Result (Option (List ℕ)) Stop = Ok None in let f : none ≡ Err (missing kind) = e in cc
 file_some files kind file (too_large b is more e) = let none : Result (Option (List ℕ)) Stop = Ok None in let f : none ≡ Err (rejected (record { kind = kind; error = Over })) = e in cc
 file_some files kind file (judged b verdict is few j e) = let f : Ok None ≡ Ok (Some b) = e ∙ ap (of_verdict kind) j in cc
 
@@ -49,8 +49,8 @@ module _ {A : Type 0} (files : Option FilesInMemory) (kind : FileKind) (Judges :
   file_stops : (file : List ℕ) (stop : Stop) → FileGives files kind AreBytes file (Err stop) → FileGives files kind Judges file (Err stop)
   file_stops file stop (absent none e) =
       let given : Result (Option (List ℕ)) Stop = Err stop in
-      let f : given ≡ Err missing = e in
-      let same : stop ≡ missing = cc in
+      let f : given ≡ Err (missing kind) = e in
+      let same : stop ≡ missing kind = cc in
       absent none (ap Err same)
   file_stops file stop (too_large b is more e) =
       let given : Result (Option (List ℕ)) Stop = Err stop in
@@ -67,7 +67,7 @@ module _ {A : Type 0} (files : Option FilesInMemory) (kind : FileKind) (Judges :
   pub bytes_unloaded : (name : Option (List ℕ)) (before now : ℕ) (u : Unloaded) → LoadedBy (BytesGive files kind name) before now (Err u) → LoadedBy (Gives files kind Judges Unnamed name) before now (Err u)
   bytes_unloaded name before now unloaded.Memory g = tt
   bytes_unloaded name before now unloaded.ReadFault (inl rises) = inl rises
-  bytes_unloaded name before now unloaded.ReadFault (inr gives) = inr (bytes_stop name missing gives)
+  bytes_unloaded name before now unloaded.ReadFault (inr gives) = inr (gives.0, bytes_stop name (missing gives.0) gives.1)
   bytes_unloaded name before now (unloaded.Refused rejection) gives = bytes_stop name (rejected rejection) gives
 
 -- ---- a load whose last step is about what was read
@@ -88,7 +88,7 @@ first_of_both [] other (suc count) = (0, refl)
 first_of_both (x ∷ one) other zero = (0, refl)
 first_of_both (x ∷ one) other (suc count) = let m = first_of_both one other count in (suc m.0, ap (λ xs. x ∷ xs) m.1)
 
-opens_fewer : (one other : List (List ℕ)) (before now : Option (List (List ℕ))) → OpensFirst one before now → OpensFirst (one ++ other) before now
+pub opens_fewer : (one other : List (List ℕ)) (before now : Option (List (List ℕ))) → OpensFirst one before now → OpensFirst (one ++ other) before now
 opens_fewer one other before now o =
     let m = first_of_both one other o.0 in
     (m.0, subst (λ names. AddsNames before names now) (sym m.1) o.1)

@@ -21,9 +21,10 @@ use Rattle.tdl_loads.specs.declared.loads.TablesWithSource.{TablesWithSource}
 use Rattle.tdl_loads.specs.declared.loads.Tabled.{Tabled}
 use Rattle.tdl_loads.specs.declared.loads.Unloaded.{Unloaded}
 use Rattle.tdl_loads.specs.declared.loads.Unloaded.TheVariants as unloaded
-use Rattle.tdl_loads.specs.Loads.{FilesGive, JudgesTables, Stop, TabledGive, TablesGive, absent, judged, missing, of_verdict, rejected, tables_verdict, too_large}
-use Rattle.tdl_loads.specs.LoadsSupport.{HasSource, LoadedBy, NamesTables}
+use Rattle.tdl_loads.specs.Loads.{FilesGive, JudgesTables, Stop, TablesGive, absent, judged, missing, of_verdict, rejected, tables_verdict, too_large}
+use Rattle.tdl_loads.specs.LoadsSupport.{HasSource, LoadedBy, NamesTables, PartsGive, TabledGive}
 use Rattle.tdl_loads.specs.Reads.{UnloadedAs}
+use Rattle.tdl_loads.proofs.FlatLoads.{flat_parts}
 
 -- ---- the tables of a file
 
@@ -57,7 +58,7 @@ given_by source Answer verdict given j e = by j.answer j.is_answer (e ∙ ap (of
     by (Err error) a f = absurd (let g : Ok given ≡ Err (rejected (record { kind = kind.Tables; error = Tables error })) = f in cc)
 
 given_file : (files : Option (List (List ℕ × List ℕ))) (name : List ℕ) (given : TablesWithSource) → TablesGive files (Some name) (Ok given) → LoadAnswer given.source (Ok given.tables)
-given_file files name given (absent none e) = absurd (let f : Ok given ≡ Err missing = e in cc)
+given_file files name given (absent none e) = absurd (let f : Ok given ≡ Err (missing kind.Tables) = e in cc)
 given_file files name given (too_large bytes is more e) = absurd (let f : Ok given ≡ Err (rejected (record { kind = kind.Tables; error = Over })) = e in cc)
 given_file files name given (judged bytes verdict is few j e) =
     let both = given_by bytes (LoadAnswer bytes) verdict given j e in
@@ -85,14 +86,17 @@ tables_of_tabled files asked tabled loaded tables source (goes_on given gives (g
     let same : tabled ≡ record { tables = given.tables; source = given.source; prefixes = list } = cc in
     record { given = given; gives = gives; same_tables = tables ∙ ap (λ (t : Tabled). t.tables) same; same_source = source ∙ ap (λ (t : Tabled). t.source) same }
 
-tables_of : (files : Option (List (List ℕ × List ℕ))) (asked : Asked) (loaded : Loaded) → FilesGive files asked (Ok loaded) → HasTables files asked loaded
-tables_of files asked loaded (rejects stop gives e) = absurd (let f : Ok loaded ≡ Err stop = e in cc)
-tables_of files asked loaded (goes_on tabled gives (rejects stop g e)) = absurd (let f : Ok loaded ≡ Err stop = e in cc)
-tables_of files asked loaded (goes_on tabled gives (goes_on linked g (rejects stop h e))) = absurd (let f : Ok loaded ≡ Err stop = e in cc)
-tables_of files asked loaded (goes_on tabled gives (goes_on linked g (goes_on settings h (rejects stop k e)))) = absurd (let f : Ok loaded ≡ Err stop = e in cc)
-tables_of files asked loaded (goes_on tabled gives (goes_on linked g (goes_on settings h (goes_on classes k e)))) =
+tables_of_parts : (files : Option (List (List ℕ × List ℕ))) (asked : Asked) (loaded : Loaded) → PartsGive files asked (Ok loaded) → HasTables files asked loaded
+tables_of_parts files asked loaded (rejects stop gives e) = absurd (let f : Ok loaded ≡ Err stop = e in cc)
+tables_of_parts files asked loaded (goes_on tabled gives (rejects stop g e)) = absurd (let f : Ok loaded ≡ Err stop = e in cc)
+tables_of_parts files asked loaded (goes_on tabled gives (goes_on linked g (rejects stop h e))) = absurd (let f : Ok loaded ≡ Err stop = e in cc)
+tables_of_parts files asked loaded (goes_on tabled gives (goes_on linked g (goes_on settings h (rejects stop k e)))) = absurd (let f : Ok loaded ≡ Err stop = e in cc)
+tables_of_parts files asked loaded (goes_on tabled gives (goes_on linked g (goes_on settings h (goes_on classes k e)))) =
     let same : loaded ≡ record { tables = tabled.tables; source = tabled.source; prefixes = tabled.prefixes; links = linked.links; merged = linked.merged; settings = settings; classes = classes } = cc in
     tables_of_tabled files asked tabled loaded (ap (λ (l : Loaded). l.tables) same) (ap (λ (l : Loaded). l.source) same) gives
+
+tables_of : (files : Option (List (List ℕ × List ℕ))) (asked : Asked) (loaded : Loaded) → FilesGive files asked (Ok loaded) → HasTables files asked loaded
+tables_of files asked loaded gives = tables_of_parts files asked loaded (flat_parts files asked (Ok loaded) gives)
 
 pub loaded_of : (files : Option (List (List ℕ × List ℕ))) (asked : Asked) (loaded : Loaded) → FilesGive files asked (Ok loaded) → IsLoaded loaded.tables
 loaded_of files asked loaded gives =

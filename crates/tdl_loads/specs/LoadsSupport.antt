@@ -1,44 +1,155 @@
--- What proofs and private functions say beside the definitions of Loads.antt.
-use Rattle.std.specs.Prelude.{◌≡◌, ◌⊎◌, ℕ, ◌≤◌, true, List, [], Option, None, is_some, Result, Ok, Err}
+-- Definitions next to those of Loads.antt, for proofs and private functions.
+use Rattle.std.specs.Prelude.{◌≡◌, ◌⊎◌, ℕ, ◌≤◌, false, true, List, [], ◌++◌, Option, Some, None, is_some, option_to_list, Result, Ok, Err}
 use Rattle.gs_ai.specs.declared.row.AiRow.{AiRow}
 use Rattle.gs_class.specs.Sets.{ClassRows, IsClear, IsOfTable}
+use Rattle.gs_http.specs.declared.settings.Settings.{Settings}
+use Rattle.gs_links.specs.declared.link.Link.{Link}
+use Rattle.gs_linkset.specs.declared.link_types.Context.{Context}
+use Rattle.gs_linkset.specs.Answers.{read_answer}
 use Rattle.gs_port.specs.Counts.{Rises}
+use Rattle.gs_prefix.specs.Answers.{load_answer}
+use Rattle.gs_prefix.specs.declared.entry.PrefixEntry.{PrefixEntry}
 use Rattle.gs_tables.specs.MigratedSets.{Loads as LoadsTables}
+use Rattle.gs_translate.specs.Steps.{Then}
 use Rattle.tdl_arguments.specs.declared.command.Command.{Command}
 use Rattle.tdl_arguments.specs.declared.command.Command.TheVariants.{Migrate}
-use Rattle.tdl_arguments.specs.Requests.{Asked}
-use Rattle.tdl_messages.specs.declared.file_kind.FileKind.TheVariants.{Classes}
+use Rattle.tdl_arguments.specs.Requests.{Asked, FileNames, Values, classes_named, description_named, first_named, links_named, others_named}
+use Rattle.tdl_messages.specs.declared.file_kind.FileKind.{FileKind}
+use Rattle.tdl_messages.specs.declared.file_kind.FileKind.TheVariants as kind
+use Rattle.tdl_messages.specs.declared.rejection.FileFault.{FileFault}
+use Rattle.tdl_loads.specs.declared.loads.Linked.{Linked}
 use Rattle.tdl_loads.specs.declared.loads.Loaded.{Loaded}
+use Rattle.tdl_loads.specs.declared.loads.Tabled.{Tabled}
 use Rattle.tdl_loads.specs.declared.loads.TablesWithSource.{TablesWithSource}
 use Rattle.tdl_loads.specs.declared.loads.Unloaded.{Unloaded}
 use Rattle.tdl_loads.specs.declared.loads.Unloaded.TheVariants.{Refused, ReadFault, Memory}
-use Rattle.tdl_loads.specs.Loads.{FilesInMemory, StandsFor, Stop, TablesGive, UnnamedClasses, OpensFirst, Opens, is_of_classes, missing, rejected}
+use Rattle.tdl_loads.specs.Loads.{BytesGive, ClassesGive, FilesInMemory, LinksGive, Opens, OpensFirst, OtherGives, PrefixesGive, StandsFor, Stop, TablesGive, UnnamedClasses, is_of_classes, kind_of, links_verdict, merging, missing, of_verdict, other_verdict, prefixes_verdict, rejected}
 
--- The answer of a load, by what the files give: an error comes only where the files counted one, or where the first that is
--- not loaded is not there.
+-- ---- what the files give, part by part: tables and prefixes, links, settings, classes
+
+-- the verdict is that on a list of company prefix lengths
+abbrev pub JudgesPrefixes : List ℕ → Result (List PrefixEntry) FileFault → Type 0
+JudgesPrefixes bytes verdict = verdict ≡ prefixes_verdict (load_answer bytes)
+
+-- the list of no entry
+abbrev pub IsNoPrefix : Result (List PrefixEntry) FileFault → Type 0
+IsNoPrefix verdict = verdict ≡ Ok []
+
+-- the store of no link
+abbrev pub IsNoLink : Result (List Link) FileFault → Type 0
+IsNoLink verdict = verdict ≡ Ok []
+
+-- the verdict on links that are merged with others, by their bytes in JSON
+abbrev pub JudgesOther : List AiRow → List ℕ → List ℕ → Result (Option (List Link)) FileFault → Type 0
+JudgesOther ais voc bytes verdict = verdict ≡ other_verdict (links_verdict false ais voc (read_answer bytes))
+
+-- no links that are merged with others
+abbrev pub IsNoOther : Result (Option (List Link)) FileFault → Type 0
+IsNoOther verdict = verdict ≡ Ok None
+
+-- the verdict on bytes that are taken as they are
+abbrev pub AreBytes : List ℕ → Result (Option (List ℕ)) FileFault → Type 0
+AreBytes bytes verdict = verdict ≡ Ok (Some bytes)
+
+-- no bytes
+abbrev pub AreNone : Result (Option (List ℕ)) FileFault → Type 0
+AreNone verdict = verdict ≡ Ok None
+
+-- the tables and the company prefix lengths that are loaded are these
+abbrev pub AreTabled : TablesWithSource → List PrefixEntry → Result Tabled Stop → Type 0
+AreTabled given list answer = answer ≡ Ok (record { tables = given.tables; source = given.source; prefixes = list })
+
+-- what the file of company prefix lengths gives behind these tables
+abbrev pub GivesPrefixes : Option FilesInMemory → FileNames → TablesWithSource → Result Tabled Stop → Type 0
+GivesPrefixes files names given answer = Then (PrefixesGive files names.prefixes) (AreTabled given) answer
+
+-- what the files of tables and of company prefix lengths give
+abbrev pub TabledGive : Option FilesInMemory → FileNames → Result Tabled Stop → Type 0
+TabledGive files names answer = Then (TablesGive files names.tables) (GivesPrefixes files names) answer
+
+-- links, with the document that they were merged to
+abbrev pub linked_with : List Link → Result (List Context) Stop → Result Linked Stop
+linked_with links (Ok contexts) = Ok (record { links = links; merged = contexts })
+linked_with links (Err stop) = Err stop
+
+-- these links, with the document that they and second and third ones are merged to
+abbrev pub AreLinked : List AiRow → List ℕ → List Link → Option (List Link) → Option (List Link) → Result Linked Stop → Type 0
+AreLinked ais voc links second third answer = answer ≡ linked_with links (of_verdict kind.Merge (merging ais voc links second third))
+
+-- what the file of third links gives behind these links and second ones
+abbrev pub GivesThird : Option FilesInMemory → FileNames → List AiRow → List ℕ → List Link → Option (List Link) → Result Linked Stop → Type 0
+GivesThird files names ais voc links second answer = Then (OtherGives files kind.Third ais voc names.third) (AreLinked ais voc links second) answer
+
+-- what the files of second and of third links give behind these links
+abbrev pub GivesOthers : Option FilesInMemory → FileNames → List AiRow → List ℕ → List Link → Result Linked Stop → Type 0
+GivesOthers files names ais voc links answer = Then (OtherGives files kind.Second ais voc names.second) (GivesThird files names ais voc links) answer
+
+-- what the files of links give, by the application identifiers and the values of a request
+abbrev pub LinkedGive : Option FilesInMemory → FileNames → Values → List AiRow → Result Linked Stop → Type 0
+LinkedGive files names values ais answer =
+    Then (LinksGive files values.templates ais values.voc names.links) (GivesOthers files names ais values.voc) answer
+
+-- the description in the named file, or none where none is named
+abbrev pub DescriptionGives : Option FilesInMemory → Option (List ℕ) → Result (Option (List ℕ)) Stop → Type 0
+DescriptionGives files name answer = BytesGive files kind.Describe name answer
+
+-- how requests are answered, by the values of a request and with a description
+abbrev pub AreSettings : Values → Option (List ℕ) → Result Settings Stop → Type 0
+AreSettings values describe answer = answer ≡ Ok (record { voc = values.voc; describe = describe; templates = values.templates })
+
+-- how requests are answered, by the values of a request and by what the file of the description gives
+abbrev pub SettingsGive : Option FilesInMemory → FileNames → Values → Result Settings Stop → Type 0
+SettingsGive files names values answer = Then (DescriptionGives files names.describe) (AreSettings values) answer
+
+-- what is loaded of these tables and prefixes, these links, these settings and these classes
+abbrev pub IsLoadedOf : Tabled → Linked → Settings → ClassRows → Result Loaded Stop → Type 0
+IsLoadedOf tabled linked settings classes answer =
+    answer ≡ Ok (record { tables = tabled.tables; source = tabled.source; prefixes = tabled.prefixes; links = linked.links; merged = linked.merged; settings = settings; classes = classes })
+
+-- what the file of classes gives behind these tables and prefixes, these links and these settings
+abbrev pub GivesClasses : Option FilesInMemory → Asked → Tabled → Linked → Settings → Result Loaded Stop → Type 0
+GivesClasses files asked tabled linked settings answer =
+    Then (ClassesGive files tabled.tables.ais asked.command asked.files.classes) (IsLoadedOf tabled linked settings) answer
+
+-- what the files of the description and of classes give behind these tables and prefixes, and these links
+abbrev pub GivesSettings : Option FilesInMemory → Asked → Tabled → Linked → Result Loaded Stop → Type 0
+GivesSettings files asked tabled linked answer = Then (SettingsGive files asked.files asked.values) (GivesClasses files asked tabled linked) answer
+
+-- what the files of links, of the description and of classes give behind these tables and prefixes
+abbrev pub GivesLinks : Option FilesInMemory → Asked → Tabled → Result Loaded Stop → Type 0
+GivesLinks files asked tabled answer =
+    Then (LinkedGive files asked.files asked.values tabled.tables.ais) (GivesSettings files asked tabled) answer
+
+-- what the files give, part by part
+abbrev pub PartsGive : Option FilesInMemory → Asked → Result Loaded Stop → Type 0
+PartsGive files asked answer = Then (TabledGive files asked.files) (GivesLinks files asked) answer
+
+-- ---- loads
+
+-- trusted, own: holds if the answer of a load is what the files give, a read fault only if the files counted an error or a file is
+-- missing, or out of memory
 abbrev pub LoadedBy : {A : Type 0} → (Result A Stop → Type 0) → ℕ → ℕ → Result A Unloaded → Type 0
 LoadedBy Give before now (Ok a) = Give (Ok a)
 LoadedBy Give before now (Err (Refused rejection)) = Give (Err (rejected rejection))
-LoadedBy Give before now (Err ReadFault) = Rises before now ⊎ Give (Err missing)
+LoadedBy Give before now (Err ReadFault) = Rises before now ⊎ ((kind : FileKind) × Give (Err (missing kind)))
 LoadedBy Give before now (Err Memory) = Unit {0}
 
--- the answer of a load of tables is that of the built-in ones, whatever the files are
+-- holds if the answer of a load of tables is that of the built-in ones, whatever the files are
 abbrev pub IsOfBuiltIn : Result TablesWithSource Unloaded → Type 0
 IsOfBuiltIn answer = (files : Option FilesInMemory) (before now : ℕ) → LoadedBy (TablesGive files None) before now answer
 
--- what files tell at a moment: themselves, the names that were opened, and their count of errors
+-- trusted, own: files at a moment, as far as they are known: their contents, the opened names, and their count of errors
 pub record FilesKnown : Type 0 where
   pub files : Option FilesInMemory
   pub opened : Option (List (List ℕ))
   pub errors : ℕ
 
--- files that tell this
+-- trusted, own: the files with these contents, opened names and errors
 abbrev pub files_known : Option FilesInMemory → Option (List (List ℕ)) → ℕ → FilesKnown
 files_known files opened errors = record { files = files; opened = opened; errors = errors }
 
--- What a load of the files of these names did between two moments. Its answer is what the files give. They are known as before, and
--- their count of errors has not fallen. The first of the names were opened, in their order, and all where something is given; where
--- nothing is named the files are as they were.
+-- trusted, own: Holds if a load of the files of these names had this answer between two moments: what the files give. The first of
+-- the names were opened, in their order, and all if the load succeeded. If there are no names, the files are as they were.
 pub record Loads {A : Type 0} (Give : Option FilesInMemory → Result A Stop → Type 0) (names : List (List ℕ)) (AsTheyWere : Type 0) (before now : FilesKnown) (answer : Result A Unloaded) : Type 0 where
   pub loaded : LoadedBy (Give before.files) before.errors now.errors answer
   pub opened : OpensFirst names before.opened now.opened
@@ -47,19 +158,48 @@ pub record Loads {A : Type 0} (Give : Option FilesInMemory → Result A Stop →
   pub known : now.files ≡ before.files
   pub counts : before.errors ≤ now.errors
 
--- the answer of a load of classes is that of those in the place of a file that is not named
-abbrev pub AreUnnamedClasses : List AiRow → Command → Result ClassRows Unloaded → Type 0
-AreUnnamedClasses ais command answer = (before now : ℕ) → LoadedBy (StandsFor Classes (UnnamedClasses ais (is_of_classes command))) before now answer
+-- trusted, own: holds if no file was opened after the one at which the load stops, if the files are known; `up_to` gives the names up
+-- to the file of a kind
+pub record StopsOpening {A : Type 0} (Give : Option FilesInMemory → Result A Stop → Type 0) (up_to : FileKind → List (List ℕ)) (before now : FilesKnown) : Type 0 where
+  pub decided : (known : FilesInMemory) (stop : Stop) → before.files ≡ Some known → Give before.files (Err stop) → OpensFirst (up_to (kind_of stop)) before.opened now.opened
 
--- classes that are loaded: they are of the table, and no text has two readings by them
+-- the names of the files of links after the first, up to the one of a kind
+abbrev pub others_up_to : FileKind → FileNames → List (List ℕ)
+others_up_to kind.Second files = option_to_list files.second
+others_up_to other files = others_named files
+
+-- the names of the files of links up to the one of a kind
+abbrev pub links_up_to : FileKind → FileNames → List (List ℕ)
+links_up_to kind.Links files = first_named files
+links_up_to kind.Second files = first_named files ++ option_to_list files.second
+links_up_to other files = links_named files
+
+-- the names of the files after the links, up to the one of a kind
+abbrev pub settings_up_to : FileKind → FileNames → List (List ℕ)
+settings_up_to kind.Describe files = description_named files
+settings_up_to other files = description_named files ++ classes_named files
+
+-- the names of the files after the prefixes, up to the one of a kind
+abbrev pub rest_up_to : FileKind → FileNames → List (List ℕ)
+rest_up_to kind.Links files = first_named files
+rest_up_to kind.Second files = first_named files ++ option_to_list files.second
+rest_up_to kind.Describe files = links_named files ++ description_named files
+rest_up_to kind.Classes files = links_named files ++ (description_named files ++ classes_named files)
+rest_up_to other files = links_named files
+
+-- holds if the answer of a load of classes is that of those in place of a file that is not named
+abbrev pub AreUnnamedClasses : List AiRow → Command → Result ClassRows Unloaded → Type 0
+AreUnnamedClasses ais command answer = (before now : ℕ) → LoadedBy (StandsFor kind.Classes (UnnamedClasses ais (is_of_classes command))) before now answer
+
+-- holds if the classes are of the table, and no text has two readings by them
 pub record AreKept (ais : List AiRow) (set : ClassRows) : Type 0 where
   pub of_table : IsOfTable ais set
   pub clear : IsClear set
 
--- what is asked names the tables that it migrates
+-- holds if a request to migrate tables names them
 abbrev pub NamesTables : Asked → Type 0
 NamesTables asked = asked.command ≡ Migrate → is_some asked.files.tables ≡ true
 
--- the document of tables that a command migrates loads
+-- holds if the document of tables that the command migrates loads
 abbrev pub HasSource : Command → Loaded → Type 0
 HasSource command loaded = command ≡ Migrate → LoadsTables loaded.source

@@ -1,23 +1,22 @@
 //! The files that a run names: read, judged and loaded in their order.
 //!
-//! - `load_files` loads what a request names, or what stands in its place, up to the first file that is not there, cannot be read or
-//!   is rejected (`Unloaded`).
-//! - `Loaded` is what a run has loaded: the tables with their document (`TablesWithSource`), the company prefix lengths (`Tabled`), the
-//!   links and what they are merged to (`Linked`), how requests are answered, and the classes.
+//! - `load_files` loads the files of a request, or what stands in their place, up to the first that is missing, cannot be read or is
+//!   rejected (`Unloaded`). It opens no later one.
+//! - `Loaded` holds what a run has loaded: the tables with their document (`TablesWithSource`), the company prefix lengths (`Tabled`), the
+//!   links and the document that they are merged to (`Linked`), the settings of replies, and the classes.
 //!
 //! # Example
 //!
-//! A whole run whose tables are rejected. The gate runs this case, for which crates/vectors_runs/src/runs.rt makes the call.
+//! A whole run whose tables are rejected. The gate runs this case: crates/vectors_runs/src/runs.rt makes the call.
 //!
 //! ```text
 //! tdl_run::run check --tables t / - t {"version":1} / 5 - \e / 1000 -
 //! Refused refused\x20tables\x20json\x20lacks\x20/ais\x0A \e
 //! ```
 //!
-//! # Where it differs from the standards
+//! # Differences from the standards
 //!
-//! - No standard says in which order such files are read, or how large they may be: both are this project's own (docs/FORMATS.md,
-//!   'The command line').
+//! - No standard gives the order or the largest sizes of such files. Both are this project's own (docs/CLI.md, 'Files').
 #![tactic(auto)]
 
 mod classes;

@@ -3,8 +3,8 @@ ghost use Rattle.gs_merge.specs.MergedDocuments.{merge_answer};
 ghost use Rattle.tdl_messages.specs.declared.file_kind.FileKind.TheVariants.{Merge as OfMerge};
 ghost use Rattle.tdl_arguments.specs.Ranges.{is_vocabulary};
 ghost use Rattle.tdl_arguments.specs.Requests.{known_files, known_values, links_named};
-ghost use Rattle.tdl_loads.specs.Loads.{LinkedGive, merge_verdict, merged_with, merging};
-ghost use Rattle.tdl_loads.specs.LoadsSupport.{Loads, files_known};
+ghost use Rattle.tdl_loads.specs.Loads.{merge_verdict, merged_with, merging};
+ghost use Rattle.tdl_loads.specs.LoadsSupport.{LinkedGive, Loads, StopsOpening, files_known, links_up_to};
 ghost use Rattle.tdl_loads.specs.Reads.{JudgedAs};
 ghost use Rattle.std.specs.Prelude.{Ok};
 
@@ -19,7 +19,7 @@ use std::alloc::Global;
 use tdl_arguments::{NamedFiles, NamedValues};
 use tdl_messages::{FileFault, FileKind, Rejection};
 
-/// The document that two stores are merged to.
+/// Merges two stores to one document.
 fn merge_two(alloc: Global, first: &Store, second: &Store) -> Result<LinkDoc, Unloaded>
     ensures { JudgedAs OfMerge (merge_verdict (merge_answer first.now second.now)) result }
 {
@@ -33,7 +33,7 @@ fn merge_two(alloc: Global, first: &Store, second: &Store) -> Result<LinkDoc, Un
     }
 }
 
-/// The document that a merged one and third links are merged to; the merged one where there are none.
+/// Merges a merged document and third links to one document, or returns the merged one if there are no third links.
 fn merge_third(
     alloc: Global,
     ais: &AiTable,
@@ -59,7 +59,7 @@ fn merge_third(
     }
 }
 
-/// The document that links, and second and third ones, are merged to; that of no context without second ones.
+/// Merges links, second and third ones to one document. Without second ones it has no context.
 fn merge_all(
     alloc: Global,
     ais: &AiTable,
@@ -80,7 +80,7 @@ fn merge_all(
     }
 }
 
-/// Loads the links, and second and third ones, and merges these to one document, where there are second ones.
+/// Loads the links, second and third ones, and merges them to one document if there are second ones.
 pub fn load_linked<F: Files>(
     alloc: Global,
     ais: &AiTable,
@@ -89,11 +89,17 @@ pub fn load_linked<F: Files>(
     files: &mut F,
 ) -> Result<Linked, Unloaded>
     requires { is_vocabulary values.voc.now ≡ true }
-    ensures { Loads (λ known. LinkedGive known (known_files named.entry) (known_values values.entry) ais.now)
+    ensures loads { Loads
+        (λ known. LinkedGive known (known_files named.entry) (known_values values.entry) ais.now)
         (links_named (known_files named.entry))
         (files.new ≡ files.old)
         (files_known (F.files files.old) (F.opened files.old) (F.errors files.old))
         (files_known (F.files files.new) (F.opened files.new) (F.errors files.new)) result }
+    ensures decided { StopsOpening
+        (λ known. LinkedGive known (known_files named.entry) (known_values values.entry) ais.now)
+        (λ kind. links_up_to kind (known_files named.entry))
+        (files_known (F.files files.old) (F.opened files.old) (F.errors files.old))
+        (files_known (F.files files.new) (F.opened files.new) (F.errors files.new)) }
 {
     let voc = values.voc;
     let links = load_links(alloc, ais, voc, values.templates, named.links, files)?;

@@ -1,8 +1,8 @@
 ghost use Rattle.std.specs.Prelude.{◌≡◌, true};
 ghost use Rattle.tdl_arguments.specs.Ranges.{is_vocabulary};
 ghost use Rattle.tdl_arguments.specs.Requests.{all_named, description_named, known_files, known_request, known_values, tables_named};
-ghost use Rattle.tdl_loads.specs.Loads.{FilesGive, SettingsGive, TabledGive};
-ghost use Rattle.tdl_loads.specs.LoadsSupport.{Loads, files_known};
+ghost use Rattle.tdl_loads.specs.Loads.{FilesGive, named_up_to};
+ghost use Rattle.tdl_loads.specs.LoadsSupport.{Loads, SettingsGive, StopsOpening, TabledGive, files_known};
 
 use crate::classes::load_classes;
 use crate::linked::load_linked;
@@ -21,12 +21,12 @@ use std::alloc::Global;
 use tdl_arguments::{NamedFiles, NamedValues, Request};
 use tdl_messages::{FileKind, Rejection};
 
-/// Tables, and the document that they are of.
+/// Tables, and their document.
 #[derive(Drop)]
 pub struct TablesWithSource {
     /// The tables.
     pub tables: TableSet,
-    /// The bytes of the document; none where the tables are the built-in ones.
+    /// The bytes of the document; empty if the tables are the built-in ones.
     pub source: Text,
 }
 
@@ -41,8 +41,7 @@ pub struct Tabled {
     pub prefixes: PrefixList,
 }
 
-/// The links that a run has loaded, and the document that they and others were merged to, which has no context where there are no
-/// others.
+/// The links that a run has loaded, and the document that they and others were merged to. It has no context if there are no others.
 #[derive(Drop)]
 pub struct Linked {
     /// The links.
@@ -63,7 +62,7 @@ pub struct Loaded {
     pub links: Store,
     /// The document that the links and others were merged to.
     pub merged: LinkDoc,
-    /// How requests are answered: the vocabulary, the description of the resolver, and whether references are templates.
+    /// The settings of replies: the vocabulary, the description of the resolver, and whether references are templates.
     pub settings: Settings,
     /// The classes of class URIs.
     pub classes: ClassSet,
@@ -84,12 +83,12 @@ impl Drop for Loaded {
     }
 }
 
-/// Why a run has not loaded its files.
+/// The reason why a run has not loaded its files.
 #[derive(Drop)]
 pub enum Unloaded {
     /// A file is rejected.
     Refused(Rejection),
-    /// An error of the files was counted, or a file is not there.
+    /// The files counted an error, or a file is missing.
     ReadFault,
     /// Out of memory.
     Memory,
@@ -106,16 +105,21 @@ impl From<Memory> for Unloaded {
     }
 }
 
-/// Loads the tables and the company prefix lengths. What is not named is the built-in tables, and no prefix.
+/// Loads the tables and the company prefix lengths. Without a name, the tables are the built-in ones, and there are no prefixes.
 fn load_tabled<F: Files>(
     alloc: Global,
     named: NamedFiles<'_>,
     files: &mut F,
 ) -> Result<Tabled, Unloaded>
-    ensures { Loads (λ known. TabledGive known (known_files named.entry)) (tables_named (known_files named.entry))
+    ensures loads { Loads (λ known. TabledGive known (known_files named.entry))
+        (tables_named (known_files named.entry))
         (files.new ≡ files.old)
         (files_known (F.files files.old) (F.opened files.old) (F.errors files.old))
         (files_known (F.files files.new) (F.opened files.new) (F.errors files.new)) result }
+    ensures decided { StopsOpening (λ known. TabledGive known (known_files named.entry))
+        (λ kind. named_up_to kind (known_files named.entry))
+        (files_known (F.files files.old) (F.opened files.old) (F.errors files.old))
+        (files_known (F.files files.new) (F.opened files.new) (F.errors files.new)) }
 {
     let given = load_tables(alloc, named.tables, files)?;
     let prefixes = load_prefixes(alloc, named.prefixes, files)?;
@@ -127,7 +131,7 @@ fn load_tabled<F: Files>(
     })
 }
 
-/// Loads how requests are answered: by the values, and the description, which is none where it is not named.
+/// Loads the settings of replies: the values, and the description, if it is named.
 fn load_settings<F: Files>(
     alloc: Global,
     values: NamedValues<'_>,
@@ -149,19 +153,23 @@ fn load_settings<F: Files>(
     })
 }
 
-/// Loads the files in their order, tables and company prefix lengths, links, second and third ones, the description, and then the
-/// classes, up to the first that is not there, cannot be read or is rejected. What is not named is the built-in tables, no prefix, no
-/// link, no description, and the built-in classes of a command that works on class URIs, else none.
+/// Loads the files in their order: tables, company prefix lengths, links, second and third ones, the description, classes. It stops at
+/// the first that is missing, cannot be read or is rejected, and opens no later one. Without a name there are the built-in tables, no
+/// prefixes, no links, no description, and the built-in classes for a command on class URIs, otherwise none.
 pub fn load_files<F: Files>(
     alloc: Global,
     request: Request<'_>,
     files: &mut F,
 ) -> Result<Loaded, Unloaded>
     requires { is_vocabulary request.values.voc.now ≡ true }
-    ensures { Loads (λ known. FilesGive known (known_request request.entry)) (all_named request.entry)
+    ensures loads { Loads (λ known. FilesGive known (known_request request.entry)) (all_named request.entry)
         (files.new ≡ files.old)
         (files_known (F.files files.old) (F.opened files.old) (F.errors files.old))
         (files_known (F.files files.new) (F.opened files.new) (F.errors files.new)) result }
+    ensures decided { StopsOpening (λ known. FilesGive known (known_request request.entry))
+        (λ kind. named_up_to kind (known_request request.entry).files)
+        (files_known (F.files files.old) (F.opened files.old) (F.errors files.old))
+        (files_known (F.files files.new) (F.opened files.new) (F.errors files.new)) }
 {
     let Request {
         command,

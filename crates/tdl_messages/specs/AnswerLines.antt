@@ -7,7 +7,7 @@ abbrev pub line_of : {R : Type 0} → (R → List ℕ) → Result (List ℕ) R �
 line_of reason_text (Ok text) = accepted text
 line_of reason_text (Err reason) = rejected (reason_text reason)
 
--- trusted, own: the answer of a line by what is an answer to its text, and by the texts of the reasons
+-- trusted, own: holds if the line is that of an answer to its text, with the texts of the reasons
 pub record IsLineOf {R : Type 0} (reason_text : R → List ℕ) (Answer : Result (List ℕ) R → Type 0) (line : LineAnswer) : Type 0 where
   pub answer : Result (List ℕ) R
   pub is_answer : Answer answer
@@ -18,7 +18,7 @@ pub record AddsLine {R : Type 0} (reason_text : R → List ℕ) (answer : Result
   pub written : now ≡ before ++ printed (line_of reason_text answer)
   pub known : any_rejected ≡ is_rejected (line_of reason_text answer)
 
--- trusted, own: an answer whose reason, where it has one, is not that memory ran out
+-- trusted, own: holds if the reason of a result, if it has one, is `Memory`
 abbrev pub HasMemory : {A R : Type 0} → (R → Type 0) → Result A R → Type 0
 HasMemory IsMemory (Ok a) = Unit {0}
 HasMemory IsMemory (Err reason) = IsMemory reason → ⊥

@@ -1,4 +1,4 @@
--- Rejections of files, as they are printed.
+-- The printed rejections of files.
 use Rattle.std.specs.Prelude.{ℕ, if◌then◌else◌, List, [], ◌∷◌, ◌++◌, map, codes}
 use Rattle.gs_ai.specs.declared.errors.AiFault.{AiFault}
 use Rattle.gs_ai.specs.declared.errors.AiFault.TheVariants as ai
@@ -54,11 +54,11 @@ file_limit kind.Merge = 16777216
 file_limit kind.Describe = 1048576
 file_limit kind.Classes = 1048576
 
--- trusted, own: a byte as it is printed: a question mark where it is no visible character
+-- trusted, own: the printed byte: a question mark if the byte is not a visible character
 abbrev pub shown_byte : ℕ → ℕ
 shown_byte c = if is_visible c then c else 63
 
--- trusted, own: a place as it is printed
+-- trusted, own: the printed place
 abbrev pub shown : List ℕ → List ℕ
 shown place = map shown_byte place
 
@@ -135,17 +135,17 @@ prefixes_text (prefix.Twice i) = numbered (codes "twice") i
 prefixes_text prefix.Limit = codes "limit"
 prefixes_text prefix.Memory = codes "memory"
 
--- trusted, own: why an anchor is none: the text that is printed behind `no ` for the same error of a link or of an identity
+-- trusted, own: why an anchor is invalid: the text that is printed after `no ` for the same error of a link or of an identity
 abbrev pub anchor_text : AnchorWhy → List ℕ
 anchor_text (anchor.Link error) = reason_text (link_reason error)
 anchor_text (anchor.Ident error) = reason_text (Ident error)
 anchor_text anchor.Attributes = codes "attributes"
 
--- trusted, own: the context of an anchor that is none, and why
+-- trusted, own: the context of an invalid anchor, and why it is invalid
 abbrev pub bad_anchor_text : ℕ → AnchorWhy → List ℕ
 bad_anchor_text i why = numbered (codes "bad-anchor") i ++ 32 ∷ anchor_text why
 
--- trusted, own: the context, the relation and the target of an `href` that is none
+-- trusted, own: the context, the relation and the target of an invalid `href`
 abbrev pub bad_href_text : ℕ → ℕ → ℕ → List ℕ
 bad_href_text i r t = numbered (numbered_twice (codes "bad-href") i r) t
 

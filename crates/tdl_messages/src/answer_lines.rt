@@ -29,7 +29,7 @@ pub fn append_rejected<R: Reasoned>(
     Ok(out.push(b'\n')?)
 }
 
-/// Appends the line of an answer, and answers whether it is a rejection. A reason that memory ran out has no line: it is the answer.
+/// Appends the line of an answer, and returns whether it is a rejection. The reason `Memory` has no line: it is the result.
 pub fn append_line<R: Reasoned>(
     alloc: Global,
     out: &mut Vec<u8>,

@@ -23,7 +23,7 @@ pub enum FileKind {
 }
 
 impl FileKind {
-    /// The word that a rejection of such a file is printed with.
+    /// Returns the word that a rejection of such a file is printed with.
     pub fn word(self) -> &'static [u8]
         ensures { result.now ≡ file_word self }
     {
@@ -39,7 +39,7 @@ impl FileKind {
         }
     }
 
-    /// The most bytes that such a file may have.
+    /// Returns the most bytes that such a file may have.
     pub fn limit(self) -> usize
         ensures { result ≡ file_limit self }
     {

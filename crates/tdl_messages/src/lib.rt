@@ -2,20 +2,21 @@
 //!
 //! - `append_line` appends the line of an answer, `ok TEXT` or `no REASON`, whatever the reasons are (`Reasoned`); `append_accepted`
 //!   and `append_rejected` append either.
-//! - `rejected_line` is the line that is printed of a rejected file. What it says of each error is a text of docs/FORMATS.md,
-//!   'Why tables are rejected' and its kin. The texts of the reasons of translations stand in gs_translate.
+//! - `rejected_line` is the printed line of a rejected file. docs/FORMATS.md has the text of each error in 'Why tables are
+//!   rejected' and similar sections. The texts of the reasons of translations are in gs_translate.
 //! - `FileKind` has the word of each kind of file, and the most bytes that such a file may have.
 //!
 //! # Example
 //!
-//! The line of tables that lack a member. The gate runs this case, for which crates/vectors_runs/src/messages.rt makes the call.
+//! The line of tables with a missing member. The gate runs this case, for which crates/vectors_runs/src/messages.rt makes the
+//! call.
 //!
 //! ```text
 //! tdl_messages::rejected_line {"version":1}
 //! refused\x20tables\x20json\x20lacks\x20/ais\x0A
 //! ```
 //!
-//! # Where it differs from the standards
+//! # Differences from the standards
 //!
 //! - No standard says how an answer is printed, or how a file is rejected: the words are this project's own.
 #![tactic(auto)]

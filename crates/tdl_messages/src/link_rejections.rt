@@ -11,7 +11,7 @@ use gs_translate::{
 };
 use std::alloc::Global;
 
-/// Appends why an anchor is none.
+/// Appends why an anchor is invalid.
 fn append_anchor(alloc: Global, out: &mut Vec<u8>, why: &AnchorWhy) -> Result<(), Memory>
     ensures { OnOk result (out.new.items ≡ out.old.items ++ anchor_text why.now) }
 {
@@ -22,7 +22,7 @@ fn append_anchor(alloc: Global, out: &mut Vec<u8>, why: &AnchorWhy) -> Result<()
     }
 }
 
-/// Appends the context whose anchor is none, and why.
+/// Appends the context of an invalid anchor, and why it is invalid.
 fn append_bad_anchor(
     alloc: Global,
     out: &mut Vec<u8>,
@@ -36,7 +36,7 @@ fn append_bad_anchor(
     append_anchor(alloc, out, why)
 }
 
-/// Appends the context, the relation and the target whose `href` is none.
+/// Appends the context, the relation and the target of an invalid `href`.
 fn append_bad_href(
     alloc: Global,
     out: &mut Vec<u8>,

@@ -5,7 +5,7 @@ use gs_chars::Memory;
 use gs_translate::{append_number, append_numbered, append_word};
 use std::alloc::Global;
 
-/// Appends two words, one behind the other.
+/// Appends two words, one after the other.
 pub(crate) fn append_words(out: &mut Vec<u8>, first: &[u8], second: &[u8]) -> Result<(), Memory>
     ensures { OnOk result (out.new.items ≡ out.old.items ++ (first.now ++ second.now)) }
 {
@@ -13,7 +13,7 @@ pub(crate) fn append_words(out: &mut Vec<u8>, first: &[u8], second: &[u8]) -> Re
     append_word(out, second)
 }
 
-/// Appends a word, and behind it two numbers, each after a blank.
+/// Appends a word, and after it two numbers, each after a blank.
 pub(crate) fn append_numbered_twice(
     alloc: Global,
     out: &mut Vec<u8>,

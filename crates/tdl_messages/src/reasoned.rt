@@ -12,8 +12,8 @@ pub trait Reasoned: Drop {
     /// The reason is that memory ran out, which no line says.
     ghost is_memory: { Self → Type 0 };
 
-    /// Appends the text of the reason. `Memory` is the answer where memory ran out, here or as the reason itself; `out` may then
-    /// have a part of the text more.
+    /// Appends the text of the reason. Returns `Memory` if memory ran out, here or as the reason itself; `out` may then have a
+    /// part of the text.
     fn append(&self, alloc: Global, out: &mut Vec<u8>) -> Result<(), Memory>
         ensures text { OnOk result (out.new.items ≡ out.old.items ++ text self.now) }
         ensures known { OnOk result (is_memory self.now → ⊥) };

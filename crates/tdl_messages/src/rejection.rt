@@ -7,7 +7,7 @@ use gs_prefix::PrefixFault;
 use gs_tables_document::LoadFault;
 use gs_template::PlaceFault;
 
-/// Why a file, or the rows in its place, are rejected.
+/// Why a file, or the rows instead, are rejected.
 #[derive(Drop)]
 pub enum FileFault {
     /// The file has more bytes than its kind may have.
@@ -16,13 +16,13 @@ pub enum FileFault {
     Tables(LoadFault),
     /// The list of company prefix lengths breaks a rule, which is never out of memory.
     Prefixes(PrefixFault),
-    /// The links are no linkset, which is never out of memory.
+    /// The links are not linkset, which is never out of memory.
     Linkset(JsonFault),
     /// The linkset breaks a rule of links, which is never out of memory.
     Store(StoreFault),
-    /// The links are no linkset as text, which is never out of memory.
+    /// The links are not linkset as text, which is never out of memory.
     LinkText(LinkTextFault),
-    /// The reference of the link with this number, from 0, is no template of its anchor.
+    /// The reference of the link with this number, from 0, is not a template of its anchor.
     Place(usize, PlaceFault),
     /// The classes break a rule, which is never out of memory.
     Classes(ClassLoadFault),

@@ -13,14 +13,14 @@ use gs_tables_document::{LevelName, LimitName, LoadFault};
 use gs_translate::{append_number, append_numbered, append_word};
 use std::alloc::Global;
 
-/// A byte of a place as it is printed: a question mark where it is no visible character.
+/// Returns the printed byte of a place: a question mark if the byte is not a visible character.
 fn shown_byte(c: u8) -> u8
     ensures { result ≡ shown_byte c }
 {
     if CharSet::Visible.holds(c) { c } else { b'?' }
 }
 
-/// Appends a place as it is printed.
+/// Appends the printed place.
 fn append_place(out: &mut Vec<u8>, place: &[u8]) -> Result<(), Memory>
     ensures { OnOk result (out.new.items ≡ out.old.items ++ shown place.now) }
 {
@@ -30,7 +30,7 @@ fn append_place(out: &mut Vec<u8>, place: &[u8]) -> Result<(), Memory>
     Ok(())
 }
 
-/// The name of a level.
+/// Returns the name of a level.
 fn level_text(level: LevelName) -> &'static [u8]
     ensures { result.now ≡ level_text level }
 {
@@ -41,7 +41,7 @@ fn level_text(level: LevelName) -> &'static [u8]
     }
 }
 
-/// Appends a word, and behind it a space and the name of a level.
+/// Appends a word, and after it a space and the name of a level.
 fn append_of_level(out: &mut Vec<u8>, word: &[u8], level: LevelName) -> Result<(), Memory>
     ensures { OnOk result (out.new.items ≡ out.old.items ++ of_level word.now level) }
 {
@@ -49,7 +49,7 @@ fn append_of_level(out: &mut Vec<u8>, word: &[u8], level: LevelName) -> Result<(
     append_word(out, level_text(level))
 }
 
-/// The name of a limit.
+/// Returns the name of a limit.
 fn limit_text(name: LimitName) -> &'static [u8]
     ensures { result.now ≡ limit_text name }
 {
@@ -62,7 +62,7 @@ fn limit_text(name: LimitName) -> &'static [u8]
     }
 }
 
-/// Appends a word, and behind it a place as it is printed.
+/// Appends a word, and the printed place after it.
 fn append_placed(out: &mut Vec<u8>, word: &[u8], place: &[u8]) -> Result<(), Memory>
     ensures { OnOk result (out.new.items ≡ out.old.items ++ (word.now ++ shown place.now)) }
 {
@@ -207,7 +207,7 @@ fn append_error(alloc: Global, out: &mut Vec<u8>, error: &FileFault) -> Result<(
     }
 }
 
-/// The line of a rejected file: `refused WHICH REASON`, and a line feed.
+/// Returns the line of a rejected file: `refused WHICH REASON`, and a line feed.
 pub fn rejected_line(alloc: Global, rejection: &Rejection) -> Result<Vec<u8>, Memory>
     ensures { IfOk result (λ line. line.items ≡ rejected_line rejection.now) }
 {

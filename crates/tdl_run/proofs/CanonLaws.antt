@@ -1,5 +1,5 @@
 -- The answers of `canon`, by canonical links.
-use Rattle.std.proofs.Common.{◌≡◌, ◌↔◌, ℕ, Bool, List, [], refl, sym, ap, ◌∙◌}
+use Rattle.std.proofs.Common.{◌≡◌, ◌↔◌, ℕ, Bool, List, [], Option, refl, sym, ap, ◌∙◌}
 use Rattle.std.specs.Prelude.{Result, Ok, Err}
 use Rattle.tdl_lines.specs.Outputs.{LineAnswer, accepted, rejected}
 use Rattle.gs_ident.specs.Links.{canonical_link}
@@ -20,8 +20,10 @@ use Rattle.gs_translate.proofs.MadeLaws.{made_of_read}
 use Rattle.gs_translate.proofs.PairLaws.{ais_kept}
 use Rattle.gs_translate.proofs.ReadAgain.{kept_made}
 use Rattle.gs_translate.proofs.SameLinks.{canonical_translation, equal_links, same_meaning}
-use Rattle.tdl_arguments.specs.Requests.{Values, no_options, options_of}
+use Rattle.tdl_arguments.specs.Requests.{Asked, Values, no_options, options_of}
 use Rattle.tdl_loads.specs.declared.loads.Loaded.{Loaded}
+use Rattle.tdl_loads.specs.Loads.{FilesGive, FilesInMemory}
+use Rattle.tdl_loads.proofs.ReadLemmas.{loaded_of}
 use Rattle.tdl_answers.specs.TranslatedAnswers.{IsCanonLine, IsTranslatedLine}
 use Rattle.tdl_messages.specs.AnswerLines.{line_of}
 use Rattle.tdl_run.specs.Works.{KeepOne, canonizing, translating}
@@ -40,7 +42,7 @@ accepted_answer set form text link l = by l.answer l.is_answer l.is
     by (Ok found) a e = let same : link ≡ found = cc in rw same a
     by (Err reason) a e = absurd (let f : accepted link ≡ rejected (reason_text reason) = e in cc)
 
-pub canon_same : (loaded : Loaded) (form other : Form) (text given link wanted : List ℕ) → IsLoaded loaded.tables → IsTranslatedLine (canonizing loaded form) text (accepted link) → IsTranslatedLine (canonizing loaded other) given (accepted wanted) → (link ≡ wanted) ↔ NameOne loaded.tables form text other given
+canon_same : (loaded : Loaded) (form other : Form) (text given link wanted : List ℕ) → IsLoaded loaded.tables → IsTranslatedLine (canonizing loaded form) text (accepted link) → IsTranslatedLine (canonizing loaded other) given (accepted wanted) → (link ≡ wanted) ↔ NameOne loaded.tables form text other given
 canon_same loaded form other text given link wanted keeps a b =
     equal_links loaded.tables form other text given link wanted keeps.shaped
     (accepted_answer loaded.tables form text link ((canon_lines loaded form text (accepted link)).0 a))
@@ -67,7 +69,7 @@ linked loaded values form text link l = by l.answer l.is_answer l.is
     by (Ok found) a e = of_link found (cc) a
     by (Err reason) a e = absurd (let f : accepted link ≡ rejected (reason_text reason) = e in cc)
 
-pub kept_same : (loaded : Loaded) (values : Values) (form other : Form) (text given link wanted : List ℕ) → IsLoaded loaded.tables → IsTranslatedLine (translating loaded values form Canon) text (accepted link) → IsTranslatedLine (translating loaded values other Canon) given (accepted wanted) → (link ≡ wanted) ↔ KeepOne loaded.tables values.keys_only form text other given
+kept_same : (loaded : Loaded) (values : Values) (form other : Form) (text given link wanted : List ℕ) → IsLoaded loaded.tables → IsTranslatedLine (translating loaded values form Canon) text (accepted link) → IsTranslatedLine (translating loaded values other Canon) given (accepted wanted) → (link ≡ wanted) ↔ KeepOne loaded.tables values.keys_only form text other given
 kept_same loaded values form other text given link wanted keeps a b =
     let set = loaded.tables in
     let keys = values.keys_only in
@@ -81,3 +83,11 @@ kept_same loaded values form other text given link wanted keeps a b =
           ap (λ (x : Meaning). (kept set keys x).identity) (same_meaning set form text m one.meaning keeps.shaped r one.read) ∙ same ∙ ap (λ (x : Meaning). (kept set keys x).identity) (same_meaning set other given two.meaning n keeps.shaped two.read s)),
       (λ same. one.is ∙ each.0 (same one.meaning two.meaning one.read two.read) ∙ sym two.is),
     )
+
+-- ---- by tables that files give
+
+pub canon_given : (files : Option FilesInMemory) (asked : Asked) (loaded : Loaded) (form other : Form) (text given link wanted : List ℕ) → FilesGive files asked (Ok loaded) → IsTranslatedLine (canonizing loaded form) text (accepted link) → IsTranslatedLine (canonizing loaded other) given (accepted wanted) → (link ≡ wanted) ↔ NameOne loaded.tables form text other given
+canon_given files asked loaded form other text given link wanted gives a b = canon_same loaded form other text given link wanted (loaded_of files asked loaded gives) a b
+
+pub kept_given : (files : Option FilesInMemory) (asked : Asked) (loaded : Loaded) (values : Values) (form other : Form) (text given link wanted : List ℕ) → FilesGive files asked (Ok loaded) → IsTranslatedLine (translating loaded values form Canon) text (accepted link) → IsTranslatedLine (translating loaded values other Canon) given (accepted wanted) → (link ≡ wanted) ↔ KeepOne loaded.tables values.keys_only form text other given
+kept_given files asked loaded values form other text given link wanted gives a b = kept_same loaded values form other text given link wanted (loaded_of files asked loaded gives) a b

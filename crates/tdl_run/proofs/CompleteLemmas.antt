@@ -1,12 +1,13 @@
 -- A run whose arguments and files are in order, whose input fits and whose counts stand still is done, or memory ran out.
 use Rattle.std.proofs.Common.{◌≡◌, ◌⊎◌, inl, inr, ℕ, ◌≤◌, Bool, true, false, if◌then◌else◌, List, length, Option, Some, refl, ap}
 use Rattle.std.specs.Prelude.{Err}
+use Rattle.std.specs.Bool.{OnTrue}
 use Rattle.std.proofs.lemmas.Bool.{le-ltb}
 use Rattle.tdl_lines.specs.declared.status.Status.{Status}
 use Rattle.tdl_lines.specs.declared.status.Status.TheVariants as status
 use Rattle.tdl_lines.specs.Inputs.{IsKnown}
 use Rattle.tdl_lines.specs.Outputs.{AnswersInput, LineAnswer, status_of}
-use Rattle.tdl_lines.specs.Statuses.{OnReadFault, OnWriteFault, OnWritten, is_answered}
+use Rattle.tdl_lines.specs.Statuses.{is_answered, is_status, is_written}
 use Rattle.gs_http.specs.Sites.{SiteData}
 use Rattle.gs_port.specs.Connections.{Finished}
 use Rattle.gs_port.specs.Counts.{Rises}
@@ -15,7 +16,8 @@ use Rattle.tdl_arguments.specs.Requests.{Asked, WordsInOrder}
 use Rattle.tdl_arguments.proofs.RequestLemmas.{one_request}
 use Rattle.tdl_run.specs.Requests.{AskedRan}
 use Rattle.tdl_loads.specs.Loads.{FilesGive, Stop, missing}
-use Rattle.tdl_run.specs.Runs.{AskedRun, Counts, DefinedRun, InputFits, IsDoneOrMemory, IsMissing, IsWithin, LoadsAll, NoneRises, World, by_request, by_usage, ran, stops}
+use Rattle.tdl_run.specs.RanSupport.{AskedRun}
+use Rattle.tdl_run.specs.Runs.{Counts, DefinedRun, InputFits, IsDoneOrMemory, IsMissing, IsWithin, LoadsAll, NoneRises, World}
 use Rattle.tdl_run.specs.Works.{Doing, DoingRun, Doorway, Leaves, Outcome, answers, doing_of, input_limit, prints, resolves, serves, site_of}
 use Rattle.tdl_run.proofs.RunLemmas.{defined_of, read_error_of}
 
@@ -46,15 +48,15 @@ answered_doing (serves count) site input door outcome fits r = ap (λ (o : Outco
 answered_doing (prints IsOutput) site input door outcome fits r = ap is_answered r.done
 
 answered_asked : (asked : Asked) (world : World) (outcome : Outcome) → ((stop : Stop) → FilesGive world.files asked (Err stop) → ⊥) → (answers_lines asked.command ≡ true → IsWithin input_limit world.input) → AskedRun asked world outcome → is_answered outcome.status ≡ true
-answered_asked asked world outcome goes_on fits (ran loaded gives r) = answered_doing (doing_of asked.command asked.values loaded) (site_of loaded) world.input world.door outcome fits r
-answered_asked asked world outcome goes_on fits (stops stop gives e) = absurd (goes_on stop gives)
+answered_asked asked world outcome goes_on fits (inl (loaded, gives, r)) = answered_doing (doing_of asked.command asked.values loaded) (site_of loaded) world.input world.door outcome fits r
+answered_asked asked world outcome goes_on fits (inr (stop, gives, e)) = absurd (goes_on stop gives)
 
 pub answered_run : (words : List (List ℕ)) (world : World) (outcome : Outcome) → LoadsAll words world.files → InputFits words world.input → DefinedRun words world outcome → is_answered outcome.status ≡ true
-answered_run words world outcome loads fits (by_request asked order r) =
-    let same : asked ≡ loads.asked = one_request words asked loads.asked order loads.order in
-    let goes_on : (stop : Stop) → FilesGive world.files asked (Err stop) → ⊥ = rw same loads.goes_on in
-    answered_asked asked world outcome goes_on (λ passes. fits (record { asked = asked; order = order; passes = passes })) r
-answered_run words world outcome loads fits (by_usage not e) = absurd (not loads.asked loads.order)
+answered_run words world outcome loads fits (inl a) =
+    let same : a.asked ≡ loads.asked = one_request words a.asked loads.asked a.order loads.order in
+    let goes_on : (stop : Stop) → FilesGive world.files a.asked (Err stop) → ⊥ = rw same loads.fact in
+    answered_asked a.asked world outcome goes_on (λ passes. fits (record { asked = a.asked; order = a.order; fact = passes })) a.fact
+answered_run words world outcome loads fits (inr (not, e)) = absurd (not loads.asked loads.order)
 
 -- ---- no other status comes
 
@@ -65,8 +67,8 @@ no_cause words world before now loads none (inl (inr rises)) = none.door rises
 no_cause words world before now loads none (inr (inl rises)) = none.files rises
 no_cause words world before now loads none (inr (inr m)) =
     let same : m.asked ≡ loads.asked = one_request words m.asked loads.asked m.order loads.order in
-    let gives : FilesGive world.files loads.asked (Err missing) = rw same at m.gives in
-    loads.goes_on missing gives
+    let gives : FilesGive world.files loads.asked (Err (missing m.fact.0)) = rw same at m.fact.1 in
+    loads.fact (missing m.fact.0) gives
 
 module _ (words : List (List ℕ)) (world : World) (before now : Counts) (held holds : Option (List ℕ)) (ended ended' : Option (List Finished)) (loads : LoadsAll words world.files) (fits : InputFits words world.input) (none : NoneRises before now) where
   -- all that is defined was written
@@ -75,7 +77,7 @@ module _ (words : List (List ℕ)) (world : World) (before now : Counts) (held h
       let w = a.2 in
       inl (answered_run words world (record { output = w.0; finished = a.0; status = s }) loads fits w.2)
 
-  pub complete_of : (s : Status) → OnWritten s (Leaves held holds ended ended' s (DefinedRun words world)) → OnReadFault s ((Rises before.input_errors now.input_errors ⊎ Rises before.door_errors now.door_errors) ⊎ (Rises before.file_errors now.file_errors ⊎ IsMissing words world.files)) → OnWriteFault s (Rises before.output_errors now.output_errors) → IsDoneOrMemory s
+  pub complete_of : (s : Status) → OnTrue (is_written s) (Leaves held holds ended ended' s (DefinedRun words world)) → OnTrue (is_status s status.ReadFault) ((Rises before.input_errors now.input_errors ⊎ Rises before.door_errors now.door_errors) ⊎ (Rises before.file_errors now.file_errors ⊎ IsMissing words world.files)) → OnTrue (is_status s status.WriteFault) (Rises before.output_errors now.output_errors) → IsDoneOrMemory s
   complete_of status.Done defined read write = done_by status.Done defined
   complete_of status.SomeRefused defined read write = done_by status.SomeRefused defined
   complete_of status.Usage defined read write = done_by status.Usage defined

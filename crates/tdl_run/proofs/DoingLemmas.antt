@@ -1,5 +1,6 @@
 -- What is done has an outcome, and no other but such as is alike.
 use Rattle.std.proofs.Common.{◌≡◌, ◌⊎◌, inl, inr, ℕ, ◌||◌, false, List, [], Option, Some, refl, sym, ◌∙◌, ap}
+use Rattle.std.specs.Bool.{OnTrue}
 use Rattle.tdl_answers.proofs.ClassLineLemmas.{one_class_read, one_class_written, some_class_read, some_class_written}
 use Rattle.tdl_answers.proofs.DumpLineLemmas.{one_dump_read, one_dump_written, some_dump_read, some_dump_written}
 use Rattle.tdl_answers.proofs.LineLemmas.{one_translated, some_translated}
@@ -12,7 +13,7 @@ use Rattle.tdl_lines.specs.declared.status.Status.{Status}
 use Rattle.tdl_lines.specs.declared.status.Status.TheVariants as status
 use Rattle.tdl_lines.specs.Outputs.{LineAnswer}
 use Rattle.tdl_lines.specs.OutputsSupport.{HasAnswers, HasOneAnswer}
-use Rattle.tdl_lines.specs.Statuses.{OnReadFault, is_read_error}
+use Rattle.tdl_lines.specs.Statuses.{is_status}
 use Rattle.tdl_lines.proofs.OneOutcome.{one_outcome}
 use Rattle.tdl_lines.proofs.StatusLemmas.{when_map}
 use Rattle.gs_http.specs.Sites.{SiteData}
@@ -22,8 +23,8 @@ use Rattle.gs_translate.specs.StepsSupport.{HasOne, HasSome}
 use Rattle.tdl_loads.specs.declared.loads.Loaded.{Loaded}
 use Rattle.tdl_loads.specs.LoadsSupport.{AreKept}
 use Rattle.tdl_run.specs.RanSupport.{WorkCause}
-use Rattle.tdl_run.specs.Runs.{AreAlike, but_errors, same}
-use Rattle.tdl_run.specs.Works.{Doing, DoingEnded, DoingRun, Doorway, LeavesOutput, LinesAnswered, Outcome, answers, canonizing, counts_line, doing_of, input_limit, outcome_of, prints, resolves, serves, translating, writing_classes, merged_line, migrated_line}
+use Rattle.tdl_run.specs.Runs.{AlikeServed}
+use Rattle.tdl_run.specs.Works.{Doing, DoingEnded, DoingRun, Doorway, LeavesOutput, LinesAnswered, Outcome, answers, canonizing, counts_line, doing_of, input_limit, outcome_of, prints, resolves, serves, site_of, translating, writing_classes, merged_line, migrated_line}
 use Rattle.tdl_run.proofs.RanLemmas.{lines_some}
 use Rattle.tdl_run.proofs.ServeLemmas.{serves_alike, serves_some}
 use Rattle.tdl_run.proofs.SiteLemmas.{one_resolved, some_resolved}
@@ -80,18 +81,33 @@ leaves_one : (IsOutput : List ℕ → Type 0) → HasOne IsOutput → HasOne (Le
 leaves_one IsOutput unique one other a b =
     same_outcome one other (unique one.output other.output a.is_output b.is_output) (a.none_finished ∙ sym b.none_finished) (a.done ∙ sym b.done)
 
--- all outcomes are alike
-abbrev pub AlikeOutcomes : (Outcome → Type 0) → Type 0
-AlikeOutcomes Is = (one other : Outcome) → Is one → Is other → AreAlike one other
+-- the same outcome, or, of what serves connections, outcomes that differ in errors of these
+abbrev pub AlikeBy : {work : Work} → Doing work → SiteData → Doorway → Outcome → Outcome → Type 0
+AlikeBy (answers Is) site door one other = one ≡ other
+AlikeBy resolves site door one other = one ≡ other
+AlikeBy (serves count) site door one other = AlikeServed site count door one other
+AlikeBy (prints IsOutput) site door one other = one ≡ other
 
-alike_of_one : (Is : Outcome → Type 0) → HasOne Is → AlikeOutcomes Is
-alike_of_one Is unique one other a b = same (unique one other a b)
+pub doing_one : {work : Work} (doing : Doing work) (site : SiteData) (input : List ℕ) (waiting : List (List ℕ)) (reads writes : ℕ) (one other : Outcome) → IsDefined doing → DoingRun doing site (Some input) (record { waiting = Some waiting; reads = reads; writes = writes }) one → DoingRun doing site (Some input) (record { waiting = Some waiting; reads = reads; writes = writes }) other → AlikeBy doing site (record { waiting = Some waiting; reads = reads; writes = writes }) one other
+doing_one (answers Is) site input waiting reads writes one other defined a b = lines_one Is input defined.1 one other a b
+doing_one resolves site input waiting reads writes one other defined a b = leaves_one _ (one_resolved site input) one other a b
+doing_one (serves count) site input waiting reads writes one other defined a b = serves_alike site count waiting reads writes one other a b
+doing_one (prints IsOutput) site input waiting reads writes one other defined a b = leaves_one _ defined.1 one other a b
 
-pub doing_one : {work : Work} (doing : Doing work) (site : SiteData) (input : List ℕ) (waiting : List (List ℕ)) (reads writes : ℕ) → IsDefined doing → AlikeOutcomes (DoingRun doing site (Some input) (record { waiting = Some waiting; reads = reads; writes = writes }))
-doing_one (answers Is) site input waiting reads writes defined = alike_of_one _ (lines_one Is input defined.1)
-doing_one resolves site input waiting reads writes defined = alike_of_one _ (leaves_one _ (one_resolved site input))
-doing_one (serves count) site input waiting reads writes defined = λ one other a b. but_errors (serves_alike site count waiting reads writes one other a b)
-doing_one (prints IsOutput) site input waiting reads writes defined = alike_of_one _ (leaves_one _ defined.1)
+-- the outcomes of a command
+pub command_one : (command : Command) (values : Values) (loaded : Loaded) (door : Doorway) (one other : Outcome) → AlikeBy (doing_of command values loaded) (site_of loaded) door one other → (one ≡ other) ⊎ AlikeServed (site_of loaded) values.count door one other
+command_one (Canon form) values loaded door one other a = inl a
+command_one (Translate from to) values loaded door one other a = inl a
+command_one Check values loaded door one other a = inl a
+command_one Resolve values loaded door one other a = inl a
+command_one Serve values loaded door one other a = inr a
+command_one (Gen lines) values loaded door one other a = inl a
+command_one Migrate values loaded door one other a = inl a
+command_one ClassCanon values loaded door one other a = inl a
+command_one ClassUri values loaded door one other a = inl a
+command_one DumpRead values loaded door one other a = inl a
+command_one DumpWrite values loaded door one other a = inl a
+command_one Merge values loaded door one other a = inl a
 
 -- ---- read errors
 
@@ -101,7 +117,7 @@ either_cause on_heads A B cause = inl cause
 either_cause on_door A B cause = inr cause
 either_cause on_none A B cause = inl cause
 
-when_both : (A B : Type 0) (s : Status) → OnReadFault s A → OnReadFault s B → OnReadFault s (A × B)
+when_both : (A B : Type 0) (s : Status) → OnTrue (is_status s status.ReadFault) A → OnTrue (is_status s status.ReadFault) B → OnTrue (is_status s status.ReadFault) (A × B)
 when_both A B status.Done a b = tt
 when_both A B status.SomeRefused a b = tt
 when_both A B status.Usage a b = tt
@@ -112,8 +128,8 @@ when_both A B status.InputLong a b = tt
 when_both A B status.Memory a b = tt
 
 -- by whose read error the input is as it was and nothing was written, or the input counted an error
-pub ended_by : {work : Work} (Same A B : Type 0) (doing : Doing work) (site : SiteData) (before now : Option (List ℕ)) (output : List ℕ) (s : Status) → ((is_on_lines work || is_on_heads work) ≡ false → Same) → OnReadFault s (WorkCause work A B) → OnReadFault s (DoingEnded doing site before now output) → OnReadFault s ((Same × (output ≡ [])) ⊎ (A × DoingEnded doing site before now output))
-ended_by Same A B (answers Is) site before now output s stays cause ended = when_map (is_read_error s) (λ both. inr both) (when_both _ _ s cause ended)
-ended_by Same A B resolves site before now output s stays cause ended = when_map (is_read_error s) (λ both. inr both) (when_both _ _ s cause ended)
-ended_by Same A B (serves count) site before now output s stays cause ended = when_map (is_read_error s) (λ none. inl (stays refl, none)) ended
-ended_by Same A B (prints IsOutput) site before now output s stays cause ended = when_map (is_read_error s) (λ e. absurd e) ended
+pub ended_by : {work : Work} (Same A B : Type 0) (doing : Doing work) (site : SiteData) (before now : Option (List ℕ)) (output : List ℕ) (s : Status) → ((is_on_lines work || is_on_heads work) ≡ false → Same) → OnTrue (is_status s status.ReadFault) (WorkCause work A B) → OnTrue (is_status s status.ReadFault) (DoingEnded doing site before now output) → OnTrue (is_status s status.ReadFault) ((Same × (output ≡ [])) ⊎ (A × DoingEnded doing site before now output))
+ended_by Same A B (answers Is) site before now output s stays cause ended = when_map (is_status s status.ReadFault) (λ both. inr both) (when_both _ _ s cause ended)
+ended_by Same A B resolves site before now output s stays cause ended = when_map (is_status s status.ReadFault) (λ both. inr both) (when_both _ _ s cause ended)
+ended_by Same A B (serves count) site before now output s stays cause ended = when_map (is_status s status.ReadFault) (λ none. inl (stays refl, none)) ended
+ended_by Same A B (prints IsOutput) site before now output s stays cause ended = when_map (is_status s status.ReadFault) (λ e. absurd e) ended

@@ -1,8 +1,10 @@
 -- What generating lines did.
 use Rattle.std.proofs.Common.{◌≡◌, ℕ, ◌≤◌, List, refl}
+use Rattle.std.specs.Bool.{OnTrue}
 use Rattle.tdl_gen.specs.Counters.{PrintsGenerated}
 use Rattle.tdl_lines.specs.declared.status.Status.{Status}
-use Rattle.tdl_lines.specs.Statuses.{OnWriteFault}
+use Rattle.tdl_lines.specs.declared.status.Status.TheVariants.{WriteFault}
+use Rattle.tdl_lines.specs.Statuses.{is_status}
 use Rattle.gs_port.specs.Counts.{Rises}
 use Rattle.tdl_arguments.specs.declared.command.Command.TheVariants.{Gen}
 use Rattle.tdl_arguments.specs.Requests.{Values}
@@ -13,6 +15,6 @@ use Rattle.tdl_run.specs.Works.{Doorway, outcome_of}
 use Rattle.tdl_run.proofs.RanLemmas.{ran_of_line}
 
 -- the input is as it was
-pub gen_ran : (loaded : Loaded) (values : Values) (lines : ℕ) (door : Doorway) (errors errors' : ℕ) (before now : Moment) (output : List ℕ) (s : Status) → PrintsGenerated loaded.tables lines output s → OnWriteFault s (Rises before.output_errors now.output_errors) → before.output_errors ≤ now.output_errors → before.input ≡ now.input → before.input_errors ≡ now.input_errors → CommandRan (Gen lines) values loaded door errors errors' before now (outcome_of output s)
+pub gen_ran : (loaded : Loaded) (values : Values) (lines : ℕ) (door : Doorway) (errors errors' : ℕ) (before now : Moment) (output : List ℕ) (s : Status) → PrintsGenerated loaded.tables lines output s → OnTrue (is_status s WriteFault) (Rises before.output_errors now.output_errors) → before.output_errors ≤ now.output_errors → before.input ≡ now.input → before.input_errors ≡ now.input_errors → CommandRan (Gen lines) values loaded door errors errors' before now (outcome_of output s)
 gen_ran loaded values lines door errors errors' before now output s printed write outputs same inputs =
     ran_of_line _ _ _ _ printed.0 before now output s (record { is_output = printed.1; none_finished = refl; done = refl }) printed.2 write refl same inputs outputs

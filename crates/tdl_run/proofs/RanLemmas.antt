@@ -1,13 +1,14 @@
 -- What commands did, by the lines that they answered or the line that they printed.
 use Rattle.std.proofs.Common.{◌≡◌, ◌≢◌, ℕ, ◌+◌, ◌++◌, ◌≤◌, Bool, true, false, List, [], Option, None, Some, append-nil, ap, refl, sym, ◌∙◌, arith}
 use Rattle.std.specs.Prelude.{option_map}
+use Rattle.std.specs.Bool.{OnTrue}
 use Rattle.tdl_lines.specs.declared.status.Status.{Status}
 use Rattle.tdl_lines.specs.declared.status.Status.TheVariants as status
 use Rattle.tdl_lines.specs.Inputs.{IsAtEnd, TakesAtMost, TakesMoreThan}
 use Rattle.tdl_lines.specs.Outputs.{Appends, BeginsInput, LineAnswer, WritesAnswers}
 use Rattle.tdl_lines.specs.OutputsSupport.{HasAnswers}
 use Rattle.tdl_lines.specs.Printers.{IsInitialPart, PrintedAs}
-use Rattle.tdl_lines.specs.Statuses.{OnAnswered, OnCutShort, OnInputLong, OnReadFault, OnWriteFault, OnWritten, is_answered, is_cut_short, is_read_error, is_written}
+use Rattle.tdl_lines.specs.Statuses.{is_answered, is_cut_short, is_status, is_written}
 use Rattle.tdl_lines.proofs.OneOutcome.{some_outcome, whole_of_part}
 use Rattle.tdl_lines.proofs.StatusLemmas.{when_always, when_map}
 use Rattle.gs_port.specs.Connections.{Finished}
@@ -30,7 +31,7 @@ pub lines_some : (Is : List ℕ → LineAnswer → Type 0) (input : Option (List
 lines_some Is input some = let o = some_outcome Is input_limit input some in (outcome_of o.output o.status, (o.answers, refl))
 
 -- of what may be cut short, what is cut short by an error of the output
-pub when_cut : {A B : Type 0} (s : Status) → (A → B) → OnCutShort s A → OnWriteFault s B
+pub when_cut : {A B : Type 0} (s : Status) → (A → B) → OnTrue (is_cut_short s) A → OnTrue (is_status s status.WriteFault) B
 when_cut status.Done f a = tt
 when_cut status.SomeRefused f a = tt
 when_cut status.Usage f a = tt
@@ -51,7 +52,7 @@ cut_by Is input output s some b =
     record { outcome = outcome_of h.output h.status; is = (h.answers, refl); begins = h.begins; same_finished = refl }
 
 -- A command that answers the lines of its input, by what is an answer to a text.
-pub ran_of_lines : (Is : List ℕ → LineAnswer → Type 0) (before now : Moment) (output : List ℕ) (s : Status) → HasAnswers Is → WritesAnswers Is input_limit before.input now.input output s → OnAnswered s (IsAtEnd now.input) → OnInputLong s (TakesMoreThan input_limit before.input now.input) → TakesAtMost (input_limit + 1) before.input now.input → OnReadFault s (Rises before.input_errors now.input_errors) → OnWriteFault s (Rises before.output_errors now.output_errors) → before.input_errors ≤ now.input_errors → before.output_errors ≤ now.output_errors → s ≢ status.Usage → s ≢ status.Refused → LinesRan Is before now (outcome_of output s)
+pub ran_of_lines : (Is : List ℕ → LineAnswer → Type 0) (before now : Moment) (output : List ℕ) (s : Status) → HasAnswers Is → WritesAnswers Is input_limit before.input now.input output s → OnTrue (is_answered s) (IsAtEnd now.input) → OnTrue (is_status s status.InputLong) (TakesMoreThan input_limit before.input now.input) → TakesAtMost (input_limit + 1) before.input now.input → OnTrue (is_status s status.ReadFault) (Rises before.input_errors now.input_errors) → OnTrue (is_status s status.WriteFault) (Rises before.output_errors now.output_errors) → before.input_errors ≤ now.input_errors → before.output_errors ≤ now.output_errors → s ≢ status.Usage → s ≢ status.Refused → LinesRan Is before now (outcome_of output s)
 ran_of_lines Is before now output s some writes end long few read write inputs outputs usage rejection = record {
   written = when_map (is_written s) (λ a. (a, refl)) writes.all;
   begun = when_map (is_cut_short s) (begins_by Is before.input output some) writes.first;
@@ -93,7 +94,7 @@ takes_nothing most input = ([], omega arith, sym (prepend_nothing input))
 -- the facts of a command that leaves the input, by its status, which is no read error
 -- and that finished no connection
 module _ (Is : Outcome → Type 0) (Ended : List ℕ → Type 0) (Cause : Type 0) (lines : Bool) where
-  ran_by : (before now : Moment) (output : List ℕ) (s : Status) → OnWritten s (Is (outcome_of output s)) → OnCutShort s (BeginsOne Is output) → OnWriteFault s (CutShort Is (outcome_of output s)) → is_read_error s ≡ false → OnWriteFault s (Rises before.output_errors now.output_errors) → OnAnswered s (lines ≡ true → IsAtEnd now.input) → OnInputLong s (TakesMoreThan input_limit before.input now.input) → before.input ≡ now.input → before.input_errors ≡ now.input_errors → before.output_errors ≤ now.output_errors → s ≢ status.Usage → s ≢ status.Refused → Ran Is Ended (λ status finished. finished ≡ []) Cause lines before now (outcome_of output s)
+  ran_by : (before now : Moment) (output : List ℕ) (s : Status) → OnTrue (is_written s) (Is (outcome_of output s)) → OnTrue (is_cut_short s) (BeginsOne Is output) → OnTrue (is_status s status.WriteFault) (CutShort Is (outcome_of output s)) → is_status s status.ReadFault ≡ false → OnTrue (is_status s status.WriteFault) (Rises before.output_errors now.output_errors) → OnTrue (is_answered s) (lines ≡ true → IsAtEnd now.input) → OnTrue (is_status s status.InputLong) (TakesMoreThan input_limit before.input now.input) → before.input ≡ now.input → before.input_errors ≡ now.input_errors → before.output_errors ≤ now.output_errors → s ≢ status.Usage → s ≢ status.Refused → Ran Is Ended (λ status finished. finished ≡ []) Cause lines before now (outcome_of output s)
   ran_by before now output s written begun cut errorless write end long same inputs outputs usage rejection = record {
     written = written;
     begun = begun;
@@ -118,7 +119,7 @@ module _ (Is : Outcome → Type 0) (Ended : List ℕ → Type 0) (Cause : Type 0
   cut_some line output s is part = record { outcome = outcome_of line s; is = is; begins = part; same_finished = refl }
 
   -- A command that reads nothing, and prints one line.
-  pub ran_of_line : (line : List ℕ) (before now : Moment) (output : List ℕ) (s : Status) → Is (outcome_of line status.Done) → PrintedAs status.Done line output s → OnWriteFault s (Rises before.output_errors now.output_errors) → lines ≡ false → before.input ≡ now.input → before.input_errors ≡ now.input_errors → before.output_errors ≤ now.output_errors → Ran Is Ended (λ status finished. finished ≡ []) Cause lines before now (outcome_of output s)
+  pub ran_of_line : (line : List ℕ) (before now : Moment) (output : List ℕ) (s : Status) → Is (outcome_of line status.Done) → PrintedAs status.Done line output s → OnTrue (is_status s status.WriteFault) (Rises before.output_errors now.output_errors) → lines ≡ false → before.input ≡ now.input → before.input_errors ≡ now.input_errors → before.output_errors ≤ now.output_errors → Ran Is Ended (λ status finished. finished ≡ []) Cause lines before now (outcome_of output s)
   ran_of_line line before now output s is printed write none same inputs outputs = by (printed_case status.Done line output s printed)
     where
       no_lines : lines ≡ true → IsAtEnd now.input

@@ -1,6 +1,7 @@
 -- What serving connections did.
 use Rattle.std.proofs.Common.{◌≡◌, ◌≢◌, ◌⊎◌, inl, inr, ℕ, ◌≤◌, zero, suc, Bool, true, false, List, [], ◌∷◌, ◌++◌, length, take, Option, None, Some, append-nil, refl, sym, ◌∙◌, ap, arith}
 use Rattle.std.specs.Prelude.{IfSome, option_map}
+use Rattle.std.specs.Bool.{OnTrue}
 use Rattle.std.proofs.lemmas.List.{take_all, length-map}
 use Rattle.std.proofs.Math.Seq.{take-append_seam}
 use Rattle.gs_http.specs.ServedStreams.{reads_when, writes_when}
@@ -8,7 +9,7 @@ use Rattle.tdl_lines.specs.declared.status.Status.{Status}
 use Rattle.tdl_lines.specs.declared.status.Status.TheVariants as status
 use Rattle.tdl_lines.specs.Outputs.{Appends}
 use Rattle.tdl_lines.specs.Printers.{IsInitialPart}
-use Rattle.tdl_lines.specs.Statuses.{OnReadFault, OnWriteFault}
+use Rattle.tdl_lines.specs.Statuses.{is_status}
 use Rattle.gs_port.specs.Connections.{Aside}
 use Rattle.gs_port.specs.Counts.{Rises}
 use Rattle.tdl_serve.specs.Doors.{IsOver, ServeRan, line_of}
@@ -170,7 +171,7 @@ module _ (loaded : Loaded) (values : Values) (errors errors' : ℕ) (before now 
   begins_either output r (inl both) = begins_line r.visits output r.visited r.few both.0 both.1
   begins_either output r (inr none) = begins_nothing output none
 
-  served_as : (output : List ℕ) (s : Status) (r : ServeRan (site_of loaded) values.count door door' output s) → before.input ≡ now.input → before.input_errors ≡ now.input_errors → OnReadFault s (Rises errors errors') → OnWriteFault s (Rises before.output_errors now.output_errors) → before.output_errors ≤ now.output_errors → CommandRan Serve values loaded Way errors errors' before now (record { output = output; finished = entries_of r.visits; status = s })
+  served_as : (output : List ℕ) (s : Status) (r : ServeRan (site_of loaded) values.count door door' output s) → before.input ≡ now.input → before.input_errors ≡ now.input_errors → OnTrue (is_status s status.ReadFault) (Rises errors errors') → OnTrue (is_status s status.WriteFault) (Rises before.output_errors now.output_errors) → before.output_errors ≤ now.output_errors → CommandRan Serve values loaded Way errors errors' before now (record { output = output; finished = entries_of r.visits; status = s })
   served_as output status.Done r same inputs read write outputs =
       let p = r.prints in
       record { written = rw p.1 (serves_of (site_of loaded) values.count door door' r.visits r.visited r.few p.0); begun = tt; finished = tt; cut = tt; read_error = tt; ended = tt; write_error = tt; to_end = λ e. no_lines e; long = tt; few = λ e. no_lines e; input_counts = same_count _ _ inputs; output_counts = outputs; no_usage = λ e. cc; no_rejection = λ e. cc }
@@ -188,7 +189,7 @@ module _ (loaded : Loaded) (values : Values) (errors errors' : ℕ) (before now 
   served_as output status.Refused r same inputs read write outputs = absurd r.prints
   served_as output status.InputLong r same inputs read write outputs = absurd r.prints
 
-  pub serve_ran : (held holds : Option (List ℕ)) (s : Status) → Appends held holds (λ output. ServeRan (site_of loaded) values.count door door' output s) → before.input ≡ now.input → before.input_errors ≡ now.input_errors → OnReadFault s (Rises errors errors') → OnWriteFault s (Rises before.output_errors now.output_errors) → before.output_errors ≤ now.output_errors → Leaves held holds door.aside.finished door'.aside.finished s (CommandRan Serve values loaded Way errors errors' before now)
+  pub serve_ran : (held holds : Option (List ℕ)) (s : Status) → Appends held holds (λ output. ServeRan (site_of loaded) values.count door door' output s) → before.input ≡ now.input → before.input_errors ≡ now.input_errors → OnTrue (is_status s status.ReadFault) (Rises errors errors') → OnTrue (is_status s status.WriteFault) (Rises before.output_errors now.output_errors) → before.output_errors ≤ now.output_errors → Leaves held holds door.aside.finished door'.aside.finished s (CommandRan Serve values loaded Way errors errors' before now)
   serve_ran held holds s a same inputs read write outputs =
       let r = a.2 in
       let visited = r.visited in
@@ -247,7 +248,7 @@ alike_visits site reads writes reads' writes' (one ∷ ones) (other ∷ others) 
     let rest : inputs_of ones ≡ inputs_of others = cc in
     more_visits one other ones others first (same_written site reads writes reads' writes' one other first visit visit') (alike_visits site (reads_when one.served reads) (writes_when one.served writes) (reads_when other.served reads') (writes_when other.served writes') ones others r w r' w' rest more more')
 
-pub serves_alike : (site : SiteData) (count : ℕ) (waiting : List (List ℕ)) (reads writes : ℕ) (one other : Outcome) → Serves site count (record { waiting = Some waiting; reads = reads; writes = writes }) one → Serves site count (record { waiting = Some waiting; reads = reads; writes = writes }) other → AlikeServed one other
+pub serves_alike : (site : SiteData) (count : ℕ) (waiting : List (List ℕ)) (reads writes : ℕ) (one other : Outcome) → Serves site count (record { waiting = Some waiting; reads = reads; writes = writes }) one → Serves site count (record { waiting = Some waiting; reads = reads; writes = writes }) other → AlikeServed site count (record { waiting = Some waiting; reads = reads; writes = writes }) one other
 serves_alike site count waiting reads writes one other a b =
     let inputs : inputs_of a.visits ≡ inputs_of b.visits = a.first ∙ sym b.first in
-    record { visits = a.visits; others = b.visits; alike = alike_visits site reads writes reads writes a.visits b.visits _ _ _ _ inputs a.are_visits b.are_visits; one_is = a.is; other_is = b.is }
+    record { served = a; served_too = b; alike = alike_visits site reads writes reads writes a.visits b.visits _ _ _ _ inputs a.are_visits b.are_visits }

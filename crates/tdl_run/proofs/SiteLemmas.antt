@@ -1,11 +1,12 @@
 -- The replies to a stream, and what resolving it did.
 use Rattle.std.proofs.Common.{◌≡◌, ℕ, ◌≤◌, true, false, List, [], Option, None, Some, refl, sym, ◌∙◌, ap}
+use Rattle.std.specs.Bool.{OnTrue}
 use Rattle.gs_http.specs.Streams.{heads_of, replies_of}
 use Rattle.gs_http.proofs.StreamLaws.{one_replies, some_replies}
 use Rattle.tdl_lines.specs.declared.status.Status.{Status}
 use Rattle.tdl_lines.specs.declared.status.Status.TheVariants as status
 use Rattle.tdl_lines.specs.Inputs.{IsKnown}
-use Rattle.tdl_lines.specs.Statuses.{OnReadFault, OnWriteFault}
+use Rattle.tdl_lines.specs.Statuses.{is_status}
 use Rattle.gs_port.specs.Counts.{Rises}
 use Rattle.tdl_serve.specs.Resolutions.{Resolved, Resolves}
 use Rattle.gs_http.specs.Sites.{SiteData}
@@ -77,7 +78,7 @@ pub no_lines : {fact : Type 0} → false ≡ true → fact
 no_lines e = absurd (let f : false ≡ true = e in cc)
 
 module _ (loaded : Loaded) (values : Values) (door : Doorway) (errors errors' : ℕ) (before now : Moment) (output : List ℕ) where
-  pub resolve_ran : (s : Status) → Resolved (site_of loaded) before.input output s → OnReadFault s (Rises before.input_errors now.input_errors) → OnWriteFault s (Rises before.output_errors now.output_errors) → before.input_errors ≤ now.input_errors → before.output_errors ≤ now.output_errors → CommandRan Resolve values loaded door errors errors' before now (outcome_of output s)
+  pub resolve_ran : (s : Status) → Resolved (site_of loaded) before.input output s → OnTrue (is_status s status.ReadFault) (Rises before.input_errors now.input_errors) → OnTrue (is_status s status.WriteFault) (Rises before.output_errors now.output_errors) → before.input_errors ≤ now.input_errors → before.output_errors ≤ now.output_errors → CommandRan Resolve values loaded door errors errors' before now (outcome_of output s)
   resolve_ran status.Done r read write inputs outputs = record { written = replies_whole (site_of loaded) before.input output r; begun = tt; finished = tt; cut = tt; read_error = tt; ended = tt; write_error = tt; to_end = λ e. no_lines e; long = tt; few = λ e. no_lines e; input_counts = inputs; output_counts = outputs; no_usage = λ e. cc; no_rejection = λ e. cc }
   resolve_ran status.ReadFault r read write inputs outputs = record { written = tt; begun = replies_begin (site_of loaded) before.input output status.ReadFault r; finished = refl; cut = tt; read_error = read; ended = r; write_error = tt; to_end = tt; long = tt; few = λ e. no_lines e; input_counts = inputs; output_counts = outputs; no_usage = λ e. cc; no_rejection = λ e. cc }
   resolve_ran status.WriteFault r read write inputs outputs = record { written = tt; begun = replies_begin (site_of loaded) before.input output status.WriteFault r; finished = refl; cut = replies_cut (site_of loaded) before.input output r; read_error = tt; ended = tt; write_error = write; to_end = tt; long = tt; few = λ e. no_lines e; input_counts = inputs; output_counts = outputs; no_usage = λ e. cc; no_rejection = λ e. cc }

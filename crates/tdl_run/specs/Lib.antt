@@ -1,5 +1,5 @@
 pub mod Works
 pub mod CommandRuns
-pub mod RanSupport
 pub mod Runs
+pub mod RanSupport
 pub mod Requests

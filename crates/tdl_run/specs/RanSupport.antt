@@ -1,29 +1,81 @@
--- What proofs and private functions say beside the definitions of Ran.antt.
-use Rattle.std.specs.Prelude.{◌≡◌, ℕ, Bool, false, List}
-use Rattle.gs_port.specs.Connections.{Aside}
+-- Definitions next to those of Runs.antt, for proofs and private functions.
+use Rattle.std.specs.Prelude.{◌≡◌, ◌⊎◌, ℕ, Bool, false, List, [], ◌∷◌, Option, None, Ok}
+use Rattle.std.specs.Bool.{OnTrue}
+use Rattle.tdl_lines.specs.declared.status.Status.{Status}
+use Rattle.tdl_lines.specs.Statuses.{is_answered}
+use Rattle.gs_port.specs.Connections.{Aside, Finished}
 use Rattle.gs_port.specs.Counts.{Rises}
+use Rattle.gs_port.specs.Files.{AddsNames}
 use Rattle.tdl_serve.specs.Doors.{OpensAt}
+use Rattle.tdl_serve.specs.Resolutions.{StreamServed}
 use Rattle.tdl_arguments.specs.declared.command.Command.{Command}
 use Rattle.tdl_arguments.specs.Commands.{Work, answers_lines, on_door, work_of}
-use Rattle.tdl_arguments.specs.Requests.{Values}
+use Rattle.tdl_arguments.specs.Requests.{Asked, Values, all_named}
+use Rattle.tdl_arguments.specs.declared.request.Request.{Request}
 use Rattle.tdl_loads.specs.declared.loads.Loaded.{Loaded}
-use Rattle.tdl_run.specs.Works.{CommandEnded, CommandFinished, CommandRun, Doorway, FinishesFirst, Outcome}
+use Rattle.tdl_loads.specs.Loads.{FilesGive, FilesInMemory, Loading, Stopping}
+use Rattle.tdl_run.specs.Works.{DoingEnded, DoingFinished, DoingRun, Doorway, FinishesFirst, Outcome, doing_of, site_of}
 use Rattle.tdl_run.specs.CommandRuns.{Moment, Ran}
+use Rattle.tdl_run.specs.Runs.{World, stopped}
 
--- the cause of a read error, by what a command works on: that the door counted an error of its own, else that the input did
+-- holds if the command may leave this outcome (DoingRun)
+abbrev pub CommandRun : Command → Values → Loaded → Option (List ℕ) → Doorway → Outcome → Type 0
+CommandRun command values loaded input door outcome = DoingRun (doing_of command values loaded) (site_of loaded) input door outcome
+
+-- holds if the command may have written this after an error of the input (DoingEnded)
+abbrev pub CommandEnded : Command → Values → Loaded → Option (List ℕ) → Option (List ℕ) → List ℕ → Type 0
+CommandEnded command values loaded before now output = DoingEnded (doing_of command values loaded) (site_of loaded) before now output
+
+-- holds if the command may have finished these connections (DoingFinished)
+abbrev pub CommandFinished : Command → Values → Loaded → Doorway → Status → List Finished → Type 0
+CommandFinished command values loaded door status finished = DoingFinished (doing_of command values loaded) (site_of loaded) door status finished
+
+-- the fact of DefinedRun, by what is asked
+abbrev pub AskedRun : Asked → World → Outcome → Type 0
+AskedRun asked world outcome =
+    Loading world.files asked (λ loaded. CommandRun asked.command asked.values loaded world.input world.door outcome)
+    ⊎ Stopping world.files asked (λ stop. outcome ≡ stopped stop)
+
+-- the fact of EndedRun, by what is asked
+abbrev pub AskedEnded : Asked → Option FilesInMemory → Option (List ℕ) → Option (List ℕ) → List ℕ → Type 0
+AskedEnded asked files before now output = Loading files asked (λ loaded. CommandEnded asked.command asked.values loaded before now output)
+
+-- the fact of FinishedRun, by what is asked
+abbrev pub AskedFinished : Asked → World → Outcome → Type 0
+AskedFinished asked world outcome =
+    (outcome.finished ≡ [])
+    ⊎ Loading world.files asked (λ loaded. CommandFinished asked.command asked.values loaded world.door outcome.status outcome.finished)
+
+-- the fact of LoadsSome, by what is asked
+abbrev pub AskedLoads : Asked → Option FilesInMemory → Type 0
+AskedLoads asked files = (loaded : Loaded) × FilesGive files asked (Ok loaded)
+
+-- the fact of ListensAt, by what is asked
+abbrev pub AskedListens : Asked → Status → Option (List (List ℕ)) → Option (List (List ℕ)) → Type 0
+AskedListens asked ending before now = AddsNames before (asked.values.listen ∷ []) now ⊎ ((now ≡ before) × (is_answered ending ≡ false))
+
+-- the fact of ServesInput, by what is asked
+abbrev pub AskedServes : Type 0 → Asked → Option FilesInMemory → Status → Option (List ℕ) → Option (List ℕ) → Option (List ℕ) → Option (List ℕ) → Type 0
+AskedServes AsItWas asked files ending left left' held held' =
+    Loading files asked (λ loaded. StreamServed (site_of loaded) ending left left' None None held held')
+    ⊎ (AsItWas × (is_answered ending ≡ false))
+
+-- holds if all files of a request were opened, in their order, once the whole input was answered
+abbrev pub OpensAsked : Status → Request → Option (List (List ℕ)) → Option (List (List ℕ)) → Type 0
+OpensAsked ending request before now = OnTrue (is_answered ending) (AddsNames before (all_named request) now)
+
+-- the cause of a read error, by the work of a command: the door counted an error of its own, or the input did
 abbrev pub WorkCause : Work → Type 0 → Type 0 → Type 0
 WorkCause on_door OfInput OfDoor = OfDoor
 WorkCause work OfInput OfDoor = OfInput
 
--- what a command does with a door, of which no connection is open then: it is opened once, at this address, and the first of the
--- connections that waited are finished
+-- holds if a command opened the door once, at this address, finished the first of the waiting connections, and left none open
 pub record UsesDoor (listen : List ℕ) (open_now : Bool) (before now : Aside) : Type 0 where
   pub closed : open_now ≡ false
   pub waiting : FinishesFirst before now
   pub listens : OpensAt listen before now
 
--- What a command with these values did, over what was loaded and over a door, whose own count of errors was the first number and is
--- the second.
+-- holds if a command left this outcome between two moments, over what was loaded; `errors` and `errors'` are the door's own counts
 abbrev pub CommandRan : Command → Values → Loaded → Doorway → ℕ → ℕ → Moment → Moment → Outcome → Type 0
 CommandRan command values loaded door errors errors' before now outcome =
     Ran (CommandRun command values loaded before.input door) (CommandEnded command values loaded before.input now.input)

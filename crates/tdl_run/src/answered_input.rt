@@ -8,7 +8,7 @@ use tdl_lines::{Answerer, Status, answer_lines};
 /// The most bytes of an input.
 const INPUT_LIMIT: u64 = 4_294_967_296;
 
-/// Answers the lines of the input, of which each text has an answer.
+/// Answers the lines of the input. Each text has an answer.
 pub fn answer_input<A: Answerer, S: Source, K: Sink>(
     alloc: Global,
     answerer: &A,

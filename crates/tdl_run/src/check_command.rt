@@ -1,5 +1,6 @@
 ghost use Rattle.std.specs.Prelude.{◌≡◌, ◌≤◌, ◌++◌, IfOk, OnOk, decimal};
-ghost use Rattle.tdl_lines.specs.Statuses.{OnWriteFault};
+ghost use Rattle.std.specs.Bool.{OnTrue};
+ghost use Rattle.tdl_lines.specs.Statuses.{is_status};
 ghost use Rattle.gs_port.specs.Counts.{Rises};
 ghost use Rattle.tdl_run.specs.Works.{PrintsCounts, counts_line};
 
@@ -19,8 +20,7 @@ fn append_count(alloc: Global, line: &mut Vec<u8>, word: &[u8], count: usize) ->
     Ok(line.extend_from_slice(number.as_bytes())?)
 }
 
-/// The line of counts: the numbers of application identifiers, of kinds, of the options of each level, of company prefixes and
-/// of links.
+/// Returns the line of counts: the numbers of AIs, EPC schemes, options of each level, company prefixes and links.
 fn counts_line(alloc: Global, loaded: &Loaded) -> Result<Vec<u8>, Memory>
     ensures { IfOk result (λ line. line.items ≡ counts_line loaded.now) }
 {
@@ -45,7 +45,8 @@ fn counts_line(alloc: Global, loaded: &Loaded) -> Result<Vec<u8>, Memory>
 /// Writes the line of counts of what is loaded.
 pub fn check<K: Sink>(alloc: Global, loaded: &Loaded, output: &mut K) -> Status
     ensures written { PrintsCounts loaded.now result (K.held output.old) (K.held output.new) }
-    ensures error { OnWriteFault result (Rises (K.errors output.old) (K.errors output.new)) }
+    ensures error { OnTrue (is_status result Status.WriteFault)
+        (Rises (K.errors output.old) (K.errors output.new)) }
     ensures counts { K.errors output.old ≤ K.errors output.new }
 {
     match counts_line(alloc, loaded) {

@@ -12,7 +12,7 @@ use tdl_arguments::NamedValues;
 use tdl_lines::Status;
 use tdl_loads::Loaded;
 
-/// Answers the lines of the input, class URIs, by the canonical links of what they name.
+/// Answers each line of the input, a class URI, with the canonical link of the elements that it names.
 pub fn link_classes<S: Source, K: Sink>(
     alloc: Global,
     loaded: &Loaded,
@@ -28,8 +28,8 @@ pub fn link_classes<S: Source, K: Sink>(
     answer_input(alloc, &answerer, input, output)
 }
 
-/// Answers the lines of the input, links, by the class URIs of what they name, by the prefixes that are loaded and the length of the
-/// company prefix that is named.
+/// Answers each line of the input, a link, with the class URI of the elements that it names, by the loaded prefixes and the company
+/// prefix length of the values.
 pub fn write_classes<S: Source, K: Sink>(
     alloc: Global,
     values: NamedValues<'_>,

@@ -24,7 +24,7 @@ use tdl_lines::Status;
 use tdl_loads::Loaded;
 use tdl_serve::{resolve, serve};
 
-/// What requests are answered from.
+/// Returns the site that requests are answered from.
 fn site_of(loaded: &Loaded) -> Site<'_>
     ensures { result ≡ site_of loaded.now }
 {
@@ -35,7 +35,7 @@ fn site_of(loaded: &Loaded) -> Site<'_>
     }
 }
 
-/// Runs a command over what was loaded. An input or a door that the command does not use is as it was.
+/// Runs a command over what was loaded. An input or a door that the command does not use stays as it was.
 pub fn run_command<S: Source, K: Sink, D: Door>(
     alloc: Global,
     command: Command,

@@ -9,7 +9,7 @@ use tdl_answers::{DumpReadLines, DumpWriteLines};
 use tdl_lines::Status;
 use tdl_loads::Loaded;
 
-/// Answers the lines of the input, dumps of the EPC memory bank, by the lines that show them.
+/// Answers each line of the input, a dump of the EPC memory bank, with the line that shows it.
 pub fn show_dumps<S: Source, K: Sink>(
     alloc: Global,
     loaded: &Loaded,
@@ -27,7 +27,7 @@ pub fn show_dumps<S: Source, K: Sink>(
     answer_input(alloc, &answerer, input, output)
 }
 
-/// Answers the lines of the input, which show dumps of the EPC memory bank, by the dumps.
+/// Answers each line of the input, which shows a dump of the EPC memory bank, with the dump.
 pub fn write_dumps<S: Source, K: Sink>(
     alloc: Global,
     loaded: &Loaded,

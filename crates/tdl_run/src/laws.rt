@@ -1,55 +1,59 @@
-ghost use Rattle.std.specs.Prelude.{◌≡◌, ◌↔◌, ℕ, List, true};
+ghost use Rattle.std.specs.Prelude.{◌≡◌, ◌↔◌, ℕ, List, Ok, Option, true};
 ghost use Rattle.tdl_lines.specs.Outputs.{LineAnswer, accepted};
 ghost use Rattle.tdl_lines.specs.Statuses.{is_answered};
-ghost use Rattle.gs_tables.specs.Judgements.{IsLoaded};
 ghost use Rattle.gs_translate.specs.declared.form.Form.{Form};
 ghost use Rattle.gs_translate.specs.StepsSupport.{HasOne, HasSome};
 ghost use Rattle.gs_translate.specs.Translations.{NameOne};
 ghost use Rattle.gs_translate.specs.declared.target.Target.{Target};
-ghost use Rattle.tdl_arguments.specs.Requests.{Values, WordsInOrder};
+ghost use Rattle.tdl_arguments.specs.Requests.{Asked, Values, WordsInOrder};
 ghost use Rattle.tdl_loads.specs.declared.loads.Loaded.{Loaded};
+ghost use Rattle.tdl_loads.specs.Loads.{FilesGive, FilesInMemory};
 ghost use Rattle.tdl_answers.specs.TranslatedAnswers.{IsCanonLine, IsTranslatedLine};
 ghost use Rattle.tdl_run.specs.Runs.{DefinedRun, HasOneOutcome, InputFits, LoadsAll, World};
 ghost use Rattle.tdl_run.specs.Works.{KeepOne, Outcome, canonizing, translating};
 
-/// Arguments ask for one thing at most.
+/// States that arguments ask for at most one thing.
 pub fn words_ask_for_one_thing()
     ensures { (words : List (List ℕ)) → HasOne (WordsInOrder words) }
 {}
 
-/// Arguments have one outcome, output, finished connections and status, over files, an input and waiting connections that are known,
-/// and no other but for the text that shows an ambiguous level of the tables or ambiguous classes, and for the errors of connections.
+/// States that arguments have one outcome (output, finished connections and status) if the files, the input and the waiting
+/// connections are known. Two outcomes may differ in the text that shows ambiguous tables or classes. Those of `serve` may differ in
+/// the errors of connections, and what follows from them.
 pub fn words_have_one_outcome()
     ensures at_most_one { (words : List (List ℕ)) → HasOneOutcome words }
     ensures some { (words : List (List ℕ)) (world : World) → HasSome (DefinedRun words world) }
 {}
 
-/// Where the arguments are in order, all files load and the input fits, all that is defined ends with `Done` or `SomeRefused`. So
-/// where no count rose, a run has written all of that, or memory ran out.
+/// States that each defined outcome has the status `Done` or `SomeRefused` if the arguments are valid, all files load and the
+/// input fits.
 pub fn words_in_order_are_answered()
     ensures { (words : List (List ℕ)) (world : World) (outcome : Outcome) → LoadsAll words world.files
         → InputFits words world.input → DefinedRun words world outcome
         → is_answered outcome.status ≡ true }
 {}
 
-/// The answer of `canon` to a line of tables that are loaded is the canonical link of what the line names, or the first reason
-/// why it names nothing; and two lines, of any forms, that are answered by links have equal answers exactly where they name the
-/// same elements.
+/// States that `canon` answers a line with the canonical link of the elements that it names, or with the first reason why it names
+/// none. By tables that files give, two lines of any forms that are answered with links have equal answers if and only if they
+/// name the same elements.
 pub fn canon_answers_by_canonical_links()
     ensures canonical { (loaded : Loaded) (form : Form) (text : List ℕ) (line : LineAnswer)
         → IsTranslatedLine (canonizing loaded form) text line ↔ IsCanonLine loaded.tables form text line }
-    ensures headline { (loaded : Loaded) (form other : Form) (text given link wanted : List ℕ)
-        → IsLoaded loaded.tables
+    ensures headline { (files : Option FilesInMemory) (asked : Asked) (loaded : Loaded)
+        (form other : Form) (text given link wanted : List ℕ)
+        → FilesGive files asked (Ok loaded)
         → IsTranslatedLine (canonizing loaded form) text (accepted link)
         → IsTranslatedLine (canonizing loaded other) given (accepted wanted)
         → (link ≡ wanted) ↔ NameOne loaded.tables form text other given }
 {}
 
-/// Two lines, of any forms, that `translate` answers by canonical links have equal answers exactly where the elements that it keeps
-/// of what they name are equal: with `--keys-only yes` the key, with its serial where that has an element of its own, and else all.
+/// States that, by tables that files give, two lines of any forms that `translate` answers with canonical links have equal answers
+/// if and only if the elements that it keeps of them are equal. With `--keys-only yes` these are the key, and its serial if that is
+/// a separate element; otherwise all.
 pub fn canonical_answers_by_kept_elements()
-    ensures { (loaded : Loaded) (values : Values) (form other : Form) (text given link wanted : List ℕ)
-        → IsLoaded loaded.tables
+    ensures { (files : Option FilesInMemory) (asked : Asked) (loaded : Loaded) (values : Values)
+        (form other : Form) (text given link wanted : List ℕ)
+        → FilesGive files asked (Ok loaded)
         → IsTranslatedLine (translating loaded values form Target.Canon) text (accepted link)
         → IsTranslatedLine (translating loaded values other Target.Canon) given (accepted wanted)
         → (link ≡ wanted) ↔ KeepOne loaded.tables values.keys_only form text other given }

@@ -1,23 +1,23 @@
-//! The program: what its arguments ask for, the files that they name, its commands, and whole runs.
+//! The program: whole runs, by their arguments, files, input, output and door.
 //!
-//! - `run` is the call that `main` of tdl makes: arguments, files, input and output in, a status out. Its clauses are what the
-//!   README guarantees. `without_program_name` gives the arguments of a process without the program's name.
+//! - `run` is the call that `main` of tdl makes. It takes arguments, files, an input, an output and a door, and returns a status. Its
+//!   clauses are the README's guarantee. `without_program_name` returns the arguments of a process without the program's name.
 //!
 //! # Example
 //!
 //! A whole run over objects in memory: the arguments, no files, an input that is read two bytes at a time, and an output that
-//! takes three at a time. The gate runs this case, for which crates/vectors_runs/src/runs.rt makes the call: the status, the
-//! output, and what is left of the input.
+//! takes three at a time. The gate runs this case: crates/vectors_runs/src/runs.rt makes the call. The result is the status, the
+//! output, and the rest of the input.
 //!
 //! ```text
 //! tdl_run::run canon pure / - / 2 - urn:epc:id:sgtin:0614141.812345.6789\x0A / 3 -
 //! Done ok\x20https://id.gs1.org/01/80614141123458/21/6789\x0A \e
 //! ```
 //!
-//! # Where it differs from the standards
+//! # Differences from the standards
 //!
 //! - No standard has a command line for these translations: the commands, names, statuses and printed texts are this
-//!   project's own (docs/FORMATS.md, 'The command line' and 'Statuses').
+//!   project's own (docs/CLI.md, 'Commands' and 'Statuses').
 #![tactic(auto)]
 
 mod answered_input;

@@ -1,5 +1,6 @@
 ghost use Rattle.std.specs.Prelude.{◌≡◌, ◌≤◌, ◌++◌, ◌∷◌, [], IfOk};
-ghost use Rattle.tdl_lines.specs.Statuses.{OnWriteFault};
+ghost use Rattle.std.specs.Bool.{OnTrue};
+ghost use Rattle.tdl_lines.specs.Statuses.{is_status};
 ghost use Rattle.gs_port.specs.Counts.{Rises};
 ghost use Rattle.tdl_run.specs.Works.{PrintsLine, merged_line};
 
@@ -10,7 +11,7 @@ use std::alloc::Global;
 use tdl_lines::{Status, print_line};
 use tdl_loads::Loaded;
 
-/// The document that links were merged to, in JSON, and a line feed.
+/// Returns the line of the merged document, in JSON.
 fn merged_line(alloc: Global, loaded: &Loaded) -> Result<Text, Memory>
     ensures { IfOk result (λ line. line ≡ merged_line loaded.now) }
 {
@@ -19,10 +20,11 @@ fn merged_line(alloc: Global, loaded: &Loaded) -> Result<Text, Memory>
     Ok(line)
 }
 
-/// Writes the document that links were merged to.
+/// Writes the merged document.
 pub fn print_merged<K: Sink>(alloc: Global, loaded: &Loaded, output: &mut K) -> Status
     ensures written { PrintsLine (merged_line loaded.now) result (K.held output.old) (K.held output.new) }
-    ensures error { OnWriteFault result (Rises (K.errors output.old) (K.errors output.new)) }
+    ensures error { OnTrue (is_status result Status.WriteFault)
+        (Rises (K.errors output.old) (K.errors output.new)) }
     ensures counts { K.errors output.old ≤ K.errors output.new }
 {
     match merged_line(alloc, loaded) {

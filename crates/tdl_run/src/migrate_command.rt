@@ -1,7 +1,8 @@
 ghost use Rattle.std.specs.Prelude.{◌≡◌, ◌≤◌, ◌++◌, ◌∷◌, [], IfOk};
+ghost use Rattle.std.specs.Bool.{OnTrue};
 ghost use Rattle.gs_port.specs.Counts.{Rises};
 ghost use Rattle.gs_tables.specs.MigratedSets.{Loads};
-ghost use Rattle.tdl_lines.specs.Statuses.{OnWriteFault};
+ghost use Rattle.tdl_lines.specs.Statuses.{is_status};
 ghost use Rattle.tdl_run.specs.Works.{PrintsLine, migrated_line};
 
 use gs_chars::{Memory, Text};
@@ -11,7 +12,7 @@ use std::alloc::Global;
 use tdl_lines::{Status, print_line};
 use tdl_loads::Loaded;
 
-/// The document of the tables as one of version 2, and a line feed.
+/// Returns the line of the document of the tables, as one of version 2.
 fn migrated_line(alloc: Global, loaded: &Loaded) -> Result<Text, Memory>
     requires { Loads loaded.now.source }
     ensures { IfOk result (λ line. line ≡ migrated_line loaded.now) }
@@ -25,7 +26,8 @@ fn migrated_line(alloc: Global, loaded: &Loaded) -> Result<Text, Memory>
 pub fn print_migrated<K: Sink>(alloc: Global, loaded: &Loaded, output: &mut K) -> Status
     requires { Loads loaded.now.source }
     ensures written { PrintsLine (migrated_line loaded.now) result (K.held output.old) (K.held output.new) }
-    ensures error { OnWriteFault result (Rises (K.errors output.old) (K.errors output.new)) }
+    ensures error { OnTrue (is_status result Status.WriteFault)
+        (Rises (K.errors output.old) (K.errors output.new)) }
     ensures counts { K.errors output.old ≤ K.errors output.new }
 {
     match migrated_line(alloc, loaded) {

@@ -1,8 +1,10 @@
 ghost use Rattle.std.specs.Prelude.{◌≡◌, ◌≤◌, ◌⊎◌, false};
+ghost use Rattle.std.specs.Bool.{OnTrue};
 ghost use Rattle.tdl_lines.specs.Outputs.{Appends};
-ghost use Rattle.tdl_lines.specs.Statuses.{OnCutShort, OnInputLong, OnReadFault, OnRefused, OnUsage, OnWriteFault, OnWritten};
+ghost use Rattle.tdl_lines.specs.Statuses.{is_cut_short, is_status, is_written};
 ghost use Rattle.gs_port.specs.Counts.{Rises};
-ghost use Rattle.tdl_arguments.specs.Requests.{AsksForDoor, AsksForHeads, AsksForInput, NamesNoFile, NotInOrder, known_words};
+ghost use Rattle.tdl_arguments.specs.Commands.{answers_heads, reads_input, uses_door};
+ghost use Rattle.tdl_arguments.specs.Requests.{AsksFor, NamesNoFile, NotInOrder, known_words};
 ghost use Rattle.tdl_run.specs.Runs.{BeginsRun, CutRun, DefinedRun, EndedRun, FinishedRun, InputFits, IsDoneOrMemory, IsRejected, ListensAt, LoadsAll, LoadsSome, NoneRises, OpensAll, OpensNamed, ReadsToEnd, RunCause, ServesInput, TakesFew, WritesAfterError, counts_of, world_of};
 ghost use Rattle.tdl_run.specs.Works.{FinishesFirst, Leaves, PassesLimit};
 
@@ -12,28 +14,29 @@ use std::alloc::Global;
 use tdl_arguments::read_arguments;
 use tdl_lines::{Status, print_line};
 
-/// What is printed where the arguments are not in order.
+/// The line that is printed if the arguments are invalid.
 const USAGE: &[u8] =
     b"usage: tdl canon FORM | translate FROM TO | check | resolve | serve | gen N | migrate | class canon | class uri | dump read | dump write | merge, then --name value pairs\n";
 
-/// Runs the program: does what the arguments ask for, over these files, this input, this output and this door, of which no
-/// connection is open, and says how it ended.
+/// Runs the program as the arguments ask, over these files, this input, this output and this door, and returns the status. No
+/// connection of the door is open before.
 ///
-/// Of an input whose heads are answered, as those of one connection, at most 12,288 bytes are taken beyond the answered heads,
-/// and at most 1,000 replies are written; `Done` leaves nothing unread but behind a reply that ends the connection.
+/// An input whose heads are answered is served as one connection. At most 12,288 bytes are taken beyond the answered heads, and at
+/// most 1,000 replies are written. `Done` leaves nothing unread, except after a reply that ends the connection.
 ///
-/// No connection of the door is open then, and as many wait less as were finished. A door is opened once, at the address that the
-/// arguments name, by the command that uses it, where all files are loaded; and else not. Where a file is not loaded, the input and
-/// the door are as they were, also where the line that says so could not be written.
+/// The files are opened in their order, and none after a missing or rejected one. The door is opened once, at the address that the
+/// arguments name, if its command runs. After the run no connection is open, and the finished ones no longer wait. If a file does not
+/// load, the input and the door stay as they were, even if the line that says so could not be written.
 ///
-/// `Usage` comes exactly where the arguments are not in order; the usage line is written then, and nothing is read or opened.
-/// `Refused` comes where a file, or the built-in rows, are rejected, after the one line that says why; the input is not read.
-/// `ReadFault` comes only where the input, the files or the door itself counted an error, or where the files are known and a
-/// named one is not there. `InputLong` comes exactly where more than 4,294,967,296 bytes were taken from the lines of the
-/// input. `WriteFault` comes only where the output counted an error. After `ReadFault`, `WriteFault` and `Memory` an initial
-/// part of the defined output was written, and of the waiting connections the first ones are finished; after `WriteFault` both are
-/// of one defined outcome. Where the arguments are in order, all files load, the lines of the input are at most 4,294,967,296 bytes and no count rose of the files, the input, the
-/// output and the door itself, the status is `Done`, `SomeRefused` or `Memory`, whatever single connections did.
+/// - `Usage` is returned only if the arguments are invalid. The usage line was written, and nothing was read or opened.
+/// - `Refused` is returned only if a file, or a built-in row, is rejected. One line says why, and the input was not read.
+/// - `ReadFault` is returned only if the input, the files or the door itself counted an error, or a file is missing.
+/// - `InputLong` is returned only if more than 4,294,967,296 bytes of lines were taken from the input.
+/// - `WriteFault` is returned only if the output counted an error.
+///
+/// After `ReadFault`, `WriteFault` and `Memory` the output gained a prefix of the defined output, and the first of the waiting
+/// connections are finished. After `WriteFault` both are those of one defined outcome. If the arguments are valid, all files load, the
+/// lines of the input have at most 4,294,967,296 bytes, and no count rose, then the status is `Done`, `SomeRefused` or `Memory`.
 pub fn run<F: Files, S: Source, K: Sink, D: Door>(
     alloc: Global,
     words: &[String],
@@ -44,51 +47,57 @@ pub fn run<F: Files, S: Source, K: Sink, D: Door>(
 ) -> Status
     requires none_open { D.is_open door.old ≡ false }
 
-    // The headline: output, finished connections and status are the defined ones, whatever count rose on the way.
-    ensures defined { OnWritten result (Leaves (K.held output.old) (K.held output.new)
+    // The headline: output, finished connections and status are the defined ones, whatever count rose.
+    ensures defined { OnTrue (is_written result) (Leaves (K.held output.old) (K.held output.new)
         (D.aside door.old).finished (D.aside door.new).finished result
         (DefinedRun (known_words words.now)
         (world_of (F.files files.old) (S.left input.old)
         (D.aside door.old) (D.reads door.old) (D.writes door.old)))) }
     ensures read_to_end { ReadsToEnd (known_words words.now) result (S.left input.new) }
 
-    // The arguments decide whether it is the usage line, and the files whether one is rejected.
-    ensures usage { OnUsage result (NotInOrder (known_words words.now)) }
-    ensures not_in_order { NotInOrder (known_words words.now) → OnWritten result (result ≡ Status.Usage) }
-    ensures rejected { OnRefused result (IsRejected (known_words words.now) (F.files files.old)) }
+    // The arguments decide whether the usage line comes, and the files whether one is rejected.
+    ensures usage { OnTrue (is_status result Status.Usage) (NotInOrder (known_words words.now)) }
+    ensures not_in_order { NotInOrder (known_words words.now)
+        → OnTrue (is_written result) (result ≡ Status.Usage) }
+    ensures rejected { OnTrue (is_status result Status.Refused)
+        (IsRejected (known_words words.now) (F.files files.old)) }
 
-    // An input whose heads are answered is served as one connection is.
-    ensures served { AsksForHeads (known_words words.now)
+    // An input whose heads are answered is served as one connection.
+    ensures served { AsksFor answers_heads (known_words words.now)
         → ServesInput (input.new ≡ input.old) (known_words words.now) (F.files files.old) result
         (S.left input.old) (S.left input.new) (K.held output.old) (K.held output.new) }
 
-    // What a command does not use is as it was, and so are the input and the door where a file is not loaded.
-    ensures unread { (AsksForInput (known_words words.now) → ⊥) → input.new ≡ input.old }
-    ensures unread_rejected { OnRefused result (input.new ≡ input.old) }
+    // An input or a door that a command does not use stays as it was, and both do if a file does not load.
+    ensures unread { (AsksFor reads_input (known_words words.now) → ⊥) → input.new ≡ input.old }
+    ensures unread_rejected { OnTrue (is_status result Status.Refused) (input.new ≡ input.old) }
     ensures few { TakesFew (known_words words.now) (S.left input.old) (S.left input.new) }
-    ensures unserved { (AsksForDoor (known_words words.now) → ⊥) → door.new ≡ door.old }
-    ensures unserved_rejected { OnRefused result (door.new ≡ door.old) }
+    ensures unserved { (AsksFor uses_door (known_words words.now) → ⊥) → door.new ≡ door.old }
+    ensures unserved_rejected { OnTrue (is_status result Status.Refused) (door.new ≡ door.old) }
     ensures untouched { ((input.new ≡ input.old) × (door.new ≡ door.old))
         ⊎ LoadsSome (known_words words.now) (F.files files.old) }
     ensures unopened { NamesNoFile (known_words words.now) → files.new ≡ files.old }
-    ensures opened { OpensNamed (known_words words.now) (F.opened files.old) (F.opened files.new) }
+    ensures opened { OpensNamed (known_words words.now) (F.files files.old)
+        (F.opened files.old) (F.opened files.new) }
     ensures all_opened { OpensAll result (known_words words.now) (F.opened files.old) (F.opened files.new) }
     ensures known { F.files files.new ≡ F.files files.old }
 
-    // A door is opened at the address that is asked for, as many connections wait less as are finished, and none is left open.
-    ensures listens { AsksForDoor (known_words words.now) → ListensAt (known_words words.now) result
+    // The door is opened at the address of the arguments, finished connections no longer wait, and none is left open.
+    ensures listens { AsksFor uses_door (known_words words.now) → ListensAt (known_words words.now) result
         (D.aside door.old).addresses (D.aside door.new).addresses }
     ensures waiting { FinishesFirst (D.aside door.old) (D.aside door.new) }
     ensures closed { D.is_open door.new ≡ false }
 
     // Each cause.
-    ensures read_error { OnReadFault result (RunCause (known_words words.now) (F.files files.old)
+    ensures read_error { OnTrue (is_status result Status.ReadFault)
+        (RunCause (known_words words.now) (F.files files.old)
         (counts_of (F.errors files.old) (S.errors input.old) (K.errors output.old) (D.aside door.old))
         (counts_of (F.errors files.new) (S.errors input.new) (K.errors output.new) (D.aside door.new))) }
-    ensures write_error { OnWriteFault result (Rises (K.errors output.old) (K.errors output.new)) }
-    ensures input_long { OnInputLong result (PassesLimit (S.left input.old) (S.left input.new)) }
+    ensures write_error { OnTrue (is_status result Status.WriteFault)
+        (Rises (K.errors output.old) (K.errors output.new)) }
+    ensures input_long { OnTrue (is_status result Status.InputLong)
+        (PassesLimit (S.left input.old) (S.left input.new)) }
 
-    // Completeness: where arguments, files, input and counts are in order, all that is defined was written, or memory ran out.
+    // Completeness: with valid arguments, files that load, an input that fits and no new error, all was written, or memory ran out.
     ensures complete { LoadsAll (known_words words.now) (F.files files.old)
         → InputFits (known_words words.now) (S.left input.old)
         → NoneRises
@@ -96,20 +105,20 @@ pub fn run<F: Files, S: Source, K: Sink, D: Door>(
         (counts_of (F.errors files.new) (S.errors input.new) (K.errors output.new) (D.aside door.new))
         → IsDoneOrMemory result }
 
-    // What was written then.
-    ensures ended { OnReadFault result (WritesAfterError (input.new ≡ input.old)
+    // The output then.
+    ensures ended { OnTrue (is_status result Status.ReadFault) (WritesAfterError (input.new ≡ input.old)
         (Rises (S.errors input.old) (S.errors input.new)) (K.held output.old) (K.held output.new)
         (EndedRun (known_words words.now) (F.files files.old) (S.left input.old) (S.left input.new))) }
-    ensures begun { OnCutShort result (Appends (K.held output.old) (K.held output.new)
+    ensures begun { OnTrue (is_cut_short result) (Appends (K.held output.old) (K.held output.new)
         (BeginsRun (known_words words.now)
         (world_of (F.files files.old) (S.left input.old)
         (D.aside door.old) (D.reads door.old) (D.writes door.old)))) }
-    ensures finished { OnCutShort result (Leaves (K.held output.old) (K.held output.new)
+    ensures finished { OnTrue (is_cut_short result) (Leaves (K.held output.old) (K.held output.new)
         (D.aside door.old).finished (D.aside door.new).finished result
         (FinishedRun (known_words words.now)
         (world_of (F.files files.old) (S.left input.old)
         (D.aside door.old) (D.reads door.old) (D.writes door.old)))) }
-    ensures cut { OnWriteFault result (Leaves (K.held output.old) (K.held output.new)
+    ensures cut { OnTrue (is_status result Status.WriteFault) (Leaves (K.held output.old) (K.held output.new)
         (D.aside door.old).finished (D.aside door.new).finished result
         (CutRun (known_words words.now)
         (world_of (F.files files.old) (S.left input.old)

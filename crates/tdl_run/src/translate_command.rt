@@ -16,7 +16,7 @@ use tdl_arguments::NamedValues;
 use tdl_lines::Status;
 use tdl_loads::Loaded;
 
-/// What the values say of translations.
+/// Makes the options of translations from the values.
 fn options_of(alloc: Global, values: NamedValues<'_>) -> Result<Options, Memory>
     ensures { IfOk result (λ options. options ≡ options_of (known_values values.entry)) }
 {
@@ -29,8 +29,8 @@ fn options_of(alloc: Global, values: NamedValues<'_>) -> Result<Options, Memory>
     })
 }
 
-/// Answers the lines of the input, texts of a form, by their translations to another, by the prefixes that are loaded and the
-/// values that are named. The options are made once.
+/// Answers each line of the input, a text of a form, with its translation to another, by the loaded prefixes and the values. The
+/// options are made once.
 pub fn translate_loaded<S: Source, K: Sink>(
     alloc: Global,
     from: Form,
@@ -62,8 +62,8 @@ pub fn translate_loaded<S: Source, K: Sink>(
     }
 }
 
-/// Answers the lines of the input, texts of a form, by their canonical links, whatever is named. Of such a link neither the
-/// prefixes nor the options but `keys_only` say anything.
+/// Answers each line of the input, a text of a form, with its canonical link. Of prefixes and options, only `keys_only` matters for
+/// such a link.
 pub fn canonize<S: Source, K: Sink>(
     alloc: Global,
     form: Form,

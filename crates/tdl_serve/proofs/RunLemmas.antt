@@ -5,7 +5,7 @@ use Rattle.gs_chars.proofs.TruthsAndLists.{or_first}
 use Rattle.tdl_lines.specs.declared.status.Status.{Status}
 use Rattle.tdl_lines.specs.declared.status.Status.TheVariants.{Done, SomeRefused, Usage, Refused, ReadFault, WriteFault, InputLong, Memory}
 use Rattle.tdl_lines.specs.Printers.{PrintedAs}
-use Rattle.tdl_lines.specs.Statuses.{is_read_error}
+use Rattle.tdl_lines.specs.Statuses.{is_status}
 use Rattle.tdl_serve.specs.declared.sessions.Session.TheVariants as session
 use Rattle.tdl_serve.specs.declared.tally.Tally.{Tally}
 use Rattle.tdl_serve.specs.Doors.{IsOver, ServePrints, ServeRan, line_of, served_line}
@@ -69,12 +69,12 @@ run_over site count a m b tally output status first s printed =
     }
 
 -- a line that is printed with `Done` is no error of a read
-pub printed_errorless : (line output : List ℕ) (status : Status) → PrintedAs Done line output status → is_read_error status ≡ false
+pub printed_errorless : (line output : List ℕ) (status : Status) → PrintedAs Done line output status → is_status status ReadFault ≡ false
 printed_errorless line output Done p = refl
 printed_errorless line output SomeRefused p = refl
 printed_errorless line output Usage p = refl
 printed_errorless line output Refused p = refl
-printed_errorless line output ReadFault p = ap is_read_error p.0
+printed_errorless line output ReadFault p = ap (λ (s : Status). is_status s ReadFault) p.0
 printed_errorless line output WriteFault p = refl
 printed_errorless line output InputLong p = refl
 printed_errorless line output Memory p = refl

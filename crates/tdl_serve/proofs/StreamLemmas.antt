@@ -1,6 +1,7 @@
 -- What is written for a stream.
 use Rattle.std.proofs.Common.{◌≡◌, ℕ, List, [], ◌++◌, append-nil, inl, inr, Option, Some, None, take, length, refl, sym, ap, ◌∙◌, subst}
 use Rattle.std.specs.Prelude.{◌⊎◌, IfSome}
+use Rattle.std.specs.Bool.{OnTrue}
 use Rattle.std.proofs.Math.Seq.{take-append_seam}
 use Rattle.gs_http.specs.declared.outcomes.Served.{Served}
 use Rattle.gs_http.specs.declared.outcomes.Served.TheVariants as served
@@ -11,7 +12,7 @@ use Rattle.tdl_lines.specs.declared.status.Status.TheVariants.{Done}
 use Rattle.tdl_lines.specs.Inputs.{IsKnown}
 use Rattle.tdl_lines.specs.Outputs.{Appends}
 use Rattle.tdl_lines.specs.Printers.{IsInitialPart}
-use Rattle.tdl_lines.specs.Statuses.{OnWritten, When, is_written}
+use Rattle.tdl_lines.specs.Statuses.{is_written}
 use Rattle.gs_port.specs.Contents.{prepend_known}
 use Rattle.tdl_serve.specs.Resolutions.{Resolved, StreamServed, status_of}
 use Rattle.gs_http.specs.Sites.{SiteData}
@@ -27,7 +28,7 @@ pub known_whole : (left left' : Option (List ℕ)) (read rest : List ℕ) → le
 known_whole left None read rest moved is = subst (λ known. IsKnown known (read ++ rest)) (sym moved) tt
 known_whole left (Some bytes) read rest moved is = subst (λ known. IsKnown known (read ++ rest)) (sym moved) (ap (λ more. read ++ more) (sym is))
 
-when_done : (served : Served) (A B : Type 0) → OnDone served (A × B) → When (is_done served) A
+when_done : (served : Served) (A B : Type 0) → OnDone served (A × B) → OnTrue (is_done served) A
 when_done served.Done A B both = both.0
 when_done served.ReadFault A B both = tt
 when_done served.WriteFault A B both = tt
@@ -72,7 +73,7 @@ same_when served.ReadFault = refl
 same_when served.WriteFault = refl
 same_when served.Memory = refl
 
-done_when : (served : Served) → OnWritten (status_of served) (status_of served ≡ Done)
+done_when : (served : Served) → OnTrue (is_written (status_of served)) (status_of served ≡ Done)
 done_when served.Done = refl
 done_when served.ReadFault = tt
 done_when served.WriteFault = tt

@@ -1,44 +1,44 @@
--- What became of a stream that was answered.
+-- Streams that were answered.
 use Rattle.std.specs.Prelude.{◌≡◌, ℕ, Bool, true, false, List, Option}
+use Rattle.std.specs.Bool.{OnTrue}
 use Rattle.gs_http.specs.declared.outcomes.Served.{Served}
 use Rattle.gs_http.specs.declared.outcomes.Served.TheVariants as served
 use Rattle.gs_http.specs.ServedStreams.{IsServed}
 use Rattle.tdl_lines.specs.declared.status.Status.{Status}
 use Rattle.tdl_lines.specs.declared.status.Status.TheVariants.{Done, ReadFault, WriteFault, Memory}
 use Rattle.tdl_lines.specs.Inputs.{IsKnown}
-use Rattle.tdl_lines.specs.Statuses.{OnWritten, is_written}
+use Rattle.tdl_lines.specs.Statuses.{is_written}
 use Rattle.gs_port.specs.Counts.{counted}
 use Rattle.gs_http.specs.Sites.{SiteData}
 use Rattle.tdl_serve.specs.Sites.{AreSiteReplies, Replied}
 
--- trusted, own: the output is the replies of a site to an input, as far as that is known
+-- trusted, own: holds if `output` is the replies of the site to the input, as far as it is known
 pub record Resolves (site : SiteData) (input : Option (List ℕ)) (output : List ℕ) : Type 0 where
   pub stream : List ℕ
   pub is_stream : IsKnown input stream
   pub are_replies : AreSiteReplies site stream output
 
--- trusted, own: what was written for an input, by the status: the replies of a site to all of it with `Done`, else a prefix
--- of them
+-- trusted, own: holds if `output` is the replies of the site to the whole input with `Done`, or a prefix of them with another status
 pub record Resolved (site : SiteData) (input : Option (List ℕ)) (output : List ℕ) (status : Status) : Type 0 where
   pub stream : List ℕ
   pub is_stream : IsKnown input stream
   pub replied : Replied site stream (is_written status) output
-  pub done : OnWritten status (status ≡ Done)
+  pub done : OnTrue (is_written status) (status ≡ Done)
 
--- trusted, own: the status of a stream that was served so
+-- trusted, own: the status of a stream, by how serving it ended
 abbrev pub status_of : Served → Status
 status_of served.Done = Done
 status_of served.ReadFault = ReadFault
 status_of served.WriteFault = WriteFault
 status_of served.Memory = Memory
 
--- trusted, own: a stream was served as a connection is, and this is the status
+-- trusted, own: holds if the stream was served as a connection is, with this status
 pub record StreamServed (site : SiteData) (status : Status) (left left' taken taken' held held' : Option (List ℕ)) : Type 0 where
   pub served : Served
   pub has_status : status ≡ status_of served
   pub is_served : IsServed 1000 site.table site.links site.settings served left left' taken taken' held held'
 
--- trusted, own: the count after a call: one more where there was an error
+-- trusted, own: the count after a call, by whether it had an error
 abbrev pub count_if : Bool → ℕ → ℕ
 count_if true count = counted count
 count_if false count = count

@@ -5,7 +5,8 @@ use Rattle.gs_http.specs.declared.outcomes.Served.{Served}
 use Rattle.gs_http.specs.declared.outcomes.Served.TheVariants.{Done, ReadFault, WriteFault, Memory}
 use Rattle.gs_http.specs.declared.replies.Reply.{Reply}
 use Rattle.gs_http.specs.ServedStreams.{OnDone, reads_when, writes_when}
-use Rattle.gs_http.specs.Streams.{AreReplies, BeginsWith, all_bytes, bytes_of, has_closing, heads_of}
+use Rattle.gs_chars.specs.Answers.{BeginsWith}
+use Rattle.gs_http.specs.Streams.{AreReplies, all_bytes, bytes_of, has_closing, heads_of}
 use Rattle.tdl_lines.specs.Printers.{IsInitialPart}
 use Rattle.gs_port.specs.Connections.{Aside, Finished}
 use Rattle.gs_http.specs.Sites.{SiteData}

@@ -1,6 +1,7 @@
 ghost use Rattle.std.specs.Prelude.{◌≡◌, ◌+◌, ◌-◌, ◌<◌, ◌≤◌, ◌^◌, false, length, true};
+ghost use Rattle.std.specs.Bool.{OnTrue};
 ghost use Rattle.tdl_lines.specs.Outputs.{Appends};
-ghost use Rattle.tdl_lines.specs.Statuses.{OnReadFault, OnWriteFault};
+ghost use Rattle.tdl_lines.specs.Statuses.{is_status};
 ghost use Rattle.gs_port.specs.Counts.{Rises};
 ghost use Rattle.tdl_serve.specs.Doors.{CountsErrors, OpensAt, ServeRan};
 ghost use Rattle.tdl_serve.specs.Turns.{LeavesDoor, SessionDid, error_number, is_failed};
@@ -14,18 +15,18 @@ use gs_port::{Door, OpenAnswer, Sink};
 use std::alloc::Global;
 use tdl_lines::Status;
 
-/// How the turns at a door ended.
+/// The outcome of the turns at a door.
 #[derive(Clone, Copy)]
 enum Session {
-    /// So many connections were finished as were asked for, or no connection comes any more.
+    /// The requested number of connections is finished, or no more will arrive.
     Over(Tally),
-    /// No connection could be accepted, for an error that was counted.
+    /// No connection could be accepted, and the door counted an error.
     Failed,
     /// Memory ran out.
     Memory,
 }
 
-/// The number of errors after one more connection.
+/// Returns the number of errors after one more connection.
 fn with_error(errors: u32, errored: bool) -> u32
     requires { errors < 2 ^ 32 - 1 }
     ensures { result ≡ errors + error_number errored }
@@ -33,7 +34,7 @@ fn with_error(errors: u32, errored: bool) -> u32
     if errored { errors + 1 } else { errors }
 }
 
-/// Serves the connections that come, until so many are finished.
+/// Serves the connections that arrive, until `count` are finished.
 fn serve_turns<D: Door>(
     alloc: Global,
     resolver: &Resolver<'_>,
@@ -66,7 +67,7 @@ fn serve_turns<D: Door>(
     })
 }
 
-/// Makes what answering needs once for all connections, and serves those that come, until so many are finished.
+/// Makes the resolver and its room once, and serves the connections that arrive, until `count` are finished.
 fn serve_all<D: Door>(alloc: Global, site: &Site<'_>, count: u32, door: &mut D) -> Session
     requires none_open { D.is_open door.old ≡ false }
     requires listening { (D.aside door.old).opened ≡ true }
@@ -83,12 +84,13 @@ fn serve_all<D: Door>(alloc: Global, site: &Site<'_>, count: u32, door: &mut D) 
     serve_turns(alloc, &resolver, room.as_mut_slice(), count, door)
 }
 
-/// Opens the door once, at the address, and serves the connections that come, one after the other, until `count` of them are
-/// finished or none comes any more. An error on a connection ends that connection alone. Then the line `served N faults M` is
-/// written, with the numbers of the finished connections and of those that ended by an error, and the status is `Done`.
-/// `ReadFault` comes only where the door could not be opened or a connection not be accepted, and the door's own count rose;
-/// nothing is written then. `WriteFault` comes only where the output's count rose. With `Memory` no connection stays open
-/// either. No other status comes.
+/// Opens the door once, at the address, and serves the connections that arrive, one at a time, until `count` are finished or no more
+/// will arrive. An error on a connection ends only that connection. Then `serve` writes the line `served N faults M`, with the numbers
+/// of finished connections and of those that ended by an error, and returns `Done`.
+///
+/// `ReadFault` is returned only if the door could not be opened, or a connection not be accepted, and the door's own count rose.
+/// Nothing is written then. `WriteFault` is returned only if the output's count rose. No connection stays open, even with `Memory`. No
+/// other status is returned.
 pub fn serve<D: Door, K: Sink>(
     alloc: Global,
     site: &Site<'_>,
@@ -103,8 +105,10 @@ pub fn serve<D: Door, K: Sink>(
         (state_of (D.aside door.new) (D.reads door.new) (D.writes door.new)) out result) }
     ensures closed { D.is_open door.new ≡ false }
     ensures opens { OpensAt address.now (D.aside door.old) (D.aside door.new) }
-    ensures read_error { OnReadFault result (Rises (D.aside door.old).errors (D.aside door.new).errors) }
-    ensures write_error { OnWriteFault result (Rises (K.errors output.old) (K.errors output.new)) }
+    ensures read_error { OnTrue (is_status result Status.ReadFault)
+        (Rises (D.aside door.old).errors (D.aside door.new).errors) }
+    ensures write_error { OnTrue (is_status result Status.WriteFault)
+        (Rises (K.errors output.old) (K.errors output.new)) }
     ensures door_count { CountsErrors result (D.aside door.old) (D.aside door.new) }
     ensures door_counts { (D.aside door.old).errors ≤ (D.aside door.new).errors }
     ensures output_counts { K.errors output.old ≤ K.errors output.new }

@@ -1,6 +1,7 @@
 ghost use Rattle.std.specs.Prelude.{◌≡◌, ◌≤◌, None, true};
+ghost use Rattle.std.specs.Bool.{OnTrue};
 ghost use Rattle.tdl_lines.specs.Outputs.{Appends};
-ghost use Rattle.tdl_lines.specs.Statuses.{OnReadFault, OnWriteFault, is_read_error, is_write_error};
+ghost use Rattle.tdl_lines.specs.Statuses.{is_status};
 ghost use Rattle.gs_port.specs.Counts.{Rises};
 ghost use Rattle.tdl_serve.specs.Resolutions.{Resolved, StreamServed, count_if, status_of};
 
@@ -9,7 +10,7 @@ use gs_port::{Conn, Pair, Sink, Source};
 use std::alloc::Global;
 use tdl_lines::Status;
 
-/// The status of a stream that was served so.
+/// Returns the status of a stream, by how serving it ended.
 fn status_of(served: Served) -> Status
     ensures { result ≡ status_of served }
 {
@@ -21,15 +22,16 @@ fn status_of(served: Served) -> Status
     }
 }
 
-/// Serves the open connection, and answers the status of that.
+/// Serves the open connection, and returns its status.
 fn answer_stream<C: Conn>(alloc: Global, site: &Site<'_>, conn: &mut C) -> Status
     requires { C.is_open conn.old ≡ true }
     ensures written { Appends (C.held conn.old) (C.held conn.new)
         (λ out. Resolved site.now (C.left conn.old) out result) }
     ensures served { StreamServed site.now result (C.left conn.old) (C.left conn.new)
         (C.taken conn.old) (C.taken conn.new) (C.held conn.old) (C.held conn.new) }
-    ensures read_count { C.reads conn.new ≡ count_if (is_read_error result) (C.reads conn.old) }
-    ensures write_count { C.writes conn.new ≡ count_if (is_write_error result) (C.writes conn.old) }
+    ensures read_count { C.reads conn.new ≡ count_if (is_status result Status.ReadFault) (C.reads conn.old) }
+    ensures write_count { C.writes conn.new
+        ≡ count_if (is_status result Status.WriteFault) (C.writes conn.old) }
     ensures read_counts { C.reads conn.old ≤ C.reads conn.new }
     ensures write_counts { C.writes conn.old ≤ C.writes conn.new }
     ensures same_ends { C.ends conn.new ≡ C.ends conn.old }
@@ -38,10 +40,9 @@ fn answer_stream<C: Conn>(alloc: Global, site: &Site<'_>, conn: &mut C) -> Statu
     status_of(served)
 }
 
-/// Answers the heads of the input in their order, up to its end or to the first reply that ends the connection, as
-/// `serve_one` does. `Done`: all replies were written, and nothing else. `ReadFault` comes only where the input's count rose,
-/// and `WriteFault` only where the output's did; after these and after `Memory` a prefix of the replies was written. No other
-/// status comes.
+/// Answers the heads of the input in their order, up to its end or to the first reply that ends the connection, as `serve_one`
+/// does. With `Done`, exactly all replies were written. `ReadFault` is returned only if the input's count rose, and `WriteFault` only if
+/// the output's did. After these and after `Memory`, a prefix of the replies was written. No other status is returned.
 pub fn resolve<S: Source, K: Sink>(
     alloc: Global,
     site: &Site<'_>,
@@ -52,10 +53,14 @@ pub fn resolve<S: Source, K: Sink>(
         (λ out. Resolved site.now (S.left input.old) out result) }
     ensures served { StreamServed site.now result (S.left input.old) (S.left input.new) None None
         (K.held output.old) (K.held output.new) }
-    ensures read_error { OnReadFault result (Rises (S.errors input.old) (S.errors input.new)) }
-    ensures write_error { OnWriteFault result (Rises (K.errors output.old) (K.errors output.new)) }
-    ensures input_count { S.errors input.new ≡ count_if (is_read_error result) (S.errors input.old) }
-    ensures output_count { K.errors output.new ≡ count_if (is_write_error result) (K.errors output.old) }
+    ensures read_error { OnTrue (is_status result Status.ReadFault)
+        (Rises (S.errors input.old) (S.errors input.new)) }
+    ensures write_error { OnTrue (is_status result Status.WriteFault)
+        (Rises (K.errors output.old) (K.errors output.new)) }
+    ensures input_count { S.errors input.new
+        ≡ count_if (is_status result Status.ReadFault) (S.errors input.old) }
+    ensures output_count { K.errors output.new
+        ≡ count_if (is_status result Status.WriteFault) (K.errors output.old) }
     ensures input_counts { S.errors input.old ≤ S.errors input.new }
     ensures output_counts { K.errors output.old ≤ K.errors output.new }
 {

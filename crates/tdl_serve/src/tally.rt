@@ -1,8 +1,9 @@
 ghost use Rattle.std.specs.Prelude.{◌≡◌, ◌≤◌, IfOk, string_bytes};
+ghost use Rattle.std.specs.Bool.{OnTrue};
 ghost use Rattle.gs_port.specs.Counts.{Rises};
 ghost use Rattle.tdl_lines.specs.Outputs.{Appends};
 ghost use Rattle.tdl_lines.specs.Printers.{PrintedAs};
-ghost use Rattle.tdl_lines.specs.Statuses.{OnWriteFault};
+ghost use Rattle.tdl_lines.specs.Statuses.{is_status};
 ghost use Rattle.tdl_serve.specs.Doors.{served_line};
 
 use gs_chars::Memory;
@@ -10,14 +11,14 @@ use gs_port::Sink;
 use std::alloc::Global;
 use tdl_lines::{Status, print_line};
 
-/// How many connections were finished, and how many of these ended by an error.
+/// The numbers of finished connections, and of those that ended by an error.
 #[derive(Clone, Copy)]
 pub struct Tally {
     pub finished: u32,
     pub errors: u32,
 }
 
-/// The line of a tally.
+/// Returns the line of a tally.
 fn line_of(alloc: Global, tally: Tally) -> Result<String, Memory>
     ensures { IfOk result (λ line. string_bytes line ≡ served_line tally.finished tally.errors) }
 {
@@ -29,7 +30,8 @@ fn line_of(alloc: Global, tally: Tally) -> Result<String, Memory>
 pub fn print_tally<K: Sink>(alloc: Global, tally: Tally, output: &mut K) -> Status
     ensures written { Appends (K.held output.old) (K.held output.new)
         (λ out. PrintedAs Status.Done (served_line tally.finished tally.errors) out result) }
-    ensures error { OnWriteFault result (Rises (K.errors output.old) (K.errors output.new)) }
+    ensures error { OnTrue (is_status result Status.WriteFault)
+        (Rises (K.errors output.old) (K.errors output.new)) }
     ensures counts { K.errors output.old ≤ K.errors output.new }
 {
     match line_of(alloc, tally) {

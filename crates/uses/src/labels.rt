@@ -12,7 +12,7 @@ use std::alloc::Global;
 /// Why a label has no link.
 #[derive(Drop)]
 pub enum LabelError {
-    /// Its text is no element string: where, and why.
+    /// Its text is not an element string: where, and why.
     Text(ElementsFault),
     /// Its elements have no identity.
     Elements(IdentFault),
@@ -38,7 +38,7 @@ impl From<Memory> for LabelError {
     }
 }
 
-/// The canonical link of what a label names, whose element string is given with brackets.
+/// Returns the canonical link of what a label names, whose element string is given with brackets.
 pub fn link_of_label(alloc: Global, ais: &AiTable, label: &[u8]) -> Result<Text, LabelError>
     ensures { IfOk result (λ link. (identity : Elements) × IsMadeWith ais.now identity
         × (link ≡ canonical_link identity)) }

@@ -34,13 +34,13 @@ const LINKS: &[u8] =
 /// The head of a request.
 const HEAD: &[u8] = b"GET /01/09506000134352/10/ABC HTTP/1.1\r\nHost: r.example\r\n\r\n";
 
-/// The link of a label by tables of one's own.
+/// Returns the link of a label by tables of one's own.
 fn own_link(alloc: Global) -> Option<Text> {
     let tables = TableSet::load(alloc, TABLES).ok()?;
     link_of_label(alloc, tables.ais(), OWN_LABEL).ok()
 }
 
-/// A text as characters, where there is one.
+/// Returns a text as characters, where there is one.
 fn shown(text: &Option<Text>) -> &str {
     match text {
         Some(text) => str::from_utf8(text.as_bytes()).unwrap_or("no text"),

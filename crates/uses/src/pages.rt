@@ -13,7 +13,7 @@ use std::alloc::Global;
 /// Why a linkset answers no request.
 #[derive(Drop)]
 pub enum PageError {
-    /// It is no linkset: where, and why.
+    /// It is not a linkset: where, and why.
     Document(JsonFault),
     /// Its links are rejected.
     Links(StoreFault),
@@ -42,7 +42,7 @@ impl From<Memory> for PageError {
 /// What stands for `gs1:` in the relations of a linkset: GS1's web vocabulary.
 const VOCABULARY: &str = "https://ref.gs1.org/voc/";
 
-/// The reply of a resolver that has these links, and no description, to the head of a request.
+/// Returns the reply of a resolver that has these links, and no description, to the head of a request.
 pub fn page_for(
     alloc: Global,
     ais: &AiTable,

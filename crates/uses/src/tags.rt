@@ -7,7 +7,7 @@ use gs_epc::{EpcFault, read_hex};
 use gs_tables::TableSet;
 use std::alloc::Global;
 
-/// The GS1 Company Prefix that the bits of a tag have, which are given as hexadecimal digits.
+/// Returns the GS1 Company Prefix that the bits of a tag have, which are given as hexadecimal digits.
 pub fn company_prefix(alloc: Global, tables: &TableSet, bits: &[u8]) -> Result<Text, EpcFault>
     ensures { IfOk result (λ prefix. (epc : Epc) × ReadsHex tables.now bits.now (Ok epc) × (prefix ≡ epc.prefix)) }
 {

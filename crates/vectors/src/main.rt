@@ -8,7 +8,7 @@ use std::alloc::{AllocError, Global};
 use std::io;
 use vectors_cases::{Answer, Calls, answer_cases};
 
-/// The public calls of all libraries, over this table set where they stand on one.
+/// The public calls of all libraries, with this table set for those that need one.
 #[derive(Drop)]
 struct Libraries {
     set: TableSet,
@@ -56,7 +56,7 @@ impl Calls for Libraries {
 }
 
 fn main(rt: HostRuntime) -> io::Result<()> {
-    // the built-in rows keep their rules, so that a error is out of memory
+    // the built-in rows satisfy their rules, so that a error is out of memory
     let Ok(set) = builtin(rt.alloc()) else {
         return Err(io::Error::from(AllocError));
     };

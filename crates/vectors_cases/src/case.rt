@@ -4,7 +4,7 @@ use std::alloc::{AllocError, AllocFailed, Global};
 /// Why a case has no answer.
 #[derive(Clone, Copy)]
 pub enum Rejection {
-    /// It is no case: there is no such call, or an argument is not of its form.
+    /// It is not a case: there is no such call, or an argument is not of its form.
     NoCase,
     /// Out of memory.
     Memory,
@@ -31,7 +31,7 @@ impl<T: Drop> From<AllocFailed<T>> for Rejection {
 /// The answer to a case.
 pub type Answer = Result<String, Rejection>;
 
-/// Where the reading of a word stands in an escape.
+/// The escape within which the reading of a word is.
 #[derive(Clone, Copy)]
 enum Escape {
     Outside,
@@ -43,7 +43,7 @@ enum Escape {
     Run(u8, u32),
 }
 
-/// The value of an upper-case hexadecimal digit, and 0 of what is none.
+/// Returns the value of an upper-case hexadecimal digit, and 0 for any other byte.
 fn digit_value(c: u8) -> u8 {
     match c {
         b'0'..=b'9' => c - b'0',
@@ -52,19 +52,19 @@ fn digit_value(c: u8) -> u8 {
     }
 }
 
-/// The byte of two hexadecimal digits.
+/// Returns the byte of two hexadecimal digits.
 fn byte_of(high: u8, low: u8) -> u8 {
     high.wrapping_mul(16).wrapping_add(digit_value(low))
 }
 
-/// A number with one decimal digit more.
+/// Returns a number with one decimal digit more.
 fn longer(number: u32, digit: u8) -> u32 {
     number
         .wrapping_mul(10)
         .wrapping_add(u32::from(digit_value(digit)))
 }
 
-/// Appends so many of one byte.
+/// Appends that many of one byte.
 fn push_run(bytes: &mut Vec<u8>, byte: u8, count: u32) -> Result<(), Memory> {
     for _ in 0..count {
         bytes.push(byte)?;
@@ -72,7 +72,7 @@ fn push_run(bytes: &mut Vec<u8>, byte: u8, count: u32) -> Result<(), Memory> {
     Ok(())
 }
 
-/// Where the reading stands behind a byte of a word, and the byte that stands there with how many of it, none within an escape.
+/// Returns the state after a byte of a word, and the byte that is there, with its count; 0 within an escape.
 fn next_of(escape: Escape, c: u8) -> (Escape, u8, u32) {
     match (escape, c) {
         (Escape::Outside, b'\\') => (Escape::Begun, c, 0),
@@ -90,7 +90,7 @@ fn next_of(escape: Escape, c: u8) -> (Escape, u8, u32) {
     }
 }
 
-/// The bytes that a word stands for.
+/// Returns the bytes that a word stands for.
 fn unescaped(alloc: Global, word: &[u8]) -> Result<Text, Rejection> {
     let mut bytes = Vec::new(alloc);
     let mut escape = Escape::Outside;
@@ -102,7 +102,7 @@ fn unescaped(alloc: Global, word: &[u8]) -> Result<Text, Rejection> {
     Ok(Text::from_vec(bytes))
 }
 
-/// The words of a case.
+/// Returns the words of a case.
 pub fn words_of(alloc: Global, case: &[u8]) -> Result<Vec<Text>, Rejection> {
     let mut words = Vec::new(alloc);
     for word in case.split(|c| *c == b' ') {
@@ -111,12 +111,12 @@ pub fn words_of(alloc: Global, case: &[u8]) -> Result<Vec<Text>, Rejection> {
     Ok(words)
 }
 
-/// Appends what was made of an argument, or says why it was not made.
+/// Appends the value of an argument, or returns why there is none.
 pub fn push<T: Drop>(items: &mut Vec<T>, made: Result<T, Rejection>) -> Result<(), Rejection> {
     Ok(items.push(made?)?)
 }
 
-/// The argument at a place.
+/// Returns the argument at a place.
 pub fn arg(args: &[Text], i: usize) -> Result<&[u8], Rejection> {
     match args.get(i) {
         Some(text) => Ok(text.as_bytes()),
@@ -124,7 +124,7 @@ pub fn arg(args: &[Text], i: usize) -> Result<&[u8], Rejection> {
     }
 }
 
-/// The argument at a place, empty where it is left out.
+/// Returns the argument at a place, empty if it is left out.
 pub fn bytes_at(args: &[Text], i: usize) -> &[u8] {
     match args.get(i) {
         Some(text) => text.as_bytes(),
@@ -132,7 +132,7 @@ pub fn bytes_at(args: &[Text], i: usize) -> &[u8] {
     }
 }
 
-/// What a table gives a name, where it has it.
+/// Returns the table's value of a name, if it has the name.
 pub fn named<T: Copy>(table: &[(&str, T)], name: &[u8]) -> Option<T> {
     for (word, value) in table {
         if word.as_bytes() == name {
@@ -142,7 +142,7 @@ pub fn named<T: Copy>(table: &[(&str, T)], name: &[u8]) -> Option<T> {
     None
 }
 
-/// A text of characters.
+/// Returns a text of characters.
 pub fn text_of(bytes: &[u8]) -> Result<&str, Rejection> {
     match str::from_utf8(bytes) {
         Ok(text) => Ok(text),
@@ -150,7 +150,7 @@ pub fn text_of(bytes: &[u8]) -> Result<&str, Rejection> {
     }
 }
 
-/// The number that a word gives, where they are known one.
+/// Returns the number that a word gives, if it is one.
 pub fn number_in(word: &[u8]) -> Option<u64> {
     match str::from_utf8(word) {
         Ok(text) => text.parse::<u64>().ok(),
@@ -158,7 +158,7 @@ pub fn number_in(word: &[u8]) -> Option<u64> {
     }
 }
 
-/// The number that a word gives.
+/// Returns the number that a word gives.
 pub fn number_of(word: &[u8]) -> Result<u64, Rejection> {
     match number_in(word) {
         Some(number) => Ok(number),
@@ -166,17 +166,17 @@ pub fn number_of(word: &[u8]) -> Result<u64, Rejection> {
     }
 }
 
-/// The number at a place.
+/// Returns the number at a place.
 pub fn number(args: &[Text], i: usize) -> Result<u64, Rejection> {
     number_of(bytes_at(args, i))
 }
 
-/// The arguments behind the first ones.
+/// Returns the arguments after the first ones.
 pub fn behind(args: &[Text], count: usize) -> &[Text] {
     &args[count.min(args.len())..]
 }
 
-/// The numbers with commas between.
+/// Returns the numbers with commas between.
 fn numbers_in(alloc: Global, list: &str) -> Result<Vec<u64>, Rejection> {
     let mut numbers = Vec::new(alloc);
     for number in list.split(',') {
@@ -185,7 +185,7 @@ fn numbers_in(alloc: Global, list: &str) -> Result<Vec<u64>, Rejection> {
     Ok(numbers)
 }
 
-/// The numbers with commas between, and none where it is `-`.
+/// Returns the numbers with commas between, and none if it is `-`.
 pub fn numbers_of(alloc: Global, list: &[u8]) -> Result<Vec<u64>, Rejection> {
     if list == b"-".as_slice() {
         return Ok(Vec::new(alloc));

@@ -6,11 +6,11 @@ use std::io::{Read, Write};
 
 /// The public calls of some libraries, as cases name them.
 pub trait Calls {
-    /// The answer to a call of a library with these arguments.
+    /// Returns the answer to a call of a library with these arguments.
     fn answer(&self, alloc: Global, library: &str, call: &str, args: &[Text]) -> Answer;
 }
 
-/// The answer to a case of these words.
+/// Returns the answer to a case of these words.
 fn answer_to<C: Calls>(alloc: Global, calls: &C, words: &[Text]) -> Answer {
     let [path, args @ ..] = words else {
         return Err(Rejection::NoCase);
@@ -21,7 +21,7 @@ fn answer_to<C: Calls>(alloc: Global, calls: &C, words: &[Text]) -> Answer {
     }
 }
 
-/// The answer to a case.
+/// Returns the answer to a case.
 fn answer<C: Calls>(alloc: Global, calls: &C, case: &[u8]) -> Answer {
     let words = words_of(alloc, case)?;
     answer_to(alloc, calls, words.as_slice())
@@ -33,7 +33,7 @@ fn add_line(output: &mut Vec<u8>, line: &[u8]) -> Result<(), Memory> {
     Ok(output.push(b'\n')?)
 }
 
-/// Appends the answer to a case, as a line.
+/// Appends the answer to a case as a line.
 fn add_answer<C: Calls>(
     alloc: Global,
     calls: &C,
@@ -47,12 +47,12 @@ fn add_answer<C: Calls>(
     }
 }
 
-/// Whether a line is a case, and neither empty nor a comment.
+/// Returns whether a line is a case, and neither empty nor a comment.
 fn is_case(line: &[u8]) -> bool {
     !matches!(line, [] | [b'#', ..])
 }
 
-/// The answers to all cases, a line for each.
+/// Returns the answers to all cases, a line for each.
 fn answers<C: Calls>(alloc: Global, calls: &C, input: &[u8]) -> Result<Vec<u8>, Memory> {
     let mut output = Vec::new(alloc);
     for case in input.split(|c| *c == b'\n') {
@@ -63,14 +63,14 @@ fn answers<C: Calls>(alloc: Global, calls: &C, input: &[u8]) -> Result<Vec<u8>, 
     Ok(output)
 }
 
-/// The whole of the standard input.
+/// Returns the whole of the standard input.
 fn input_of(rt: &HostRuntime) -> io::Result<Vec<u8>> {
     let mut input = Vec::new(rt.alloc());
     rt.stdin().read_to_end(&mut input)?;
     Ok(input)
 }
 
-/// Answers the cases of the standard input by these calls, on the standard output.
+/// Answers the cases of standard input by these calls, on standard output.
 pub fn answer_cases<C: Calls>(rt: &HostRuntime, calls: &C) -> io::Result<()> {
     let input = input_of(rt)?;
     let Ok(output) = answers(rt.alloc(), calls, input.as_slice()) else {

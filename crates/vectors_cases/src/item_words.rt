@@ -7,7 +7,7 @@ use gs_chars::Text;
 use gs_grammar::Item;
 use std::alloc::{AllocError, Global};
 
-/// The item of a word.
+/// Returns the item of a word.
 pub fn item_of(alloc: Global, word: &[u8]) -> Result<Item, Rejection> {
     if let Some(symbols) = word.strip_prefix(b"lit:") {
         return literal_of(alloc, symbols);
@@ -21,17 +21,17 @@ pub fn item_of(alloc: Global, word: &[u8]) -> Result<Item, Rejection> {
     }
 }
 
-/// The literal of these symbols.
+/// Returns the literal of these symbols.
 fn literal_of(alloc: Global, symbols: &[u8]) -> Result<Item, Rejection> {
     Ok(Item::Lit(Text::from_bytes(alloc, symbols)?))
 }
 
-/// The literal of the bits of these digits.
+/// Returns the literal of the bits of these digits.
 fn bit_literal_of(alloc: Global, digits: &[u8]) -> Result<Item, Rejection> {
     Ok(Item::Lit(Text::from_vec(bits_of(alloc, digits)?)))
 }
 
-/// The symbols of the digits 0 and 1, and 2 of any other.
+/// Returns the symbols of the digits 0 and 1, and 2 of any other.
 fn bits_of(alloc: Global, digits: &[u8]) -> Result<Vec<u8>, AllocError> {
     let mut bits = Vec::new(alloc);
     for digit in digits {
@@ -44,7 +44,7 @@ fn bits_of(alloc: Global, digits: &[u8]) -> Result<Vec<u8>, AllocError> {
     Ok(bits)
 }
 
-/// The numbers between colons, at most three, and 0 for those that are not there.
+/// Returns the numbers between colons, at most three, and 0 for those that are not there.
 fn three_numbers(text: &str) -> Result<[u64; 3], Rejection> {
     let mut numbers = [0; 3];
     for (number, word) in numbers.iter_mut().zip(text.split(':')) {
@@ -79,7 +79,7 @@ const NAMES: [(&str, Numbered); 9] = [
     ("pad", Numbered::Pad),
 ];
 
-/// The item of a name and its numbers.
+/// Returns the item of a name and its numbers.
 fn numeric_item(name: &str, [a, b, c]: [u64; 3]) -> Result<Item, Rejection> {
     match (named(&NAMES, name.as_bytes()), u8::try_from(a)) {
         (Some(Numbered::Int), _) => Ok(Item::Int { max: a }),
@@ -90,7 +90,7 @@ fn numeric_item(name: &str, [a, b, c]: [u64; 3]) -> Result<Item, Rejection> {
     }
 }
 
-/// The item of a name and its numbers, of which the first two are bytes.
+/// Returns the item of a name and its numbers; the first two are bytes.
 fn two_byte_item(name: Numbered, first: u8, second: u64, third: u64) -> Result<Item, Rejection> {
     let Ok(second) = u8::try_from(second) else {
         return Err(Rejection::NoCase);
@@ -120,7 +120,7 @@ fn two_byte_item(name: Numbered, first: u8, second: u64, third: u64) -> Result<I
     }
 }
 
-/// The item of packed symbols.
+/// Returns the item of packed symbols.
 fn packed_item(lo: u8, hi: u8, bits: u64) -> Result<Item, Rejection> {
     match u16::try_from(bits) {
         Ok(bits) => Ok(Item::Ascii7 { lo, hi, bits }),
@@ -151,7 +151,7 @@ fn add_literal(line: &mut Line, bit_level: bool, literal: &[u8]) {
     }
 }
 
-/// Writes a number behind a colon.
+/// Writes a number after a colon.
 fn add_number(line: &mut Line, number: u64) {
     line.more(":");
     line.more_debug(number);

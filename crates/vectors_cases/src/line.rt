@@ -18,7 +18,7 @@ pub struct Line {
 }
 
 impl Line {
-    /// The line without a word.
+    /// Returns the line without a word.
     pub fn new(alloc: Global) -> Line {
         Line {
             alloc,
@@ -44,14 +44,14 @@ impl Line {
         }
     }
 
-    /// Writes what stands for a byte as more of the last word.
+    /// Writes a byte, escaped if needed, as more of the last word.
     fn more_byte(&mut self, c: u8) {
         if push_shown(&mut self.text, c).is_err() {
             self.want_memory();
         }
     }
 
-    /// Writes what stands for some bytes as more of the last word.
+    /// Writes bytes, escaped if needed, as more of the last word.
     pub fn more_bytes(&mut self, bytes: &[u8]) {
         if bytes.is_empty() {
             self.more("\\e");
@@ -76,7 +76,7 @@ impl Line {
         }
     }
 
-    /// Writes a word as it is.
+    /// Writes a word unchanged.
     pub fn plain(&mut self, word: &str) {
         self.space();
         self.more(word);
@@ -99,7 +99,7 @@ impl Line {
         self.bytes(text.as_bytes());
     }
 
-    /// Writes the word that stands for a text, where there was memory for it.
+    /// Writes the word of a text, if there was memory for it.
     pub fn text_made(&mut self, made: Result<Text, Memory>) {
         match made {
             Ok(text) => self.text(text),
@@ -141,7 +141,7 @@ impl Line {
         }
     }
 
-    /// The answer that was written, where the call came to an end.
+    /// Returns the answer that was written, if the call was completed.
     pub fn finish(self, done: Done) -> Answer {
         match self.done.and(done) {
             Ok(()) => Ok(self.text),

@@ -9,7 +9,7 @@ use gs_port::{MemSink, MemSource};
 use gs_port_memory::{MemDoor, MemFiles};
 use std::alloc::Global;
 
-/// The part of the arguments of a number, of those that `/` divides.
+/// Returns the part of the arguments of a number, of those that `/` divides.
 pub fn section(args: &[Text], number: usize) -> Result<&[Text], Rejection> {
     for (i, part) in args
         .split(|word| word.as_bytes() == b"/".as_slice())
@@ -22,7 +22,7 @@ pub fn section(args: &[Text], number: usize) -> Result<&[Text], Rejection> {
     Err(Rejection::NoCase)
 }
 
-/// The most bytes that one call moves, at least 1.
+/// Returns the most bytes that one call moves, at least 1.
 pub fn cut_of(args: &[Text], i: usize) -> Result<usize, Rejection>
     ensures { IfOk result (λ cut. 0 < cut) }
 {
@@ -33,7 +33,7 @@ pub fn cut_of(args: &[Text], i: usize) -> Result<usize, Rejection>
     Ok(cut as usize)
 }
 
-/// The input of the most bytes that a read moves, of the calls that fail, and of the bytes.
+/// Returns the input of the most bytes that a read moves, of the calls that fail, and of the bytes.
 pub fn source_of(alloc: Global, words: &[Text]) -> Result<MemSource, Rejection> {
     let cut = cut_of(words, 0)?;
     let [_, fails, bytes, ..] = words else {
@@ -43,23 +43,23 @@ pub fn source_of(alloc: Global, words: &[Text]) -> Result<MemSource, Rejection> 
     Ok(MemSource::new(alloc, copied(alloc, bytes.as_bytes())?, cut, fails))
 }
 
-/// The empty sink of a most number of bytes and of the calls that fail.
+/// Returns the empty sink of a most number of bytes and of the calls that fail.
 pub fn sink_of(alloc: Global, args: &[Text]) -> Result<MemSink, Rejection> {
     let cut = cut_of(args, 0)?;
     Ok(MemSink::new(alloc, cut, fails_at(alloc, args, 1)?))
 }
 
-/// The numbers of the calls that fail, which an argument tells.
+/// Returns the numbers of the calls that fail, as an argument gives them.
 fn fails_at(alloc: Global, args: &[Text], i: usize) -> Result<Vec<u64>, Rejection> {
     numbers_of(alloc, arg(args, i)?)
 }
 
-/// A copy of some bytes.
+/// Returns a copy of some bytes.
 fn copied(alloc: Global, bytes: &[u8]) -> Result<Vec<u8>, Rejection> {
     Ok(bytes.to_vec(alloc)?)
 }
 
-/// The file of a name and its bytes.
+/// Returns the file of a name and its bytes.
 fn file_of(alloc: Global, file: &[Text]) -> Result<(String, Vec<u8>), Rejection> {
     let [name, bytes, ..] = file else {
         return Err(Rejection::NoCase);
@@ -68,7 +68,7 @@ fn file_of(alloc: Global, file: &[Text]) -> Result<(String, Vec<u8>), Rejection>
     Ok((name, copied(alloc, bytes.as_bytes())?))
 }
 
-/// The files of names and bytes in turn.
+/// Returns the files of names and bytes in turn.
 fn named_files(alloc: Global, words: &[Text]) -> Result<Vec<(String, Vec<u8>)>, Rejection> {
     let mut files = Vec::new(alloc);
     for file in words.chunks(2) {
@@ -77,14 +77,14 @@ fn named_files(alloc: Global, words: &[Text]) -> Result<Vec<(String, Vec<u8>)>, 
     Ok(files)
 }
 
-/// The files of the calls that fail and of names and bytes.
+/// Returns the files of the calls that fail and of names and bytes.
 pub fn files_of(alloc: Global, words: &[Text]) -> Result<MemFiles, Rejection> {
     let fails = fails_at(alloc, words, 0)?;
     let files = named_files(alloc, behind(words, 1))?;
     Ok(MemFiles::new(alloc, files, fails))
 }
 
-/// The inputs of connections.
+/// Returns the inputs of connections.
 fn inputs_of(alloc: Global, words: &[Text]) -> Result<Vec<Vec<u8>>, Rejection> {
     let mut inputs = Vec::new(alloc);
     for input in words {
@@ -93,8 +93,7 @@ fn inputs_of(alloc: Global, words: &[Text]) -> Result<Vec<Vec<u8>>, Rejection> {
     Ok(inputs)
 }
 
-/// The door of the most bytes that a read or a write moves, of the calls that fail, and of the inputs of the connections that
-/// wait at it.
+/// Returns the door with the most bytes of a read or a write, the calls that fail, and the inputs of the waiting connections.
 pub fn door_of(alloc: Global, words: &[Text]) -> Result<MemDoor, Rejection>
     ensures closed { IfOk result (λ door. is_some door.current ≡ false) }
 {

@@ -4,17 +4,17 @@ use crate::case::Answer;
 use std::alloc::{AllocError, Global};
 use std::fmt::Debug;
 
-/// The text of these characters.
+/// Returns the text of these characters.
 pub fn said(alloc: Global, word: &str) -> Answer {
     Ok(String::from_str(alloc, word)?)
 }
 
-/// A value in Rust's words.
+/// Returns a value in Rust's words.
 pub fn debug_word<T: Debug>(alloc: Global, value: &T) -> Answer {
     Ok(format!(in alloc; "{value:?}")?)
 }
 
-/// The upper-case hexadecimal digit of a number below 16.
+/// Returns the upper-case hexadecimal digit of a number below 16.
 fn hex_digit(number: u8) -> char {
     let front = if number < 10 { b'0' } else { b'A' - 10 };
     char::from(front.wrapping_add(number))
@@ -27,7 +27,7 @@ fn push_escape(word: &mut String, c: u8) -> Result<(), AllocError> {
     word.push(hex_digit(c & 15))
 }
 
-/// Appends what stands for a byte.
+/// Appends a byte, escaped if needed.
 pub fn push_shown(word: &mut String, c: u8) -> Result<(), AllocError> {
     if c.is_ascii_graphic() && c != b'\\' {
         word.push(char::from(c))

@@ -9,7 +9,7 @@ use gs_ident::{Identity, make};
 use std::alloc::Global;
 use vectors_cases::Rejection;
 
-/// The pair of a code and a value, which is in order.
+/// Returns the pair of a code and a value, which is valid.
 fn checked(alloc: Global, table: &AiTable, words: &[Text]) -> Result<Pair, Rejection>
     ensures { IfOk result (IsInOrder table.now) }
 {
@@ -25,7 +25,7 @@ fn checked(alloc: Global, table: &AiTable, words: &[Text]) -> Result<Pair, Rejec
     })
 }
 
-/// Pairs that are in order.
+/// Pairs that are valid.
 fn pairs_of(alloc: Global, table: &AiTable, words: &[Text]) -> Result<Vec<Pair>, Rejection>
     ensures { IfOk result (λ pairs. All (IsInOrder table.now) pairs.items) }
 {
@@ -36,7 +36,7 @@ fn pairs_of(alloc: Global, table: &AiTable, words: &[Text]) -> Result<Vec<Pair>,
     Ok(pairs)
 }
 
-/// The identity of the pairs.
+/// Returns the identity of the pairs.
 pub fn identity_of(alloc: Global, table: &AiTable, words: &[Text]) -> Result<Identity, Rejection>
     ensures { IfOk result (IsMadeWith table.now) }
 {

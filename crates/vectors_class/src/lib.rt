@@ -3,8 +3,8 @@
 //!
 //! - `load CLASSES`: the number of classes, or the rejection. `none`: the number of classes of the set of none.
 //! - `read CLASSES TEXT`: the canonical link of the identity that the text is a class URI of; or `NoReading`.
-//! - `write CLASSES PREFIXES GCP CODE VALUE ..`: the class URI of the identity, by a list of prefixes, or `-` for none, and the length
-//!   of the company prefix, or `-` for none; or the rejection.
+//! - `write CLASSES PREFIXES GCP CODE VALUE ..`: the class URI of the identity, by a list of prefixes and a company prefix
+//!   length, each `-` for none; or the rejection.
 #![tactic(auto)]
 
 ghost use Rattle.std.specs.Prelude.{IfOk};
@@ -36,7 +36,7 @@ const CALLS: [(&str, Call); 4] = [
     ("write", Call::Write),
 ];
 
-/// The classes of a document, or the built-in ones.
+/// Returns the classes of a document, or the built-in ones.
 fn loaded(alloc: Global, table: &AiTable, text: &[u8]) -> Result<ClassSet, ClassLoadFault>
     ensures { IfOk result (IsOfTable table.now) }
 {
@@ -47,7 +47,7 @@ fn loaded(alloc: Global, table: &AiTable, text: &[u8]) -> Result<ClassSet, Class
     }
 }
 
-/// The classes of a case that is no case without them.
+/// Returns the classes of a case that is not a case without them.
 fn classes_of(alloc: Global, table: &AiTable, args: &[Text]) -> Result<ClassSet, Rejection>
     ensures { IfOk result (IsOfTable table.now) }
 {
@@ -57,7 +57,7 @@ fn classes_of(alloc: Global, table: &AiTable, args: &[Text]) -> Result<ClassSet,
     }
 }
 
-/// The prefixes of a list, or none.
+/// Returns the prefixes of a list, or none.
 fn prefixes_of(alloc: Global, text: &[u8]) -> Result<PrefixList, Rejection> {
     if text == b"-".as_slice() {
         return Ok(PrefixList::empty(alloc));
@@ -68,7 +68,7 @@ fn prefixes_of(alloc: Global, text: &[u8]) -> Result<PrefixList, Rejection> {
     }
 }
 
-/// The length of the company prefix, where one is given.
+/// Returns the company prefix length, if it is given.
 fn length_of(args: &[Text]) -> Result<Option<u8>, Rejection> {
     if bytes_at(args, 2) == b"-".as_slice() {
         return Ok(None);
@@ -110,7 +110,7 @@ fn add_write_error(line: &mut Line, error: ClassWriteFault) {
     }
 }
 
-/// Answers the call `load`.
+/// Makes the call `load`.
 fn load(alloc: Global, line: &mut Line, table: &AiTable, args: &[Text]) -> Done {
     match loaded(alloc, table, bytes_at(args, 0)) {
         Ok(set) => line.debug(set.len()),
@@ -119,14 +119,14 @@ fn load(alloc: Global, line: &mut Line, table: &AiTable, args: &[Text]) -> Done 
     Ok(())
 }
 
-/// Answers the call `none`.
+/// Makes the call `none`.
 fn none(alloc: Global, line: &mut Line) -> Done {
     let set = ClassSet::none(alloc)?;
     line.debug(set.len());
     Ok(())
 }
 
-/// Answers the call `read`.
+/// Makes the call `read`.
 fn read(alloc: Global, line: &mut Line, table: &AiTable, args: &[Text]) -> Done {
     let set = classes_of(alloc, table, args)?;
     match read_class(alloc, &set, table, bytes_at(args, 1)) {
@@ -137,7 +137,7 @@ fn read(alloc: Global, line: &mut Line, table: &AiTable, args: &[Text]) -> Done 
     Ok(())
 }
 
-/// Answers the call `write`.
+/// Makes the call `write`.
 fn write(alloc: Global, line: &mut Line, table: &AiTable, args: &[Text]) -> Done {
     let set = classes_of(alloc, table, args)?;
     let prefixes = prefixes_of(alloc, bytes_at(args, 1))?;
@@ -161,7 +161,7 @@ fn answer_to(alloc: Global, line: &mut Line, table: &AiTable, call: &[u8], args:
     }
 }
 
-/// The answer to a call of gs_class, over these application identifiers.
+/// Returns the answer to a call of gs_class, over these application identifiers.
 pub fn answer(alloc: Global, ais: &AiTable, call: &str, args: &[Text]) -> Answer {
     let mut line = Line::new(alloc);
     let done = answer_to(alloc, &mut line, ais, call.as_bytes(), args);

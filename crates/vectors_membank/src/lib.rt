@@ -96,7 +96,7 @@ fn of_line(alloc: Global, line: &mut Line, set: &TableSet, call: Call, text: &[u
     Ok(())
 }
 
-/// Answers a call by a table set.
+/// Makes a call by a table set.
 fn by_set(alloc: Global, line: &mut Line, set: &TableSet, call: &[u8], text: &[u8]) -> Done {
     match named(&CALLS, call) {
         Some(Call::ReadDump) => of_text(alloc, line, set, Call::ReadDump, text),
@@ -107,7 +107,7 @@ fn by_set(alloc: Global, line: &mut Line, set: &TableSet, call: &[u8], text: &[u
     }
 }
 
-/// The set of a document, where it is one.
+/// Returns the set of a document, if it is one.
 fn set_of(alloc: Global, document: &[u8]) -> Result<TableSet, Rejection> {
     match TableSet::load(alloc, document) {
         Ok(set) => Ok(set),
@@ -116,7 +116,7 @@ fn set_of(alloc: Global, document: &[u8]) -> Result<TableSet, Rejection> {
     }
 }
 
-/// Answers a call by the tables of a document.
+/// Makes a call by the tables of a document.
 fn by_document(alloc: Global, line: &mut Line, document: &[u8], args: &[Text]) -> Done {
     let set = set_of(alloc, document)?;
     by_set(alloc, line, &set, bytes_at(args, 0), bytes_at(args, 1))
@@ -132,7 +132,7 @@ fn write(alloc: Global, line: &mut Line, set: &TableSet, call: &[u8], args: &[Te
     }
 }
 
-/// The answer to a call of gs_membank, over this table set.
+/// Returns the answer to a call of gs_membank, over this table set.
 pub fn answer(alloc: Global, set: &TableSet, call: &str, args: &[Text]) -> Answer {
     let mut line = Line::new(alloc);
     let done = write(alloc, &mut line, set, call.as_bytes(), args);

@@ -1,9 +1,9 @@
 //! The public calls of gs_merge, as cases of vectors name them, by the built-in table of application identifiers. The head of
 //! vectors_cases says how a case and an answer are written.
 //!
-//! - `merge DOC DOC`: what is written of the merged document of the stores of two linksets; or `TooMany`.
-//! - `many FORM A B SHARED`: the number of contexts and of targets of the merged document of two stores of A and of B links, of
-//!   which they share so many; or `TooMany`. See many.rt.
+//! - `merge DOC DOC`: the text of the merged document of the stores of two linksets; or `TooMany`.
+//! - `many FORM A B SHARED`: the number of contexts and of targets of the merged document of two stores of A and of B links that
+//!   share this many; or `TooMany`. See many.rt.
 #![tactic(auto)]
 
 mod many;
@@ -33,7 +33,7 @@ fn add_merged(alloc: Global, line: &mut Line, a: &Store, b: &Store) {
     }
 }
 
-/// Answers the call `merge`.
+/// Makes the call `merge`.
 fn merged(alloc: Global, line: &mut Line, table: &AiTable, args: &[Text]) -> Done {
     let a = store_of(alloc, table, bytes_at(args, 0))?;
     let b = store_of(alloc, table, bytes_at(args, 1))?;
@@ -50,7 +50,7 @@ fn write(alloc: Global, line: &mut Line, table: &AiTable, call: &[u8], args: &[T
     }
 }
 
-/// The answer to a call of gs_merge, over these application identifiers.
+/// Returns the answer to a call of gs_merge, over these application identifiers.
 pub fn answer(alloc: Global, ais: &AiTable, call: &str, args: &[Text]) -> Answer {
     let mut line = Line::new(alloc);
     let done = write(alloc, &mut line, ais, call.as_bytes(), args);

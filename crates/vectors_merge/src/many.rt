@@ -49,7 +49,7 @@ fn push_link(
     }
 }
 
-/// What stands before the links, and behind them.
+/// Returns the text before the links and after them.
 fn frame(form: Form) -> (&'static str, &'static str) {
     match form {
         Form::Each => ("{\"linkset\":[", "]}"),
@@ -60,7 +60,7 @@ fn frame(form: Form) -> (&'static str, &'static str) {
     }
 }
 
-/// The document of so many links, from this on.
+/// Returns the document of that many links, from this on.
 fn linkset(alloc: Global, form: Form, first: u64, count: u64) -> Answer {
     let (opening, closing) = frame(form);
     let mut text = said(alloc, opening)?;
@@ -72,7 +72,7 @@ fn linkset(alloc: Global, form: Form, first: u64, count: u64) -> Answer {
     Ok(text)
 }
 
-/// The store of so many links, from this on.
+/// Returns the store of that many links, from this on.
 fn store(
     alloc: Global,
     table: &AiTable,
@@ -84,7 +84,7 @@ fn store(
     store_of(alloc, table, text.as_bytes())
 }
 
-/// How many targets a context has.
+/// Returns how many targets a context has.
 fn targets(context: &Context) -> usize {
     let mut count: usize = 0;
     for relation in context.relations.items() {
@@ -111,7 +111,7 @@ fn add_merged(alloc: Global, line: &mut Line, a: &Store, b: &Store) {
     }
 }
 
-/// Answers the call.
+/// Makes the call.
 pub fn answer(alloc: Global, line: &mut Line, table: &AiTable, args: &[Text]) -> Done {
     let Some(form) = named(&FORMS, bytes_at(args, 0)) else {
         return Err(Rejection::NoCase);

@@ -10,7 +10,7 @@ use vectors_cases::{Line, Rejection};
 /// What `gs1:` stands for.
 const VOC: &[u8] = b"https://ref.gs1.org/voc/";
 
-/// The linkset of a text.
+/// Returns the linkset of a text.
 fn doc_of(alloc: Global, text: &[u8]) -> Result<LinkDoc, Rejection> {
     match gs_linkset::read(alloc, text) {
         Ok(doc) => Ok(doc),
@@ -18,7 +18,7 @@ fn doc_of(alloc: Global, text: &[u8]) -> Result<LinkDoc, Rejection> {
     }
 }
 
-/// The store of a linkset.
+/// Returns the store of a linkset.
 pub fn store_of(alloc: Global, table: &AiTable, text: &[u8]) -> Result<Store, Rejection> {
     match Store::load(alloc, table, VOC, doc_of(alloc, text)?) {
         Ok(store) => Ok(store),

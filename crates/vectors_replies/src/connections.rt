@@ -1,8 +1,9 @@
 //! Calls of gs_http over connections in memory. STORE is as in site.rt, and no description is served.
 //!
-//! - `serve STORE / CUT FAILS BYTES / CUT FAILS`: how serving the input ended, and what was written.
-//! - `cuts STORE BYTES`: the same, where it is the same for reads and writes of 1 byte, of 2, and so on up to all; else `differ`.
-//! - `many STORE COUNT HEAD`: how serving so many heads ended, how many bytes were written, and the last 64 of these.
+//! - `serve STORE / CUT FAILS BYTES / CUT FAILS`: the end of serving the input, and the written bytes.
+//! - `cuts STORE BYTES`: the same, if it is the same for reads and writes of 1 byte, of 2, and so on up to all; otherwise
+//!   `differ`.
+//! - `many STORE COUNT HEAD`: how serving that many heads ended, how many bytes were written, and the last 64 of these.
 
 ghost use Rattle.std.specs.Prelude.{◌<◌};
 
@@ -14,7 +15,7 @@ use gs_port::{MemSink, MemSource, Pair};
 use std::alloc::Global;
 use vectors_cases::{Answer, Done, Line, Rejection, bytes_at, number, section, sink_of, source_of};
 
-/// How serving ends. Apart from what becomes of it, since it promises much.
+/// Serves the input. A function of its own, since its contract is large.
 fn served(
     alloc: Global,
     table: &AiTable,
@@ -26,13 +27,13 @@ fn served(
     serve_one(alloc, &mut conn, table, &site.store, &site.settings)
 }
 
-/// Writes how serving ended, and what was written.
+/// Writes the end of serving, and the written bytes.
 fn add_outcome(line: &mut Line, ended: Served, written: &[u8]) {
     line.debug(ended);
     line.bytes(written);
 }
 
-/// Answers a call of `serve`.
+/// Makes a call of `serve`.
 pub fn serve(alloc: Global, line: &mut Line, table: &AiTable, site: &Site, args: &[Text]) -> Done {
     let from = section(args, 1)?;
     let to = section(args, 2)?;
@@ -43,7 +44,7 @@ pub fn serve(alloc: Global, line: &mut Line, table: &AiTable, site: &Site, args:
     Ok(())
 }
 
-/// Writes the outcome where reads and writes move at most so many bytes.
+/// Writes the outcome if reads and writes move at most `cut` bytes.
 fn add_at_cut(
     alloc: Global,
     line: &mut Line,
@@ -61,7 +62,7 @@ fn add_at_cut(
     Ok(())
 }
 
-/// The outcome where reads and writes move at most so many bytes.
+/// Returns the outcome if reads and writes move at most `cut` bytes.
 fn at_cut(alloc: Global, table: &AiTable, site: &Site, bytes: &[u8], cut: usize) -> Answer
     requires { 0 < cut }
 {
@@ -70,7 +71,7 @@ fn at_cut(alloc: Global, table: &AiTable, site: &Site, bytes: &[u8], cut: usize)
     line.finish(done)
 }
 
-/// Whether an outcome is another than this one.
+/// Returns whether an outcome is another than this one.
 fn differs(outcome: Answer, whole: &str) -> Result<bool, Rejection> {
     let outcome = outcome?;
     Ok(outcome.as_str() != whole)
@@ -96,7 +97,7 @@ fn add_alike(
     Ok(())
 }
 
-/// Answers a call of `cuts`.
+/// Makes a call of `cuts`.
 pub fn over_cuts(
     alloc: Global,
     line: &mut Line,
@@ -108,7 +109,7 @@ pub fn over_cuts(
     add_alike(alloc, line, table, site, bytes, whole.as_str())
 }
 
-/// So many copies of a head.
+/// That many copies of a head.
 fn repeated(alloc: Global, count: u64, head: &[u8]) -> Result<Vec<u8>, Rejection> {
     let mut bytes = Vec::new(alloc);
     for _ in 0..count {
@@ -117,14 +118,14 @@ fn repeated(alloc: Global, count: u64, head: &[u8]) -> Result<Vec<u8>, Rejection
     Ok(bytes)
 }
 
-/// Writes how serving ended, how many bytes were written, and the last 64 of these.
+/// Writes the end of serving, how many bytes were written, and the last 64 of these.
 fn add_summary(line: &mut Line, ended: Served, written: &[u8]) {
     line.debug(ended);
     line.debug(written.len());
     line.bytes(&written[written.len() - written.len().min(64)..]);
 }
 
-/// Answers a call of `many`.
+/// Makes a call of `many`.
 pub fn many(alloc: Global, line: &mut Line, table: &AiTable, site: &Site, args: &[Text]) -> Done {
     let bytes = repeated(alloc, number(args, 1)?, bytes_at(args, 2))?;
     let mut input = MemSource::new(alloc, bytes, 65_536, Vec::new(alloc));

@@ -1,7 +1,7 @@
 //! A call of gs_http over heads, by the built-in table of application identifiers. STORE is as in site.rt.
 //!
 //! - `reply STORE DESCRIBE LAST HEAD TEMPLATES`, with DESCRIBE the resolver description file or `-`, LAST `last` or `-`, and
-//!   `templates` behind them where references are templates: the bytes of the reply, and `closes` or `stays`.
+//!   `templates` after them if target URIs are templates: the bytes of the reply, and `closes` or `stays`.
 
 use crate::site::Site;
 use gs_ai::AiTable;
@@ -10,7 +10,7 @@ use gs_http::reply;
 use std::alloc::Global;
 use vectors_cases::{Done, Line, bytes_at};
 
-/// Answers a call of `reply`.
+/// Makes a call of `reply`.
 pub fn replied(
     alloc: Global,
     line: &mut Line,

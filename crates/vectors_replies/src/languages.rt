@@ -7,7 +7,7 @@ use gs_http::language_ranges;
 use std::alloc::Global;
 use vectors_cases::{Done, Line};
 
-/// Answers a call of `language_ranges`.
+/// Makes a call of `language_ranges`.
 pub fn ranges(alloc: Global, line: &mut Line, args: &[Text]) -> Done {
     let ranges = language_ranges(alloc, args)?;
     line.debug(ranges.items().len());

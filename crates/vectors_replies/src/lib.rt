@@ -44,7 +44,7 @@ const CALLS: [(&str, Call); 5] = [
 
 const SERVER_CALLS: [(&str, Call); 1] = [("resolve", Call::Site(SiteCall::Resolve))];
 
-/// The call of a name in a library.
+/// Returns the call of a name in a library.
 fn call_of(library: &str, call: &[u8]) -> Option<Call> {
     match library {
         "tdl_serve" => named(&SERVER_CALLS, call),
@@ -52,7 +52,7 @@ fn call_of(library: &str, call: &[u8]) -> Option<Call> {
     }
 }
 
-/// The resolver description file of a call, a hyphen where it takes none.
+/// Returns the resolver description file of a call, a hyphen if it takes none.
 fn description(call: SiteCall, args: &[Text]) -> &[u8] {
     match call {
         SiteCall::Reply => bytes_at(args, 1),
@@ -60,7 +60,7 @@ fn description(call: SiteCall, args: &[Text]) -> &[u8] {
     }
 }
 
-/// Whether references are templates.
+/// Returns whether references are templates.
 fn has_templates(call: SiteCall, args: &[Text]) -> bool {
     match call {
         SiteCall::Reply => bytes_at(args, 4) == b"templates".as_slice(),
@@ -108,7 +108,7 @@ fn write(alloc: Global, line: &mut Line, ais: &AiTable, call: Option<Call>, args
     }
 }
 
-/// The answer to a call of gs_http or tdl_serve, over these application identifiers.
+/// Returns the answer to a call of gs_http or tdl_serve, over these application identifiers.
 pub fn answer(alloc: Global, ais: &AiTable, library: &str, call: &str, args: &[Text]) -> Answer {
     let mut line = Line::new(alloc);
     let done = write(

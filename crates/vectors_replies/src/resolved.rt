@@ -1,6 +1,6 @@
 //! Calls of tdl_serve over objects in memory. STORE is as in site.rt, and no description is served.
 //!
-//! - `resolve STORE / CUT FAILS BYTES / CUT FAILS`: the status, and what was written.
+//! - `resolve STORE / CUT FAILS BYTES / CUT FAILS`: the status, and the written bytes.
 
 use crate::site::Site;
 use gs_ai::AiTable;
@@ -11,7 +11,7 @@ use tdl_lines::Status;
 use tdl_serve::resolve;
 use vectors_cases::{Done, Line, section, sink_of, source_of};
 
-/// How resolving ends. Apart from what becomes of it, since it promises much.
+/// Returns the status. A separate function, since the contract of the call is large.
 fn status_of(
     alloc: Global,
     table: &AiTable,
@@ -27,7 +27,7 @@ fn status_of(
     resolve(alloc, &site, input, output)
 }
 
-/// Answers a call of `resolve`.
+/// Makes a call of `resolve`.
 pub fn resolved(
     alloc: Global,
     line: &mut Line,

@@ -1,5 +1,5 @@
-//! What requests are answered from. STORE is the name of a linkset that stands in this file, or the text of one. `gs1:` stands
-//! for https://ref.gs1.org/voc/.
+//! What requests are answered from. STORE is the name of a linkset that is in this file, or the text of one. `gs1:` stands for
+//! https://ref.gs1.org/voc/.
 
 use gs_ai::AiTable;
 use gs_chars::Text;
@@ -12,7 +12,7 @@ use vectors_cases::{Rejection, named};
 /// What `gs1:` stands for.
 const VOC: &[u8] = b"https://ref.gs1.org/voc/";
 
-/// A trade item with a default link and product information, and a lot of it with a link of its own.
+/// A trade item with a default link and product information, and a lot of it that has its own link.
 const LOTS: &[u8] =
     br#"{"linkset":[{"anchor":"https://id.gs1.org/01/09506000134352","gs1:defaultLink":[{"href":"https://example.com/p"}],"gs1:pip":[{"href":"https://example.com/pip"}]},{"anchor":"/01/09506000134352/10/ABC","gs1:defaultLink":[{"href":"https://example.com/lot"}]}]}"#;
 
@@ -33,12 +33,12 @@ pub struct Site {
     pub settings: Settings,
 }
 
-/// The linkset of a name, or the text itself.
+/// Returns the linkset of a name, or the text itself.
 fn linkset_of(name: &[u8]) -> &[u8] {
     named(&LINKSETS, name).unwrap_or(name)
 }
 
-/// The linkset of a text.
+/// Returns the linkset of a text.
 fn doc_of(alloc: Global, text: &[u8]) -> Result<LinkDoc, Rejection> {
     match gs_linkset::read(alloc, text) {
         Ok(doc) => Ok(doc),
@@ -46,7 +46,7 @@ fn doc_of(alloc: Global, text: &[u8]) -> Result<LinkDoc, Rejection> {
     }
 }
 
-/// The store of a linkset.
+/// Returns the store of a linkset.
 fn store_of(alloc: Global, table: &AiTable, text: &[u8]) -> Result<Store, Rejection> {
     match Store::load(alloc, table, VOC, doc_of(alloc, text)?) {
         Ok(store) => Ok(store),
@@ -54,7 +54,7 @@ fn store_of(alloc: Global, table: &AiTable, text: &[u8]) -> Result<Store, Reject
     }
 }
 
-/// The description, none where it is a hyphen.
+/// Returns the description, none if it is a hyphen.
 fn described(alloc: Global, describe: &[u8]) -> Result<Option<Text>, Rejection> {
     if describe == b"-".as_slice() {
         return Ok(None);
@@ -62,7 +62,7 @@ fn described(alloc: Global, describe: &[u8]) -> Result<Option<Text>, Rejection> 
     Ok(Some(Text::from_bytes(alloc, describe)?))
 }
 
-/// The settings with this description, or with none where it is a hyphen.
+/// Returns the settings with this description, or with none if it is a hyphen.
 fn settings_of(alloc: Global, describe: &[u8], templates: bool) -> Result<Settings, Rejection> {
     let describe = described(alloc, describe)?;
     let voc = Text::from_bytes(alloc, VOC)?;
@@ -73,7 +73,7 @@ fn settings_of(alloc: Global, describe: &[u8], templates: bool) -> Result<Settin
     })
 }
 
-/// The site of a STORE and a description, the latter a hyphen where there is none; its references are templates or are not.
+/// Returns the site of a STORE and a description, the latter a hyphen if there is none; its target URIs may be templates.
 pub fn site_of(
     alloc: Global,
     table: &AiTable,
@@ -82,7 +82,7 @@ pub fn site_of(
     templates: bool,
 ) -> Result<Site, Rejection> {
     let settings = settings_of(alloc, describe, templates)?;
-    // the store last, since its drop is long and would be written out at each exit behind it
+    // the store last, since its drop is long and would be written out at each exit after it
     let store = store_of(alloc, table, linkset_of(store))?;
     Ok(Site { store, settings })
 }

@@ -1,7 +1,7 @@
 //! Calls of tdl_arguments.
 //!
-//! - `read_arguments ARG..`: the filter value, the number of digits of a company prefix, the name of an encoding, whether keys alone
-//!   are kept, and the stem that the arguments ask for, or `Usage`.
+//! - `read_arguments ARG..`: the filter value, the number of digits of a company prefix, the name of an encoding, whether only
+//!   keys are kept, and the stem that the arguments ask for, or `Usage`.
 
 use crate::runs::strings_of;
 use gs_chars::Text;
@@ -9,7 +9,7 @@ use std::alloc::Global;
 use tdl_arguments::{NamedValues, read_arguments};
 use vectors_cases::{Done, Line, Rejection};
 
-/// Answers a call of tdl_arguments.
+/// Makes a call of tdl_arguments.
 pub fn answer(alloc: Global, line: &mut Line, call: &[u8], args: &[Text]) -> Done {
     match call {
         b"read_arguments" => read(alloc, line, args),

@@ -3,7 +3,7 @@
 //!
 //! - `pair CUT FAILS BYTES / CUT FAILS`: what three turns over a source and a sink answer, then the bytes that the sink holds.
 //! - `door CUT FAILS INPUT..`: what an open answers and, where it is opened, what each of three accepts answers, or the three
-//!   turns of the connection, which is then finished; then the number of finished connections, and what each was written.
+//!   turns of the connection, which is then finished; then the number of finished connections, and the bytes written to each.
 
 ghost use Rattle.std.specs.Prelude.{◌≡◌, false, true, is_some};
 
@@ -46,7 +46,7 @@ fn add_paired(line: &mut Line, source: &mut MemSource, sink: &mut MemSink) {
     add_turns(line, &mut Pair::new(source, sink));
 }
 
-/// Answers a call of `pair`.
+/// Makes a call of `pair`.
 pub fn pair(alloc: Global, line: &mut Line, args: &[Text]) -> Done {
     let from = section(args, 0)?;
     let to = section(args, 1)?;
@@ -74,7 +74,7 @@ fn add_visit(line: &mut Line, door: &mut MemDoor)
     }
 }
 
-/// Writes the number of finished connections, and what each was written.
+/// Writes the number of finished connections, and the bytes written to each.
 pub fn add_finished(line: &mut Line, door: &MemDoor) {
     line.debug(door.finished());
     for i in 0..door.finished() {
@@ -93,7 +93,7 @@ fn add_visits(line: &mut Line, door: &mut MemDoor)
     add_finished(line, door);
 }
 
-/// Answers a call of `door`.
+/// Makes a call of `door`.
 pub fn door(alloc: Global, line: &mut Line, args: &[Text]) -> Done {
     let mut door = door_of(alloc, args)?;
     match door.open("memory") {

@@ -24,7 +24,7 @@ fn add_opened(line: &mut Line, files: &mut MemFiles, name: &str) {
     }
 }
 
-/// Answers a call of `open`.
+/// Makes a call of `open`.
 pub fn open(alloc: Global, line: &mut Line, args: &[Text]) -> Done {
     let known = section(args, 0)?;
     let names = section(args, 1)?;
@@ -35,7 +35,7 @@ pub fn open(alloc: Global, line: &mut Line, args: &[Text]) -> Done {
     Ok(())
 }
 
-/// Writes a word, and the bytes of a file behind it.
+/// Writes a word, and the bytes of a file after it.
 fn add_file(line: &mut Line, word: &str, text: Text) {
     line.plain(word);
     line.text(text);
@@ -62,7 +62,7 @@ fn add_one(alloc: Global, line: &mut Line, files: &mut MemFiles, known: &[Text])
     Ok(())
 }
 
-/// Answers a call of `read_file`.
+/// Makes a call of `read_file`.
 pub fn read_files(alloc: Global, line: &mut Line, args: &[Text]) -> Done {
     let known = section(args, 0)?;
     let wanted = section(args, 1)?;

@@ -1,6 +1,6 @@
 //! Calls of tdl_gen, by the built-in tables.
 //!
-//! - `generate LINES / CUT FAILS`: the status, and what the output holds.
+//! - `generate LINES / CUT FAILS`: the status, and the output.
 
 use crate::runs::add_status;
 use gs_chars::Text;
@@ -11,7 +11,7 @@ use tdl_gen::generate;
 use tdl_lines::Status;
 use vectors_cases::{Done, Line, Rejection, number, section, sink_of};
 
-/// Answers a call of tdl_gen.
+/// Makes a call of tdl_gen.
 pub fn answer(alloc: Global, line: &mut Line, set: &TableSet, call: &[u8], args: &[Text]) -> Done {
     match call {
         b"generate" => generated(alloc, line, set, args),
@@ -19,9 +19,9 @@ pub fn answer(alloc: Global, line: &mut Line, set: &TableSet, call: &[u8], args:
     }
 }
 
-/// How the generation ends. Apart from what becomes of it, since it promises much.
+/// Returns the status. A separate function, since the contract of the call is large.
 fn status_of(alloc: Global, set: &TableSet, lines: u32, output: &mut MemSink) -> Status {
-    // the proof alone reads it: what holds of the set
+    // only for the proof: the facts of the set
     let _ = set.level(LevelName::Binary);
     generate(alloc, set, lines, output)
 }

@@ -64,7 +64,7 @@ fn write(
     }
 }
 
-/// The answer to a call over objects in memory, of the line loop, or to a whole run, by the table set where it takes one.
+/// Returns the answer to a call over objects in memory, of the line loop, or to a whole run, by the table set if it needs one.
 pub fn answer(alloc: Global, set: &TableSet, library: &str, call: &str, args: &[Text]) -> Answer {
     let mut line = Line::new(alloc);
     let done = write(

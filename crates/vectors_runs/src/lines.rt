@@ -1,7 +1,7 @@
 //! Calls of tdl_lines over objects in memory, with each text that is not long as its own answer.
 //!
-//! - `answer_lines LIMIT / CUT FAILS BYTES / CUT FAILS`: the status, what the output holds, and what is left of the input.
-//! - `print_line LINE / CUT FAILS`: the status, and what the output holds.
+//! - `answer_lines LIMIT / CUT FAILS BYTES / CUT FAILS`: the status, the output, and the rest of the input.
+//! - `print_line LINE / CUT FAILS`: the status, and the output.
 
 ghost use Rattle.std.specs.Prelude.{◌<◌, ◌^◌, IfOk};
 
@@ -55,7 +55,7 @@ const CALLS: [(&str, Call); 2] = [
     ("print_line", Call::PrintLine),
 ];
 
-/// Answers a call of tdl_lines.
+/// Makes a call of tdl_lines.
 pub fn answer(alloc: Global, line: &mut Line, call: &[u8], args: &[Text]) -> Done {
     match named(&CALLS, call) {
         Some(Call::AnswerLines) => answered(alloc, line, args),
@@ -64,7 +64,7 @@ pub fn answer(alloc: Global, line: &mut Line, call: &[u8], args: &[Text]) -> Don
     }
 }
 
-/// The number of an argument, which is the most bytes that are answered.
+/// Returns the number of an argument, which is the most bytes that are answered.
 pub fn limit_at(args: &[Text], i: usize) -> Result<u64, Rejection>
     ensures { IfOk result (λ limit. limit < 2 ^ 63) }
 {
@@ -75,7 +75,7 @@ pub fn limit_at(args: &[Text], i: usize) -> Result<u64, Rejection>
     Ok(limit)
 }
 
-/// How the answering of lines ends. Apart from what becomes of it, since it promises much.
+/// Returns the status. A separate function, since the contract of the call is large.
 fn status_of(alloc: Global, input: &mut MemSource, output: &mut MemSink, limit: u64) -> Status
     requires { limit < 2 ^ 63 }
 {

@@ -6,7 +6,7 @@ use gs_chars::Text;
 use std::alloc::Global;
 use vectors_cases::{Done, Line, Rejection};
 
-/// Answers a call of gs_port_memory.
+/// Makes a call of gs_port_memory.
 pub fn answer(alloc: Global, line: &mut Line, call: &[u8], args: &[Text]) -> Done {
     match call {
         b"door" => door(alloc, line, args),

@@ -8,7 +8,7 @@ use std::alloc::Global;
 use tdl_messages::{FileFault, FileKind, Rejection as FileRejection, rejected_line};
 use vectors_cases::{Done, Line, Rejection, bytes_at};
 
-/// Answers a call of tdl_messages.
+/// Makes a call of tdl_messages.
 pub fn answer(alloc: Global, line: &mut Line, call: &[u8], args: &[Text]) -> Done {
     match call {
         b"rejected_line" => add_rejected(alloc, line, bytes_at(args, 0)),
@@ -16,7 +16,7 @@ pub fn answer(alloc: Global, line: &mut Line, call: &[u8], args: &[Text]) -> Don
     }
 }
 
-/// Why tables are rejected.
+/// Returns why tables are rejected.
 fn error_of(alloc: Global, document: &[u8]) -> Result<LoadFault, Rejection> {
     match TableSet::load(alloc, document) {
         Ok(_) => Err(Rejection::NoCase),

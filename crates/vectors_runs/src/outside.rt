@@ -4,7 +4,7 @@
 //! - `write CUT FAILS PIECE..`: what a write of each piece answers, then the bytes that the sink holds.
 //! - `write_whole CUT FAILS PIECE..`: the same for each piece written whole.
 //!
-//! The call over files, `read_file`, stands in files.rt, and `pair` in connections.rt.
+//! The call over files, `read_file`, is in files.rt, and `pair` in connections.rt.
 
 ghost use Rattle.std.specs.Prelude.{◌<◌};
 
@@ -32,7 +32,7 @@ const CALLS: [(&str, Call); 5] = [
     ("write_whole", Call::WriteWhole),
 ];
 
-/// Answers a call of gs_port.
+/// Makes a call of gs_port.
 pub fn answer(alloc: Global, line: &mut Line, call: &[u8], args: &[Text]) -> Done {
     match named(&CALLS, call) {
         Some(Call::Pair) => pair(alloc, line, args),
@@ -52,7 +52,7 @@ pub fn add_moved(line: &mut Line, moved: ReadAnswer, block: &[u8]) {
     }
 }
 
-/// Writes what reads of so many bytes move or answer, up to the end.
+/// Writes what reads of that many bytes move or answer, up to the end.
 fn add_reads(line: &mut Line, source: &mut MemSource, size: usize)
     requires { 0 < size }
 {

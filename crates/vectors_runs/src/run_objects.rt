@@ -9,7 +9,7 @@ use std::alloc::Global;
 use tdl_run::{Status, run};
 use vectors_cases::{Rejection, door_of, files_of, section, sink_of, source_of};
 
-/// What a run is over.
+/// The objects of a run.
 pub struct RunObjects {
     pub files: MemFiles,
     pub input: MemSource,
@@ -30,7 +30,7 @@ impl Drop for RunObjects {
 }
 
 impl RunObjects {
-    /// How a run with these words ends. Apart from what becomes of it, since a run promises much.
+    /// Returns the status of a run with these words. A separate function, since the contract of `run` is large.
     pub fn run(&mut self, alloc: Global, words: &[String]) -> Status
         requires { is_some self.old.door.current ≡ false }
     {
@@ -45,14 +45,14 @@ impl RunObjects {
     }
 }
 
-/// A door at which no connection waits.
+/// Returns a door with no waiting connection.
 pub fn no_door(alloc: Global) -> Result<MemDoor, Rejection>
     ensures { IfOk result (λ door. is_some door.current ≡ false) }
 {
     Ok(MemDoor::new(alloc, Vec::new(alloc), 1, Vec::new(alloc))?)
 }
 
-/// The door of a run, at which no connection waits where none is known.
+/// Returns the door of a run, with no waiting connection if none is known.
 fn door_behind(alloc: Global, args: &[Text]) -> Result<MemDoor, Rejection>
     ensures { IfOk result (λ door. is_some door.current ≡ false) }
 {
@@ -74,7 +74,7 @@ fn output_at(alloc: Global, args: &[Text]) -> Result<MemSink, Rejection> {
     sink_of(alloc, section(args, 3)?)
 }
 
-/// The objects of a run over this input and at this door.
+/// Returns the objects of a run over this input and at this door.
 pub fn objects_over(
     alloc: Global,
     args: &[Text],
@@ -94,7 +94,7 @@ pub fn objects_over(
     })
 }
 
-/// The objects of a run.
+/// Returns the objects of a run.
 pub fn objects_of(alloc: Global, args: &[Text]) -> Result<RunObjects, Rejection>
     ensures { IfOk result (λ objects. is_some objects.door.current ≡ false) }
 {

@@ -1,9 +1,9 @@
-//! Calls of tdl_run over objects in memory. Those of `answer_lines` stand in translated_lines.rt.
+//! Calls of tdl_run over objects in memory. Those of `answer_lines` are in translated_lines.rt.
 //!
-//! - `run WORD.. / FAILS NAME BYTES .. / CUT FAILS BYTES / CUT FAILS`: a whole run with these words, over these files, this
-//!   input and an empty output, of which a read and a write move at most CUT bytes, and whose calls of the numbers FAILS fail:
-//!   the status, what the output holds, and what is left of the input. Behind `/ CUT FAILS INPUT..`, a door with the inputs of
-//!   the connections that wait at it, stand too the number of finished connections, and what each was written.
+//! - `run WORD.. / FAILS NAME BYTES .. / CUT FAILS BYTES / CUT FAILS`: a whole run with these words, over these files, this input
+//!   and an empty output, of which a read and a write move at most CUT bytes, and whose calls of the numbers FAILS fail: the
+//!   status, the output, and the rest of the input. After `/ CUT FAILS INPUT..`, a door with the inputs of the connections that
+//!   wait at it, stand too the number of finished connections, and the bytes written to each.
 //! - `opened WORD.. / ..`: of such a run the status, the names of the files that were opened, and the addresses at which the door
 //!   was to be opened.
 //! - `repeated WORD.. / FAILS NAME BYTES .. / CUT LINE COUNT / CUT FAILS`: the same over COUNT copies of a line, each with a
@@ -40,7 +40,7 @@ const CALLS: [(&str, Call); 5] = [
     ("run", Call::Run),
 ];
 
-/// Answers a call of tdl_run.
+/// Makes a call of tdl_run.
 pub fn answer(alloc: Global, line: &mut Line, set: &TableSet, call: &[u8], args: &[Text]) -> Done {
     match named(&CALLS, call) {
         Some(Call::AnswerCopies) => answered_copies(alloc, line, set, args),
@@ -56,7 +56,7 @@ fn string_of(alloc: Global, word: &[u8]) -> Result<String, Rejection> {
     said(alloc, text_of(word)?)
 }
 
-/// The strings of words.
+/// Returns the strings of words.
 pub fn strings_of(alloc: Global, words: &[Text]) -> Result<Vec<String>, Rejection> {
     let mut strings = Vec::new(alloc);
     for word in words {
@@ -65,12 +65,12 @@ pub fn strings_of(alloc: Global, words: &[Text]) -> Result<Vec<String>, Rejectio
     Ok(strings)
 }
 
-/// The words of a run.
+/// Returns the words of a run.
 fn words_at(alloc: Global, args: &[Text]) -> Result<Vec<String>, Rejection> {
     strings_of(alloc, section(args, 0)?)
 }
 
-/// What is left of an input.
+/// Returns the rest of an input.
 fn left_of(alloc: Global, input: &mut MemSource) -> Result<Vec<u8>, Rejection> {
     let mut left = Vec::new(alloc);
     for _ in 0..1_000_000 {
@@ -84,13 +84,13 @@ fn left_of(alloc: Global, input: &mut MemSource) -> Result<Vec<u8>, Rejection> {
     Ok(left)
 }
 
-/// Writes a status, and what an output holds.
+/// Writes a status, and the output.
 pub fn add_status(line: &mut Line, status: Status, written: &[u8]) {
     line.debug(status);
     line.bytes(written);
 }
 
-/// Writes the status, what an output holds, and what is left of an input.
+/// Writes the status, the output, and the rest of an input.
 pub fn add_outcome(
     alloc: Global,
     line: &mut Line,
@@ -104,7 +104,7 @@ pub fn add_outcome(
     Ok(())
 }
 
-/// Writes what became of a run: its outcome and, where a door is known, its finished connections.
+/// Writes the result of a run: its outcome and, if a door is known, its finished connections.
 fn add_known(
     alloc: Global,
     line: &mut Line,
@@ -126,7 +126,7 @@ fn ran(alloc: Global, line: &mut Line, args: &[Text]) -> Done {
     add_known(alloc, line, args, status, &mut objects)
 }
 
-/// Writes names in brackets, where they are known.
+/// Writes names in brackets, if they are known.
 fn add_names(line: &mut Line, names: Option<&[Text]>) {
     match names {
         Some(names) => line.bracketed(names),
@@ -149,7 +149,7 @@ fn push_line(bytes: &mut Vec<u8>, line: &[u8]) -> Result<(), Rejection> {
     Ok(bytes.push(b'\n')?)
 }
 
-/// So many copies of a line, each with a line feed.
+/// That many copies of a line, each with a line feed.
 fn copies(alloc: Global, line: &[u8], count: u64) -> Result<Vec<u8>, Rejection> {
     let mut bytes = Vec::new(alloc);
     for _ in 0..count {
@@ -158,7 +158,7 @@ fn copies(alloc: Global, line: &[u8], count: u64) -> Result<Vec<u8>, Rejection> 
     Ok(bytes)
 }
 
-/// The number of lines that are equal to this one.
+/// Returns the number of lines that are equal to this one.
 fn lines_equal(bytes: &[u8], line: &[u8]) -> u64 {
     let mut count: u64 = 0;
     for other in bytes.split(|c| *c == b'\n') {
@@ -178,14 +178,14 @@ pub fn add_counted(line: &mut Line, status: Status, output: &[u8]) {
     line.bytes(first);
 }
 
-/// The input of copies of a line.
+/// Returns the input of copies of a line.
 pub fn copies_of(alloc: Global, lines: &[Text]) -> Result<MemSource, Rejection> {
     let cut = cut_of(lines, 0)?;
     let bytes = copies(alloc, bytes_at(lines, 1), number(lines, 2)?)?;
     Ok(MemSource::new(alloc, bytes, cut, Vec::new(alloc)))
 }
 
-/// The objects of a run over copies of a line.
+/// Returns the objects of a run over copies of a line.
 fn objects_of_copies(alloc: Global, args: &[Text]) -> Result<RunObjects, Rejection>
     ensures { IfOk result (λ objects. is_some objects.door.current ≡ false) }
 {

@@ -1,8 +1,8 @@
 //! Calls of `answer_lines` of tdl_run over objects in memory, by the built-in tables. The arguments before the first `/` are those
 //! of `translate` in crates/vectors_texts/src/translations.rt without the text, and the limit.
 //!
-//! - `answer_lines FORM TARGET FILTER GCP ENCODING KEYS STEM DOC LIMIT / CUT FAILS BYTES / CUT FAILS`: the status, what the output
-//!   holds, and what is left of the input.
+//! - `answer_lines FORM TARGET FILTER GCP ENCODING KEYS STEM DOC LIMIT / CUT FAILS BYTES / CUT FAILS`: the status, the output,
+//!   and the rest of the input.
 //! - `answer_copies FORM TARGET FILTER GCP ENCODING KEYS STEM DOC LIMIT / CUT LINE COUNT / CUT FAILS`: the same over COUNT copies
 //!   of a line, each with a line feed: the status, how many bytes the output holds, how many of its lines are equal to the first,
 //!   and that line.
@@ -22,7 +22,7 @@ use tdl_run::{Status, answer_lines};
 use vectors_cases::{Done, Line, Rejection, behind, bytes_at, section, sink_of, source_of};
 use vectors_texts::{form_of, list_of, options_of, target_of};
 
-/// What lines are translated by beside the tables, and from which form to which.
+/// The options and forms of a translation of lines.
 struct Translation {
     prefixes: PrefixList,
     options: Options,
@@ -42,7 +42,7 @@ impl Drop for Translation {
     }
 }
 
-/// The translation that arguments name.
+/// Returns the translation that arguments name.
 fn translation_of(alloc: Global, args: &[Text]) -> Result<Translation, Rejection>
     ensures { IfOk result (λ translation. AreInOrder translation.options) }
 {
@@ -62,7 +62,7 @@ fn translation_of(alloc: Global, args: &[Text]) -> Result<Translation, Rejection
     })
 }
 
-/// How the answering of lines ends. Apart from what becomes of it, since it promises much.
+/// Returns the status. A separate function, since the contract of the call is large.
 fn status_of(
     alloc: Global,
     set: &TableSet,
@@ -87,7 +87,7 @@ fn status_of(
     )
 }
 
-/// How the answering of the lines of an input ends, by the arguments.
+/// Returns the status of answering the lines of an input, by the arguments.
 fn status_over(
     alloc: Global,
     set: &TableSet,
@@ -100,7 +100,7 @@ fn status_over(
     Ok(status_of(alloc, set, &by, limit, input, output))
 }
 
-/// Answers a call of `answer_lines`.
+/// Makes a call of `answer_lines`.
 pub fn answered(alloc: Global, line: &mut Line, set: &TableSet, args: &[Text]) -> Done {
     let from = section(args, 1)?;
     let to = section(args, 2)?;
@@ -110,7 +110,7 @@ pub fn answered(alloc: Global, line: &mut Line, set: &TableSet, args: &[Text]) -
     add_outcome(alloc, line, status, &mut input, &output)
 }
 
-/// Answers a call of `answer_copies`.
+/// Makes a call of `answer_copies`.
 pub fn answered_copies(alloc: Global, line: &mut Line, set: &TableSet, args: &[Text]) -> Done {
     let from = section(args, 1)?;
     let to = section(args, 2)?;

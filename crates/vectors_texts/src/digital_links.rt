@@ -1,6 +1,6 @@
 //! Calls of gs_dlink, by the built-in table of application identifiers.
 //!
-//! - `read_link TEXT`, `read_target TEXT`: the codes and values in turn, or what is wrong and the place of it.
+//! - `read_link TEXT`, `read_target TEXT`: the codes and values in turn, or the error and its place.
 //! - `stem_ok STEM`: whether a link may be written under it.
 //! - `write_link STEM CODE VALUE ..`: the link of the identity of the pairs under the stem, or the rejection.
 
@@ -27,7 +27,7 @@ const CALLS: [(&str, Call); 4] = [
     ("write_link", Call::WriteLink),
 ];
 
-/// Answers a call of gs_dlink.
+/// Makes a call of gs_dlink.
 pub fn answer(alloc: Global, line: &mut Line, table: &AiTable, call: &[u8], args: &[Text]) -> Done {
     let text = bytes_at(args, 0);
     match named(&CALLS, call) {
@@ -40,7 +40,7 @@ pub fn answer(alloc: Global, line: &mut Line, table: &AiTable, call: &[u8], args
     Ok(())
 }
 
-/// Writes the codes and values in turn, or what is wrong.
+/// Writes the codes and values in turn, or the error.
 fn add_read(line: &mut Line, read: Result<Vec<Pair>, LinkFault>) {
     match read {
         Ok(pairs) => add_listed(line, pairs.as_slice()),

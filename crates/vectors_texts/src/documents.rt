@@ -3,7 +3,7 @@
 //!
 //! - `reference_for TEMPLATES HREF CODE VALUE ..`: the reference for the identity, or the rejection of the pairs.
 //! - `render FORM TEMPLATES DOC CODE VALUE ..`: the form, `Json` or `Text`, in which the linkset that DOC is in JSON is sent for
-//!   the identity where FORM is asked for, and its text; or the error.
+//!   the identity if FORM is requested, and its text; or the error.
 
 use crate::identities::made;
 use gs_ai::AiTable;
@@ -27,7 +27,7 @@ const CALLS: [(&str, Call); 2] = [
 
 const FORMS: [(&str, LinksetForm); 2] = [("Json", LinksetForm::Json), ("Text", LinksetForm::Text)];
 
-/// Answers a call of gs_http_documents.
+/// Makes a call of gs_http_documents.
 pub fn answer(alloc: Global, line: &mut Line, table: &AiTable, call: &[u8], args: &[Text]) -> Done {
     match named(&CALLS, call) {
         Some(Call::ReferenceFor) => add_reference(alloc, line, table, args),
@@ -46,7 +46,7 @@ fn add_reference(alloc: Global, line: &mut Line, table: &AiTable, args: &[Text])
     Ok(())
 }
 
-/// A linkset for an identity, in the form that is sent where this one is asked for.
+/// Returns a linkset for an identity, in the form that is sent if this one is requested.
 fn rendered_for(
     alloc: Global,
     form: LinksetForm,

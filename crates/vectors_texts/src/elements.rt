@@ -1,7 +1,6 @@
 //! Calls of gs_element, by the built-in table of application identifiers.
 //!
-//! - `read_raw TEXT`, `read_bracketed TEXT`: the codes and values in turn, `none` where there are none, or what is wrong and the
-//!   place of it.
+//! - `read_raw TEXT`, `read_bracketed TEXT`: the codes and values in turn, `none` if there are none, or the error and its place.
 //! - `write_raw CODE VALUE ..`, `write_bracketed CODE VALUE ..`: the text of the identity of the pairs, or the rejection.
 
 use crate::identities::made;
@@ -26,7 +25,7 @@ const CALLS: [(&str, Call); 4] = [
     ("write_raw", Call::WriteRaw),
 ];
 
-/// Answers a call of gs_element.
+/// Makes a call of gs_element.
 pub fn answer(alloc: Global, line: &mut Line, table: &AiTable, call: &[u8], args: &[Text]) -> Done {
     let text = bytes_at(args, 0);
     match named(&CALLS, call) {
@@ -39,7 +38,7 @@ pub fn answer(alloc: Global, line: &mut Line, table: &AiTable, call: &[u8], args
     Ok(())
 }
 
-/// Writes the codes and values in turn, or what is wrong.
+/// Writes the codes and values in turn, or the error.
 fn add_read(line: &mut Line, read: Result<Vec<Pair>, ElementsFault>) {
     match read {
         Ok(pairs) => add_listed(line, pairs.as_slice()),
@@ -48,7 +47,7 @@ fn add_read(line: &mut Line, read: Result<Vec<Pair>, ElementsFault>) {
     }
 }
 
-/// Writes what is wrong, and the place of it.
+/// Writes the error and its place.
 pub fn add_error(line: &mut Line, error: ElementFault) {
     line.debug(error.why);
     line.debug(error.at);

@@ -1,5 +1,5 @@
-//! Calls of gs_epc that write EPCs and that take identities apart, by the built-in tables. A KIND is the name of a kind,
-//! and a FILTER a digit from 0 to 7, or `-` where there is none.
+//! Calls of gs_epc that write EPCs and that take identities apart, by the built-in tables. A KIND is the name of a kind, and a
+//! FILTER a digit from 0 to 7, or `-` if there is none.
 //!
 //! - `write_hex KIND ENCODING FILTER GCP PREFIX REST SERIAL`, `write_tag ..`, `write_pure ..`: the text, or the rejection; a
 //!   PIECE and a TOTAL may follow.
@@ -54,7 +54,7 @@ fn written_on_tag(alloc: Global, line: &mut Line, set: &TableSet, level: Level, 
     Ok(())
 }
 
-/// The index of the kind of a name.
+/// Returns the index of the kind of a name.
 fn kind_of(set: &TableSet, name: &[u8]) -> Result<usize, Rejection> {
     let kinds = set.kinds();
     match kinds.iter().position(|kind| name == kind.name.as_bytes()) {
@@ -63,7 +63,7 @@ fn kind_of(set: &TableSet, name: &[u8]) -> Result<usize, Rejection> {
     }
 }
 
-/// The byte that a word gives.
+/// Returns the byte that a word gives.
 fn byte(word: &[u8]) -> Result<u8, Rejection> {
     let Ok(byte) = u8::try_from(number_of(word)?) else {
         return Err(Rejection::NoCase);
@@ -71,7 +71,7 @@ fn byte(word: &[u8]) -> Result<u8, Rejection> {
     Ok(byte)
 }
 
-/// The filter value that a word gives.
+/// Returns the filter value that a word gives.
 fn filter_of(word: &[u8]) -> Result<Option<u8>, Rejection> {
     if word == b"-".as_slice() {
         return Ok(None);
@@ -79,9 +79,9 @@ fn filter_of(word: &[u8]) -> Result<Option<u8>, Rejection> {
     Ok(Some(byte(word)?))
 }
 
-/// The EPC of these words.
+/// Returns the EPC of these words.
 fn epc_of(alloc: Global, set: &TableSet, args: &[Text]) -> Result<Epc, Rejection> {
-    // the numbers first, since each exit behind a text drops it
+    // the numbers first, since each exit after a text drops it
     let kind = kind_of(set, bytes_at(args, 0))?;
     let filter = filter_of(bytes_at(args, 2))?;
     let gcp = byte(bytes_at(args, 3))?;

@@ -1,12 +1,12 @@
 //! Calls of gs_epc, by the built-in tables, or by those of a document.
 //!
 //! - `read_hex TEXT`, `read_tag TEXT`, `read_pure TEXT`: the kind, encoding, filter value, prefix length, prefix, rest, piece and
-//!   total where the kind has them, and serial, or the error.
+//!   total if the kind has them, and serial, or the error.
 //! - `identity_of FORM TEXT`, with FORM `hex`, `tag` or `pure`: the canonical link of the identity of what is read, or the
 //!   error.
 //! - `by DOC FORM TEXT`: the same by the tables of a document.
 //!
-//! The calls that write and that take apart stand in epc_writing.
+//! The calls that write and that take apart are in epc_writing.
 
 ghost use Rattle.std.specs.Prelude.{IfOk};
 ghost use Rattle.gs_epc.specs.Epcs.{IsOfSet};
@@ -43,7 +43,7 @@ const CALLS: [(&str, Call); 9] = [
     ("write_tag", Call::Write(Level::Tag)),
 ];
 
-/// Answers a call of gs_epc.
+/// Makes a call of gs_epc.
 pub fn answer(alloc: Global, line: &mut Line, set: &TableSet, call: &[u8], args: &[Text]) -> Done {
     let text = bytes_at(args, 0);
     match named(&CALLS, call) {
@@ -92,7 +92,7 @@ pub fn add_epc(line: &mut Line, set: &TableSet, epc: &Epc) -> Done {
     Ok(())
 }
 
-/// What a text of a form says.
+/// Reads a text of a form.
 fn read(alloc: Global, set: &TableSet, form: &[u8], text: &[u8]) -> Result<Epc, EpcFault>
     ensures { IfOk result (IsOfSet set.now) }
 {

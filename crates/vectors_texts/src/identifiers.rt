@@ -6,8 +6,8 @@
 //! - `predefined CODE`: the length of code and value together by the row of the code, or `None`.
 //! - `row CODE`: its parts, role, qualifiers, whether it is short, and its text for none.
 //! - `copy CODE VALUE`: the pair.
-//! - `table ROW..`: the number of rows, or the error. A ROW is `CODE/PART+PART/ROLE/CODE+CODE/SHORT/NONE`, where what stands
-//!   behind the role may be left out and SHORT is `short` or empty.
+//! - `table ROW..`: the number of rows, or the error. A ROW is `CODE/PART+PART/ROLE/CODE+CODE/SHORT/NONE`, and the parts after
+//!   the role may be left out and SHORT is `short` or empty.
 
 use crate::elements::add_pair;
 use crate::identities::pair_of;
@@ -45,7 +45,7 @@ const CALLS: [(&str, Call); 11] = [
     ("value_ok", Call::ValueOk),
 ];
 
-/// Answers a call of gs_ai.
+/// Makes a call of gs_ai.
 pub fn answer(alloc: Global, line: &mut Line, table: &AiTable, call: &[u8], args: &[Text]) -> Done {
     let text = bytes_at(args, 0);
     let value = bytes_at(args, 1);
@@ -89,7 +89,7 @@ fn row_value_ok(line: &mut Line, table: &AiTable, code: &[u8], value: &[u8]) -> 
     Ok(())
 }
 
-/// What stands before the number of a part, the number, and what stands behind it.
+/// Returns the text before the number of a part, the number, and the text after it.
 fn part_texts(part: Part) -> (&'static str, Option<u8>, &'static str) {
     match part {
         Part::Zero => ("zero", None, ""),
@@ -104,7 +104,7 @@ fn part_texts(part: Part) -> (&'static str, Option<u8>, &'static str) {
     }
 }
 
-/// Writes a part, as it is written.
+/// Writes a part.
 fn add_part(line: &mut Line, part: Part) {
     let (front, number, back) = part_texts(part);
     line.plain(front);
@@ -148,7 +148,7 @@ fn parts_of(alloc: Global, words: &str) -> Result<List<Part>, Rejection> {
     Ok(List::from_vec(parts))
 }
 
-/// The code of a word.
+/// Returns the code of a word.
 fn code_of(alloc: Global, word: &str) -> Result<Text, Rejection> {
     Ok(Text::from_bytes(alloc, word.as_bytes())?)
 }
@@ -163,7 +163,7 @@ fn codes_of(alloc: Global, words: &str) -> Result<List<Text>, Rejection> {
     Ok(List::from_vec(codes))
 }
 
-/// The field of a row at a place, empty where it is left out.
+/// Returns the field of a row at a place, empty if it is left out.
 fn field(word: &str, i: usize) -> &str {
     for (at, field) in word.split('/').enumerate() {
         if at == i {
@@ -173,13 +173,13 @@ fn field(word: &str, i: usize) -> &str {
     ""
 }
 
-/// The code of a row and its text for none.
+/// Returns the code of a row and its text for none.
 fn texts_of_row(alloc: Global, word: &str) -> Result<(Text, Text), Rejection> {
     let code = code_of(alloc, field(word, 0))?;
     Ok((code, code_of(alloc, field(word, 5))?))
 }
 
-/// The parts and the qualifiers of a row.
+/// Returns the parts and the qualifiers of a row.
 fn lists_of_row(alloc: Global, word: &str) -> Result<(List<Part>, List<Text>), Rejection> {
     let parts = parts_of(alloc, field(word, 1))?;
     Ok((parts, codes_of(alloc, field(word, 3))?))

@@ -1,7 +1,7 @@
-//! Calls of gs_ident, by the built-in table of application identifiers. The pairs are codes and values in turn, each value
-//! one of its code; else the error of the first that is none is answered behind `value`.
+//! Calls of gs_ident, by the built-in table of application identifiers. The pairs are codes and values in turn, each value valid
+//! for its code; otherwise the answer is `value` and the error of the first invalid one.
 //!
-//! - `make CODE VALUE ..`: the key, the qualifiers behind `|` and the attributes behind a second one, or the rejection.
+//! - `make CODE VALUE ..`: the key, the qualifiers after `|` and the attributes after a second one, or the rejection.
 //! - `canonical CODE VALUE ..`: the canonical link of the identity. `spell STEM CODE VALUE ..`: its link under the stem.
 //! - `prefix K CODE VALUE ..`: the canonical link of the identity of the key and the first K qualifiers.
 
@@ -30,7 +30,7 @@ const CALLS: [(&str, Call); 4] = [
     ("spell", Call::Spell),
 ];
 
-/// Answers a call of gs_ident.
+/// Makes a call of gs_ident.
 pub fn answer(alloc: Global, line: &mut Line, table: &AiTable, call: &[u8], args: &[Text]) -> Done {
     let first = bytes_at(args, 0);
     let others = behind(args, 1);
@@ -43,7 +43,7 @@ pub fn answer(alloc: Global, line: &mut Line, table: &AiTable, call: &[u8], args
     }
 }
 
-/// What is asked of an identity.
+/// The question about an identity.
 #[derive(Clone, Copy)]
 enum Asked<'a> {
     Parts,
@@ -66,7 +66,7 @@ fn answer_of(
     }
 }
 
-/// The identity of the pairs, or none where they make none, which is written.
+/// Returns the identity of the pairs, or none if they make none, which is written.
 pub fn made(
     alloc: Global,
     line: &mut Line,
@@ -89,7 +89,7 @@ pub fn made(
     }
 }
 
-/// What is wrong with the value of a pair.
+/// Returns the error of a pair's value.
 fn error_of(table: &AiTable, pair: &[Text]) -> Result<Option<ValueFault>, Rejection> {
     let [code, value, ..] = pair else {
         return Err(Rejection::NoCase);
@@ -97,7 +97,7 @@ fn error_of(table: &AiTable, pair: &[Text]) -> Result<Option<ValueFault>, Reject
     Ok(table.value_ok(code.as_bytes(), value.as_bytes()).err())
 }
 
-/// The error of the first value that is none of its code.
+/// Returns the error of the first invalid value.
 fn first_error(table: &AiTable, words: &[Text]) -> Result<Option<ValueFault>, Rejection> {
     for pair in words.chunks(2) {
         let error = error_of(table, pair)?;
@@ -108,7 +108,7 @@ fn first_error(table: &AiTable, words: &[Text]) -> Result<Option<ValueFault>, Re
     Ok(None)
 }
 
-/// A pair of these bytes.
+/// Returns a pair of these bytes.
 pub fn pair_of(alloc: Global, code: &[u8], value: &[u8]) -> Result<Pair, Rejection>
     ensures { IfOk result (λ pair. (pair.code ≡ code.now) × (pair.value ≡ value.now)) }
 {
@@ -118,7 +118,7 @@ pub fn pair_of(alloc: Global, code: &[u8], value: &[u8]) -> Result<Pair, Rejecti
     })
 }
 
-/// The pair of a code and a value, which is in order.
+/// Returns the pair of a code and a value, which is valid.
 fn checked(alloc: Global, table: &AiTable, words: &[Text]) -> Result<Pair, Rejection>
     ensures { IfOk result (IsInOrder table.now) }
 {
@@ -131,7 +131,7 @@ fn checked(alloc: Global, table: &AiTable, words: &[Text]) -> Result<Pair, Rejec
     pair_of(alloc, code.as_bytes(), value.as_bytes())
 }
 
-/// Pairs that are in order.
+/// Pairs that are valid.
 pub fn pairs_of(alloc: Global, table: &AiTable, words: &[Text]) -> Result<Vec<Pair>, Rejection>
     ensures { IfOk result (λ pairs. All (IsInOrder table.now) pairs.items) }
 {
@@ -168,7 +168,7 @@ fn known(alloc: Global, line: &mut Line, identity: &Identity, asked: Asked<'_>) 
     Ok(())
 }
 
-/// Writes the canonical link of the identity of the key and so many qualifiers.
+/// Writes the canonical link of the identity of the key and that many qualifiers.
 fn add_prefix(alloc: Global, line: &mut Line, identity: &Identity, count: &[u8]) -> Done {
     let count = number_of(count)?;
     if count > identity.qualifiers().len() as u64 {

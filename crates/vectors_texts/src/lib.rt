@@ -1,5 +1,5 @@
-//! The public calls of the libraries that stand on a table set, as cases of vectors name them: application identifiers,
-//! identities, tables and texts of each form. The head of vectors_cases says how a case and an answer are written.
+//! The public calls of the libraries that are on a table set, as cases of vectors name them: application identifiers, identities,
+//! tables and texts of each form. The head of vectors_cases says how a case and an answer are written.
 #![tactic(auto)]
 
 mod digital_links;
@@ -80,7 +80,7 @@ fn write(
     }
 }
 
-/// The answer to a call of one of the libraries that stand on a table set, over this one.
+/// Returns the answer to a call of one of the libraries that are on a table set, over this one.
 pub fn answer(alloc: Global, set: &TableSet, library: &str, call: &str, args: &[Text]) -> Answer {
     let mut line = Line::new(alloc);
     let done = write(

@@ -5,9 +5,9 @@
 //!   chosen links.
 //! - `choose_each COUNT TIMES`: see many_links.
 //! - `keeps_names VOC`: whether a vocabulary keeps names.
-//! - `document DOC WANT CODE VALUE ..`: what is written of the document of the chosen links, `None` where none is chosen.
+//! - `document DOC WANT CODE VALUE ..`: the text of the document of the chosen links, `None` if none is chosen.
 //! - `narrow DOC WANT RANGES CODE VALUE ..`, with RANGES the language ranges with commas between: the numbers of the chosen links
-//!   that are kept, and what is written of their document, `None` where none is chosen.
+//!   that are kept, and the text of their document, `None` if none is chosen.
 //! - `narrow_many COUNT TIMES RANGE`: see links_by_language.
 
 ghost use Rattle.std.specs.Prelude.{◌≡◌, IfOk, vec_len};
@@ -46,7 +46,7 @@ const CALLS: [(&str, Call); 7] = [
     ("narrow_many", Call::NarrowMany),
 ];
 
-/// Answers a call of gs_links.
+/// Makes a call of gs_links.
 pub fn answer(alloc: Global, line: &mut Line, table: &AiTable, call: &[u8], args: &[Text]) -> Done {
     match named(&CALLS, call) {
         Some(Call::ChooseEach) => many_links::answer(alloc, line, table, args),
@@ -60,7 +60,7 @@ pub fn answer(alloc: Global, line: &mut Line, table: &AiTable, call: &[u8], args
     }
 }
 
-/// Answers a call over the linkset of a document.
+/// Makes a call over the linkset of a document.
 fn answer_to(alloc: Global, line: &mut Line, table: &AiTable, call: Call, args: &[Text]) -> Done {
     match gs_linkset::read(alloc, bytes_at(args, 0)) {
         Ok(doc) => answer_over(alloc, line, table, doc, call, behind(args, 1)),
@@ -71,7 +71,7 @@ fn answer_to(alloc: Global, line: &mut Line, table: &AiTable, call: Call, args: 
     }
 }
 
-/// Answers a call over a linkset.
+/// Makes a call over a linkset.
 fn answer_over(
     alloc: Global,
     line: &mut Line,
@@ -89,7 +89,7 @@ fn answer_over(
     }
 }
 
-/// Answers a call from a store, which is lent so that it is dropped at one exit.
+/// Makes a call from a store, which is lent so that it is dropped at one exit.
 fn answer_from(
     alloc: Global,
     line: &mut Line,
@@ -125,7 +125,7 @@ pub fn add_error(line: &mut Line, error: StoreFault) {
     }
 }
 
-/// Writes which anchor is none, and why. The rejection of an identity stands behind it.
+/// Writes which anchor is invalid, and why, with the rejection of its identity if it has one.
 fn add_anchor_error(line: &mut Line, context: usize, why: AnchorWhy) {
     line.plain("BadAnchor(");
     line.more_debug(context);
@@ -172,7 +172,7 @@ fn of_identity(
     }
 }
 
-/// So many numbers.
+/// That many numbers.
 pub fn room(alloc: Global, count: usize) -> Result<Vec<u32>, AllocError>
     ensures { IfOk result (λ numbers. vec_len numbers ≡ count) }
 {
@@ -188,7 +188,7 @@ fn want_of(word: &[u8]) -> Want<'_> {
     }
 }
 
-/// The language ranges with commas between, and none of an empty word.
+/// Returns the language ranges with commas between, and none of an empty word.
 fn ranges_of(alloc: Global, list: &[u8]) -> Result<Vec<Text>, Rejection> {
     let mut ranges = Vec::new(alloc);
     if list.is_empty() {

@@ -1,7 +1,7 @@
-//! A call of gs_links over many links at one anchor, of which the link K has the language `a-K`, and as many ranges.
+//! A call of gs_links over many links at one anchor; link K has the language `a-K`, and as many ranges.
 //!
 //! - `narrow_many COUNT TIMES RANGE`: how many of COUNT links `narrow` keeps, and the number of the first, for TIMES ranges `b-K`
-//!   that no link is in and then RANGE; or the rejection of so many links.
+//!   that no link is in and then RANGE; or the rejection of that many links.
 
 use crate::links::{VOC, add_error, room};
 use gs_ai::AiTable;
@@ -13,7 +13,7 @@ use gs_linkset::LinkDoc;
 use std::alloc::Global;
 use vectors_cases::{Answer, Done, Line, Rejection, bytes_at, number, said};
 
-/// Answers the call.
+/// Makes the call.
 pub fn answer(alloc: Global, line: &mut Line, table: &AiTable, args: &[Text]) -> Done {
     let text = linkset(alloc, number(args, 0)?)?;
     let ranges = ranges(alloc, number(args, 1)?, bytes_at(args, 2))?;
@@ -26,7 +26,7 @@ pub fn answer(alloc: Global, line: &mut Line, table: &AiTable, args: &[Text]) ->
     }
 }
 
-/// Answers the call over a linkset.
+/// Makes the call over a linkset.
 fn answer_over(
     alloc: Global,
     line: &mut Line,
@@ -50,7 +50,7 @@ fn push_target(alloc: Global, text: &mut String, k: u64) -> Result<(), Rejection
     Ok(text.push_str(target.as_str())?)
 }
 
-/// The document of so many links at one anchor.
+/// Returns the document of that many links at one anchor.
 fn linkset(alloc: Global, count: u64) -> Answer {
     let mut text = said(
         alloc,
@@ -63,13 +63,13 @@ fn linkset(alloc: Global, count: u64) -> Answer {
     Ok(text)
 }
 
-/// The range K that no link is in.
+/// Returns the range K that no link is in.
 fn other_range(alloc: Global, k: u64) -> Result<Text, Rejection> {
     let range = format!(in alloc; "b-{k}")?;
     Ok(Text::from_bytes(alloc, range.as_bytes())?)
 }
 
-/// So many ranges that no link is in, and one more.
+/// That many ranges that no link is in, and one more.
 fn ranges(alloc: Global, times: u64, last: &[u8]) -> Result<Vec<Text>, Rejection> {
     let mut ranges = Vec::new(alloc);
     for k in 0..times {
@@ -79,7 +79,7 @@ fn ranges(alloc: Global, times: u64, last: &[u8]) -> Result<Vec<Text>, Rejection
     Ok(ranges)
 }
 
-/// The identity of the anchor.
+/// Returns the identity of the anchor.
 fn identity(alloc: Global, table: &AiTable) -> Result<Identity, Rejection> {
     let pairs = match read_target(alloc, table, b"/01/09506000134352") {
         Ok(pairs) => pairs,

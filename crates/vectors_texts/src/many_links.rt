@@ -1,7 +1,7 @@
-//! A call of gs_links over many links, of which the link K has the anchor `/01/09506000134352/21/K` and the relation `r`.
+//! A call of gs_links over many links; link K has the anchor `/01/09506000134352/21/K` and the relation `r`.
 //!
-//! - `choose_each COUNT TIMES`: COUNT, where `choose` gives the link K alone and the depth 1 for the anchor of each K below
-//!   COUNT and `r`, so many times over; else the first K for which it does not, or the rejection of so many links.
+//! - `choose_each COUNT TIMES`: COUNT, where `choose` chooses only the link K and the depth 1 for the anchor of each K below
+//!   COUNT and `r`, TIMES times; otherwise the first K for which it does not; or the rejection of that many links.
 
 ghost use Rattle.std.specs.Prelude.{◌≤◌, All, IfOk, length};
 ghost use Rattle.gs_ident.specs.Identities.{IsInOrder};
@@ -16,7 +16,7 @@ use gs_linkset::LinkDoc;
 use std::alloc::Global;
 use vectors_cases::{Answer, Done, Line, Rejection, number, said};
 
-/// Answers the call.
+/// Makes the call.
 pub fn answer(alloc: Global, line: &mut Line, table: &AiTable, args: &[Text]) -> Done {
     let text = linkset(alloc, number(args, 0)?)?;
     match gs_linkset::read(alloc, text.as_bytes()) {
@@ -28,7 +28,7 @@ pub fn answer(alloc: Global, line: &mut Line, table: &AiTable, args: &[Text]) ->
     }
 }
 
-/// Answers the call over a linkset.
+/// Makes the call over a linkset.
 fn answer_over(alloc: Global, line: &mut Line, table: &AiTable, doc: LinkDoc, times: u64) -> Done {
     match Store::load(alloc, table, VOC, doc) {
         Ok(store) => add_first_other(alloc, line, table, &store, times),
@@ -48,7 +48,7 @@ fn push_link(alloc: Global, text: &mut String, k: u64) -> Result<(), Rejection> 
     Ok(text.push_str(link.as_str())?)
 }
 
-/// The document of so many links.
+/// Returns the document of that many links.
 fn linkset(alloc: Global, count: u64) -> Answer {
     let mut text = said(alloc, "{\"linkset\":[")?;
     for k in 0..count {
@@ -58,7 +58,7 @@ fn linkset(alloc: Global, count: u64) -> Answer {
     Ok(text)
 }
 
-/// The pairs of the anchor of the link K.
+/// Returns the pairs of the anchor of the link K.
 fn anchor_pairs(alloc: Global, table: &AiTable, k: usize) -> Result<Vec<Pair>, Rejection>
     ensures { IfOk result (λ pairs. All (IsInOrder table.now) pairs.items) }
 {
@@ -69,7 +69,7 @@ fn anchor_pairs(alloc: Global, table: &AiTable, k: usize) -> Result<Vec<Pair>, R
     }
 }
 
-/// The identity of the anchor of the link K.
+/// Returns the identity of the anchor of the link K.
 fn identity(alloc: Global, table: &AiTable, k: usize) -> Result<Identity, Rejection> {
     match make(alloc, table, anchor_pairs(alloc, table, k)?) {
         Ok(identity) => Ok(identity),
@@ -77,7 +77,7 @@ fn identity(alloc: Global, table: &AiTable, k: usize) -> Result<Identity, Reject
     }
 }
 
-/// Whether the first of the numbers is this.
+/// Returns whether the first of the numbers is this.
 fn is_first(numbers: &[u32], k: usize) -> bool {
     match numbers.first() {
         Some(number) => *number as usize == k,
@@ -85,7 +85,7 @@ fn is_first(numbers: &[u32], k: usize) -> bool {
     }
 }
 
-/// Whether the link K alone is chosen for an identity, each of so many times.
+/// Returns whether only the link K is chosen for an identity, `times` times.
 fn is_alone(store: &Store, identity: &Identity, k: usize, times: u64, numbers: &mut [u32]) -> bool
     requires { length store.now ≤ length numbers.old }
 {
@@ -98,7 +98,7 @@ fn is_alone(store: &Store, identity: &Identity, k: usize, times: u64, numbers: &
     true
 }
 
-/// Whether the link K alone is chosen for its anchor, each of so many times.
+/// Returns whether only the link K is chosen for its anchor, `times` times.
 fn anchor_is_alone(
     alloc: Global,
     table: &AiTable,
@@ -113,7 +113,7 @@ fn anchor_is_alone(
     Ok(is_alone(store, &identity, k, times, numbers))
 }
 
-/// Writes the number of links, or the first that is not chosen alone.
+/// Writes the number of links, or the first that is not the only one chosen.
 fn add_first_other(
     alloc: Global,
     line: &mut Line,

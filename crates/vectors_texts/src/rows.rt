@@ -12,7 +12,7 @@ use gs_tables_document::{Document, ItemFault, LevelName, read_item};
 use std::alloc::Global;
 use vectors_cases::{Done, Line, Rejection, bytes_at, named};
 
-/// Answers a call of gs_tables_document.
+/// Makes a call of gs_tables_document.
 pub fn answer(alloc: Global, line: &mut Line, call: &[u8], args: &[Text]) -> Done {
     match call {
         b"read_item" => item(alloc, line, bytes_at(args, 0), bytes_at(args, 1)),
@@ -20,7 +20,7 @@ pub fn answer(alloc: Global, line: &mut Line, call: &[u8], args: &[Text]) -> Don
     }
 }
 
-/// Answers a call of gs_tables_builtin.
+/// Makes a call of gs_tables_builtin.
 pub fn answer_builtin(alloc: Global, line: &mut Line, call: &[u8]) -> Done {
     match call {
         b"document" => {

@@ -4,8 +4,8 @@
 //! - `migrate DOC`: the migrated text of the document, or the rejection.
 //! - `builtin`: the same numbers of the built-in set. `kind I`: the name, key, lead digits and serial of its kind I, and the
 //!   lengths of its further fields.
-//! - `option LEVEL I`: the kind, encoding, prefix length and items of its option I of the level, each item that has a field
-//!   behind its name and `=`.
+//! - `option LEVEL I`: the kind, encoding, prefix length and items of its option I of the level, each item that has a field after
+//!   its name and `=`.
 
 use gs_chars::Text;
 use gs_grammar::Item;
@@ -30,7 +30,7 @@ const CALLS: [(&str, Call); 5] = [
     ("option", Call::Option),
 ];
 
-/// Answers a call of gs_tables.
+/// Makes a call of gs_tables.
 pub fn answer(alloc: Global, line: &mut Line, set: &TableSet, call: &[u8], args: &[Text]) -> Done {
     let first = bytes_at(args, 0);
     match named(&CALLS, call) {
@@ -67,7 +67,7 @@ fn add_counts(line: &mut Line, set: &TableSet) {
     }
 }
 
-/// The set of a document, where it is one.
+/// Returns the set of a document, if it is one.
 pub fn set_of(alloc: Global, document: &[u8]) -> Result<TableSet, Rejection> {
     match TableSet::load(alloc, document) {
         Ok(set) => Ok(set),
@@ -116,7 +116,7 @@ fn add_ambiguous(line: &mut Line, level: LevelName, i: usize, j: usize) {
     line.more(")");
 }
 
-/// Writes the name, the key and the lead digits of a kind, where its serial stands, and the lengths of its further fields.
+/// Writes the name, the key and the lead digits of a kind, the place of its serial, and the lengths of its further fields.
 fn add_kind(line: &mut Line, kind: &Kind) {
     line.bytes(kind.name.as_bytes());
     line.bytes(kind.key.as_bytes());
@@ -131,7 +131,7 @@ fn add_kind(line: &mut Line, kind: &Kind) {
     }
 }
 
-/// Whether the symbols of a level are bits.
+/// Returns whether the symbols of a level are bits.
 pub fn is_bits(level: LevelName) -> bool {
     matches!(level, LevelName::Binary)
 }

@@ -1,6 +1,6 @@
 //! Calls of gs_template, by the built-in table of application identifiers.
 //!
-//! - `places_ok KEY HREF`: `Ok`, or the first error of the places of the template beside the key with this code.
+//! - `places_ok KEY HREF`: `Ok`, or the first error of the places of the template for the key with this code.
 //! - `expand HREF CODE VALUE ..`: the template filled with the values of the identity of the pairs, or the rejection of these.
 
 use crate::identities::made;
@@ -18,7 +18,7 @@ enum Call {
 
 const CALLS: [(&str, Call); 2] = [("expand", Call::Expand), ("places_ok", Call::PlacesOk)];
 
-/// Answers a call of gs_template.
+/// Makes a call of gs_template.
 pub fn answer(alloc: Global, line: &mut Line, table: &AiTable, call: &[u8], args: &[Text]) -> Done {
     match named(&CALLS, call) {
         Some(Call::Expand) => add_filled(alloc, line, table, args),

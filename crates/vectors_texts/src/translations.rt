@@ -50,17 +50,17 @@ const TARGETS: [(&str, Target); 7] = [
 
 const TRUTHS: [(&str, bool); 2] = [("no", false), ("yes", true)];
 
-/// The form of a word.
+/// Returns the form of a word.
 pub fn form_of(word: &[u8]) -> Option<Form> {
     named(&FORMS, word)
 }
 
-/// The target of a word.
+/// Returns the target of a word.
 pub fn target_of(word: &[u8]) -> Option<Target> {
     named(&TARGETS, word)
 }
 
-/// Answers a call of gs_translate.
+/// Makes a call of gs_translate.
 pub fn answer(alloc: Global, line: &mut Line, set: &TableSet, call: &[u8], args: &[Text]) -> Done {
     let Some(form) = form_of(bytes_at(args, 0)) else {
         return Err(Rejection::NoCase);
@@ -84,7 +84,7 @@ fn meant(alloc: Global, line: &mut Line, set: &TableSet, form: Form, text: &[u8]
     }
 }
 
-/// A number up to a greatest, or none.
+/// Returns a number up to a greatest, or none.
 fn small_number(word: &[u8], greatest: u8) -> Result<Option<u8>, Rejection>
     ensures { IfOk result (λ number. IfSome number (λ n. n ≤ greatest)) }
 {
@@ -97,14 +97,14 @@ fn small_number(word: &[u8], greatest: u8) -> Result<Option<u8>, Rejection>
     }
 }
 
-/// A filter value, or none.
+/// Returns a filter value, or none.
 fn filter_of(word: &[u8]) -> Result<Option<u8>, Rejection>
     ensures { IfOk result FitsFilter }
 {
     small_number(word, 7)
 }
 
-/// The list of a document, where it is one.
+/// Returns the list of a document, if it is one.
 pub fn list_of(alloc: Global, document: &[u8]) -> Result<PrefixList, Rejection> {
     if document.is_empty() {
         return Ok(PrefixList::empty(alloc));
@@ -116,7 +116,7 @@ pub fn list_of(alloc: Global, document: &[u8]) -> Result<PrefixList, Rejection> 
     }
 }
 
-/// A stem.
+/// Returns a stem.
 fn stem_of(alloc: Global, word: &[u8]) -> Result<Text, Rejection>
     ensures { IfOk result (λ stem. stem_ok stem ≡ true) }
 {
@@ -126,11 +126,11 @@ fn stem_of(alloc: Global, word: &[u8]) -> Result<Text, Rejection>
     Ok(Text::from_bytes(alloc, word)?)
 }
 
-/// The options of five words.
+/// Returns the options of five words.
 pub fn options_of(alloc: Global, args: &[Text]) -> Result<Options, Rejection>
     ensures { IfOk result AreInOrder }
 {
-    // the texts last, since each exit behind a text drops it
+    // the texts last, since each exit after a text drops it
     let filter = filter_of(bytes_at(args, 0))?;
     let gcp = small_number(bytes_at(args, 1), 12)?;
     let Some(keys_only) = named(&TRUTHS, bytes_at(args, 3)) else {

@@ -1,5 +1,5 @@
-//! Calls of gs_bits, over buffers of N bytes, with N 0, 2, 5, 12 or 64. Bits are shown as upper-case hexadecimal digits where
-//! they are whole bytes, else as the digits 0 and 1 behind `b`.
+//! Calls of gs_bits, over buffers of N bytes, with N 0, 2, 5, 12 or 64. Bits are shown as upper-case hexadecimal digits if they
+//! are whole bytes, and otherwise as the digits 0 and 1 after `b`.
 //!
 //! - `from_hex N TEXT`: the number of bits and the bits, or the error.
 //! - `take N HEX WIDTH..`: for each width the number of the next bits or `Short`, then how many are left.
@@ -29,7 +29,7 @@ const CALLS: [(&str, Call); 4] = [
     ("take", Call::Take),
 ];
 
-/// Answers a call of gs_bits.
+/// Makes a call of gs_bits.
 pub fn answer(alloc: Global, line: &mut Line, call: &[u8], args: &[Text]) -> Done {
     let first = bytes_at(args, 0);
     if call == b"are_bit_digits".as_slice() {
@@ -60,7 +60,7 @@ fn answer_of<const N: usize>(alloc: Global, line: &mut Line, call: &[u8], args: 
     }
 }
 
-/// Writes the bits as the digits 0 and 1 behind `b`.
+/// Writes the bits as the digits 0 and 1 after `b`.
 fn add_single_bits<const N: usize>(line: &mut Line, bits: &BitBuf<N>) {
     line.plain("b");
     for i in 0..bits.len() {
@@ -77,7 +77,7 @@ pub fn add_bits<const N: usize>(alloc: Global, line: &mut Line, bits: &BitBuf<N>
     }
 }
 
-/// The buffer of the digits.
+/// Returns the buffer of the digits.
 pub fn buffer<const N: usize>(digits: &[u8]) -> Result<BitBuf<N>, Rejection>
     requires { N ≤ 64 }
 {
@@ -100,7 +100,7 @@ fn from_hex<const N: usize>(alloc: Global, line: &mut Line, text: &[u8]) -> Done
     Ok(())
 }
 
-/// The number of bits that a word gives, at most 64.
+/// Returns the number of bits that a word gives, at most 64.
 fn width_in(word: &[u8]) -> Option<u32>
     ensures { IfSome result (λ width. width ≤ 64) }
 {
@@ -135,7 +135,7 @@ fn take<const N: usize>(line: &mut Line, digits: &[u8], widths: &[Text]) -> Done
     Ok(())
 }
 
-/// Whether a number is below 2 to the width.
+/// Returns whether a number is below 2 to the width.
 fn fits(number: u64, width: u32) -> bool
     requires { width ≤ 64 }
     ensures { IsTrue result → number < 2 ^ width }

@@ -1,10 +1,10 @@
 //! Calls of gs_chars.
 //!
-//! - `holds SET TEXT`, with SET `Digits` or `Set82`: for each byte `y` where the set has it, else `n`.
+//! - `holds SET TEXT`, with SET `Digits` or `Set82`: for each byte `y` if the set has it and otherwise `n`.
 //! - `are_digits TEXT`: whether all bytes are digits. `check_digit DIGITS`: the digit.
 //! - `read_escape TEXT`: the character and the number of bytes, or `None`.
 //! - `write_escape C`: the number of bytes, and the three bytes of the buffer, which held `...` before.
-//! - `rows K K K KEY`: the index of the key, or `None`; `refused` where the keys are no rows.
+//! - `rows K K K KEY`: the index of the key, or `None`; `refused` if the keys are not rows.
 //! - `text TEXT`, `copy TEXT`: its bytes. `compare A B`: the order of two texts. `list BYTES`: the items, and those given back.
 
 use gs_chars::{CharSet, List, Rows, Text, are_digits, check_digit, read_escape, write_escape};
@@ -38,7 +38,7 @@ const CALLS: [(&str, Call); 10] = [
     ("write_escape", Call::WriteEscape),
 ];
 
-/// Answers a call of gs_chars.
+/// Makes a call of gs_chars.
 pub fn answer(alloc: Global, line: &mut Line, call: &[u8], args: &[Text]) -> Done {
     let text = bytes_at(args, 0);
     match named(&CALLS, call) {
@@ -64,7 +64,7 @@ pub fn answer(alloc: Global, line: &mut Line, call: &[u8], args: &[Text]) -> Don
 
 const SETS: [(&str, CharSet); 2] = [("Digits", CharSet::Digits), ("Set82", CharSet::Set82)];
 
-/// Whether a set has each byte of a text.
+/// Returns whether a set has each byte of a text.
 fn holds(line: &mut Line, set: &[u8], text: &[u8]) -> Done {
     let Some(set) = named(&SETS, set) else {
         return Err(Rejection::NoCase);
@@ -108,7 +108,7 @@ fn escape_written(line: &mut Line, characters: &[u8]) -> Done {
     Ok(())
 }
 
-/// The key at a place, where there is one.
+/// Returns the key at a place, if there is one.
 fn key(args: &[Text], i: usize) -> Option<u32> {
     match number_in(bytes_at(args, i)) {
         Some(number) => u32::try_from(number).ok(),
@@ -138,7 +138,7 @@ fn copy(alloc: Global, line: &mut Line, bytes: &[u8]) -> Done {
     Ok(())
 }
 
-/// The order of two texts, and whether they are equal.
+/// Returns the order of two texts, and whether they are equal.
 fn compare(alloc: Global, line: &mut Line, left: &[u8], right: &[u8]) -> Done {
     let left = Text::from_bytes(alloc, left)?;
     let right = Text::from_vec(right.to_vec(alloc)?);

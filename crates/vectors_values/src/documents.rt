@@ -1,12 +1,12 @@
 //! Calls of gs_json. The part of a document DOC that is asked is found by STEPs from the whole: `.NAME` is the member of this
-//! name, `?NAME` the same where there may be none, `~NAME` where this may be no object either, and `#I` the item of this
-//! number.
+//! name, `?NAME` the same if it may be missing, `~NAME` if the value may also be another than an object, and `#I` the item of
+//! this number.
 //!
 //! - `parse DOC`: `Ok`, or the error.
-//! - `text DOC STEP..`, `number`, `truth`, `count`, `names`: what the part is, or the error; `None` where a step finds none.
-//! - `value DOC STEP..`: the part, as JSON without spaces. `items_len DOC STEP..`: how many items it has, where it is an array.
-//! - `shaped DOC PLAN..`: `Ok`, or the error. PLAN is pairs of a name behind `+` where it is required, else behind `-`, and
-//!   its sort: `Text`, `Number`, `Truth`, `Array`, `Texts`, `Arrays`.
+//! - `text DOC STEP..`, `number`, `truth`, `count`, `names`: the value of the part, or the error; `None` if a step finds none.
+//! - `value DOC STEP..`: the part, as JSON without spaces. `items_len DOC STEP..`: how many items it has, if it is an array.
+//! - `shaped DOC PLAN..`: `Ok`, or the error. PLAN is pairs of a name after `+` if it is required, otherwise after `-`, and its
+//!   sort: `Text`, `Number`, `Truth`, `Array`, `Texts`, `Arrays`.
 //!
 //! An error is `Syntax`, or `Lacks`, `Kind` or `Unknown` and the place.
 
@@ -23,7 +23,7 @@ enum Call {
     Shaped,
 }
 
-/// What is asked of a part.
+/// The question about a part.
 #[derive(Clone, Copy)]
 enum Asked {
     Count,
@@ -47,7 +47,7 @@ const CALLS: [(&str, Call); 9] = [
     ("value", Call::Part(Asked::Value)),
 ];
 
-/// Answers a call of gs_json.
+/// Makes a call of gs_json.
 pub fn answer(alloc: Global, line: &mut Line, call: &[u8], args: &[Text]) -> Done {
     match Doc::parse(alloc, bytes_at(args, 0)) {
         Ok(doc) => answer_over(alloc, line, &doc, call, behind(args, 1)),
@@ -58,7 +58,7 @@ pub fn answer(alloc: Global, line: &mut Line, call: &[u8], args: &[Text]) -> Don
     }
 }
 
-/// Answers a call over a document, which is lent so that it is dropped at one exit.
+/// Makes a call over a document, which is lent so that it is dropped at one exit.
 fn answer_over(alloc: Global, line: &mut Line, doc: &Doc, call: &[u8], others: &[Text]) -> Done {
     match named(&CALLS, call) {
         Some(Call::Parse) => {
@@ -82,7 +82,7 @@ fn asked_behind(alloc: Global, line: &mut Line, doc: &Doc, asked: Asked, steps: 
     Ok(())
 }
 
-/// Where some steps lead.
+/// The part to which steps lead.
 #[derive(Drop)]
 enum Walked<'a> {
     At(Node<'a>),
@@ -90,7 +90,7 @@ enum Walked<'a> {
     Refused(JsonFault),
 }
 
-/// Where a step leads, which finds a part or rejects.
+/// If a step leads, which finds a part or rejects.
 fn walk_to<'a>(found: Result<Node<'a>, JsonFault>) -> Walked<'a> {
     match found {
         Ok(part) => Walked::At(part),
@@ -98,7 +98,7 @@ fn walk_to<'a>(found: Result<Node<'a>, JsonFault>) -> Walked<'a> {
     }
 }
 
-/// Where a step leads, which may find nothing.
+/// If a step leads, which may find nothing.
 fn walk_maybe<'a>(found: Result<Option<Node<'a>>, JsonFault>) -> Walked<'a> {
     match found {
         Ok(Some(part)) => Walked::At(part),
@@ -107,7 +107,7 @@ fn walk_maybe<'a>(found: Result<Option<Node<'a>>, JsonFault>) -> Walked<'a> {
     }
 }
 
-/// Where a step leads, which may find nothing and never rejects.
+/// If a step leads, which may find nothing and never rejects.
 fn walk_found(found: Result<Option<Node<'_>>, Memory>) -> Result<Walked<'_>, Rejection> {
     match found? {
         Some(part) => Ok(Walked::At(part)),
@@ -115,7 +115,7 @@ fn walk_found(found: Result<Option<Node<'_>>, Memory>) -> Result<Walked<'_>, Rej
     }
 }
 
-/// Where a step leads from a part.
+/// Returns the part to which a step leads from a part.
 fn stepped<'a>(alloc: Global, node: &Node<'a>, step: &[u8]) -> Result<Walked<'a>, Rejection> {
     let [kind, rest @ ..] = step else {
         return Err(Rejection::NoCase);
@@ -132,7 +132,7 @@ fn stepped<'a>(alloc: Global, node: &Node<'a>, step: &[u8]) -> Result<Walked<'a>
     }
 }
 
-/// The item of a number.
+/// Returns the item of a number.
 fn item_at<'a>(alloc: Global, node: &Node<'a>, i: &[u8]) -> Result<Walked<'a>, Rejection> {
     let Some(i) = number_in(i) else {
         return Err(Rejection::NoCase);
@@ -144,7 +144,7 @@ fn item_at<'a>(alloc: Global, node: &Node<'a>, i: &[u8]) -> Result<Walked<'a>, R
     }
 }
 
-/// Where the steps lead from the whole document.
+/// Returns the part to which the steps lead from the whole document.
 fn followed<'a>(alloc: Global, doc: &'a Doc, steps: &[Text]) -> Result<Walked<'a>, Rejection> {
     let mut node = doc.root(alloc);
     for step in steps {
@@ -156,7 +156,7 @@ fn followed<'a>(alloc: Global, doc: &'a Doc, steps: &[Text]) -> Result<Walked<'a
     Ok(Walked::At(node))
 }
 
-/// Writes what is asked of a part.
+/// Writes the answer about a part.
 fn add_asked(alloc: Global, line: &mut Line, asked: Asked, node: &Node<'_>) {
     match asked {
         Asked::Count => add_value(line, node.count(alloc)),
@@ -212,7 +212,7 @@ const SORTS: [(&str, Sort); 6] = [
     ("Truth", Sort::Truth),
 ];
 
-/// The name of a member, whether it is required, and its sort.
+/// Returns the name of a member, whether it is required, and its sort.
 fn planned(pair: &[Text]) -> Result<(&[u8], bool, Sort), Rejection> {
     let [kind, name @ ..] = bytes_at(pair, 0) else {
         return Err(Rejection::NoCase);
@@ -223,7 +223,7 @@ fn planned(pair: &[Text]) -> Result<(&[u8], bool, Sort), Rejection> {
     }
 }
 
-/// The members that these pairs plan.
+/// Returns the members that these pairs plan.
 fn members_of(alloc: Global, words: &[Text]) -> Result<Vec<(&[u8], bool, Sort)>, Rejection> {
     let mut members = Vec::new(alloc);
     for pair in words.chunks(2) {

@@ -32,7 +32,7 @@ const CALLS: [(&str, Call); 5] = [
     ("write_text", Call::WriteText),
 ];
 
-/// Answers a call of gs_grammar.
+/// Makes a call of gs_grammar.
 pub fn answer(alloc: Global, line: &mut Line, call: &[u8], args: &[Text]) -> Done {
     let first = bytes_at(args, 0);
     match named(&CALLS, call) {
@@ -55,7 +55,7 @@ fn held(alloc: Global, line: &mut Line, word: &[u8], value: &[u8]) -> Done {
     Ok(())
 }
 
-/// The items of the words.
+/// Returns the items of the words.
 fn items_of(alloc: Global, words: &[Text]) -> Result<Vec<Item>, Rejection> {
     let mut items = Vec::new(alloc);
     for word in words {
@@ -64,7 +64,7 @@ fn items_of(alloc: Global, words: &[Text]) -> Result<Vec<Item>, Rejection> {
     Ok(items)
 }
 
-/// The option of the items, or its error.
+/// Returns the option of the items, or its error.
 fn made(alloc: Global, bit_level: bool, words: &[Text]) -> Result<Result<Opt, OptFault>, Rejection>
     ensures { IfOk result (λ made. IfOk made (λ (option : OptionForm). option.bit_level ≡ bit_level)) }
 {
@@ -72,7 +72,7 @@ fn made(alloc: Global, bit_level: bool, words: &[Text]) -> Result<Result<Opt, Op
     Ok(Opt::new(alloc, bit_level, items))
 }
 
-/// The option of the items, which make one.
+/// Returns the option of the items, which make one.
 fn option_of(alloc: Global, bit_level: bool, words: &[Text]) -> Result<Opt, Rejection>
     ensures { IfOk result (λ (option : OptionForm). option.bit_level ≡ bit_level) }
 {
@@ -83,7 +83,7 @@ fn option_of(alloc: Global, bit_level: bool, words: &[Text]) -> Result<Opt, Reje
     }
 }
 
-/// Whether the name of a level is that of bits.
+/// Returns whether the name of a level is that of bits.
 pub fn is_bits(level: &[u8]) -> bool {
     level == b"bits".as_slice()
 }
@@ -101,7 +101,7 @@ fn option(alloc: Global, line: &mut Line, level: &[u8], words: &[Text]) -> Done 
     Ok(())
 }
 
-/// The options of the words.
+/// Returns the options of the words.
 pub fn options_of(alloc: Global, bit_level: bool, words: &[Text]) -> Result<Vec<Opt>, Rejection>
     ensures { IfOk result (λ options. AreOfKind bit_level options.items) }
 {
@@ -133,7 +133,7 @@ fn add_numbers(alloc: Global, line: &mut Line, option: &Opt, bits: &BitBuf<64>) 
     Ok(())
 }
 
-/// The words before and behind `=`.
+/// Returns the words before and after `=`.
 fn halves(words: &[Text]) -> Result<(&[Text], &[Text]), Rejection> {
     match words
         .iter()

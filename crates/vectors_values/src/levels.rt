@@ -4,6 +4,7 @@
 //!   ambiguous `Ambiguous` and the numbers of the two that share a list.
 //! - `first_share LEVEL ITEM.. | ITEM..`, with LEVEL `text` or `bits`: `None`, or the numbers of the first two options that share a
 //!   list.
+//! - `machines LEVEL ITEM.. | ITEM..`, with LEVEL `text` or `bits`: the number of states of each machine that the level lends.
 //! - `read_bits HEX ITEM.. | ITEM..`: the same over the bits of hexadecimal digits.
 
 use crate::bits::buffer;
@@ -16,29 +17,32 @@ use vectors_cases::{Done, Line, Rejection, behind, bytes_at, named};
 #[derive(Clone, Copy)]
 enum Call {
     FirstShare,
+    Machines,
     ReadBits,
     ReadText,
 }
 
-const CALLS: [(&str, Call); 3] = [
+const CALLS: [(&str, Call); 4] = [
     ("first_share", Call::FirstShare),
+    ("machines", Call::Machines),
     ("read_bits", Call::ReadBits),
     ("read_text", Call::ReadText),
 ];
 
-/// Answers a call of gs_grammar_level.
+/// Makes a call of gs_grammar_level.
 pub fn answer(alloc: Global, line: &mut Line, call: &[u8], args: &[Text]) -> Done {
     let text = bytes_at(args, 0);
     let words = behind(args, 1);
     match named(&CALLS, call) {
         Some(Call::FirstShare) => first_shared(alloc, line, is_bits(text), words),
+        Some(Call::Machines) => states(alloc, line, is_bits(text), words),
         Some(Call::ReadBits) => bits_read(alloc, line, text, words),
         Some(Call::ReadText) => text_read(alloc, line, text, words),
         None => Err(Rejection::NoCase),
     }
 }
 
-/// The level of the words.
+/// Returns the level of the words.
 pub fn level_of(alloc: Global, bit_level: bool, words: &[Text]) -> Result<Level, Rejection> {
     let options = options_of(alloc, bit_level, words)?;
     Ok(Level::new(alloc, bit_level, options)?)
@@ -77,7 +81,16 @@ fn first_shared(alloc: Global, line: &mut Line, bit_level: bool, words: &[Text])
     Ok(())
 }
 
-/// Writes what a level says of a text.
+/// Writes the number of states of each machine that a level lends.
+fn states(alloc: Global, line: &mut Line, bit_level: bool, words: &[Text]) -> Done {
+    let level = level_of(alloc, bit_level, words)?;
+    for machine in level.machines() {
+        line.debug(machine.states());
+    }
+    Ok(())
+}
+
+/// Writes how a level reads a text.
 fn text_read(alloc: Global, line: &mut Line, text: &[u8], words: &[Text]) -> Done {
     let level = level_of(alloc, false, words)?;
     match level.first_share(alloc) {
@@ -88,7 +101,7 @@ fn text_read(alloc: Global, line: &mut Line, text: &[u8], words: &[Text]) -> Don
     Ok(())
 }
 
-/// Writes what a level says of bits.
+/// Writes how a level reads bits.
 fn bits_read(alloc: Global, line: &mut Line, digits: &[u8], words: &[Text]) -> Done {
     let bits = buffer::<64>(digits)?;
     let level = level_of(alloc, true, words)?;

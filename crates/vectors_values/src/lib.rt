@@ -55,7 +55,7 @@ fn write(alloc: Global, line: &mut Line, library: &[u8], call: &[u8], args: &[Te
     }
 }
 
-/// The answer to a call of one of the libraries that need no table set.
+/// Returns the answer to a call of one of the libraries that need no table set.
 pub fn answer(alloc: Global, library: &str, call: &str, args: &[Text]) -> Answer {
     let mut line = Line::new(alloc);
     let done = write(alloc, &mut line, library.as_bytes(), call.as_bytes(), args);

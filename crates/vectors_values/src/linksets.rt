@@ -1,11 +1,11 @@
-//! Calls of gs_linkset. A linkset is answered as `Context ANCHOR` for each context, behind it `Relation NAME` for each of
-//! its relations, behind that `Target HREF` for each target, and behind that the attributes: `One NAME TEXT`, `Many NAME`
-//! and the texts, or `Tagged NAME` and each text with its language.
+//! Calls of gs_linkset. A linkset is answered as `Context ANCHOR` for each context, after it `Relation NAME` for each of its
+//! relations, after that `Target HREF` for each target, and after that the attributes: `One NAME TEXT`, `Many NAME` and the
+//! texts, or `Tagged NAME` and each text with its language.
 //!
 //! - `read DOC`: the linkset, or the error.
-//! - `write DOC`: what is written of the linkset that DOC is, or the error.
-//! - `new ANCHOR NAME HREF.. / NAME HREF..`: what is written of the linkset of one context with these relations, or the rejection.
-//! - `copy DOC`: a copy of the first target, `None` where there is none, or the error.
+//! - `write DOC`: the text of the linkset that DOC is, or the error.
+//! - `new ANCHOR NAME HREF.. / NAME HREF..`: the text of the linkset of one context with these relations, or the rejection.
+//! - `copy DOC`: a copy of the first target, `None` if there is none, or the error.
 
 use gs_chars::{List, Text};
 use gs_linkset::{Attr, AttrValue, Context, LinkDoc, Relation, Target};
@@ -18,7 +18,7 @@ enum Call {
     Over(Asked),
 }
 
-/// What is asked of a linkset.
+/// The question about a linkset.
 #[derive(Clone, Copy)]
 enum Asked {
     Copy,
@@ -33,7 +33,7 @@ const CALLS: [(&str, Call); 4] = [
     ("write", Call::Over(Asked::Write)),
 ];
 
-/// Answers a call of gs_linkset.
+/// Makes a call of gs_linkset.
 pub fn answer(alloc: Global, line: &mut Line, call: &[u8], args: &[Text]) -> Done {
     let first = bytes_at(args, 0);
     match named(&CALLS, call) {
@@ -43,7 +43,7 @@ pub fn answer(alloc: Global, line: &mut Line, call: &[u8], args: &[Text]) -> Don
     }
 }
 
-/// Answers a call over a document.
+/// Makes a call over a document.
 fn answer_over(alloc: Global, line: &mut Line, asked: Asked, document: &[u8]) -> Done {
     match gs_linkset::read(alloc, document) {
         Ok(doc) => known(alloc, line, asked, &doc),
@@ -106,7 +106,7 @@ fn add_contexts(line: &mut Line, contexts: &[Context]) {
     }
 }
 
-/// A target without attributes.
+/// Returns a target without attributes.
 fn target_of(alloc: Global, reference: &Text) -> Result<Target, Rejection> {
     Ok(Target {
         href: reference.copy(alloc)?,
@@ -123,7 +123,7 @@ fn targets_of(alloc: Global, references: &[Text]) -> Result<List<Target>, Reject
     Ok(List::from_vec(targets))
 }
 
-/// The relation of a name and its references.
+/// Returns the relation of a name and its references.
 fn relation_of(alloc: Global, words: &[Text]) -> Result<Relation, Rejection> {
     let [name, references @ ..] = words else {
         return Err(Rejection::NoCase);
@@ -144,7 +144,7 @@ fn relations_of(alloc: Global, words: &[Text]) -> Result<List<Relation>, Rejecti
     Ok(List::from_vec(relations))
 }
 
-/// The context of an anchor and of relations.
+/// Returns the context of an anchor and of relations.
 fn context_of(alloc: Global, anchor: &[u8], words: &[Text]) -> Result<Context, Rejection> {
     let relations = relations_of(alloc, words)?;
     Ok(Context {
@@ -153,14 +153,14 @@ fn context_of(alloc: Global, anchor: &[u8], words: &[Text]) -> Result<Context, R
     })
 }
 
-/// The list of one context.
+/// Returns the list of one context.
 fn contexts_of(alloc: Global, anchor: &[u8], words: &[Text]) -> Result<List<Context>, Rejection> {
     let mut contexts = Vec::new(alloc);
     push(&mut contexts, context_of(alloc, anchor, words))?;
     Ok(List::from_vec(contexts))
 }
 
-/// Writes what is written of the linkset of one context with these relations, or the rejection.
+/// Writes the text of the linkset of one context with these relations, or the rejection.
 fn made(alloc: Global, line: &mut Line, anchor: &[u8], words: &[Text]) -> Done {
     match LinkDoc::new(contexts_of(alloc, anchor, words)?) {
         Ok(doc) => line.text_made(gs_linkset::write(alloc, &doc)),
@@ -169,7 +169,7 @@ fn made(alloc: Global, line: &mut Line, anchor: &[u8], words: &[Text]) -> Done {
     Ok(())
 }
 
-/// The first target of the first relation of the first context.
+/// Returns the first target of the first relation of the first context.
 fn first_target(doc: &LinkDoc) -> Option<&Target> {
     let context = doc.contexts().first()?;
     let relation = context.relations.items().first()?;
@@ -185,7 +185,7 @@ fn add_copy(alloc: Global, line: &mut Line, target: Option<&Target>) -> Done {
     Ok(())
 }
 
-/// Writes what is asked of a linkset.
+/// Writes the answer about a linkset.
 fn known(alloc: Global, line: &mut Line, asked: Asked, doc: &LinkDoc) -> Done {
     match asked {
         Asked::Copy => return add_copy(alloc, line, first_target(doc)),

@@ -1,7 +1,7 @@
 //! Calls of gs_grammar_machine, gs_ambig and gs_grammar_compile. A MACHINE is `BORDERS/ROW/ROW..`: the borders with commas between, and the edges that leave
 //! each state, `LO-HI>STATE` with `+` between.
 //!
-//! - `machine MACHINE`: the number of states and the start, or `None` where it is no machine.
+//! - `machine MACHINE`: the number of states and the start, or `None` if it is not a machine.
 //! - `compile LEVEL ITEM.. | ITEM..`, with LEVEL `text` or `bits`: the number of states of the machine of each option.
 //! - `check MACHINE..`: `Clear`, or the two machines and a list of symbols that they share.
 //! - `share LEVEL ITEM.. | ITEM..`, with LEVEL `text` or `bits`: `Clear`, or the two options that share a list of symbols; the
@@ -31,7 +31,7 @@ const CALLS: [(&str, Call); 4] = [
     ("share", Call::Share),
 ];
 
-/// Answers a call of gs_grammar_machine, gs_ambig or gs_grammar_compile.
+/// Makes a call of gs_grammar_machine, gs_ambig or gs_grammar_compile.
 pub fn answer(alloc: Global, line: &mut Line, call: &[u8], args: &[Text]) -> Done {
     let first = bytes_at(args, 0);
     match named(&CALLS, call) {
@@ -43,7 +43,7 @@ pub fn answer(alloc: Global, line: &mut Line, call: &[u8], args: &[Text]) -> Don
     }
 }
 
-/// The symbol that a word gives, where they are known one.
+/// Returns the symbol that a word gives, if it is one.
 fn symbol_in(word: &str) -> Option<u8> {
     match number_in(word.as_bytes()) {
         Some(number) => u8::try_from(number).ok(),
@@ -94,7 +94,7 @@ fn borders_of(alloc: Global, text: &str) -> Result<Vec<usize>, Rejection> {
     Ok(borders)
 }
 
-/// The machine of a word, where it is one.
+/// Returns the machine of a word, if it is one.
 fn made(alloc: Global, word: &[u8]) -> Result<Option<Auto>, Rejection> {
     let Ok(text) = str::from_utf8(word) else {
         return Err(Rejection::NoCase);
@@ -105,7 +105,7 @@ fn made(alloc: Global, word: &[u8]) -> Result<Option<Auto>, Rejection> {
     }
 }
 
-/// The machine of these borders and rows, where it is one.
+/// Returns the machine of these borders and rows, if it is one.
 fn machine_of(alloc: Global, borders: &str, rows: &str) -> Result<Option<Auto>, Rejection> {
     let rows = rows_of(alloc, rows)?;
     let borders = borders_of(alloc, borders)?;
@@ -128,7 +128,7 @@ fn add_pair(line: &mut Line, first: usize, second: usize) {
     line.debug(second);
 }
 
-/// The machine of a word.
+/// Returns the machine of a word.
 fn sure_machine(alloc: Global, word: &[u8]) -> Result<Auto, Rejection> {
     match made(alloc, word) {
         Ok(Some(auto)) => Ok(auto),
@@ -159,12 +159,12 @@ fn checked(alloc: Global, line: &mut Line, words: &[Text]) -> Done {
     Ok(())
 }
 
-/// The machine of an option.
+/// Returns the machine of an option.
 fn compiled_of(alloc: Global, option: &Opt) -> Result<Auto, Rejection> {
     Ok(compile(alloc, option)?)
 }
 
-/// The machines of the options of the words.
+/// Returns the machines of the options of the words.
 fn compiled(alloc: Global, bit_level: bool, words: &[Text]) -> Result<Vec<Auto>, Rejection> {
     let options = options_of(alloc, bit_level, words)?;
     let mut machines = Vec::new(alloc);

@@ -1,8 +1,8 @@
 //! Calls of gs_prefix.
 //!
 //! - `load DOC`: the number of entries, or the rejection.
-//! - `length_of DOC DIGITS`: the length of the company prefix by the list of the document, or `None`; by the empty list where
-//!   DOC is empty.
+//! - `length_of DOC DIGITS`: the length of the company prefix by the list of the document, or `None`; by the empty list if DOC is
+//!   empty.
 
 use gs_chars::Text;
 use gs_prefix::{PrefixFault, PrefixList};
@@ -17,7 +17,7 @@ enum Call {
 
 const CALLS: [(&str, Call); 2] = [("length_of", Call::LengthOf), ("load", Call::Load)];
 
-/// Answers a call of gs_prefix.
+/// Makes a call of gs_prefix.
 pub fn answer(alloc: Global, line: &mut Line, call: &[u8], args: &[Text]) -> Done {
     let document = bytes_at(args, 0);
     match named(&CALLS, call) {
@@ -37,7 +37,7 @@ fn load(alloc: Global, line: &mut Line, document: &[u8]) -> Done {
     Ok(())
 }
 
-/// The list of a document, where it is one.
+/// Returns the list of a document, if it is one.
 fn list_of(alloc: Global, document: &[u8]) -> Result<PrefixList, Rejection> {
     if document.is_empty() {
         return Ok(PrefixList::empty(alloc));

@@ -18,7 +18,7 @@ fn write(alloc: Global, line: &mut Line, library: &str, call: &[u8], args: &[Tex
     }
 }
 
-/// The answer to a call of a library.
+/// Returns the answer to a call of a library.
 pub fn answer(alloc: Global, library: &str, call: &str, args: &[Text]) -> Answer {
     let mut line = Line::new(alloc);
     let done = write(alloc, &mut line, library, call.as_bytes(), args);

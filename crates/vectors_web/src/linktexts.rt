@@ -3,8 +3,8 @@
 //! - `read TEXT`: the linkset in JSON, or the error.
 //! - `write DOC`: the text of the linkset that DOC is in JSON, or the error.
 //! - `again DOC`: the linkset in JSON that is read from the text of DOC, or the error.
-//! - `cuts TEXT`: of the prefixes of TEXT, the whole one too, how many are linksets, how many are none of the grammar, how
-//!   many have a link without an anchor, and how many have one without a relation type.
+//! - `cuts TEXT`: of the prefixes of TEXT, including the whole, the number of linksets, of texts outside the grammar, of texts
+//!   with a link without an anchor, and of texts with a link without a relation type.
 
 use gs_chars::Text;
 use gs_linkset::LinkDoc;
@@ -27,7 +27,7 @@ const CALLS: [(&str, Call); 4] = [
     ("write", Call::Write),
 ];
 
-/// Answers a call of gs_linktext.
+/// Makes a call of gs_linktext.
 pub fn answer(alloc: Global, line: &mut Line, call: &[u8], args: &[Text]) -> Done {
     let first = bytes_at(args, 0);
     match named(&CALLS, call) {
@@ -50,7 +50,7 @@ fn add_read(alloc: Global, line: &mut Line, text: &[u8]) {
     }
 }
 
-/// Writes the text of a linkset, or what is read from it.
+/// Writes the text of a linkset, or the linkset that is read from it.
 fn add_text(alloc: Global, line: &mut Line, doc: &LinkDoc, again: bool) {
     match gs_linktext::write(alloc, doc) {
         Ok(text) => {
@@ -64,7 +64,7 @@ fn add_text(alloc: Global, line: &mut Line, doc: &LinkDoc, again: bool) {
     }
 }
 
-/// Writes the text of a linkset in JSON, or what is read from that.
+/// Writes the text of a linkset in JSON, or the linkset that is read from that.
 fn add_written(alloc: Global, line: &mut Line, document: &[u8], again: bool) -> Done {
     match gs_linkset::read(alloc, document) {
         Ok(doc) => add_text(alloc, line, &doc, again),
@@ -73,7 +73,7 @@ fn add_written(alloc: Global, line: &mut Line, document: &[u8], again: bool) -> 
     Ok(())
 }
 
-/// The place of an answer among the counts.
+/// Returns the place of an answer among the counts.
 fn place_of(read: Result<LinkDoc, LinkTextFault>) -> Result<usize, Rejection> {
     match read {
         Ok(_) => Ok(0),

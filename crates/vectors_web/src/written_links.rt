@@ -1,14 +1,14 @@
 //! Calls of gs_linktext_grammar.
 //!
-//! - `read_links TEXT`: of each link as it is written its reference and, in brackets, the name and the value of each parameter; or
-//!   the error.
+//! - `read_links TEXT`: the target URI of each link as written and, in brackets, the name and the value of each parameter; or the
+//!   error.
 
 use gs_chars::Text;
 use gs_linktext_grammar::{Param, read_links};
 use std::alloc::Global;
 use vectors_cases::{Done, Line, Rejection, bytes_at};
 
-/// Answers a call of gs_linktext_grammar.
+/// Makes a call of gs_linktext_grammar.
 pub fn answer(alloc: Global, line: &mut Line, call: &[u8], args: &[Text]) -> Done {
     match call {
         b"read_links" => {

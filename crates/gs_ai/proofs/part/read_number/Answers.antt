@@ -31,7 +31,7 @@ returns-in_default-4-clause-none c = λ k low high e. let s = shape k _ low high
 pub returns-in_default-5-clause-none : goal.returns-in_default-5-clause-none
 returns-in_default-5-clause-none c = λ k low high e. let s = shape k _ low high e in omega arith
 
--- the number of two digits, the first of which is no zero
+-- the number of two digits whose first is not a zero
 read_two : (text : List ℕ) (a b : ℕ) → a ≡ get_or text 0 0 → b ≡ get_or text 1 0 → 2 ≤ length text → length text < 3 → 49 ≤ a → a < 58 → 48 ≤ b → b < 58
     → (0 < 10 * (a - 48) + (b - 48)) × (10 * (a - 48) + (b - 48) < 100) × (number_text (10 * (a - 48) + (b - 48)) ≡ text)
 read_two [] a b e f long short al ah bl bh = absurd (omega arith)

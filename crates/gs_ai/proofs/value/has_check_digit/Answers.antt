@@ -1,42 +1,25 @@
-use Rattle.std.proofs.Common.{◌≡◌, ℕ, ◌≤◌, ◌-◌, min, zero, suc, Bool, true, false, not, ◌==◌, List, [], ◌∷◌, length, take, drop, bytes_eq, refl, sym, ◌∙◌, arith, ap, length-take}
+use Rattle.std.proofs.Common.{◌≡◌, ℕ, ◌-◌, ◌∷◌, [], List, length, min, take, drop, Option, Some, None, Bool, bytes_eq, if◌then◌else◌, sym, ◌∙◌, arith}
 use Rattle.std.proofs.lemmas.List.{take_min, drop_min}
-use Rattle.std.proofs.lemmas.Bool.Decides.{nat_tests}
 use Rattle.gs_chars.specs.Characters.{are_digits}
 use Rattle.gs_chars.specs.CheckDigits.{check_digit_of}
 use Rattle.gs_ai.specs.Values.{is_checked}
+use Rattle.gs_ai.proofs.FitLemmas.{checked}
 use Rattle.gs_ai.proofs.value.has_check_digit.Goals as goal
 
 min_other : (m n : ℕ) → min m n ≡ min n m
 min_other m n = omega arith
 
--- the end of the digits is the check digit of those before it
-checked : (k n : ℕ) (r : Bool) (digits others last tail : List ℕ) → n ≡ min (length digits) (k - 1) → are_digits digits ≡ true → others ≡ take n digits → last ≡ drop n digits
-    → tail ≡ check_digit_of others ∷ [] → r ≡ bytes_eq last tail → r ≡ is_checked k digits
-checked k n r digits others last tail m all front back t e =
+-- like `checked`, with the digits cut at their end or before it
+checked_cut : (k n check : ℕ) (r : Bool) (found : Option ℕ) (digits others last tail : List ℕ) → n ≡ min (length digits) (k - 1) → others ≡ take n digits → last ≡ drop n digits
+    → found ≡ (if are_digits others then Some (check_digit_of others) else None) → found ≡ Some check → tail ≡ check ∷ [] → r ≡ bytes_eq last tail → r ≡ is_checked k digits
+checked_cut k n check r found digits others last tail m front back f g t e =
     let size = m ∙ min_other (length digits) (k - 1) in
     let front' : others ≡ take (k - 1) digits = front ∙ rw size (take_min (k - 1) digits) in
     let back' : last ≡ drop (k - 1) digits = back ∙ rw size (drop_min (k - 1) digits) in
-    rw (all, ← front', ← back', ← t) e
+    let there : (if are_digits (take (k - 1) digits) then Some (check_digit_of (take (k - 1) digits)) else None) ≡ Some check = rw front' at (sym f ∙ g) in
+    checked k check r digits last there back' (rw t at e)
 
--- no digit before the last, so no digit at all
-none_checked : (k n : ℕ) (empty : Bool) (digits others : List ℕ) → 2 ≤ k → n ≡ min (length digits) (k - 1) → others ≡ take n digits → empty ≡ (length others == 0) → empty ≡ true → not empty ≡ is_checked k digits
-none_checked k n empty [] others two m front e h = rw h (by (k - 1) (check_digit_of (take (k - 1) [])))
-  where
-    by : (n d : ℕ) → false ≡ bytes_eq (drop n []) (d ∷ [])
-    by zero d = refl
-    by (suc n) d = refl
-none_checked k n empty (d ∷ ds) others two m front e h =
-    let size : length others ≡ min n (length (d ∷ ds)) = ap length front ∙ length-take n (d ∷ ds) in
-    let none : length others ≡ 0 = grind (arith, nat_tests) in
-    absurd (omega arith)
-
-pub returns-then-not-is_empty : goal.returns-then-not-is_empty
-returns-then-not-is_empty c =
+pub returns-in-Some : goal.returns-in-Some
+returns-in-Some c =
     let split = c.split_at.ensures in
-    let all = sym c.are_digits.ensures ∙ c.if-not-are_digits.false in
-    let tail = c.as_slice.ensures ∙ ap (λ (d : ℕ). d ∷ []) c.check_digit.ensures in
-    checked c.args.k c.min.result c.eq.result c.args.digits.now c.split_at.result.0.now c.split_at.result.1.now c.as_slice.result.now (omega arith) all split.front split.back tail c.eq.ensures
-
-pub returns-else-not-is_empty : goal.returns-else-not-is_empty
-returns-else-not-is_empty c =
-    none_checked c.args.k c.min.result c.is_empty.result c.args.digits.now c.split_at.result.0.now c.requires.two (omega arith) c.split_at.ensures.front c.is_empty.ensures c.if-not-is_empty.false
+    checked_cut c.args.k c.min.result c.in-Some.check c.eq.result c.find_check_digit.result c.args.digits.now c.split_at.result.0.now c.split_at.result.1.now c.as_slice.result.now (omega arith) split.front split.back c.find_check_digit.ensures c.in-Some.is c.as_slice.ensures c.eq.ensures

@@ -1,6 +1,6 @@
 use Rattle.std.proofs.Common.{◌∙◌}
 use Rattle.gs_dlink.specs.Uris.{separates_parts}
-use Rattle.gs_dlink.proofs.CutLemmas.{place_is}
+use Rattle.gs_chars.proofs.PlaceLemmas.{place_is}
 use Rattle.gs_dlink.proofs.cuts.part_len.Goals as goal
 
 pub returns-clause-place : goal.returns-clause-place

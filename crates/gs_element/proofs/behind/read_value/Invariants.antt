@@ -2,7 +2,7 @@ use Rattle.std.proofs.Common.{◌≡◌, ◌++◌, ℕ, List, length}
 use Rattle.gs_element.specs.BracketedTexts.{value_before, written_value}
 use Rattle.gs_element.proofs.behind.read_value.Given as goal
 
--- the characters so far, and the value of what is left
+-- the characters so far, and the value of the rest
 abbrev pub invariant-loop-next : goal.invariant-loop-next
 invariant-loop-next l = (done : List ℕ) × (l.value ≡ l.fn.value ++ done) × (value_before l.text ≡ done ++ value_before l.rest) × (l.text ≡ written_value done ++ l.rest)
 

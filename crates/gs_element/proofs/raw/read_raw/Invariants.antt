@@ -4,7 +4,7 @@ use Rattle.gs_element.specs.Raw.{body_of, IsRawElement}
 use Rattle.gs_element.proofs.JoinLemmas.{Reaches}
 use Rattle.gs_element.proofs.raw.read_raw.Given as goal
 
--- the pairs so far are joined to what was read, and no join is longer that does not go on from there
+-- the pairs so far are joined to the text that was read, and every longer join goes on from there
 abbrev pub invariant-loop-rest : goal.invariant-loop-rest
 invariant-loop-rest l = record {
   joined : Joined (IsRawElement l.table) l.pairs.items (body_of l.text) l.rest;

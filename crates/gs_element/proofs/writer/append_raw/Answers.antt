@@ -7,8 +7,8 @@ write_elements-requires c = rw c.qualifiers.ensures (qualifiers_in_order c.args.
 pub write_elements-requires-2 : goal.write_elements-requires-2
 write_elements-requires-2 c = rw c.attributes.ensures (attributes_in_order c.args.table.now c.args.identity.now c.requires)
 
-pub returns : goal.returns
-returns c =
+pub returns-clause-written : goal.returns-clause-written
+returns-clause-written c =
     let coded = rw (c.as_bytes.ensures, c.key-key.ensures) at c.in_ok-extend_from_slice.ensures.items in
     let valued = rw (c.as_bytes-2.ensures, c.key-key.ensures) at c.in_ok-extend_from_slice-2.ensures.items in
     let unclosed = rw c.key-key.ensures at c.is_open-unclosed.ensures in

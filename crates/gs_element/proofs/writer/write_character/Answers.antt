@@ -8,8 +8,8 @@ bracket_written c old mid new bracket backslash push = rw bracket (push ∙ ap (
 plain_written : (c : ℕ) (old new : List ℕ) → c ≢ 40 → new ≡ old ++ c ∷ [] → new ≡ old ++ written_character c
 plain_written c old new plain push = rw (ne_eqb c 40 plain) push
 
-pub returns-in_ok-push-2 : goal.returns-in_ok-push-2
-returns-in_ok-push-2 c = bracket_written c.args.c c.args.out.now.items _ _ (omega arith) c.in_ok-push.ensures.items c.in_ok-push-2.ensures.items
+pub returns-in_ok-push-2-clause-written : goal.returns-in_ok-push-2-clause-written
+returns-in_ok-push-2-clause-written c = bracket_written c.args.c c.args.out.now.items _ _ (omega arith) c.in_ok-push.ensures.items c.in_ok-push-2.ensures.items
 
-pub returns-in_ok-push-3 : goal.returns-in_ok-push-3
-returns-in_ok-push-3 c = plain_written c.args.c c.args.out.now.items _ (λ e. omega arith) c.in_ok-push-3.ensures.items
+pub returns-in_ok-push-3-clause-written : goal.returns-in_ok-push-3-clause-written
+returns-in_ok-push-3-clause-written c = plain_written c.args.c c.args.out.now.items _ (λ e. omega arith) c.in_ok-push-3.ensures.items

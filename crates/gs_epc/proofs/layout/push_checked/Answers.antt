@@ -7,7 +7,7 @@ use Rattle.gs_chars.specs.CheckDigits.{check_digit_of}
 use Rattle.gs_epc.specs.Layout.{AreKeyDigits, key_digits, with_check}
 use Rattle.gs_epc.proofs.layout.push_checked.Goals as goal
 
--- what is read behind the old value
+-- the text read after the old value
 slice_is : (value digits whole old seen slice : List ℕ) → whole ≡ value ++ digits → old ≡ value → seen ≡ whole → slice ≡ take (length seen - length old) (drop (length old) seen) → slice ≡ digits
 slice_is value digits whole old seen slice w o e s =
     let count : length (value ++ digits) - length value ≡ length digits = omega (arith, length-append value digits) in

@@ -7,5 +7,5 @@ loop-left-preserved c =
     let few = c.loop-left.invariant.few in
     record {
       few = omega arith;
-      whole = bound_step _ _ _ _ _ _ _ _ c.loop-left-test.true refl c.loop-left.invariant.whole c.in_ok-add_first.ensures c.in_ok-whole.ensures c.rest_of-bound.ensures;
+      whole = bound_step _ _ _ _ _ _ _ _ c.loop-left-test.true refl c.loop-left.invariant.whole c.in_ok-add_first.ensures c.in_ok-add_second.ensures c.rest_of-bound.ensures;
     }

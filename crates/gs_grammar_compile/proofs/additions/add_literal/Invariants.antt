@@ -4,4 +4,4 @@ use Rattle.gs_grammar_compile.proofs.additions.add_literal.Given as goal
 
 abbrev pub invariant-loop-symbol : goal.invariant-loop-symbol
 invariant-loop-symbol l =
-    l.whole ++ lit_table (drop l.symbol-index l.symbols) (length l.whole) ≡ l.initial.whole ++ lit_table l.symbols (length l.initial.whole)
+    l.table ++ lit_table (drop l.symbol-index l.symbols) (length l.table) ≡ l.initial.table ++ lit_table l.symbols (length l.initial.table)

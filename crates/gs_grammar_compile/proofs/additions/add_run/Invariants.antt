@@ -4,4 +4,4 @@ use Rattle.gs_grammar_compile.proofs.additions.add_run.Given as goal
 
 abbrev pub invariant-loop-place : goal.invariant-loop-place
 invariant-loop-place l =
-    l.whole ++ run_table l.lo l.hi (l.count - l._place) (length l.whole) ≡ l.initial.whole ++ run_table l.lo l.hi l.count (length l.initial.whole)
+    l.table ++ run_table l.lo l.hi (l.count - l._place) (length l.table) ≡ l.initial.table ++ run_table l.lo l.hi l.count (length l.initial.table)

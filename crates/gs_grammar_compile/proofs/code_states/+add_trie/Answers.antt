@@ -21,4 +21,4 @@ pub returns : goal.returns
 returns t c =
     let apart = c.if-more-eq0.false in
     let some : 0 < c.args.more = omega arith in
-    ok_follows _ _ (λ new. trie_added _ _ _ _ _ _ new some c.in_ok-forked.ensures c.in_ok-low.ensures) c.add_trie-2.result c.add_trie-2.ensures
+    ok_follows _ _ (λ _. trie_added _ _ _ _ _ _ _ some c.in_ok-add_bits.ensures c.in_ok-add_trie.ensures) c.add_trie-2.result c.add_trie-2.ensures

@@ -9,5 +9,5 @@ loop-more-preserved c =
     record {
       few = omega arith;
       room = omega arith;
-      whole = codes_step _ _ _ _ _ _ _ _ _ c.loop-more-test.true refl c.saturating_sub-least.ensures c.loop-more.invariant.whole c.in_ok-whole.ensures;
+      whole = codes_step _ _ _ _ _ _ _ _ _ c.loop-more-test.true refl c.saturating_sub-least.ensures c.loop-more.invariant.whole c.in_ok-add_code.ensures;
     }

@@ -6,7 +6,7 @@ abbrev pub invariant-loop-more : goal.invariant-loop-more
 invariant-loop-more l = record {
   few : 7 * l.more ≤ l.left;
   room : l.left ≤ l.end;
-  whole : l.whole ++ characters_table l.least l.more l.left (length l.whole) l.end ≡ l.initial.whole ++ characters_table l.initial.least l.initial.more l.initial.left (length l.initial.whole) l.end;
+  whole : l.table ++ characters_table l.least l.more l.left (length l.table) l.end ≡ l.initial.table ++ characters_table l.initial.least l.initial.more l.initial.left (length l.initial.table) l.end;
 }
 
 abbrev pub decreases-loop-more : goal.decreases-loop-more

@@ -13,4 +13,4 @@ pub returns : goal.returns
 returns c =
     let row = leaf_row c.args.front c.args.next c.new-row.result.items c.push_where.new.row.items c.push_where-2.new.row.items c.as_slice.result.now c.holds.result c.holds-2.result
     c.new-row.ensures.items c.in_ok-push_where.ensures c.in_ok-push_where-2.ensures c.as_slice.ensures.value c.holds.ensures c.holds-2.ensures in
-    ok_follows _ _ (λ new e. rw row at e) c.with_state.result c.with_state.ensures
+    ok_follows _ _ (λ _ e. rw row at e) c.push_state.result c.push_state.ensures

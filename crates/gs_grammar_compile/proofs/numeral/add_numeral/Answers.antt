@@ -25,4 +25,4 @@ add_tight-requires-clause-digits c = next_rest _ _ _ c.pow-power.ensures
 
 pub returns : goal.returns
 returns c =
-    ok_follows _ _ (λ new e n m. numeral_added _ _ _ _ n _ _ _ new c.digits_behind-behind.ensures.count c.pow-power.ensures c.in_ok-end.ensures c.in_ok-first.ensures c.in_ok-tight.ensures e m) c.add_free.result c.add_free.ensures
+    ok_follows _ _ (λ _ e n m. numeral_added _ _ _ _ n _ _ _ _ c.digits_behind-behind.ensures.count c.pow-power.ensures c.in_ok-end.ensures c.in_ok-add_tight_state.ensures c.in_ok-add_tight.ensures e m) c.add_free.result c.add_free.ensures

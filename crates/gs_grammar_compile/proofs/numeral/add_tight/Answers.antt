@@ -22,5 +22,5 @@ loop-left-preserved c =
     record {
       few = omega arith;
       small = next_rest _ _ _ c.pow-power.ensures;
-      whole = tight_step _ _ _ _ _ _ _ _ c.loop-left-test.true refl c.pow-power.ensures c.loop-left.invariant.whole c.in_ok-whole.ensures;
+      whole = tight_step _ _ _ _ _ _ _ _ c.loop-left-test.true refl c.pow-power.ensures c.loop-left.invariant.whole c.in_ok-add_tight_state.ensures;
     }

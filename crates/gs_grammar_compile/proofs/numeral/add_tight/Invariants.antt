@@ -6,7 +6,7 @@ abbrev pub invariant-loop-left : goal.invariant-loop-left
 invariant-loop-left l = record {
   few : l.left ≤ l.initial.left;
   small : l.number < 10 ^ l.left;
-  whole : l.whole ++ tight_table l.left l.number (length l.whole) l.end ≡ l.initial.whole ++ tight_table l.initial.left l.initial.number (length l.initial.whole) l.end;
+  whole : l.table ++ tight_table l.left l.number (length l.table) l.end ≡ l.initial.table ++ tight_table l.initial.left l.initial.number (length l.initial.table) l.end;
 }
 
 abbrev pub decreases-loop-left : goal.decreases-loop-left

@@ -8,7 +8,7 @@ loop-count-preserved c =
     record {
       some = omega arith;
       few = omega arith;
-      rows = counts_step _ _ _ _ _ _ _ c.loop-count-test.true c.loop-count.invariant.rows c.in_ok-whole.ensures;
+      rows = counts_step _ _ _ _ _ _ _ c.loop-count-test.true c.loop-count.invariant.rows c.in_ok-add_count.ensures;
     }
 
 pub returns : goal.returns

@@ -6,7 +6,7 @@ abbrev pub invariant-loop-count : goal.invariant-loop-count
 invariant-loop-count l = record {
   some : 1 ≤ l.count;
   few : l.count ≤ l.hi + 1;
-  rows : l.whole ++ counts_rows l.left l.next l.count (l.hi + 1 - l.count) ≡ l.initial.whole ++ counts_rows l.left l.next 1 l.hi;
+  rows : l.table ++ counts_rows l.left l.next l.count (l.hi + 1 - l.count) ≡ l.initial.table ++ counts_rows l.left l.next 1 l.hi;
 }
 
 abbrev pub decreases-loop-count : goal.decreases-loop-count

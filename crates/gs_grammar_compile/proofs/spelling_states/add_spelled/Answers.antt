@@ -11,9 +11,9 @@ all_spelled lo hi first count least left end table whole none f k e all =
     sym (append-nil whole) ∙ rw (left_is, f, k, e) at all
 
 pub loop-left-preserved : goal.loop-left-preserved
-loop-left-preserved c = character_step _ _ _ _ _ _ _ _ c.loop-left-test.true refl c.saturating_sub-least.ensures c.loop-left.invariant c.in_ok-whole.ensures
+loop-left-preserved c = character_step _ _ _ _ _ _ _ _ c.loop-left-test.true refl c.saturating_sub-least.ensures c.loop-left.invariant c.in_ok-add_character.ensures
 
 pub returns : goal.returns
 returns c =
     let hi = c.from.ensures in
-    all_spelled c.args.lo c.args.hi c.from-least.result c.from-left.result c.loop-left.least c.loop-left.left c.in_ok-end.end c.args.table c.loop-left.whole c.loop-left-test.false c.from-least.ensures c.from-left.ensures (rw hi at c.in_ok-end.ensures) c.loop-left.invariant
+    all_spelled c.args.lo c.args.hi c.from-least.result c.from-left.result c.loop-left.least c.loop-left.left c.in_ok-end.end c.args.table.now c.loop-left.table c.loop-left-test.false c.from-least.ensures c.from-left.ensures (rw hi at c.in_ok-end.ensures) c.loop-left.invariant

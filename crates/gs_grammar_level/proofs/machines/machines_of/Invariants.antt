@@ -1,5 +1,6 @@
-use Rattle.gs_grammar_level.proofs.MachinesOfOptions.{MachinesSoFar}
+use Rattle.gs_grammar_level.specs.OptionMachines.{IsMachineOf}
+use Rattle.gs_grammar_level.proofs.FitLemmas.{FitFirst}
 use Rattle.gs_grammar_level.proofs.machines.machines_of.Given as goal
 
-abbrev pub invariant-loop-number : goal.invariant-loop-number
-invariant-loop-number l = MachinesSoFar l.machines.items l.options l.number
+abbrev pub invariant-loop-option : goal.invariant-loop-option
+invariant-loop-option l = FitFirst IsMachineOf l.machines.items l.options l.option-index

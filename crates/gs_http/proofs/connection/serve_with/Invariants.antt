@@ -3,7 +3,7 @@ use Rattle.gs_http.specs.Sites.{room_for}
 use Rattle.gs_http.proofs.Connections.{SoFar}
 use Rattle.gs_http.proofs.connection.serve_with.Given as goal
 
--- so many heads were answered, and more may come
+-- that many heads were answered, and more may come
 abbrev pub invariant-loop-turn : goal.invariant-loop-turn
 invariant-loop-turn g l = record {
   so_far : SoFar l.resolver.table l.resolver.links l.resolver.settings 1000 l.turn l.bytes (g.C.Conn.left l.fn.conn) (g.C.Conn.left l.conn) (g.C.Conn.taken l.fn.conn) (g.C.Conn.taken l.conn) (g.C.Conn.held l.fn.conn) (g.C.Conn.held l.conn);

@@ -4,11 +4,11 @@ use Rattle.gs_http.specs.declared.sign.Sign.TheVariants.{Sized, Closes}
 use Rattle.gs_http.specs.Fields.{has_close, is_word, shows}
 use Rattle.gs_http.proofs.fields.shows.Goals as goal
 
--- a field of this name says how long a body is, but for none
+-- a field of this name says how long a body is, except for none
 sized_shows : (sign : Sign) (name value : List ℕ) → sign ≡ Sized → is_word (codes "content-length") name ≡ true → not (bytes_eq value (codes "0")) ≡ shows sign (name, value)
 sized_shows sign name value is named = rw (is, named) refl
 
--- a field of this name ends the connection where one of its parts says so
+-- a field of this name ends the connection if one of its parts is `close`
 closes_shows : (sign : Sign) (name value : List ℕ) → sign ≡ Closes → is_word (codes "connection") name ≡ true → has_close value ≡ shows sign (name, value)
 closes_shows sign name value is named = rw (is, named) refl
 

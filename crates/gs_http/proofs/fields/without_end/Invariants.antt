@@ -2,7 +2,7 @@ use Rattle.std.proofs.Common.{◌≡◌, ◌≤◌, length, reverse, take}
 use Rattle.httparse.specs.Grammar.{skip_ows}
 use Rattle.gs_http.proofs.fields.without_end.Given as goal
 
--- nothing but spaces and tabs behind
+-- only spaces and tabs after
 abbrev pub invariant-loop-end : goal.invariant-loop-end
 invariant-loop-end l = record {
   within : l.end ≤ length l.text;

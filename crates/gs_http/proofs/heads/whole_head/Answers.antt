@@ -7,7 +7,7 @@ use Rattle.httparse.specs.declared.spans.RequestSpans.{RequestSpans}
 use Rattle.gs_http.specs.Heads.{IsWhole, most_fields}
 use Rattle.gs_http.proofs.heads.whole_head.Goals as goal
 
--- a head up to the end of the bytes, where there is room for the most fields and no more
+-- a head up to the end of the bytes, with room for exactly the most fields
 whole_at : (head : List ℕ) (headers : List HeaderSpan) (parts : RequestSpans) → IsRequestWithin head headers parts → IsRequestOf head headers parts → parts.len ≡ length head → length headers ≡ most_fields
     → (h : RequestHead) × IsWhole head h × IsRequestAt head headers parts h
 whole_at head headers parts within (h, at) all room =

@@ -3,7 +3,7 @@ use Rattle.gs_http.specs.ConnectedSupport.{Reads}
 use Rattle.gs_http.specs.Untouched.{IsUnwritten, StaysOpen}
 use Rattle.gs_http.proofs.next_head.fill.Given as goal
 
--- what was read so far stands behind what was held
+-- the bytes read so far follow those held before
 abbrev pub invariant-filling : goal.invariant-filling
 invariant-filling g l = record {
   reads : Reads l.fn.bytes l.bytes (g.C.Conn.left l.fn.conn) (g.C.Conn.left l.conn) (g.C.Conn.taken l.fn.conn) (g.C.Conn.taken l.conn);

@@ -4,8 +4,11 @@ use Rattle.gs_ident.specs.Elements.{Elements}
 use Rattle.gs_ident.proofs.IdentityLemmas.{made_with}
 use Rattle.gs_ident.proofs.maker.make.Goals as goal
 
-pub elements_of-requires : goal.elements_of-requires
-elements_of-requires c = rw c.as_slice.ensures.value at c.in_ok-first.ensures.first
+pub elements_of-requires-clause-agree : goal.elements_of-requires-clause-agree
+elements_of-requires-clause-agree c = rw c.as_slice.ensures.value at c.in_ok-first.ensures.agree
+
+pub elements_of-requires-clause-first : goal.elements_of-requires-clause-first
+elements_of-requires-clause-first c = rw c.as_slice.ensures.value at c.in_ok-first.ensures.first
 
 pub returns-clause-made : goal.returns-clause-made
 returns-clause-made c =

@@ -3,6 +3,7 @@ use Rattle.std.specs.List.{flat_map}
 use Rattle.std.proofs.lemmas.List.{flat_map_more, take_all, take_more}
 use Rattle.gs_ai.specs.declared.pair.Pair.{Pair}
 use Rattle.gs_ident.specs.Links.{percent_encoded}
+use Rattle.gs_ident.proofs.BeginLemmas.{begins_after, begins_more, on_err}
 use Rattle.gs_ident.proofs.spelling.write_pairs.Goals as goal
 
 one_more : (f : Pair → List ℕ) (pairs : List Pair) (i : ℕ) (pair : Pair) (first so_far new : List ℕ) → i < length pairs → pair ≡ get_or pairs i pair →
@@ -14,7 +15,10 @@ one_more f pairs i pair first so_far new h is e n =
 pub loop-pair-preserved : goal.loop-pair-preserved
 loop-pair-preserved c =
     one_more (λ p. c.args.before ∷ (p.code ++ c.args.between ∷ percent_encoded p.value)) c.args.pairs.now c.loop-pair.pair-index c.pair-item.result c.args.out.now.items c.loop-pair.out.items c.write_pair.new.out.items
-    c.loop-pair-test.true c.pair-item.is c.loop-pair.invariant c.in_ok-write_pair.ensures
+    c.loop-pair-test.true c.pair-item.is c.loop-pair.invariant c.in_ok-write_pair.ensures.written
 
-pub returns : goal.returns
-returns c = rw (take_all c.loop-pair.pair-index c.args.pairs.now c.loop-pair-test.false) at c.loop-pair.invariant
+pub returns-clause-written : goal.returns-clause-written
+returns-clause-written c = rw (take_all c.loop-pair.pair-index c.args.pairs.now c.loop-pair-test.false) at c.loop-pair.invariant
+
+pub returns-in_err-write_pair-clause-begun : goal.returns-in_err-write_pair-clause-begun
+returns-in_err-write_pair-clause-begun c = on_err c.from_residual.result _ (begins_after _ _ _ c.in_err-write_pair.ensures.begun (begins_more _ _ _ c.loop-pair.invariant))

@@ -9,9 +9,9 @@ query_written : (out first all : List ℕ) (pair : Pair) (pairs : List Pair) →
     all ≡ first ++ flat_map (λ p. 38 ∷ query_part p) pairs → all ≡ out ++ query_of (pair ∷ pairs)
 query_written out first all pair pairs e f = rw (f, e, append_assoc out (63 ∷ query_part pair) _)
 
-pub returns : goal.returns
-returns c =
+pub returns-clause-written : goal.returns-clause-written
+returns-clause-written c =
     let out = c.args.out.now.items in
     let split : c.args.pairs.now ≡ c.in-Some.first.now ∷ c.in-Some.rest.now = c.in-Some.ensures.cases.0 in
     rw split (IfOk-weaker c.write_pairs.result (λ _. c.write_pairs.new.out.items ≡ c.write_pair.new.out.items ++ flat_map (λ p. 38 ∷ query_part p) c.in-Some.rest.now) (λ _. c.write_pairs.new.out.items ≡ out ++ query_of (c.in-Some.first.now ∷ c.in-Some.rest.now))
-    (λ _ e. query_written out c.write_pair.new.out.items c.write_pairs.new.out.items c.in-Some.first.now c.in-Some.rest.now c.in_ok-write_pair.ensures e) c.write_pairs.ensures)
+    (λ _ e. query_written out c.write_pair.new.out.items c.write_pairs.new.out.items c.in-Some.first.now c.in-Some.rest.now c.in_ok-write_pair.ensures.written e) c.write_pairs.ensures.written)

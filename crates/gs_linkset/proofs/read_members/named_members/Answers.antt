@@ -10,7 +10,7 @@ use Rattle.gs_linkset.proofs.read_members.named_members.Goals as goal
 
 pub returns-in_err-read-clause-answer : goal.returns-in_err-read-clause-answer
 returns-in_err-read-clause-answer g c =
-    let p = err_from_is_err_and c.from_residual.result c.from_residual.ensures.1 in
+    let p = err_from_is_err_and c.from_residual-in_err-read.result c.from_residual-in_err-read.ensures.1 in
     let low : c.loop-i.i < length c.args.names.now = omega (arith, c.loop-i-test.true) in
     rw (p.1, p.2) (member_error (g.M.ReadMember.errors c.args.object.now.place (view c.args.object.now.tree)) (g.M.ReadMember.made (view c.args.object.now.tree)) g.M.Shaped.shape (map (λ name. name.now) c.args.names.now) c.loop-i.all.items c.loop-i.i _ c.in_err-read.field-0.0 (names_in (view c.args.object.now.tree)) c.requires.names c.loop-i.invariant
     (name_read c.args.names.now c.loop-i.i _ low) c.in_err-read.ensures.answer)

@@ -8,7 +8,7 @@ use Rattle.gs_linkset.proofs.reader.read_items.Goals as goal
 
 pub returns-in_err-item-clause-answer : goal.returns-in_err-item-clause-answer
 returns-in_err-item-clause-answer g c =
-    let p = err_from_is_err_and c.from_residual.result c.from_residual.ensures.1 in
+    let p = err_from_is_err_and c.from_residual-in_err-item.result c.from_residual-in_err-item.ensures.1 in
     rw (p.1, p.2) (array_error g.T.ReadItem.errors g.T.ReadItem.made c.args.array.now.place (view c.args.array.now.tree) c.loop-i.items.items c.loop-i.i c.in_err-item.field-0.0 c.loop-i.invariant.0 c.in_err-item.ensures.answer)
 
 pub loop-i-preserved : goal.loop-i-preserved

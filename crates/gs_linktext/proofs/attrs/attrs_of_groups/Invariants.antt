@@ -2,7 +2,7 @@ use Rattle.std.proofs.Common.{◌≡◌, ◌++◌, length}
 use Rattle.gs_linktext.specs.Groups.{attrs_of_entries}
 use Rattle.gs_linktext.proofs.attrs.attrs_of_groups.Given as goal
 
--- the attributes so far, and those of what is left of the map
+-- the attributes so far, and those of the rest of the map
 abbrev pub invariant-loop-name : goal.invariant-loop-name
 invariant-loop-name l = l.attrs.items ++ attrs_of_entries l.groups.entries ≡ attrs_of_entries l.fn.groups.entries
 

@@ -3,7 +3,7 @@ use Rattle.gs_linktext_grammar.specs.Prefixes.{with_bytes}
 use Rattle.gs_linktext_grammar.specs.Lexemes.{unquoted}
 use Rattle.gs_linktext_grammar.proofs.lexer.quoted_of.Given as goal
 
--- what the whole says is what was read and what the rest says
+-- the value of the whole is the part that was read and the value of the rest
 abbrev pub invariant-loop-step : goal.invariant-loop-step
 invariant-loop-step l = unquoted l.fn.text ≡ with_bytes l.value (unquoted l.rest)
 

@@ -2,7 +2,7 @@ use Rattle.std.proofs.Common.{◌≡◌, ◌≤◌, ◌+◌, ◌-◌, length, tr
 use Rattle.gs_port.specs.Contents.{prepend_known}
 use Rattle.gs_port.proofs.file_reader.read_current.Given as goal
 
--- what was left is what was read so far and then what is left
+-- the bytes that were left are those read so far, and then those left now
 abbrev pub invariant-loop-block : goal.invariant-loop-block
 invariant-loop-block g l = record {
   within : length l.bytes.items ≤ l.max + 1;

@@ -4,7 +4,7 @@ use Rattle.gs_template.proofs.TemplateLemmas.{encoded_plain}
 use Rattle.gs_template.proofs.expansion.append_value.Goals as goal
 
 pub returns-clause-text : goal.returns-clause-text
-returns-clause-text c = c.append_escaped.ensures
+returns-clause-text c = c.append_escaped.ensures.written
 
 pub returns-clause-inert : goal.returns-clause-inert
 returns-clause-inert c =

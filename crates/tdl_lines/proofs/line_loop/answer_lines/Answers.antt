@@ -1,11 +1,12 @@
 use Rattle.std.proofs.Common.{◌≡◌, ◌≢◌, Bool, true, false, ℕ, ◌≤◌, [], refl, sym, ap, ◌∙◌, arith}
+use Rattle.std.specs.Bool.{OnTrue}
 use Rattle.gs_port.specs.Contents.{append_nothing}
 use Rattle.gs_port.specs.Counts.{Rises}
 use Rattle.tdl_lines.specs.declared.line_loop.Answering.{Answering}
 use Rattle.tdl_lines.specs.declared.line_loop.Answering.TheVariants.{Whole, SinkFault, Memory}
 use Rattle.tdl_lines.specs.LineLoops.{OnSinkFault, status_at_end}
-use Rattle.tdl_lines.specs.Statuses.{OnWriteFault, is_input_long, is_read_error, is_rejection, is_usage}
-use Rattle.tdl_lines.specs.declared.status.Status.TheVariants.{Usage, Refused}
+use Rattle.tdl_lines.specs.Statuses.{is_status}
+use Rattle.tdl_lines.specs.declared.status.Status.TheVariants.{Usage, Refused, ReadFault, WriteFault, InputLong}
 use Rattle.tdl_lines.specs.declared.status.Status.{Status}
 use Rattle.std.proofs.lemmas.Bool.{false≢true}
 use Rattle.tdl_lines.proofs.StatusLemmas.{when_always}
@@ -17,7 +18,7 @@ rises_later : (a b c : ℕ) → a ≤ b → Rises b c → Rises a c
 rises_later a b c low rises = omega arith
 
 -- an error of the output while the last line was answered
-error_at_end : {A B : Type 0} (earlier : Bool) (last : Answering) → OnSinkFault last A → (A → B) → OnWriteFault (status_at_end earlier last) B
+error_at_end : {A B : Type 0} (earlier : Bool) (last : Answering) → OnSinkFault last A → (A → B) → OnTrue (is_status (status_at_end earlier last) WriteFault) B
 error_at_end true (Whole rejected) a f = tt
 error_at_end false (Whole true) a f = tt
 error_at_end false (Whole false) a f = tt
@@ -27,15 +28,15 @@ error_at_end true Memory a f = tt
 error_at_end false Memory a f = tt
 
 -- a status that is not that of the arguments, nor that of a file
-no_usage : (status : Status) → is_usage status ≡ false → status ≢ Usage
-no_usage status other is = false≢true (sym other ∙ ap is_usage is)
+no_usage : (status : Status) → is_status status Usage ≡ false → status ≢ Usage
+no_usage status other is = false≢true (sym other ∙ ap (λ (s : Status). is_status s Usage) is)
 
-no_rejection : (status : Status) → is_rejection status ≡ false → status ≢ Refused
-no_rejection status other is = false≢true (sym other ∙ ap is_rejection is)
+no_rejection : (status : Status) → is_status status Refused ≡ false → status ≢ Refused
+no_rejection status other is = false≢true (sym other ∙ ap (λ (s : Status). is_status s Refused) is)
 
 -- which statuses the end of an input has not
 ends_in : (earlier : Bool) (last : Answering)
-    → (status_at_end earlier last ≢ Usage) × (status_at_end earlier last ≢ Refused) × (is_input_long (status_at_end earlier last) ≡ false) × (is_read_error (status_at_end earlier last) ≡ false)
+    → (status_at_end earlier last ≢ Usage) × (status_at_end earlier last ≢ Refused) × (is_status (status_at_end earlier last) InputLong ≡ false) × (is_status (status_at_end earlier last) ReadFault ≡ false)
 ends_in true (Whole rejected) = (no_usage _ refl, no_rejection _ refl, refl, refl)
 ends_in false (Whole true) = (no_usage _ refl, no_rejection _ refl, refl, refl)
 ends_in false (Whole false) = (no_usage _ refl, no_rejection _ refl, refl, refl)

@@ -1,6 +1,7 @@
 use Rattle.std.proofs.Common.{◌≢◌, ℕ, List, refl}
+use Rattle.std.specs.Bool.{OnTrue}
 use Rattle.tdl_lines.specs.Printers.{PrintedAs}
-use Rattle.tdl_lines.specs.Statuses.{OnWriteFault}
+use Rattle.tdl_lines.specs.Statuses.{is_status}
 use Rattle.tdl_lines.specs.declared.status.Status.{Status}
 use Rattle.tdl_lines.specs.declared.status.Status.TheVariants.{Done, SomeRefused, Usage, Refused, ReadFault, WriteFault, InputLong, Memory}
 use Rattle.tdl_lines.proofs.printer.print_line.Goals as goal
@@ -17,7 +18,7 @@ printed_whole InputLong line ends written = (refl, refl)
 printed_whole Memory line ends written = absurd (written refl)
 
 -- a status that is no error of the output
-no_write_error : (fact : Type 0) (status : Status) → status ≢ WriteFault → OnWriteFault status fact
+no_write_error : (fact : Type 0) (status : Status) → status ≢ WriteFault → OnTrue (is_status status WriteFault) fact
 no_write_error fact Done ends = tt
 no_write_error fact SomeRefused ends = tt
 no_write_error fact Usage ends = tt

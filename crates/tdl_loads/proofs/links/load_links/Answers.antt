@@ -2,8 +2,8 @@ use Rattle.std.proofs.Common.{ℕ, List, [], Option, option_map, refl, subst, sy
 use Rattle.std.specs.Prelude.{Ok}
 use Rattle.tdl_messages.specs.declared.file_kind.FileKind.TheVariants as kind
 use Rattle.tdl_arguments.specs.Requests.{known_links, name_of_links}
-use Rattle.tdl_loads.specs.Loads.{BytesGive, Gives, IsNoLink, JudgesFile, LinksGive}
-use Rattle.tdl_loads.specs.LoadsSupport.{LoadedBy, files_known}
+use Rattle.tdl_loads.specs.Loads.{BytesGive, Gives, JudgesFile, LinksGive}
+use Rattle.tdl_loads.specs.LoadsSupport.{IsNoLink, LoadedBy, files_known}
 use Rattle.tdl_loads.proofs.FileLoads.{file_judged_by, unnamed_judged}
 use Rattle.tdl_loads.proofs.LoadSteps.{bytes_named, bytes_unloaded, loads_failed, loads_given, none_is_named}
 use Rattle.tdl_loads.proofs.links.load_links.Goals as goal

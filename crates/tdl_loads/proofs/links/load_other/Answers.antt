@@ -2,9 +2,9 @@ use Rattle.std.proofs.Common.{None, refl}
 use Rattle.std.specs.Prelude.{Ok}
 use Rattle.gs_linkset.specs.Answers.{read_answer}
 use Rattle.tdl_arguments.specs.Requests.{known_name}
-use Rattle.tdl_loads.specs.Loads.{BytesGive, IsNoOther, JudgesOther, OtherGives, links_verdict, other_verdict}
+use Rattle.tdl_loads.specs.Loads.{BytesGive, OtherGives, links_verdict, other_verdict}
 use Rattle.std.proofs.Common.{false}
-use Rattle.tdl_loads.specs.LoadsSupport.{files_known}
+use Rattle.tdl_loads.specs.LoadsSupport.{IsNoOther, JudgesOther, files_known}
 use Rattle.tdl_loads.proofs.FileLoads.{file_judged, unnamed_judged}
 use Rattle.tdl_loads.proofs.LoadSteps.{bytes_named, bytes_unloaded, loads_failed, loads_given, none_is_named}
 use Rattle.tdl_loads.proofs.links.load_other.Goals as goal

@@ -2,7 +2,7 @@ use Rattle.std.proofs.Common.{◌≡◌, ◌∙◌, ap, option_to_list}
 use Rattle.std.specs.Prelude.{Ok}
 use Rattle.std.proofs.lemmas.Result.{err_from_is_err_and}
 use Rattle.tdl_arguments.specs.Requests.{known_files, known_values}
-use Rattle.tdl_loads.specs.Loads.{AreSettings, DescriptionGives, SettingsGive}
+use Rattle.tdl_loads.specs.LoadsSupport.{AreSettings, DescriptionGives, SettingsGive}
 use Rattle.tdl_loads.proofs.LoadSteps.{gives_last, loads_given, stops_first}
 use Rattle.tdl_loads.proofs.loads.load_settings.Goals as goal
 

@@ -1,7 +1,7 @@
 use Rattle.tdl_messages.specs.declared.file_kind.FileKind.TheVariants as kind
 use Rattle.tdl_arguments.specs.Requests.{known_name}
-use Rattle.tdl_loads.specs.Loads.{BytesGive, IsNoPrefix, JudgesPrefixes, PrefixesGive}
-use Rattle.tdl_loads.specs.LoadsSupport.{files_known}
+use Rattle.tdl_loads.specs.Loads.{BytesGive, PrefixesGive}
+use Rattle.tdl_loads.specs.LoadsSupport.{IsNoPrefix, JudgesPrefixes, files_known}
 use Rattle.tdl_loads.proofs.LoadSteps.{bytes_named, bytes_unloaded, loads_failed, loads_given}
 use Rattle.tdl_loads.proofs.PrefixLoads.{file_loaded}
 use Rattle.tdl_loads.proofs.prefixes.load_prefixes.Goals as goal

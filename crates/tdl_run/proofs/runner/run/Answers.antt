@@ -1,12 +1,12 @@
-use Rattle.std.proofs.Common.{map, string_bytes, inl, refl, arith}
-use Rattle.tdl_lines.specs.Statuses.{is_answered, is_rejection, is_usage}
+use Rattle.std.proofs.Common.{None, map, string_bytes, inl, inr, refl, arith}
+use Rattle.tdl_lines.specs.Statuses.{is_answered, is_status}
+use Rattle.tdl_lines.specs.declared.status.Status.TheVariants.{Refused, Usage}
 use Rattle.tdl_lines.proofs.StatusLemmas.{when_always, when_map}
 use Rattle.tdl_arguments.specs.Commands.{reads_input, uses_door}
 use Rattle.tdl_arguments.specs.Requests.{known_request}
 use Rattle.tdl_arguments.proofs.ValueLemmas.{options_fit, tables_fit, vocabulary_fits}
-use Rattle.tdl_run.specs.Runs.{named}
 use Rattle.tdl_run.proofs.CompleteLemmas.{complete_asked}
-use Rattle.tdl_run.proofs.RunLemmas.{asks_not, begun_of, cut_of, defined_of, few_of, finished_of, listens_of, loads_of, read_error_of, rejected_of, served_of, unopened_of, usage_begun, usage_cut, usage_defined, usage_finished}
+use Rattle.tdl_run.proofs.RunLemmas.{asks_not, begun_of, cut_of, defined_of, ended_of, few_of, finished_of, listens_of, loads_of, read_error_of, rejected_of, served_of, unopened_of, usage_begun, usage_cut, usage_defined, usage_finished}
 use Rattle.tdl_run.proofs.ServeLemmas.{none_finish}
 use Rattle.tdl_run.proofs.runner.run.Goals as goal
 
@@ -37,11 +37,11 @@ returns-in-Some-clause-unopened g c =
 
 pub returns-in-Some-clause-opened : goal.returns-in-Some-clause-opened
 returns-in-Some-clause-opened g c =
-    named (known_request c.in-Some.request) c.in-Some.ensures.request c.run_request.ensures.opened
+    inl (record { asked = known_request c.in-Some.request; order = c.in-Some.ensures.request; fact = c.run_request.ensures.opened })
 
 pub returns-in-Some-clause-all_opened : goal.returns-in-Some-clause-all_opened
 returns-in-Some-clause-all_opened g c =
-    when_map (is_answered c.run_request.result) (λ all. record { asked = known_request c.in-Some.request; order = c.in-Some.ensures.request; all = all }) c.run_request.ensures.all_opened
+    when_map (is_answered c.run_request.result) (λ all. record { asked = known_request c.in-Some.request; order = c.in-Some.ensures.request; fact = all }) c.run_request.ensures.all_opened
 
 pub returns-in-Some-clause-read_error : goal.returns-in-Some-clause-read_error
 returns-in-Some-clause-read_error g c =
@@ -69,7 +69,11 @@ returns-in-Some-clause-finished g c =
 
 pub returns-in-None-clause-finished : goal.returns-in-None-clause-finished
 returns-in-None-clause-finished g c =
-    usage_finished (map string_bytes c.args.words.now) _ _ _ _ c.print_line.result c.in-None.ensures.none c.print_line.ensures.written
+    usage_finished (map string_bytes c.args.words.now) (record { files = _; input = None; door = _ }) _ _ _ c.print_line.result c.in-None.ensures.none c.print_line.ensures.written
+
+pub returns-in-Some-clause-ended : goal.returns-in-Some-clause-ended
+returns-in-Some-clause-ended g c =
+    ended_of _ _ (map string_bytes c.args.words.now) (known_request c.in-Some.request) (g.F.Files.files c.args.files.now) (g.S.Source.left c.args.input.now) (g.S.Source.left c.run_request.new.input) (g.K.Sink.held c.args.output.now) (g.K.Sink.held c.run_request.new.output) c.run_request.result c.in-Some.ensures.request c.run_request.ensures.read_error
 
 pub returns-in-Some-clause-complete : goal.returns-in-Some-clause-complete
 returns-in-Some-clause-complete g c =
@@ -119,6 +123,9 @@ returns-in-Some-clause-unread g c =
 pub returns-in-Some-clause-not_in_order : goal.returns-in-Some-clause-not_in_order
 returns-in-Some-clause-not_in_order g c = λ none. absurd (none (known_request c.in-Some.request) c.in-Some.ensures.request)
 
+pub returns-in-None-clause-opened : goal.returns-in-None-clause-opened
+returns-in-None-clause-opened g c = inr (c.in-None.ensures.none, refl)
+
 pub returns-in-None-clause-known : goal.returns-in-None-clause-known
 returns-in-None-clause-known g c = refl
 
@@ -132,13 +139,13 @@ pub returns-in-None-clause-unopened : goal.returns-in-None-clause-unopened
 returns-in-None-clause-unopened g c = λ none. refl
 
 pub returns-in-None-clause-usage : goal.returns-in-None-clause-usage
-returns-in-None-clause-usage g c = when_always (is_usage c.print_line.result) c.in-None.ensures.none
+returns-in-None-clause-usage g c = when_always (is_status c.print_line.result Usage) c.in-None.ensures.none
 
 pub returns-in-None-clause-unread_rejected : goal.returns-in-None-clause-unread_rejected
-returns-in-None-clause-unread_rejected g c = when_always (is_rejection c.print_line.result) refl
+returns-in-None-clause-unread_rejected g c = when_always (is_status c.print_line.result Refused) refl
 
 pub returns-in-None-clause-unserved_rejected : goal.returns-in-None-clause-unserved_rejected
-returns-in-None-clause-unserved_rejected g c = when_always (is_rejection c.print_line.result) refl
+returns-in-None-clause-unserved_rejected g c = when_always (is_status c.print_line.result Refused) refl
 
 pub returns-in-None-clause-input_counts : goal.returns-in-None-clause-input_counts
 returns-in-None-clause-input_counts g c = omega arith

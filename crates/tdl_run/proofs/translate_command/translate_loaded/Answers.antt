@@ -7,7 +7,7 @@ use Rattle.tdl_answers.proofs.LineLemmas.{some_translated}
 use Rattle.tdl_arguments.specs.Requests.{known_values}
 use Rattle.tdl_lines.specs.Outputs.{AnswersEnded}
 use Rattle.tdl_run.specs.CommandRuns.{AnswersLines, Moment}
-use Rattle.tdl_run.specs.Works.{LinesAnswered, translating}
+use Rattle.tdl_run.specs.Works.{LinesAnswered, input_limit, translating}
 use Rattle.tdl_run.proofs.RanLemmas.{lines_some, ran_of_memory}
 use Rattle.tdl_run.proofs.translate_command.translate_loaded.Goals as goal
 
@@ -25,4 +25,4 @@ pub returns-in-Err : goal.returns-in-Err
 returns-in-Err g c =
     let Is = IsTranslatedLine (translating c.args.loaded.now (known_values c.args.values) c.args.from c.args.to) in
     let before : Moment = record { input = g.S.Source.left c.args.input.now; input_errors = g.S.Source.errors c.args.input.now; output_errors = g.K.Sink.errors c.args.output.now } in
-    ([], sym (append_nothing (g.K.Sink.held c.args.output.now)), ran_of_memory (LinesAnswered Is before.input) (AnswersEnded Is before.input before.input) _ _ before (lines_some Is before.input (some_translated (translating c.args.loaded.now (known_values c.args.values) c.args.from c.args.to) c.requires.loaded)))
+    ([], sym (append_nothing (g.K.Sink.held c.args.output.now)), ran_of_memory (LinesAnswered Is before.input) (AnswersEnded Is input_limit before.input before.input) _ _ before (lines_some Is before.input (some_translated (translating c.args.loaded.now (known_values c.args.values) c.args.from c.args.to) c.requires.loaded)))

@@ -8,7 +8,7 @@ use Rattle.gs_ai.specs.declared.part.Part.TheVariants.{Zero, Num, NumCheck, NumU
 use Rattle.gs_ai.specs.Parts.{is_part, number_text, part_text}
 use Rattle.gs_ai.proofs.part.Part.read.Goals as goal
 
--- the text is no number from `least` to `greatest` between the two others
+-- the text is not a number from `least` to `greatest` between the two others
 abbrev NotBetween : List ℕ → List ℕ → ℕ → ℕ → List ℕ → Type 0
 NotBetween before after least greatest text = (k : ℕ) → least ≤ k → k ≤ greatest → before ++ number_text k ++ after ≡ text → ⊥
 

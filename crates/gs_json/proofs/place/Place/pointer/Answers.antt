@@ -19,4 +19,4 @@ loop-step-preserved c =
 
 pub returns : goal.returns
 returns c =
-    c.loop-step.invariant ∙ ap place_of (take_all c.loop-step.step-index c.deref-step-items.result.now (omega arith) ∙ c.deref-step-items.ensures.value) ∙ c.self.view_is
+    c.loop-step.invariant ∙ ap place_of (take_all c.loop-step.step-index c.as_slice-step-items.result.now (omega arith) ∙ c.as_slice-step-items.ensures) ∙ c.self.view_is

@@ -1,0 +1,80 @@
+ghost use Rattle.std.specs.Prelude.{◌≡◌};
+ghost use Rattle.gs_port_system.specs.Budgets.{after_read, after_write, read_at, read_until, reply_until, write_at, write_until};
+
+use std::io::Result;
+
+/// The milliseconds that a peer is given: for a head from its first byte, and for each MiB of a reply that is begun.
+const TEN_SECONDS: u64 = 10_000;
+
+/// The bytes of a MiB.
+const MIB: u64 = 1_048_576;
+
+/// The time that a connection is given. Times are milliseconds of the clock.
+#[derive(Clone, Copy)]
+pub enum Budget {
+    /// No byte of a head was read after the accept or the last reply.
+    Idle,
+    /// The last read was that of a head's first bytes.
+    Begun,
+    /// A head is to be whole at a time.
+    Head { until: u64 },
+    /// A reply began at a time, and so many bytes of it were taken.
+    Reply { began: u64, taken: u64 },
+}
+
+/// Returns the time until which a write of a reply may wait.
+fn reply_end(began: u64, taken: u64, time: u64) -> u64
+    ensures { result ≡ reply_until began taken time }
+{
+    let whole = began.saturating_add(TEN_SECONDS * (taken / MIB + 1));
+    whole.min(time.saturating_add(TEN_SECONDS))
+}
+
+impl Budget {
+    /// Notes that a read is made at this time, and returns the time until which it may wait.
+    pub(crate) fn begin_read(&mut self, time: u64) -> u64
+        ensures until { result ≡ read_until self.old time }
+        ensures noted { self.new ≡ read_at self.old time }
+    {
+        let end = time.saturating_add(TEN_SECONDS);
+        match *self {
+            Budget::Head { until } => return until,
+            Budget::Begun => *self = Budget::Head { until: end },
+            Budget::Idle => {}
+            Budget::Reply { .. } => *self = Budget::Idle,
+        }
+        end
+    }
+
+    /// Notes what a read said.
+    pub(crate) fn end_read(&mut self, said: &Result<usize>)
+        ensures { self.new ≡ after_read said.now self.old }
+    {
+        if let (Ok(1..), Budget::Idle) = (said, *self) {
+            *self = Budget::Begun;
+        }
+    }
+
+    /// Notes that a write is made at this time, and returns the time until which it may wait.
+    pub(crate) fn begin_write(&mut self, time: u64) -> u64
+        ensures until { result ≡ write_until self.old time }
+        ensures noted { self.new ≡ write_at self.old time }
+    {
+        let (began, taken) = match *self {
+            Budget::Reply { began, taken } => (began, taken),
+            _ => (time, 0),
+        };
+        *self = Budget::Reply { began, taken };
+        reply_end(began, taken, time)
+    }
+
+    /// Notes what a write said.
+    pub(crate) fn end_write(&mut self, said: &Result<usize>)
+        ensures { self.new ≡ after_write said.now self.old }
+    {
+        if let (Ok(moved), Budget::Reply { began, taken }) = (said, *self) {
+            let taken = taken.saturating_add(*moved as u64);
+            *self = Budget::Reply { began, taken };
+        }
+    }
+}

@@ -1,0 +1,14 @@
+use Rattle.std.proofs.lemmas.Result.{err_from_is_err_and}
+use Rattle.gs_epc.specs.declared.write_error.EpcWriteFault.TheVariants as write
+use Rattle.gs_translate.specs.Translations.{write_reason}
+use Rattle.gs_translate.proofs.OneWriting.{written_none}
+use Rattle.gs_translate.proofs.StepLaws.{gives_ok}
+use Rattle.gs_translate.proofs.spelling.write_epc.Goals as goal
+
+pub returns-in_err-write_lent : goal.returns-in_err-write_lent
+returns-in_err-write_lent c =
+    let p = err_from_is_err_and c.from_residual.result c.from_residual.ensures.1 in
+    rw (p.1, p.2) (written_none _ _ _ c.in_err-write_lent.field-0.0 c.in_err-write_lent.ensures)
+
+pub returns : goal.returns
+returns c = gives_ok write.Memory write_reason _ _ c.in_ok-write_lent.ensures
