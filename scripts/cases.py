@@ -5,7 +5,8 @@ Each file of checks/cases is a list of cases:
   name     what the case shows
   words    the words of the command line
   files    the files of the folder in which the program runs: a text, or a JSON object, which is written without blanks
-  lent     files of the repository that stand in this folder, by the names that they have there
+  lent     files of the repository that stand in this folder, by the names that they have there; a list of files stands for a case
+           with each of them
   sparse   more files: pairs of a place and the text there, with bytes of 0 between
   folders  the names of folders in it
   input    the text on standard input
@@ -15,6 +16,8 @@ Each file of checks/cases is a list of cases:
   lines    in place of input and output: pairs of a line and its answer, to each of which a line feed is added
   turns    the same, where each line is sent once the answer to the line before has come
   stdout   the device that is standard output, which then is not compared
+  error    the text that is wanted on standard error; in its place one line that begins with `tdl: ` is wanted with a status of SAID, and
+           nothing with any other
   status   the status that is wanted
 
 A text has one character for each byte (latin-1). It is a string; or [TEXT, N], which is N times the text; or [TEXT, N, FIRST],
@@ -23,6 +26,7 @@ are joined. Only name, words and status are always there; what is left out is em
 """
 import json
 import os
+import re
 import shutil
 
 from repository import TOP
@@ -30,16 +34,26 @@ from repository import TOP
 CASES = TOP / "checks" / "cases"
 NEEDED = {"name", "words", "status"}
 KNOWN = NEEDED | {"files", "lent", "sparse", "folders", "input", "stdin", "output", "pattern"}
-KNOWN |= {"lines", "turns", "stdout"}
+KNOWN |= {"lines", "turns", "stdout", "error"}
+SAID = {2, 4, 5, 6, 8, 9}
 APART = [("input", "stdin"), ("output", "stdout"), ("output", "pattern"), ("pattern", "stdout"), ("lines", "turns")]
 APART += [(pairs, f) for pairs in ("lines", "turns") for f in ("input", "stdin", "output", "pattern", "stdout")]
 SHOWN = 200
 
 
 def subjects():
-    """The files of cases, each with its name and its cases."""
+    """Yields the files of cases, each with its name and its cases."""
     for path in sorted(CASES.glob("*.json")):
-        yield path.stem, json.loads(path.read_text("ascii"))
+        yield path.stem, [single for case in json.loads(path.read_text("ascii")) for single in singles(case)]
+
+
+def singles(case):
+    """Yields a case once for each file of a list of files that are lent, which its name then has too."""
+    for name, paths in case.get("lent", {}).items():
+        if isinstance(paths, list):
+            yield from ({**case, "name": f"{case['name']}, by {path}", "lent": {**case["lent"], name: path}} for path in paths)
+            return
+    yield case
 
 
 def bytes_of(text):
@@ -75,6 +89,13 @@ def form_fault(case):
     faults += [f"lacks {field}" for field in sorted(NEEDED - case.keys())]
     faults += [f"{a} beside {b}" for a, b in APART if a in case and b in case]
     return ", ".join(faults)
+
+
+def is_said(case, error):
+    """Whether standard error has what a case wants there."""
+    if "error" in case:
+        return error == bytes_of(case["error"])
+    return bool(re.fullmatch(rb"tdl: [^\n]+\n", error)) if case["status"] in SAID else not error
 
 
 def lay_out(case, folder):

@@ -1,16 +1,18 @@
-"""launcher [ARGUMENT..]: what bin/tdl does where it cannot just start the proved program.
+"""launcher [ARGUMENT..]: what bin/tdl does if it cannot just start the proved program.
 
-It answers --help and --version. A program that fits its sources is started. Where there is none, or an older one, `rt try` builds and runs
-the sources without proofs, with each check at run time on, which takes about a minute; one line on standard error says so, and
-standard output and status are the program's. `rt try` prints the output once the program has ended, and has limits: 1 MiB of output,
-60 seconds, 64 MiB of input, and no server. What it cannot do ends with a line on standard error and the status 70, and never with a
-part of an answer.
+It starts a program that fits its sources. Before one is built, or if it is older, it answers --help, --version and words that are not a
+command by the texts in the program's sources. For all else `rt try` builds and runs the sources without proofs, with each check at run
+time on, which takes a minute or two. One line on standard error says so; standard output, status and the line of standard error are the
+program's. `rt try` keeps no program from one call to the next, prints the output once the program has ended, and has limits: 1 MiB of
+output, 60 seconds, 64 MiB of input, and no server. What it cannot do ends with a line on standard error and the status 70, and never
+with a part of an answer.
 
 bin/tdl hands standard input on as INPUT, since Python does not start where that is a folder.
 
-Nothing is written but in a folder of its own below the system's folder for temporary files, so any number of runs may go on at a time,
-also of users who may not write in the checkout.
+Nothing is written but in a folder of its own below the system's folder for temporary files, and an empty file there that says that a
+user was told of bin/build. So any number of runs may go on at a time, also of users who may not write in the checkout.
 """
+import json
 import os
 import re
 import shutil
@@ -21,35 +23,24 @@ import tempfile
 from pathlib import Path
 
 import repository
-from repository import CRATES, GIGABYTE, PROGRAM, VERSION
+from repository import CRATES, GIGABYTE, PROGRAM
 
-# each command with its operands, what it does, and whether it reads standard input
-COMMANDS = [
-    ("canon FORM", "answers each line, a text of the form, by its canonical link", True),
-    ("translate FROM TO", "answers each line by its spelling in another form", True),
-    ("check", "checks files of tables, company prefix lengths and links", False),
-    ("resolve --links FILE", "answers the HTTP requests on standard input by a linkset", True),
-    ("serve --links FILE --count N", "answers the requests of N connections by a linkset", False),
-    ("gen N", "translates N generated lines, to measure with", False),
-    ("migrate --tables FILE", "writes a table document as one of version 2", False),
-    ("class canon", "answers each line, a class URI, by its canonical link", True),
-    ("class uri", "answers each line, a link, by its class URI", True),
-    ("dump read", "answers each line, a dump of the memory bank of a tag, by the line that shows it", True),
-    ("dump write", "answers each line, which shows a dump, by the dump", True),
-    ("merge --links FILE --second FILE", "merges linksets to one", False),
-]
+# the commands that read standard input
+READ_INPUT = {"canon", "translate", "resolve", "class", "dump"}
 # the names whose value is the name of a file
 FILE_NAMES = {"--tables", "--prefixes", "--links", "--link-text", "--second", "--third", "--describe", "--classes"}
-DOCUMENTS = [
-    ("docs/EXAMPLES.md", "runs and recipes"),
-    ("docs/FORMATS.md", "forms, names, limits, reasons, statuses"),
-    ("docs/OPERATIONS.md", "running the server"),
-]
+# the sources of the texts: of the help and the version, and of the usage line
+TEXTS = CRATES / "tdl_help" / "src" / "text.rt"
+TEXT = re.compile(r'^pub\(crate\) const (\w+): &str = "([^"]*)";$', re.MULTILINE)
+USAGE = CRATES / "tdl_run" / "src" / "runner.rt"
+USAGE_LINE = re.compile(r'b"(usage: tdl [^"]*)\\n"')
 INPUT = 3
-CANNOT, INPUT_FAILED, OUTPUT_FAILED, INTERRUPTED = 70, 4, 5, 130
+USAGE_STATUS, CANNOT, INPUT_FAILED, OUTPUT_FAILED, INTERRUPTED = 2, 70, 4, 5, 130
 MOST_INPUT = 64 << 20
 PIECE = 1 << 20
 BUILD = "bin/build proves and builds the program"
+# the minutes that bin/build takes on one processor, and at least
+WHOLE, LONGEST = 60, 14
 ENDED = re.compile(r"^run=ended status=(\d+) .*$", re.MULTILINE)
 TOO_MUCH = re.compile(r"^checked: no-answer: the program wrote more than ", re.MULTILINE)
 NO_ANSWER = re.compile(r"^checked: no-answer: (.*)$", re.MULTILINE)
@@ -64,28 +55,67 @@ def say(text):
     print(f"bin/tdl: {text}", file=sys.stderr, flush=True)
 
 
-def help_text():
-    """What --help prints."""
-    widest = max(len(words) for words, _, _ in COMMANDS)
-    lines = ["tdl translates GS1 identities and resolves GS1 Digital Links.", ""]
-    lines += [f"  bin/tdl {words:{widest}}  {does}" for words, does, _ in COMMANDS]
-    lines += ["", "FORM, FROM and TO are hex, tag, pure, raw, bracketed or link; TO is canon too. Pairs of a name and a value follow.", ""]
-    lines += [f"  {path:{widest + 8}}  {about}" for path, about in DOCUMENTS]
-    return "\n".join(lines) + "\n"
+def say_as_program(text):
+    """Writes a line to standard error as the program does."""
+    print(f"tdl: {text}", file=sys.stderr, flush=True)
 
 
-def version_text():
-    """What --version prints."""
-    record = repository.read_record()
-    return f"tdl {VERSION}, {record[1] if record else repository.kit_wanted()}\n"
+def system_words(error):
+    """An error as the program writes it."""
+    return f"{error.strerror} (os error {error.errno})"
 
 
-def reads_input(arguments):
-    """Whether the program would read standard input; of a command that is not known only where it is no terminal."""
-    for words, _, reads in COMMANDS:
-        if arguments[:1] == words.split()[:1]:
-            return reads
-    return bool(arguments) and not os.isatty(INPUT)
+def asked_text(arguments):
+    """The text that --help or --version alone, or a command and --help, ask for; or nothing."""
+    pieces = dict(TEXT.findall(TEXTS.read_text("utf-8")))
+    version = pieces.pop("VERSION")
+    if arguments == ["--version"]:
+        return version
+    if arguments == ["--help"]:
+        return "".join(pieces.values())
+    if len(arguments) == 2 and arguments[1] == "--help" and arguments[0] in commands():
+        return pieces[arguments[0].upper()] + (pieces["FORMS"] if arguments[0] in ("canon", "translate") else "")
+    return ""
+
+
+def usage_line():
+    """The usage line of the program."""
+    return USAGE_LINE.search(USAGE.read_text("utf-8"))[1]
+
+
+def commands():
+    """The first words of the commands."""
+    return {row.split()[0] for row in re.fullmatch("usage: tdl (.*), then .*", usage_line())[1].split(" | ")}
+
+
+def fault_of_command(arguments):
+    """What is wrong with the first argument, or nothing where it is a command."""
+    if not arguments:
+        return "a command is missing; tdl --help lists them"
+    if arguments[0] not in commands():
+        return f"{json.dumps(arguments[0], ensure_ascii=False)}: it is not a command; tdl --help lists them"
+    return ""
+
+
+def is_told():
+    """Notes that this user was told of bin/build, and answers whether that was so before."""
+    try:
+        Path(tempfile.gettempdir(), f"tdl-told-{os.getuid()}").touch(0o600, exist_ok=False)
+        return False
+    except FileExistsError:
+        return True
+    except OSError:
+        return False
+
+
+def say_unproved():
+    """Says that the run is without proofs, and the first time what ends that."""
+    state = "the program is older than its sources" if repository.is_program() else "the program is not built yet"
+    text = f"{state}, so this run is without proofs, and takes a minute or two"
+    if not is_told():
+        minutes = max(LONGEST, WHOLE // len(os.sched_getaffinity(0)))
+        text += f"; {BUILD}, once, in about {minutes} minutes here"
+    say(text)
 
 
 def copy_input(path):
@@ -95,7 +125,8 @@ def copy_input(path):
         while True:
             try:
                 piece = os.read(INPUT, PIECE)
-            except OSError:
+            except OSError as error:
+                say_as_program(f"cannot read standard input: {system_words(error)}")
                 return False
             if not piece:
                 copy.write(tail)
@@ -149,7 +180,8 @@ def write_output(path):
             shutil.copyfileobj(output, sys.stdout.buffer)
         sys.stdout.buffer.flush()
         return True
-    except OSError:
+    except OSError as error:
+        say_as_program(f"cannot write standard output: {system_words(error)}")
         # (so that the end of this process does not try it again)
         os.dup2(os.open(os.devnull, os.O_WRONLY), 1)
         return False
@@ -169,9 +201,18 @@ def status_of(report, rt_status):
     raise Cannot(f"`rt try` in crates/tdl ended with the status {rt_status}, and its lines above say why")
 
 
+def say_what_failed(report, named, arguments):
+    """Writes the line of the program's on standard error, with the names of files as they were given."""
+    for line in re.findall("^tdl: .*$", report, re.MULTILINE):
+        for name, argument in zip(named, arguments):
+            if name != argument:
+                line = line.replace(json.dumps(name), json.dumps(argument, ensure_ascii=False))
+        print(line, file=sys.stderr, flush=True)
+
+
 def try_unproved(arguments, folder):
     """Runs the sources without proofs, and answers the status."""
-    is_read = not reads_input(arguments) or copy_input(f"{folder}/input")
+    is_read = arguments[0] not in READ_INPUT or copy_input(f"{folder}/input")
     Path(folder, "input").touch()
     named, files = hand_in(arguments, folder)
     words = ["rt", "try", "--steps", "1"]
@@ -185,7 +226,9 @@ def try_unproved(arguments, folder):
             running.terminate()
             running.wait()
             raise
-    status = status_of(Path(folder, "report").read_text("utf-8", "replace"), running.returncode)
+    report = Path(folder, "report").read_text("utf-8", "replace")
+    status = status_of(report, running.returncode)
+    say_what_failed(report, named, arguments)
     if not write_output(f"{folder}/output"):
         return OUTPUT_FAILED
     return status if is_read or status > 1 else INPUT_FAILED
@@ -193,19 +236,24 @@ def try_unproved(arguments, folder):
 
 def main(arguments):
     """Answers the status; where the proved program is to run, it runs in the place of this process."""
-    if arguments[:1] in (["--help"], ["--version"]):
-        sys.stdout.write(help_text() if arguments[0] == "--help" else version_text())
-        return 0
     if repository.is_current():
         repository.renew_record()
         os.dup2(INPUT, 0)
         os.close(INPUT)
         os.execv(PROGRAM, [str(PROGRAM), *arguments])
+    text = asked_text(arguments)
+    if text:
+        sys.stdout.write(text)
+        return 0
+    fault = fault_of_command(arguments)
+    if fault:
+        print(usage_line(), flush=True)
+        say_as_program(fault)
+        return USAGE_STATUS
     signal.signal(signal.SIGTERM, lambda *_: sys.exit(128 + signal.SIGTERM))
     try:
         reject_what_cannot_be_done(arguments)
-        state = "the program is older than its sources" if repository.is_program() else "the program is not built yet"
-        say(f"{state}, so this run is without proofs, and takes about a minute; {BUILD}")
+        say_unproved()
         with tempfile.TemporaryDirectory(prefix="tdl-") as folder:
             return try_unproved(arguments, folder)
     except Cannot as why:

@@ -1,0 +1,191 @@
+"""The pages of the definitions that public clauses reach: docs/DEFINITIONS.md and docs/definitions; and the formulas of docs/THEOREM.md."""
+import re
+
+from definitions import Definition, clause_of, definitions_in
+from repository import TOP, crates
+
+DOCS = TOP / "docs"
+THEOREM = DOCS / "THEOREM.md"
+MOST_NAMED = 12
+BLOCK = re.compile(r"^```\n-- (\w+): (\w+)(?:, (\w+))?\n(.*?)^```$", re.MULTILINE | re.DOTALL)
+
+INDEX = """# Definitions
+
+Written by `checks/definitions --write` from the marks in specs/, and not by hand.
+
+These are the definitions that the contracts of public calls reach, at once or by others. Each entry has its sentence, its source, its
+formula and what it uses. The source is a section of a standard or `own`, this project's own.
+
+| Page | Definitions | Lines | Words of sentences |
+|---|---|---|---|
+{rows}
+
+docs/THEOREM.md is where to begin. The search for tables that read a text in two ways uses machines; what it decides is said by `Derives` and
+`IsAmbiguous`, which do not speak of machines. The clauses of calls that hand out machines do, and so the third page has them.
+
+## Names
+"""
+
+PAGES = {
+    "kernel": ("The kernel", "What the clause `defined` of `run` says for `canon` and `translate`, with files of tables and of company prefix lengths."),
+    "run": ("The rest of `run`", "What else the contract of `run` says: the other commands and files, `serve`, and the clauses beside `defined`."),
+    "calls": ("Other public calls", "What the contracts of other public calls say beside that."),
+}
+CHAPTERS = {
+    "core": ("The core", "What is accepted and what it means."),
+    "kernel": ("The rest of the kernel", "The command line, the files, the rules of tables, the reasons, and which of several right spellings is chosen."),
+}
+
+
+class Pages:
+    """Which page and chapter each node stands on, and under which name links find it."""
+
+    def __init__(self, specs):
+        self.specs = specs
+        core, kernel, run = specs.core(), specs.kernel(), specs.reached(specs.item("tdl_run", "run"))
+        self.chapters = {}
+        for node in specs.reached(specs.items):
+            self.chapters[node] = "core" if node in core else "kernel" if node in kernel else "run" if node in run else "calls"
+        self.order = sorted(self.chapters, key=self.place)
+        self.numbers = {node: number for number, node in enumerate(self.order)}
+        self.anchors, self.users, self.items = {}, {}, {}
+        taken = set()
+        for node in self.order:
+            file = node.file if isinstance(node, Definition) else node.module.replace("::", ".")
+            names = (node.name, f"{node.crate}.{node.name}", f"{node.crate}.{file}.{node.name}")
+            self.anchors[node] = next(name for name in names if name not in taken)
+            taken.add(self.anchors[node])
+            for used in specs.next(node):
+                self.users.setdefault(used, []).append(node)
+        for item in specs.items:
+            for node in set(specs.found(item.names, item.imports)):
+                name = f"{item.owner[1] or item.owner[2]}::{item.name}" if item.owner else item.name
+                self.items.setdefault(node, []).append(f"`{item.crate}::{name}`")
+
+    @staticmethod
+    def place(node):
+        """The place of a node in the order of crates.txt: a crate's types first."""
+        names = list(crates())
+        return names.index(node.crate), isinstance(node, Definition), node.path, node.line
+
+    def page(self, node):
+        """The page of a node."""
+        return "kernel" if self.chapters[node] == "core" else self.chapters[node]
+
+    def link(self, node, page):
+        """A link from a page to the entry of a node."""
+        own = self.page(node)
+        file = "" if own == page else f"{own}.md" if page else f"definitions/{own}.md"
+        return f"[{node.name}]({file}#{self.anchors[node]})"
+
+    def links(self, nodes, page):
+        """Links to nodes, in their order."""
+        return [self.link(node, page) for node in sorted(nodes, key=self.numbers.get)]
+
+    def entry(self, node, page):
+        """The entry of a node."""
+        text = [f'\n#### <a id="{self.anchors[node]}"></a>`{node.name}`\n\n']
+        place = f"[{node.path.rpartition('/')[2]}:{node.line}](../../{node.path}#L{node.line})"
+        if isinstance(node, Definition):
+            text.append(f"{node.sentence[:1].upper()}{node.sentence[1:].rstrip('.')}. {self.source(node)} {place}\n\n")
+            text.append("```\n" + "".join(f"{line}\n" for line in shown(node)) + "```\n")
+        else:
+            text.append(f"{node.doc or 'A Rust type.'} {place}\n\n")
+            text.append("```\n" + "".join(f"{line}\n" for line in fields_of(node)) + "```\n")
+        used, users, items = self.links(self.specs.next(node), page), self.links(self.users.get(node, []), page), self.items.get(node, [])
+        told = [("Uses", ", ".join(used)), ("Used by", several(users)), ("In clauses of", several(items))]
+        lines = [f"{word}: {names}." for word, names in told if names]
+        return "".join(text) + ("\n" + "\\\n".join(lines) + "\n" if lines else "")
+
+    def source(self, node):
+        """The source of a definition, or the law that is read in place of its formula."""
+        law = self.specs.laws.get((node.crate, node.law))
+        if not law:
+            return f"Source: {node.source}."
+        return f"Fixed by the law [{law.name}](../../crates/{law.crate}/src/{law.module.replace('::', '/')}.rt#L{law.line}), which is read in place of the formula."
+
+    def text(self, page):
+        """The text of a page."""
+        title, about = PAGES[page]
+        text = [f"# {title}\n\nWritten by `checks/definitions --write`, and not by hand. {about} docs/DEFINITIONS.md has the index.\n"]
+        for chapter in ("core", "kernel") if page == "kernel" else (page,):
+            if page == "kernel":
+                text.append(f"\n## {CHAPTERS[chapter][0]}\n\n{CHAPTERS[chapter][1]}\n")
+            last = None
+            for node in (it for it in self.order if self.chapters[it] == chapter):
+                if node.crate != last:
+                    text.append(f"\n### {node.crate}\n")
+                text.append(self.entry(node, page))
+                last = node.crate
+        return "".join(text)
+
+    def index(self):
+        """The text of the index."""
+        rows = []
+        for chapter, (name, _) in {"core": ("the core", ""), **PAGES}.items():
+            nodes = [it for it in definitions_in(self.order) if chapter in (self.chapters[it], self.page(it))]
+            lines, words = sum(len(it.formula) for it in nodes), sum(len(it.sentence.split()) for it in nodes)
+            told = f"its first chapter, {name}" if chapter == "core" else f"[{name}](definitions/{chapter}.md)"
+            rows.append(f"| {told} | {len(nodes):,} | {lines:,} | {words:,} |")
+        rows[0], rows[1] = rows[1], rows[0]
+        text, letter = [INDEX.format(rows="\n".join(rows))], ""
+        for node in sorted(self.order, key=lambda it: (it.name.lower(), it.name, it.crate)):
+            if node.name[0].upper() != letter:
+                letter = node.name[0].upper()
+                text.append(f"\n### {letter}\n\n")
+            text.append(f"{self.link(node, '')} {node.crate}\\\n")
+        return re.sub(r"\\\n(?=\n|$)", "\n", "".join(text))
+
+
+def several(names):
+    """Names, the first of them where they are many."""
+    more = f" and {len(names) - MOST_NAMED} more" if len(names) > MOST_NAMED else ""
+    return ", ".join(names[:MOST_NAMED]) + more
+
+
+def shown(node):
+    """The formula of a definition as it stands in its file, with the head of the module that it stands in."""
+    return [node.within, *(f"  {line}" for line in node.formula)] if node.within else node.formula
+
+
+def fields_of(node):
+    """The fields of a type, or the value that contracts see in its place."""
+    if node.value:
+        return [f"ghost Value = {{ {node.value.strip(' };')} }}"]
+    return [line for line in node.formula if line.strip()]
+
+
+def formula(specs, crate, name, clause):
+    """The lines of a definition, or of a clause of a public item, as they stand in the file."""
+    if clause:
+        return next((clause_of(it, clause).splitlines() for it in specs.item(crate, name)), None) or None
+    return next((shown(it) for it in specs.all() if (it.crate, it.name) == (crate, name)), None)
+
+
+def theorem(specs):
+    """The text of docs/THEOREM.md with the formulas of today."""
+    def filled(found):
+        lines = formula(specs, found[1], found[2], found[3])
+        if lines is None:
+            return found[0]
+        head = f"-- {found[1]}: {found[2]}" + (f", {found[3]}" if found[3] else "")
+        return f"```\n{head}\n" + "".join(f"{line}\n" for line in lines) + "```"
+
+    return BLOCK.sub(filled, THEOREM.read_text("utf-8"))
+
+
+def lost_formulas(specs):
+    """Each formula of docs/THEOREM.md that no crate has, or that no public clause reaches."""
+    reached = {(it.crate, it.name) for it in specs.reached(specs.items)}
+    for crate, name, clause, _ in BLOCK.findall(THEOREM.read_text("utf-8")):
+        if formula(specs, crate, name, clause) is None:
+            yield f"docs/THEOREM.md: {crate} has no {name}" + (f" with a clause {clause}" if clause else "")
+        elif not clause and (crate, name) not in reached:
+            yield f"docs/THEOREM.md: no public clause reaches {name} of {crate}"
+
+
+def pages(specs):
+    """The path and the text of each page."""
+    pages = Pages(specs)
+    found = {DOCS / "DEFINITIONS.md": pages.index(), **{DOCS / "definitions" / f"{name}.md": pages.text(name) for name in PAGES}}
+    return {**found, THEOREM: theorem(specs)}

@@ -1,0 +1,233 @@
+"""The unit's processes behind the shipped fronts, and clients that ask them: what checks/packages tries of nginx and HAProxy.
+
+Each request has a TLS connection of its own. It is lost if its reply does not come whole.
+"""
+import asyncio
+import os
+import re
+import shlex
+import socket
+import ssl
+import subprocess
+from contextlib import nullcontext
+from threading import Event, Thread
+from time import monotonic, sleep
+
+HOST, SECONDS, MOST_OPEN, PATIENCE = "127.0.0.1", 30, 50, 8
+UNIT, EXAMPLES = "lib/systemd/system/tdl@.service", "usr/share/doc/tdl/examples"
+SHIPPED_PORTS = (8081, 8082, 8083, 8084)
+
+
+def free_port():
+    """Returns a port of this machine that nothing listens at."""
+    with socket.socket() as asked:
+        asked.bind((HOST, 0))
+        return asked.getsockname()[1]
+
+
+def listens(port, address=HOST):
+    """Waits until something listens at a port, and returns whether it does."""
+    end = monotonic() + SECONDS
+    while monotonic() < end:
+        with socket.socket() as asked:
+            if not asked.connect_ex((address, port)):
+                return True
+        sleep(0.05)
+    return False
+
+
+def setting(root, name):
+    """Returns the value of a setting of the unit."""
+    return re.search(rf"^{name}=(.*)$", (root / UNIT).read_text("ascii"), re.MULTILINE)[1]
+
+
+def command_of(root, port, listen, links, divisor=1):
+    """Returns the unit's command for a port, and its environment; `listen` takes the address's place, and the count is divided."""
+    line = setting(root, "ExecStart").replace(":%i", f":{listen[1]}").replace("%i", str(port)).replace("%%", "%").replace("$$", "$")
+    line = line.replace("/usr/bin/", f"{root}/usr/bin/").replace("/etc/tdl/links.json", str(links))
+    line = re.sub(r"\$\(\((.*)\)\)", rf"$(((\1) / {divisor}))", line)
+    return shlex.split(line), dict(re.findall(r'"(\w+)=(.*?)"', setting(root, "Environment"))) | {"TDL_ADDRESS": listen[0]}
+
+
+class Service:
+    """A process of the unit, which is started again whenever it ends, as the unit says."""
+
+    def __init__(self, command, environment, pause, prevented, before=(), noted=None):
+        self.command, self.environment, self.pause, self.prevented = [*before, *command], environment, pause, prevented
+        self.ended, self.starts, self.process, self.noted = Event(), 0, None, noted
+        self.thread = Thread(target=self.keep, daemon=True)
+        self.thread.start()
+
+    def keep(self):
+        """Starts the process again and again, and notes its number, or that it failed."""
+        while not self.ended.is_set():
+            self.process = subprocess.Popen(self.command, env=self.environment, stdout=subprocess.DEVNULL, stderr=subprocess.DEVNULL)
+            self.starts += 1
+            self.note(str(self.process.pid))
+            if self.process.wait() in self.prevented:
+                self.note("failed")
+                while self.noted and self.noted.read_text() == "failed" and not self.ended.is_set():
+                    sleep(0.02)
+            sleep(self.pause)
+
+    def note(self, text):
+        """Notes a text for the stand-in of systemctl."""
+        if self.noted:
+            beside = self.noted.with_suffix(".new")
+            beside.write_text(text)
+            beside.replace(self.noted)
+
+    def await_starts(self, count):
+        """Waits until the process was started so many times: the requests may all be answered before the pause is over."""
+        end = monotonic() + SECONDS
+        while self.starts < count and monotonic() < end:
+            sleep(0.05)
+
+    def stop(self):
+        """Ends the process for good."""
+        self.ended.set()
+        # (it may just be started again)
+        while self.thread.is_alive():
+            if self.process:
+                self.process.kill()
+            self.thread.join(0.05)
+
+
+def service(root, port, links, listen=None, divisor=1, **how):
+    """Starts a process of the unit for a port, which listens there or at the address `listen`."""
+    command, named = command_of(root, port, listen or (HOST, port), links, divisor)
+    prevented = {int(status) for status in setting(root, "RestartPreventExitStatus").split()}
+    return Service(command, os.environ | named, float(setting(root, "RestartSec").removesuffix("ms")) / 1000, prevented, **how)
+
+
+def certificate(room):
+    """Makes a certificate: the file of the certificate, that of the key, and one of both."""
+    words = ["openssl", "req", "-x509", "-newkey", "ec", "-pkeyopt", "ec_paramgen_curve:P-256", "-nodes", "-days", "2", "-subj", "/CN=id.example"]
+    words += ["-keyout", room / "key.pem", "-out", room / "certificate.pem"]
+    subprocess.run(words, stdout=subprocess.DEVNULL, stderr=subprocess.DEVNULL, check=True)
+    (room / "both.pem").write_bytes((room / "certificate.pem").read_bytes() + (room / "key.pem").read_bytes())
+    return room / "certificate.pem", room / "key.pem", room / "both.pem"
+
+
+def with_addresses(text, addresses, front):
+    """Returns a front's configuration with these addresses in place of the first processes', and without the others."""
+    lines = []
+    for line in text.splitlines():
+        found = re.search(r"127\.0\.0\.1:808(\d)", line)
+        if found and int(found[1]) > len(addresses):
+            continue
+        lines.append(line.replace(found[0], addresses[int(found[1]) - 1]) if found else line)
+    return "\n".join(lines).replace("listen 443", f"listen 127.0.0.1:{front}").replace("bind :443", f"bind 127.0.0.1:{front}") + "\n"
+
+
+def nginx(room, main, more=""):
+    """Starts nginx in a folder over a configuration of its own."""
+    places = "".join(f"{name}_temp_path {room}/{name};" for name in ("client_body", "proxy", "fastcgi", "uwsgi", "scgi"))
+    user = "user root;" if not os.geteuid() else ""
+    (room / "tdl.conf").write_text(main, "ascii")
+    whole = f"{user} pid {room}/nginx.pid; error_log {room}/nginx.log; worker_rlimit_nofile 16384; events {{ worker_connections 8192; }}"
+    (room / "nginx.conf").write_text(f"{whole} http {{ access_log off; {places} {more} include {room}/tdl.conf; }}", "ascii")
+    words = ["nginx", "-e", room / "nginx.log", "-c", room / "nginx.conf", "-g", "daemon off;"]
+    return subprocess.Popen(words, stdout=subprocess.DEVNULL, stderr=subprocess.DEVNULL)
+
+
+def start_nginx(root, room, addresses, front, pems):
+    """Starts nginx with the shipped configuration."""
+    shipped = with_addresses((root / EXAMPLES / "nginx.conf").read_text("ascii"), addresses, front)
+    return nginx(room, shipped.replace("/etc/ssl/id.example.pem", str(pems[0])).replace("/etc/ssl/id.example.key", str(pems[1])))
+
+
+def start_haproxy(root, room, addresses, front, pems):
+    """Starts HAProxy with the shipped configuration."""
+    shipped = with_addresses((root / EXAMPLES / "haproxy.cfg").read_text("ascii"), addresses, front)
+    (room / "haproxy.cfg").write_text(shipped.replace("/etc/ssl/id.example.pem", str(pems[2])), "ascii")
+    words = ["haproxy", "-db", "-f", room / "haproxy.cfg"]
+    return subprocess.Popen(words, stdout=subprocess.DEVNULL, stderr=subprocess.DEVNULL)
+
+
+def context():
+    """Returns what a client needs to speak TLS to a front with a certificate of its own."""
+    made = ssl.create_default_context()
+    made.check_hostname, made.verify_mode = False, ssl.CERT_NONE
+    return made
+
+
+def request(path, fields=(), body=b""):
+    """Returns the bytes of a request."""
+    length = [f"Content-Length: {len(body)}"] if body else []
+    return "\r\n".join([f"GET {path} HTTP/1.1", "Host: id.example", "Connection: close", *fields, *length, "", ""]).encode("ascii") + body
+
+
+def reply_of(got):
+    """Returns the status and the fields of a whole reply, or `None`."""
+    head, end, body = got.partition(b"\r\n\r\n")
+    first, *lines = head.decode("latin-1").split("\r\n")
+    fields = {name.lower(): value.strip() for name, _, value in (line.partition(":") for line in lines)}
+    is_whole = end and len(body) == int(fields.get("content-length", -1))
+    return (int(first.split()[1]), fields) if is_whole else None
+
+
+async def ask(front, sent, tls, ready=None):
+    """Sends a request over a connection of its own, once all are `ready`, and returns its reply, or `None`."""
+    got = b""
+    try:
+        async with ready.opening if ready else nullcontext():
+            reader, writer = await asyncio.open_connection(HOST, front, ssl=tls)
+        if ready:
+            await ready.wait()
+        writer.write(sent)
+        async with asyncio.timeout(SECONDS):
+            got = await reader.read()
+        writer.close()
+    except (OSError, asyncio.TimeoutError, asyncio.IncompleteReadError):
+        pass
+    return reply_of(got) if got else None
+
+
+async def paced(front, sent, rate, doing):
+    """Asks `rate` times a second at most, and `MOST_OPEN` at once, until `doing` has returned, and returns the replies."""
+    tls, asked, work, room = context(), [], asyncio.create_task(asyncio.to_thread(doing)), asyncio.Semaphore(MOST_OPEN)
+    while not work.done():
+        await room.acquire()
+        asked.append(asyncio.create_task(ask(front, sent, tls)))
+        asked[-1].add_done_callback(lambda _: room.release())
+        await asyncio.sleep(1 / rate)
+    await work
+    return await asyncio.gather(*asked)
+
+
+async def at_once(front, sent, count):
+    """Opens so many connections, sends on all of them at once, or after `PATIENCE` on those that are open, and returns the replies."""
+    tls, ready = context(), Barrier(count)
+    return await asyncio.gather(*(ask(front, sent, tls, ready) for _ in range(count)))
+
+
+class Barrier:
+    """What so many tasks wait for, until the last of them does, or `PATIENCE` is over: a front ends connections that are idle."""
+
+    def __init__(self, count):
+        # (few at a time shake hands, so that none of them waits long for its own)
+        self.left, self.event, self.opening = count, asyncio.Event(), asyncio.Semaphore(MOST_OPEN)
+        asyncio.get_running_loop().call_later(PATIENCE, self.event.set)
+
+    async def wait(self):
+        """Waits for the others."""
+        self.left -= 1
+        if not self.left:
+            self.event.set()
+        await self.event.wait()
+
+
+def lost(replies, status):
+    """Returns how many replies did not come whole, or with another status."""
+    return sum(reply is None or reply[0] != status for reply in replies)
+
+
+def slow_reader(front, sent):
+    """Sends a request, and returns the connection, whose reply is hardly read."""
+    plain = socket.socket()
+    plain.setsockopt(socket.SOL_SOCKET, socket.SO_RCVBUF, 4096)
+    plain.connect((HOST, front))
+    secured = context().wrap_socket(plain)
+    secured.sendall(sent)
+    return secured

@@ -1,0 +1,76 @@
+"""The messages of the program as docs/MESSAGES.md explains them, and the manual page that is made of it."""
+import re
+import textwrap
+from pathlib import Path
+
+DOCUMENT = Path(__file__).resolve().parent.parent / "docs" / "MESSAGES.md"
+TEXT = re.compile(r"(?:([0-9,]+) times )?`([^`]*)`")
+HEAD = """.Dd $Mdocdate: November 29 2026 $
+.Dt TDL-MESSAGES 7
+.Os
+.Sh NAME
+.Nm tdl-messages
+.Nd what each message of tdl means, and what to do
+.Sh DESCRIPTION
+"""
+
+
+def cells_of(line):
+    """The cells of a row of a table."""
+    return [cell.strip() for cell in re.split(r"(?<!\\)\|", line)[1:-1]]
+
+
+def is_row(cells):
+    """Whether these are the cells of a message: its text, an example, its meaning, and what to do."""
+    return len(cells) == 4 and bool(re.match(r"`(?:no|refused) ", cells[0]))
+
+
+def rows():
+    """The messages of the document, each with its example: the arguments and the text, or nothing."""
+    for line in DOCUMENT.read_text("utf-8").splitlines():
+        cells = cells_of(line)
+        if is_row(cells):
+            texts = TEXT.findall(cells[1])
+            content = "".join(text * int(times.replace(",", "") or 1) for times, text in texts[1:])
+            yield cells[0].strip("`"), (texts[0][1].split(" "), content) if texts else None
+
+
+def plain(text):
+    """A text of the document as lines of a manual page, each sentence on lines of its own."""
+    text = re.sub(r"\[([^]]*)\]\([^)]*\)", r"\1", text).replace("`", "").replace("\\", "\\e")
+    lines = [line for sentence in re.split(r"(?<=[.;:]) (?=[A-Z])", text) for line in textwrap.wrap(sentence, 76, break_on_hyphens=False)]
+    return "\n".join(f"\\&{line}" if line.startswith((".", "'")) else line for line in lines)
+
+
+def page():
+    """The manual page tdl-messages(7)."""
+    lines, is_list, paragraph = [], False, []
+
+    def end():
+        nonlocal is_list
+        if paragraph:
+            lines.extend([".Pp", plain(" ".join(paragraph))] if lines and not lines[-1].startswith(".S") else [plain(" ".join(paragraph))])
+            paragraph.clear()
+        if is_list:
+            lines.append(".El")
+            is_list = False
+
+    for line in DOCUMENT.read_text("utf-8").splitlines()[2:]:
+        cells = cells_of(line) if line.startswith("|") else []
+        if is_row(cells):
+            if not is_list:
+                end()
+                lines.append(".Bl -tag -width Ds")
+                is_list = True
+            lines += [f".It Li {plain(cells[0])}", plain(cells[2]), plain(cells[3])]
+        elif line.startswith("## "):
+            end()
+            lines.append(f".Sh {plain(line[3:]).upper()}")
+        elif line.strip() and not cells:
+            if is_list:
+                end()
+            paragraph.append(line.strip())
+        elif not line.strip() and paragraph:
+            end()
+    end()
+    return HEAD + "\n".join(lines) + "\n.Sh SEE ALSO\n.Xr tdl 1\n"
