@@ -21,7 +21,10 @@ int main(int count, char **texts)
     const char *program = getenv("TDL") ? getenv("TDL") : "tdl";
     char *arguments[] = {"tdl", "canon", "pure", NULL};
     size_t size = 0, sent = 0;
-    for (int i = 1; i < count; i++) size += strlen(texts[i]) + 2;
+    for (int i = 1; i < count; i++) {
+        if (strchr(texts[i], '\n')) return fprintf(stderr, "a text has no line feed\n"), 1;
+        size += strlen(texts[i]) + 2;
+    }
     char *lines = calloc(size + 1, 1), answers[65536];
     for (int i = 1; i < count; i++) strcat(strcat(lines, texts[i]), "\r\n");
     signal(SIGPIPE, SIG_IGN);

@@ -4,7 +4,7 @@ _tdl() {
     local current=${COMP_WORDS[COMP_CWORD]} previous=${COMP_WORDS[COMP_CWORD - 1]}
     local forms="hex tag pure raw bracketed link" words="" place
     case $COMP_CWORD:${COMP_WORDS[1]} in
-    1:*) words="canon translate check resolve serve gen migrate class dump merge" ;;
+    1:*) words="canon translate check resolve serve gen migrate class dump merge --help --version" ;;
     2:canon | 2:translate) words=$forms ;;
     3:translate) words="$forms canon" ;;
     2:gen) return ;;

@@ -12,6 +12,8 @@ end
 
 complete -c tdl -f
 complete -c tdl -n '__tdl_place 1' -a 'canon translate check resolve serve gen migrate class dump merge'
+complete -c tdl -n '__tdl_place 1' -l help
+complete -c tdl -n '__tdl_place 1' -l version
 complete -c tdl -n '__tdl_place 2; and __tdl_behind canon translate' -a 'hex tag pure raw bracketed link'
 complete -c tdl -n '__tdl_place 3; and __tdl_behind translate' -a 'hex tag pure raw bracketed link canon'
 complete -c tdl -n '__tdl_place 2; and __tdl_behind class' -a 'canon uri'

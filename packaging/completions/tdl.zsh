@@ -4,7 +4,7 @@
 local -a forms names
 forms=(hex tag pure raw bracketed link)
 case $CURRENT:$words[2] in
-2:*) compadd -- canon translate check resolve serve gen migrate class dump merge ;;
+2:*) compadd -- canon translate check resolve serve gen migrate class dump merge --help --version ;;
 3:canon | 3:translate) compadd -- $forms ;;
 4:translate) compadd -- $forms canon ;;
 3:gen) ;;

@@ -213,7 +213,8 @@ class Lines(unittest.TestCase):
 class Files(unittest.TestCase):
     def test_titles_are_of_codes_of_the_tables(self):
         rows = Rows(str(GS1))
-        self.assertEqual(set(rows.titles) - set(rows.ais), set())
+        codes = {code for path in GS1.parent.glob("*.json") for code in Rows(str(path)).ais}
+        self.assertEqual(set(rows.titles) - codes, set())
         self.assertEqual([rows.title(code) for code in ("01", "10", "21", "3103")], ["GTIN", "BATCH/LOT", "SERIAL", "NET WEIGHT (kg)"])
         self.assertEqual({code for code in rows.ais if not rows.title(code)}, {"717", "8110", "8112"})
 

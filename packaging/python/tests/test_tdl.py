@@ -1,5 +1,6 @@
 """The module over the program: $TDL names it."""
 import os
+import pickle
 import signal
 import subprocess
 import sys
@@ -12,6 +13,7 @@ from pathlib import Path
 sys.path.insert(0, str(Path(__file__).resolve().parent.parent / "src"))
 
 import tdl  # noqa: E402
+from tdl.inspector.reasons import TARGETS  # noqa: E402
 from tdl.program import find_program  # noqa: E402
 
 PURE = "urn:epc:id:sgtin:0614141.812345.6789"
@@ -58,6 +60,39 @@ class Answers(unittest.TestCase):
         with tdl.Translator("bracketed") as labels, self.assertRaises(tdl.Rejected) as caught:
             labels.translate("(414)0614141000012(254)4(254)5")
         self.assertEqual((caught.exception.reason, caught.exception.code), ("repeat 254", "254"))
+        self.assertNotIsInstance(caught.exception, ValueError)
+
+    def test_sentences(self):
+        for translator, text, sentence in (
+            (tdl.Translator("link"), "https://id.gs1.org/01/09506000134353", "The check digit of the value of (01) GTIN at byte 19 is 2, not 3."),
+            (tdl.Translator("link", "hex"), LINK, TARGETS["missing gcp"]),
+            (tdl.Translator("bracketed", "pure", gcp=7), "(01)80614141123458(21)1(17)261231", "(17) USE BY or EXPIRY has no place in an EPC"),
+            (tdl.Translator("bracketed", tables=tdl.GS1), "(01)80614141123458(7003)26", "The value of (7003) EXPIRY TIME"),
+            (tdl.Classes("uri"), LINK, "missing element"),
+            (tdl.Dumps("read"), "30003074257BF7194E40", "words 6 64"),
+        ):
+            with translator, self.assertRaises(tdl.Rejected) as caught:
+                translator.translate(text)
+            self.assertIn(sentence, caught.exception.sentence)
+            copied = pickle.loads(pickle.dumps(caught.exception))
+            self.assertEqual((copied.sentence, copied.text, copied.place), (caught.exception.sentence, caught.exception.text, caught.exception.place))
+
+    def test_each_reason_has_a_sentence(self):
+        for form in FORMS:
+            with tdl.Translator(form, "hex") as translator:
+                for text in ("", "x", "0" * 129, "a" * 3_000, "(01)8", "(99)", "https://x/01/%4", "https://x/01/09506000134352?17=261331", "0109506000134352"):
+                    try:
+                        translator.translate(text)
+                    except tdl.Rejected as rejected:
+                        self.assertRegex(rejected.sentence, r"^[A-Z“(].* .*\.$")
+
+    def test_classes_and_dumps(self):
+        lot, uri = "https://id.gs1.org/01/80614141123458/10/998877", "urn:epc:class:lgtin:0614141.812345.998877"
+        with tdl.Classes("uri", gcp=7) as uris, tdl.Classes("canon") as links:
+            self.assertEqual((uris.translate(lot), list(links.translate_all([uri]))), (uri, [lot]))
+        dump, shown = "30003074257BF7194E4000001A85", "u0 a00 urn:epc:tag:sgtin-96:3.0614141.812345.6789"
+        with tdl.Dumps("read") as reads, tdl.Dumps("write") as writes:
+            self.assertEqual((reads.translate(dump), writes.translate(shown)), (shown, dump))
 
     def test_each_form_as_the_program(self):
         for form, make in FORMS.items():
@@ -73,6 +108,8 @@ class Answers(unittest.TestCase):
             for batch in (1, 2, 3, 99, 100, 101):
                 self.assertEqual(list(translator.translate_all(texts, batch=batch)), wanted)
             self.assertEqual(list(translator.translate_all([])), [])
+            self.assertEqual((translator.translate_list(texts), translator.translate_list([])), (wanted, []))
+            self.assertEqual([printed(it) for it in translator.translate_list(["x"] * 50_000)], ["no reading"] * 50_000)
 
     def test_a_batch_of_one_is_answered_before_the_next_is_taken(self):
         taken = []
@@ -106,20 +143,50 @@ class Hostile(unittest.TestCase):
             self.assertRaises(tdl.Rejected, translator.translate, bytes(set(range(256)) - {10}))
             self.assertRaises(tdl.Rejected, translator.translate, "\udc80")
 
-    def test_wrong_arguments(self):
-        for named, error in (({"gcp": 13}, ValueError), ({"tables": "/not/there"}, FileNotFoundError), ({"program": "/not/there"}, tdl.ProgramError)):
+    def test_wrong_options(self):
+        for named, name in (
+            ({"gcp": 13}, "gcp"), ({"gcp": True}, "gcp"), ({"filter": "3"}, "filter"), ({"filter": -1}, "filter"), ({"encoding": ""}, "encoding"),
+            ({"keys_only": "no"}, "keys_only"), ({"stem": "https://a.example/"}, "stem"), ({"stem": f"https://{'a' * 1_020}"}, "stem"),
+            ({"tables": 3}, "tables"), ({"target": "pdf"}, "target"),
+        ):
+            with self.assertRaisesRegex(ValueError, rf"^{name} is .*, not "):
+                tdl.Translator("pure", **named)
+        self.assertRaisesRegex(ValueError, "^source is ", tdl.Translator, "canon")
+        self.assertRaisesRegex(ValueError, "^target is ", tdl.Classes, "url")
+        self.assertRaisesRegex(ValueError, "options of `uri`", tdl.Classes, "canon", gcp=7)
+        self.assertRaisesRegex(ValueError, "^action is ", tdl.Dumps, "show")
+        self.assertRaisesRegex(FileNotFoundError, "/not/there", tdl.Translator, "pure", tables="/not/there")
+
+    def test_options_that_are_right(self):
+        for named in ({"gcp": 1}, {"gcp": 12}, {"filter": 0}, {"filter": 7}, {"stem": "http://a"}, {"tables": Path(tdl.GS1)}, {"keys_only": True}, {"encoding": "x"}):
             with tdl.Translator("pure", **named) as translator:
-                for call in (lambda: translator.translate(PURE), lambda: list(translator.translate_all([PURE]))):
-                    with self.assertRaises(error) as caught:
+                self.assertEqual(translator.translate(PURE), LINK)
+
+    def test_texts_that_are_none(self):
+        with tdl.Translator("pure") as translator:
+            for texts in ("text", b"text"):
+                self.assertRaises(TypeError, translator.translate_all, texts)
+                self.assertRaises(TypeError, translator.translate_list, texts)
+            for text in (5, None, 1.5):
+                self.assertRaises(TypeError, translator.translate, text)
+                self.assertRaises(TypeError, list, translator.translate_all([PURE, text]))
+            self.assertRaises(ValueError, list, translator.translate_all([PURE, "a\nb"]))
+            self.assertEqual(list(translator.translate_all([PURE, PURE.encode()])), [LINK, LINK])
+
+    def test_programs_that_are_none(self):
+        for program in ("/not/there", "/bin/true", "/bin/false", "/bin/cat", "/bin/ls", "/bin/sh", "/dev/null"):
+            with tdl.Translator("pure", program=program) as translator:
+                for call in (lambda: translator.translate(PURE), lambda: list(translator.translate_all([PURE])), lambda: tdl.check(program=program)):
+                    with self.assertRaises(tdl.ProgramError, msg=program) as caught:
                         call()
-                    self.assertNotIsInstance(caught.exception, tdl.Rejected)
+                    self.assertIn(program, str(caught.exception))
 
     def test_rejected_files(self):
         with tempfile.NamedTemporaryFile(suffix=".json") as file:
             file.write(b"{")
             file.flush()
             with self.assertRaises(tdl.FilesRejected) as caught:
-                tdl.Tables(file.name).check()
+                tdl.check(file.name)
             self.assertEqual((caught.exception.which, caught.exception.reason), ("tables", "json syntax"))
             with tdl.Translator("pure", tables=file.name) as translator:
                 self.assertRaises(tdl.FilesRejected, translator.translate, PURE)
@@ -152,6 +219,24 @@ class Processes(unittest.TestCase):
             first.wait()
             self.assertEqual(translator.translate(PURE), LINK)
             self.assertNotEqual(self.process_of(translator).pid, first.pid)
+
+    def test_an_interrupted_call_leaves_no_answer_behind(self):
+        def interrupt(*_):
+            raise KeyboardInterrupt
+
+        with tdl.Translator("pure") as translator:
+            translator.translate(PURE)
+            os.kill(self.process_of(translator).pid, signal.SIGSTOP)
+            before = signal.signal(signal.SIGALRM, interrupt)
+            continued = threading.Timer(0.3, os.kill, (self.process_of(translator).pid, signal.SIGCONT))
+            continued.start()
+            try:
+                signal.setitimer(signal.ITIMER_REAL, 0.1)
+                self.assertRaises(KeyboardInterrupt, translator.translate, "x")
+            finally:
+                signal.signal(signal.SIGALRM, before)
+                continued.join()
+            self.assertEqual(translator.translate(PURE), LINK)
 
     def test_killed_twice(self):
         with tempfile.NamedTemporaryFile("w", suffix=".sh", delete=False) as file:
@@ -209,7 +294,7 @@ class Processes(unittest.TestCase):
         generator.close()
 
     def test_counts(self):
-        counts = tdl.Tables().check()
+        counts = tdl.check()
         self.assertGreater(counts.ais, 50)
         self.assertEqual(counts.links, 0)
 

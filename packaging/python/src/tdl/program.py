@@ -1,43 +1,43 @@
-"""The program: where it is, and a run of it whose lines are answered one by one."""
+"""The program: where it is, and a run of it that is kept."""
 from __future__ import annotations
 
 import os
-import selectors
+import select
 import shutil
 import subprocess
 import weakref
-from collections import deque
-from itertools import islice
 from pathlib import Path
-from typing import Deque, List, Optional, Sequence
+from typing import List, Optional, Sequence, Union
 
 from .errors import FilesRejected, ProgramError
 
 BLOCK = 65_536
 PATIENCE = 10.0
 OWN = Path(__file__).resolve().parent / "bin" / "tdl"
+ANSWERS = ("ok ", "no ")
+USAGE, REFUSED = "usage: tdl ", "refused "
 
 
 def find_program(program: Optional[str] = None) -> str:
-    """The path of the program: the argument, else `$TDL`, else `tdl` on the PATH, else the package's own."""
+    """Returns the path of the program: the argument, else `$TDL`, else `tdl` on the PATH, else the package's own."""
     for path in (program, os.environ.get("TDL"), shutil.which("tdl"), str(OWN) if OWN.is_file() else None):
         if path:
             return path
     raise ProgramError("the program tdl is not found: name it by the argument `program`, by $TDL, or put it on the PATH")
 
 
-def error_of(status: int, printed: bytes) -> Exception:
-    """What the end of a run with this status is, by what it printed last."""
-    line = printed.decode("ascii", "replace").rstrip("\n")
-    if status == 2:
-        return ValueError(f"arguments that are not in order: {line}")
-    if status == 3:
-        return FilesRejected(line)
+def error_of(status: int, printed: str, path: str) -> Exception:
+    """Returns what the end of a run with this status means; `printed` is the line that came in place of an answer."""
+    if status == 2 and printed.startswith(USAGE):
+        return ValueError("the program rejects these arguments: it may be of another version")
+    if status == 3 and printed.startswith(REFUSED):
+        return FilesRejected(printed)
     if status == 4:
-        return FileNotFoundError("a file that the program was given is not there or cannot be read")
+        return FileNotFoundError("a file that the program was given is missing or unreadable")
     if status == 9:
         return MemoryError("the program ran out of memory")
-    return ProgramError(f"the program ended with status {status}", status)
+    shown = f" after {printed[:60]!r}" if printed else " without an answer"
+    return ProgramError(f"{path} is not tdl, or could not run: it ended with status {status}{shown}", status)
 
 
 class Killed(Exception):
@@ -48,66 +48,71 @@ class Run:
     """A run of the program: bytes of whole lines go in, and as many answer lines come out, in order."""
 
     def __init__(self, arguments: Sequence[str], program: Optional[str]) -> None:
-        path = find_program(program)
+        self._path = find_program(program)
         try:
-            self._process = subprocess.Popen(
-                [path, *arguments], stdin=subprocess.PIPE, stdout=subprocess.PIPE, bufsize=0, close_fds=True
-            )
+            self._process = subprocess.Popen([self._path, *arguments], stdin=subprocess.PIPE, stdout=subprocess.PIPE, bufsize=0)
         except OSError as error:
-            raise ProgramError(f"{path} cannot be run: {error.strerror}") from error
+            raise ProgramError(f"{self._path} cannot be run: {error.strerror}") from error
+        assert self._process.stdin and self._process.stdout
         self._input, self._output = self._process.stdin, self._process.stdout
-        os.set_blocking(self._input.fileno(), False)
-        os.set_blocking(self._output.fileno(), False)
-        self._rest = b""
-        self._lines: Deque[bytes] = deque()
+        self._in, self._out = self._input.fileno(), self._output.fileno()
+        os.set_blocking(self._in, False)
+        self._ends = select.poll()
+        self._ends.register(self._out, select.POLLIN)
+        self._ends.register(self._in, select.POLLOUT)
+        self._rest = ""
+        self._lines: List[str] = []
         _ALIVE.add(self)
 
-    def exchange(self, sent: bytes, wanted: int) -> List[bytes]:
-        """Sends bytes, and gives the next lines that come back, reading while it writes, so that no full pipe stops either side."""
-        left = memoryview(sent)
-        with selectors.DefaultSelector() as selector:
-            selector.register(self._output, selectors.EVENT_READ)
-            if left:
-                selector.register(self._input, selectors.EVENT_WRITE)
-            while left or len(self._lines) < wanted:
-                for key, _ in selector.select():
-                    if key.fileobj is self._output:
-                        self._read()
-                    else:
-                        left = left[self._write(left) :]
-                        if not left:
-                            selector.unregister(self._input)
-        if any(not line.startswith((b"ok ", b"no ")) for line in islice(self._lines, wanted)):
-            raise self._ended()
-        return [self._lines.popleft() for _ in range(wanted)]
+    def exchange(self, sent: bytes, wanted: int) -> List[str]:
+        """Sends bytes and returns the next lines that come back. It reads while it writes, so no full pipe stops either side."""
+        written = self._write(sent) if sent else 0
+        left = memoryview(sent)[written:] if written < len(sent) else None
+        while left:
+            for end, _ in self._ends.poll():
+                if end == self._out:
+                    self._read()
+                else:
+                    left = left[self._write(left) :]
+        while len(self._lines) < wanted:
+            self._read()
+        taken, self._lines = self._lines[:wanted], self._lines[wanted:]
+        return taken
 
-    def _write(self, piece: memoryview) -> int:
+    def _write(self, piece: Union[bytes, memoryview]) -> int:
         try:
-            return os.write(self._input.fileno(), piece[:BLOCK])
+            return os.write(self._in, piece)
         except BlockingIOError:
             return 0
         except BrokenPipeError:
+            # (it may have said why)
+            self._read()
             raise self._ended() from None
 
     def _read(self) -> None:
-        try:
-            block = os.read(self._output.fileno(), BLOCK)
-        except BlockingIOError:
-            return
+        block = os.read(self._out, BLOCK)
         if not block:
             raise self._ended()
-        *whole, self._rest = (self._rest + block).split(b"\n")
-        self._lines.extend(whole)
+        lines = (self._rest + block.decode("latin-1")).split("\n")
+        self._rest = lines.pop()
+        self._lines += lines
 
     def _ended(self) -> Exception:
-        """Why the program ended in the midst of its work."""
-        os.set_blocking(self._output.fileno(), True)
-        printed = b"\n".join([*self._lines, self._rest + self._output.read()])
+        """Returns why the program ended before all its answers."""
+        printed = next((line for line in [*self._lines, self._rest] if not line.startswith(ANSWERS)), "")
         status = self.close()
-        return Killed() if status < 0 else error_of(status, printed)
+        return Killed() if status < 0 else error_of(status, printed, self._path)
+
+    def not_an_answer(self, line: str) -> Exception:
+        """Returns why a line came that is not an answer, and ends the run."""
+        if not line.startswith((USAGE, REFUSED)):
+            self._process.kill()
+            self.close()
+            return ProgramError(f"{self._path} is not tdl: it printed {line[:60]!r}")
+        return error_of(self.close(), line, self._path)
 
     def close(self) -> int:
-        """Ends the run, and gives its status. A second call gives the same."""
+        """Ends the run and returns its status. A second call returns the same."""
         _ALIVE.discard(self)
         for stream in (self._input, self._output):
             stream.close()
@@ -118,7 +123,7 @@ class Run:
             return self._process.wait()
 
     def forget(self) -> None:
-        """Lets go of the pipes in a process that was forked off, which the run does not belong to."""
+        """Closes the pipes in a process that was forked off, which does not own the run."""
         self._input.close()
         self._output.close()
         self._process.returncode = 0

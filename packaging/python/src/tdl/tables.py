@@ -1,12 +1,25 @@
-"""Files of tables, checked."""
+"""Files of tables, checked, and those that come with the module."""
 from __future__ import annotations
 
 import subprocess
-from dataclasses import dataclass
+from dataclasses import dataclass, fields
+from pathlib import Path
 from typing import Optional
 
+from . import options
 from .errors import ProgramError
+from .options import File
 from .program import error_of, find_program
+
+
+def _shipped(name: str) -> str:
+    """Returns the path of a table document of the project: the module's own, or that of the checkout that the module is part of."""
+    folder = Path(__file__).resolve().parent
+    own = folder / "documents" / name
+    return str(own if own.is_file() else folder.parents[3] / "tables" / name)
+
+
+BUILT_IN, GS1 = _shipped("builtin.json"), _shipped("gs1.json")
 
 
 @dataclass(frozen=True)
@@ -22,30 +35,27 @@ class Counts:
     links: int
 
 
-class Tables:
-    """Files that the program loads: `path` is a table document, or None for the built-in tables."""
+def check(
+    tables: Optional[File] = None,
+    *,
+    prefixes: Optional[File] = None,
+    links: Optional[File] = None,
+    voc: Optional[str] = None,
+    program: Optional[str] = None,
+) -> Counts:
+    """Returns the counts of what the program loads: `tables` is a table document, or None for the built-in tables.
 
-    def __init__(
-        self,
-        path: Optional[str] = None,
-        *,
-        prefixes: Optional[str] = None,
-        links: Optional[str] = None,
-        voc: Optional[str] = None,
-        program: Optional[str] = None,
-    ) -> None:
-        named = {"--tables": path, "--prefixes": prefixes, "--links": links, "--voc": voc}
-        self._arguments = ["check", *(word for name, value in named.items() if value is not None for word in (name, value))]
-        self._program = program
-
-    def check(self) -> Counts:
-        """The counts of what is loaded. Raises `FilesRejected` with the first reason where a file is rejected."""
-        path = find_program(self._program)
-        try:
-            ran = subprocess.run([path, *self._arguments], stdin=subprocess.DEVNULL, stdout=subprocess.PIPE, check=False)
-        except OSError as error:
-            raise ProgramError(f"{path} cannot be run: {error.strerror}") from error
-        if ran.returncode:
-            raise error_of(ran.returncode, ran.stdout)
-        words = ran.stdout.decode("ascii").split()
-        return Counts(**{name: int(number) for name, number in zip(words[1::2], words[2::2])})
+    Raises `FilesRejected` with the first reason if a file is rejected.
+    """
+    path = find_program(program)
+    words = ["check", *options.words(tables=tables, prefixes=prefixes, links=links), *(["--voc", voc] if voc is not None else [])]
+    try:
+        ran = subprocess.run([path, *words], stdin=subprocess.DEVNULL, stdout=subprocess.PIPE, check=False)
+    except OSError as error:
+        raise ProgramError(f"{path} cannot be run: {error.strerror}") from error
+    printed = ran.stdout.decode("latin-1").rstrip("\n")
+    told = printed.split(" ")
+    names = [field.name for field in fields(Counts)]
+    if ran.returncode or told[:1] != ["ok"] or told[1::2] != names or not all(word.isdigit() for word in told[2::2]):
+        raise error_of(ran.returncode, printed, path)
+    return Counts(*map(int, told[2::2]))

@@ -6,9 +6,11 @@ import io
 from collections import OrderedDict
 from concurrent.futures import ThreadPoolExecutor
 from threading import Lock
-from typing import Any, Callable, Dict, List, Optional, Tuple, Union
+from typing import Any, Callable, Dict, List, Optional, Tuple, cast
 
 from ..errors import Rejected
+from ..lines import Answer
+from ..options import Form, Target
 from ..translator import Translator
 from .elements import Element, elements
 from .fields import Reading, read_fields
@@ -30,10 +32,10 @@ class Inspector:
     """
 
     def __init__(self, *, tables: Optional[str] = None, prefixes: Optional[str] = None, program: Optional[str] = None) -> None:
-        self._files = {"tables": tables, "program": program}
+        self._files: Dict[str, Any] = {"tables": tables, "program": program}
         self._prefixes = prefixes
         self._lock = Lock()
-        self._kept: "OrderedDict[Tuple, Translator]" = OrderedDict()
+        self._kept: "OrderedDict[Tuple[Any, ...], Translator]" = OrderedDict()
         self.rows = Rows(tables)
 
     def close(self) -> None:
@@ -50,7 +52,7 @@ class Inspector:
         return self._one("".join(lines), question)
 
     def _translator(self, source: str, target: str, options: Dict[str, Any]) -> Translator:
-        return Translator(source, target, prefixes=self._prefixes, **self._files, **options)
+        return Translator(cast(Form, source), cast(Target, target), prefixes=self._prefixes, **self._files, **options)
 
     def _answer(self, source: str, target: str, text: bytes, options: Dict[str, Any]) -> Tuple[Optional[str], str]:
         """The translation and nothing, or None and the reason why there is none."""
@@ -87,7 +89,8 @@ class Inspector:
         pure, _ = self._answer(form, "pure", text, {**_for_target("pure", options), "keys_only": True})
         epc = read_fields("pure", pure, self.rows) if pure else None
         gcp = epc.option.gcp if epc else None
-        found = elements("bracketed", label.encode("ascii"), self.rows)
+        shown_label = (label or "").encode("ascii")
+        found = elements("bracketed", shown_label, self.rows)
         key = key_of(found, self.rows)
         written = [self._written(form, target, text, key, gcp, options) for target in FORMS]
         bits = self._bits(form, text, written)
@@ -96,7 +99,7 @@ class Inspector:
             "name": FORMS[form],
             "canon": link,
             "pieces": pieces(text, marks_of(form, text, self.rows, gcp), key),
-            "elements": [self._element(it, label.encode("ascii"), key, gcp) for it in found],
+            "elements": [self._element(it, shown_label, key, gcp) for it in found],
             "forms": written,
             "encoding": bits.option.encoding if bits else "",
             "bits": bit_rows(bits, self.rows) if bits else [],
@@ -141,16 +144,16 @@ class Inspector:
             self._retarget(shown, question)
         return {"kind": "lines", "target": question.target, "rows": shown, "csv": csv_of(shown), "encodings": self.rows.encodings()}
 
-    def _cells(self, answer: Union[str, Rejected], sentence: Callable[[Rejected], str]) -> Shown:
+    def _cells(self, answer: Answer, sentence: Callable[[Rejected], str]) -> Shown:
         """The answer, or the reason and its sentence."""
         if isinstance(answer, str):
             return {"answer": answer, "reason": "", "sentence": ""}
         return {"answer": "", "reason": answer.reason, "sentence": sentence(answer)}
 
-    def _links(self, lines: List[str]) -> Dict[str, List]:
+    def _links(self, lines: List[str]) -> Dict[str, List[Answer]]:
         """By each form the canonical link of each line, or why it has none."""
 
-        def links(form: str) -> List:
+        def links(form: str) -> List[Answer]:
             with self._translator(form, "canon", {}) as translator:
                 return list(translator.translate_all(bytes_of(form, line) for line in lines))
 

@@ -83,7 +83,8 @@ def _spans(text: bytes, start: int, end: int, separators: bytes) -> Iterator[Tup
 
 def _path(text: bytes, start: int, end: int, rows: Rows) -> List[Element]:
     """The elements at the end of a path: the last key, and its qualifiers."""
-    segments, found = list(_spans(text, start, end, b"/")), []
+    segments = list(_spans(text, start, end, b"/"))
+    found: List[Element] = []
     for code, value in zip(segments[-2::-2], segments[-1::-2]):
         row = rows.ais.get(text[slice(*code)].decode("latin-1"))
         if row is None:

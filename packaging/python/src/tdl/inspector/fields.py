@@ -4,7 +4,7 @@ from __future__ import annotations
 import re
 from dataclasses import dataclass
 from functools import lru_cache
-from typing import List, Optional, Tuple
+from typing import Any, Dict, List, Optional, Tuple
 
 from .rows import Option, Rows
 
@@ -39,16 +39,16 @@ def bits_of(text: str) -> str:
     return "".join(f"{int(digit, 16):04b}" for digit in text)
 
 
-def _pattern(item: Tuple) -> str:
+def _pattern(item: Tuple[Any, ...]) -> str:
     """The words of an item, or more than them: `_value` has the last word."""
     name, *rest = item
     if name == "lit":
-        return re.escape(rest[0])
+        return re.escape(str(rest[0]))
     if name == "fill":
         return f"0{{{rest[0]}}}|0{{{rest[1]}}}"
     if name in ("num", "numpad", "numstr", "ascii7"):
         return f"[01]{{{rest[-1] if name == 'ascii7' else rest[1]}}}"
-    patterns = {"pad": f"[0-9]{{{rest[1]}}}", "digits": f"[0-9]{{{rest[1]},{rest[-1]}}}"}
+    patterns: Dict[str, str] = {"pad": f"[0-9]{{{rest[1]}}}", "digits": f"[0-9]{{{rest[1]},{rest[-1]}}}"}
     return (patterns | {"int": "0|[1-9][0-9]*", "esc": f"(?:{ESCAPED}){{{rest[1]},{rest[-1]}}}"})[name]
 
 
@@ -57,7 +57,7 @@ def _compiled(option: Option) -> "re.Pattern[str]":
     return re.compile("".join(f"({_pattern(item)})" for item in option.items), re.S)
 
 
-def _value(item: Tuple, word: str) -> Optional[str]:
+def _value(item: Tuple[Any, ...], word: str) -> Optional[str]:
     """The value that a word of an item stands for, or None where it is no word of it."""
     name, *rest = item
     if name in ("lit", "fill"):
@@ -102,8 +102,8 @@ def read_fields(form: str, text: str, rows: Rows) -> Optional[Reading]:
         found = _compiled(option).fullmatch(symbols) if _begins(option, symbols) else None
         if not found:
             continue
-        values = [_value(item, word) for item, word in zip(option.items, found.groups())]
-        if None not in values:
+        values = [value for value in map(_value, option.items, found.groups()) if value is not None]
+        if len(values) == len(option.items):
             spans = map(found.span, range(1, len(values) + 1))
             return Reading(option, symbols, tuple(Field(name, *span, value) for name, span, value in zip(_names(option), spans, values)))
     return None

@@ -2,7 +2,7 @@
 from __future__ import annotations
 
 from dataclasses import dataclass
-from typing import Dict, Iterable, List, Optional, Tuple
+from typing import Any, Dict, Iterable, List, Optional, Tuple
 
 from .elements import Element, elements
 from .fields import Reading, read_fields
@@ -158,7 +158,7 @@ def marks_of(form: str, text: bytes, rows: Rows, gcp: Optional[int]) -> List[Mar
     return element_marks("link" if form == "canon" else form, text, rows, gcp)
 
 
-def bit_rows(reading: Reading, rows: Rows) -> List[Dict[str, str]]:
+def bit_rows(reading: Reading, rows: Rows) -> List[Dict[str, Any]]:
     """The fields of tag bits: name, role, bits, their number, and what they stand for."""
     kind = next((it for it in rows.kinds.values() if it.name == reading.option.kind), None)
     key, found = kind.key if kind else None, []

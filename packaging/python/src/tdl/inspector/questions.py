@@ -3,7 +3,7 @@ from __future__ import annotations
 
 import re
 from dataclasses import dataclass, field
-from typing import Any, Dict, Mapping, Optional
+from typing import Any, Dict, Iterable, List, Mapping, Optional
 
 FORMS = {
     "raw": "scanner output",
@@ -70,7 +70,7 @@ def bytes_of(form: str, text: str) -> bytes:
     return text.encode("utf-8", "replace")
 
 
-def forms_in_order(text: str, headers) -> list:
+def forms_in_order(text: str, headers: Iterable[str]) -> List[str]:
     """The six forms, first the one that a text looks like."""
     likely = "raw"
     if re.match(r"\w+://", text):

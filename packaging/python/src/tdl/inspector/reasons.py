@@ -1,7 +1,8 @@
-"""The reasons of the program in plain sentences, each with the place that it names (docs/FORMATS.md, 'Lines')."""
+"""The reasons of the program in plain sentences, each with the place that it names (docs/CLI.md, 'Lines')."""
 from __future__ import annotations
 
 import re
+from functools import lru_cache
 from typing import Callable, Dict, List, Optional, Tuple
 
 from .elements import Element, element_at, elements
@@ -26,6 +27,9 @@ HOLDS = {
     "large": "is too large for",
 }
 FIELDS = {"gcp": "company prefix", "rest": "reference", "filter": "filter value", "piece": "piece", "total": "total of pieces", "serial": "serial"}
+OF_A_TARGET = {"kind", "missing", "option", "hold", "extra"}
+OF_A_TEXT = {"long", "odd", "full", "reading", "http", "path", "key", "repeat", "keys", "digit", "unknown", "bracket", "escape"}
+OF_A_TEXT |= {"length", "char", "check", "date"}
 NEEDS = {"missing gcp": "gcp", "missing filter": "filter", "hold": "encoding", "option": "encoding", "extra": "keys_only"}
 
 
@@ -104,15 +108,12 @@ def _date(text: bytes, element: Element, ai: Ai, rows: Rows) -> Told:
 def _of_value(form: str, text: bytes, numbers: List[int], rows: Rows, kind: str) -> Optional[Told]:
     element = element_at(form, text, numbers[0], rows)
     ai = rows.ais.get(element.code) if element else None
-    if ai is None:
+    if element is None or ai is None:
         return None
-    told: Dict[str, Callable[[], Told]] = {
-        "length": lambda: _length(text, element, ai, rows),
-        "char": lambda: _character(text, element, ai, rows, numbers[1]),
-        "check": lambda: _check(text, element, ai, rows),
-        "date": lambda: _date(text, element, ai, rows),
-    }
-    return told[kind]()
+    if kind == "char":
+        return _character(text, element, ai, rows, numbers[1])
+    told: Dict[str, Callable[[bytes, Element, Ai, Rows], Told]] = {"length": _length, "check": _check, "date": _date}
+    return told[kind](text, element, ai, rows)
 
 
 def _unknown(form: str, text: bytes, place: int, rows: Rows) -> Told:
@@ -174,18 +175,31 @@ def explain(form: str, text: bytes, reason: str, rows: Rows) -> Told:
 
 def _escape(form: str, text: bytes, place: int, rows: Rows) -> Told:
     element = element_at(form, text, place, rows)
-    found = re.compile(rb"%(?![0-9A-Fa-f]{2})").search(text, element.edges[0], element.edges[-1]) if element else None
-    end = min(found.start() + 3, element.edges[-1]) if found else 0
-    marks = [Mark(found.start(), end, "error")] if found else []
+    start, stop = (element.edges[0], element.edges[-1]) if element else (0, 0)
+    found = re.compile(rb"%(?![0-9A-Fa-f]{2})").search(text, start, stop)
+    marks = [Mark(found.start(), min(found.start() + 3, stop), "error")] if found else []
     return "A percent sign has two hexadecimal digits behind it, such as %2F; this one has not.", marks
 
 
 def explain_target(reason: str, rows: Rows) -> Tuple[str, str]:
     """A sentence for a reason why an identity is not written in a form, and the name of the control that may help, or nothing."""
     kind, *words = reason.split(" ")
-    need = NEEDS.get(reason) or NEEDS.get(kind, "")
+    need = NEEDS.get(reason, NEEDS.get(kind, ""))
     if kind == "extra":
         return f"{_called(words[0], rows)} has no place in an EPC: keep the key and its serial alone, or leave it out.", need
     if kind == "hold":
         return f"The {FIELDS[words[0]]} {HOLDS[words[1]]} this form; another encoding may hold it.", need
     return TARGETS.get(reason, reason), need
+
+
+@lru_cache(maxsize=8)
+def _rows_of(tables: Optional[str]) -> Rows:
+    return Rows(tables)
+
+
+def sentence_of(form: str, text: bytes, reason: str, tables: Optional[str]) -> str:
+    """Returns a sentence for the reason why a text of a form has no translation, or the reason itself if there is no sentence for it."""
+    kind = reason.split(" ")[0]
+    if kind in OF_A_TARGET:
+        return explain_target(reason, _rows_of(tables))[0]
+    return explain(form, text, reason, _rows_of(tables))[0] if kind in OF_A_TEXT else reason

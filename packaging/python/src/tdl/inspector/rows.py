@@ -5,7 +5,7 @@ import json
 import re
 from dataclasses import dataclass
 from pathlib import Path
-from typing import Dict, List, Optional, Tuple
+from typing import Any, Dict, List, Optional, Tuple
 
 BUILT_IN = Path(__file__).resolve().parent / "builtin.json"
 TITLES = Path(__file__).resolve().parent / "titles.json"
@@ -29,7 +29,9 @@ class Part:
             return cls(1, 1, "zero")
         if word == "date":
             return cls(6, 6, "date")
-        letter, is_range, size, sign = PART.fullmatch(word).groups()
+        found = PART.fullmatch(word)
+        assert found, word
+        letter, is_range, size, sign = found.groups()
         least = int(size) if not is_range else 0 if sign == "?" else 1
         return cls(least, int(size), "digits" if letter == "n" else "characters", sign == "c")
 
@@ -82,7 +84,7 @@ class Option:
     kind: str
     encoding: str
     gcp: int
-    items: Tuple[Tuple, ...]
+    items: Tuple[Tuple[Any, ...], ...]
 
 
 class Rows:

@@ -1,0 +1,282 @@
+"""A column of a CSV file, translated: each record stays as it is, with its answer and its reason in two columns more."""
+from __future__ import annotations
+
+import csv
+import os
+import stat
+import sys
+from collections import deque
+from concurrent.futures import Future, ProcessPoolExecutor
+from contextlib import ExitStack, contextmanager
+from dataclasses import dataclass, field
+from itertools import islice
+from time import monotonic
+from typing import IO, Any, Deque, Dict, Iterator, List, NamedTuple, Optional, Tuple
+
+from .errors import Rejected
+from .translator import Translator
+
+CHUNK, PAUSE, WIDTH = 2_000, 0.2, 20
+MARK = "\ufeff"
+UTF16 = ("\udcff\udcfe", "\udcfe\udcff")
+
+
+class Wrong(Exception):
+    """A file that is not CSV, or lacks the column."""
+
+
+class Record(NamedTuple):
+    """A record as it stands in the file, its line end apart; its text; and a reason why the text is not asked for, or nothing."""
+
+    body: str
+    end: str
+    text: str
+    reason: str
+
+
+@dataclass(frozen=True)
+class Job:
+    """What is asked for. `options` are those of `Translator`; `column` is a name, or a number from 1."""
+
+    column: str
+    source: str
+    target: str = "canon"
+    delimiter: str = ","
+    has_header: bool = True
+    processes: int = 1
+    options: Dict[str, Any] = field(default_factory=dict)
+
+
+class Total(NamedTuple):
+    """The number of records, and that of the rejected ones."""
+
+    records: int
+    rejected: int
+
+
+def _records(lines: Iterator[str], delimiter: str) -> Iterator[Tuple[List[str], str]]:
+    """Yields the fields of each record, and the record as it stands in the file, with the empty lines before it."""
+    taken: List[str] = []
+
+    def feed() -> Iterator[str]:
+        for line in lines:
+            taken.append(line)
+            yield line
+
+    reader = csv.reader(feed(), delimiter=delimiter, strict=True)
+    try:
+        for fields in reader:
+            if fields:
+                yield fields, "".join(taken)
+                taken.clear()
+    except csv.Error as error:
+        raise Wrong(f"line {reader.line_num} is not CSV: {error}") from error
+
+
+def _split(raw: str) -> Tuple[str, str]:
+    body = raw.rstrip("\r\n")
+    return body, raw[len(body) :]
+
+
+def _quoted(text: str, delimiter: str) -> str:
+    """Returns a field as it stands in CSV."""
+    return '"' + text.replace('"', '""') + '"' if delimiter in text or '"' in text else text
+
+
+def _index(column: str, names: List[str], has_header: bool) -> int:
+    """Returns the index of a column."""
+    if has_header and names.count(column) == 1:
+        return names.index(column)
+    if has_header and column in names:
+        raise Wrong(f"several columns are named {column}: give its number, 1 to {len(names)}")
+    if column.isdecimal() and 1 <= int(column) <= len(names):
+        return int(column) - 1
+    raise Wrong(f"there is no column {column}: " + (f"there are {', '.join(names)}" if has_header else f"give a number from 1 to {len(names)}"))
+
+
+class Source:
+    """The records of a stream of CSV, and the lines that the two written files begin with."""
+
+    def __init__(self, stream: IO[str], job: Job) -> None:
+        first = next(iter(stream), "")
+        if first.startswith(UTF16):
+            raise Wrong("the file is UTF-16: save it as UTF-8")
+        self.mark = MARK if first.startswith(MARK) else ""
+
+        def lines() -> Iterator[str]:
+            yield first[len(self.mark) :]
+            yield from stream
+
+        self._job = job
+        self._records = _records(lines(), job.delimiter)
+        none: Tuple[List[str], str] = ([], "")
+        fields, raw = next(self._records, none)
+        if job.has_header and not fields:
+            raise Wrong("the file is empty, and has no header")
+        self._width, self._index = len(fields), _index(job.column, fields, job.has_header) if fields else 0
+        self._first = None if job.has_header or not fields else (fields, raw)
+        self.heads = self._heads(fields, *_split(raw)) if job.has_header else (self.mark, self.mark)
+
+    def _heads(self, names: List[str], body: str, end: str) -> Tuple[str, str]:
+        delimiter, name = self._job.delimiter, names[self._index]
+        added = [f"{name}_{word}" for word in (self._job.target if self._job.target != "canon" else "link", "reason")]
+        taken = set(added) & set(names)
+        if taken:
+            raise Wrong(f"the file has a column {taken.pop()} already")
+        answer, reason = (_quoted(word, delimiter) for word in added)
+        numbered = delimiter.join(("record", body.lstrip("\r\n"), reason))
+        return f"{self.mark}{delimiter.join((body, answer, reason))}{end}", f"{self.mark}{numbered}{end or chr(10)}"
+
+    def __iter__(self) -> Iterator[Record]:
+        if self._first:
+            yield self._record(*self._first)
+        for fields, raw in self._records:
+            yield self._record(fields, raw)
+
+    def _record(self, fields: List[str], raw: str) -> Record:
+        body, end = _split(raw)
+        if len(fields) == self._width:
+            text = fields[self._index]
+            return Record(body, end, text, "line-feed" if "\n" in text else "")
+        return Record(body + self._job.delimiter * (self._width - len(fields)), end, "", f"fields {len(fields)}")
+
+
+class Worker:
+    """Writes records with their answers, by a kept run of the program."""
+
+    def __init__(self, job: Job) -> None:
+        self._delimiter = job.delimiter
+        self._translator = Translator(job.source, job.target, **job.options)  # type: ignore[arg-type]
+
+    def write(self, first: int, records: List[Record]) -> Tuple[str, str, int]:
+        """Returns the records with their answers, the rejected ones with their numbers, and how many these are. `first` is the first number."""
+        answers = iter(self._translator.translate_list([record.text for record in records if not record.reason]))
+        delimiter, lines, rejected = self._delimiter, [], []
+        for number, (body, end, _, reason) in enumerate(records, first):
+            found = "" if reason else next(answers)
+            answer, reason = ("", found.reason) if isinstance(found, Rejected) else (found, reason)
+            lines.append(f"{body}{delimiter}{_quoted(answer, delimiter)}{delimiter}{_quoted(reason, delimiter)}{end}")
+            if reason:
+                body = body.lstrip("\r\n")
+                rejected.append(f"{number}{delimiter}{body}{delimiter}{_quoted(reason, delimiter)}{end or chr(10)}")
+        return "".join(lines), "".join(rejected), len(rejected)
+
+    def close(self) -> None:
+        """Ends the run."""
+        self._translator.close()
+
+
+_worker: Optional[Worker] = None
+
+
+def _begin(job: Job) -> None:
+    """Makes the worker of a process."""
+    global _worker
+    _worker = Worker(job)
+
+
+def _work(first: int, records: List[Record]) -> Tuple[str, str, int]:
+    assert _worker
+    return _worker.write(first, records)
+
+
+def _written(source: Source, job: Job) -> Iterator[Tuple[int, Tuple[str, str, int]]]:
+    """Yields, for each chunk in order, the number of its records and what is written of them."""
+    records, first = iter(source), 1
+    with ExitStack() as opened:
+        pool = opened.enter_context(ProcessPoolExecutor(job.processes, initializer=_begin, initargs=(job,))) if job.processes > 1 else None
+        worker = Worker(job)
+        opened.callback(worker.close)
+        ahead: "Deque[Tuple[int, Future[Tuple[str, str, int]]]]" = deque()
+        while chunk := list(islice(records, CHUNK)):
+            if pool is None:
+                yield len(chunk), worker.write(first, chunk)
+            else:
+                ahead.append((len(chunk), pool.submit(_work, first, chunk)))
+                if len(ahead) > 2 * job.processes:
+                    count, future = ahead.popleft()
+                    yield count, future.result()
+            first += len(chunk)
+        for count, future in ahead:
+            yield count, future.result()
+
+
+class Progress:
+    """A line on a terminal: how far the work is."""
+
+    def __init__(self, stream: IO[str]) -> None:
+        self._file, self._began, self._next = stream.fileno(), monotonic(), 0.0
+        self._is_shown = sys.stderr.isatty()
+        found = os.fstat(self._file)
+        self._size = found.st_size if stat.S_ISREG(found.st_mode) else 0
+
+    def show(self, total: Total) -> None:
+        """Shows the records, how many a second, the seconds left, and the rejected ones."""
+        now = monotonic()
+        if not self._is_shown or now < self._next:
+            return
+        self._next = now + PAUSE
+        spent = max(now - self._began, 0.001)
+        done = os.lseek(self._file, 0, os.SEEK_CUR) / self._size if self._size else 0
+        bar = f"[{'#' * int(WIDTH * done):{WIDTH}}] " if done else ""
+        left = f"{spent / done - spent:.0f} s left, " if done else ""
+        print(f"\r{bar}{total.records:,} records, {total.records / spent:,.0f} a second, {left}{total.rejected:,} rejected\033[K", end="", file=sys.stderr, flush=True)
+
+    def end(self) -> None:
+        """Clears the line."""
+        if self._is_shown:
+            print("\r\033[K", end="", file=sys.stderr, flush=True)
+
+
+@contextmanager
+def reading(path: str) -> Iterator[IO[str]]:
+    """Opens a file, or the standard input for `-`."""
+    is_input = path == "-"
+    with open(0 if is_input else path, encoding="utf-8", errors="surrogateescape", newline="", closefd=not is_input) as stream:
+        yield stream
+
+
+@contextmanager
+def writing(path: Optional[str]) -> Iterator[IO[str]]:
+    """Opens a file that appears by a rename at the end, or the standard output for `-`; for None what is written goes nowhere.
+
+    A file that is not a regular one, such as /dev/stderr, is written directly.
+    """
+    how: Dict[str, Any] = {"encoding": "utf-8", "errors": "surrogateescape", "newline": ""}
+    if path == "-":
+        with open(1, "w", closefd=False, **how) as stream:
+            yield stream
+    elif path is None or (os.path.exists(path) and not os.path.isfile(path)):
+        with open(path or os.devnull, "w", **how) as stream:
+            yield stream
+    else:
+        target = os.path.realpath(path)
+        beside = os.path.join(os.path.dirname(target), f".{os.path.basename(target)}.{os.getpid()}")
+        try:
+            with open(beside, "x", **how) as stream:
+                yield stream
+            if os.path.exists(target):
+                os.chmod(beside, stat.S_IMODE(os.stat(target).st_mode))
+            os.replace(beside, target)
+        finally:
+            if os.path.exists(beside):
+                os.unlink(beside)
+
+
+def translate_csv(job: Job, path: str, output: str, rejected: Optional[str] = None) -> Total:
+    """Translates a column of the file `path`. Each path may be `-`. Writes the rejected records to a second file if it is named."""
+    total = Total(0, 0)
+    with reading(path) as stream, writing(output) as answered, writing(rejected) as refused:
+        progress = Progress(stream)
+        source = Source(stream, job)
+        for file, head in zip((answered, refused), source.heads):
+            file.write(head)
+        try:
+            for count, (lines, wrong, rejections) in _written(source, job):
+                answered.write(lines)
+                refused.write(wrong)
+                total = Total(total.records + count, total.rejected + rejections)
+                progress.show(total)
+        finally:
+            progress.end()
+    return total
