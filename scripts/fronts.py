@@ -18,13 +18,6 @@ UNIT, EXAMPLES = "lib/systemd/system/tdl@.service", "usr/share/doc/tdl/examples"
 SHIPPED_PORTS = (8081, 8082, 8083, 8084)
 
 
-def free_port():
-    """Returns a port of this machine that nothing listens at."""
-    with socket.socket() as asked:
-        asked.bind((HOST, 0))
-        return asked.getsockname()[1]
-
-
 def listens(port, address=HOST):
     """Waits until something listens at a port, and returns whether it does."""
     end = monotonic() + SECONDS

@@ -1,7 +1,6 @@
 """What bench/ measures with: the program, lines of trade items in all forms, links of them, and what a run costs."""
 import random
 import resource
-import socket
 import subprocess
 import time
 
@@ -51,13 +50,6 @@ def path_of(i):
     """The path of a trade item of a number."""
     item = f"09506{i:08}"
     return f"/01/{item}{check_digit(item)}"
-
-
-def free_port():
-    """A port of this machine that nothing listens at."""
-    with socket.socket() as probe:
-        probe.bind(("127.0.0.1", 0))
-        return probe.getsockname()[1]
 
 
 def costs(words, given=b""):
