@@ -12,9 +12,6 @@ cons_cases false n len = grind (arith, nat_tests)
 pub position-cons : {X : Type 0} (p : X → Bool) (x : X) (xs : List X) → position p (x ∷ xs) ≡ (if p x then Some 0 else option_map (λ i. 1 + i) (position p xs))
 position-cons p x xs = cons_cases (p x) (position_or_len p xs) (length xs)
 
-pub position-nil : {X : Type 0} (p : X → Bool) → position p [] ≡ None
-position-nil p = refl
-
 shift_zero : (r : Option ℕ) → r ≡ option_map (λ i. 0 + i) r
 shift_zero None = refl
 shift_zero (Some i) = ap Some (omega arith)

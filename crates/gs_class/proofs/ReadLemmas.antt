@@ -21,10 +21,6 @@ module _ {X : Type 0} (f : Data → X) (d : Data) where
       let long : length (items_of d) ≤ i = let l = items_length d in omega arith in
       rw (take_all (items_of d) i long) at so_far
 
--- the items of the named member, if it exists
-pub items_of_member : (name : List ℕ) (d part : Data) → Some part ≡ get name d → items_of part ≡ items_in name d
-items_of_member name d part e = ap (λ (o : Option Data). unwrap_or (option_and_then array_in o) []) e
-
 -- there are none if it is not
 pub no_member : (name : List ℕ) (d : Data) → None ≡ get name d → [] ≡ items_in name d
 no_member name d e = ap (λ (o : Option Data). unwrap_or (option_and_then array_in o) []) e

@@ -1,5 +1,5 @@
 -- The texts of the fields, item by item from the last to the first.
-use Rattle.std.proofs.Common.{◌≡◌, ◌<◌, ◌≤◌, ◌+◌, ℕ, suc, List, [], ◌∷◌, length, Option, Some, None, get_or, drop, drop-cons, drop_of_length-le, add-one, min, refl, sym, ap, ◌∙◌, arith, inl, inr}
+use Rattle.std.proofs.Common.{◌≡◌, ◌<◌, ◌≤◌, ◌+◌, ℕ, List, [], ◌∷◌, length, Option, Some, None, drop, drop_of_length-le, min, refl, sym, ◌∙◌, arith, inl, inr}
 use Rattle.std.proofs.lemmas.Bool.Decides.{leb_tells}
 use Rattle.gs_tables_document.specs.declared.field.Field.{Field}
 use Rattle.gs_tables_document.specs.declared.field.Field.TheVariants.{Filter, Gcp, Rest, Piece, Total, Serial}
@@ -34,11 +34,3 @@ texts_past fields values place e = elim (leb_tells (length fields) (length value
       let past : length values ≤ place = omega arith in
       rw (drop_of_length-le values past) (sym (no_values (drop place fields)))
 ]
-
--- one item more
-pub texts_step : (fields : List (Option Field)) (values : List (List ℕ)) (place : ℕ) (field : Option Field) (value : List ℕ) (texts : KeyFields) → place < length fields → place < length values → field ≡ get_or fields place field → value ≡ get_or values place value
-    → texts ≡ texts_of (drop (place + 1) fields) (drop (place + 1) values) → with_text field value texts ≡ texts_of (drop place fields) (drop place values)
-texts_step fields values place field value texts low within f v e =
-    let ds : drop place fields ≡ field ∷ drop (place + 1) fields = rw add-one (drop-cons fields place field low ∙ ap (λ c. c ∷ drop (suc place) fields) (sym f)) in
-    let vs : drop place values ≡ value ∷ drop (place + 1) values = rw add-one (drop-cons values place value within ∙ ap (λ c. c ∷ drop (suc place) values) (sym v)) in
-    rw (ds, vs, e) (sym (first_item field value (drop (place + 1) fields) (drop (place + 1) values)))

@@ -14,7 +14,6 @@ use Rattle.gs_grammar.specs.Items.{is_between, IsItem}
 use Rattle.gs_grammar.specs.NumeralsSupport.{IsPadded}
 use Rattle.gs_grammar.specs.Words.{Word, IsWord, SpellsEach, SpellsMany, WritesNumber, IsPacked, PacksMany, decimal_value, number_of_word}
 use Rattle.gs_grammar.specs.Languages.{Language, IsOneBehind}
-use Rattle.gs_grammar.proofs.Ones.{padded_behind}
 use Rattle.gs_grammar.proofs.SpellingLemmas.{spelled_fixes}
 use Rattle.gs_grammar.proofs.Packs.{writes_one, writes_number, packed_fixes}
 use Rattle.gs_grammar.proofs.WordLaws.{int_bounds, numpad_bounds, num_bounds, numstr_bounds}
@@ -67,12 +66,6 @@ numstr_none bits hi number w e none h =
 
 pub numstr_no_bits : (bits hi : ℕ) (w : List ℕ) → ((number : ℕ) → WritesNumber bits number w → ⊥) → IsWord (NumStr bits hi) w → ⊥
 numstr_no_bits bits hi w none h = none (decimal_value (49 ∷ h.0)) h.1.2
-
-pub numstr_value : (bits hi count number : ℕ) (w out : List ℕ) → 1 ≤ count → count ≤ hi → IsOneBehind count number → WritesNumber bits number w → IsPadded count (number - 10 ^ count) out → Word (NumStr bits hi) out w
-numstr_value bits hi count number w out l m d e p =
-    let same = padded_behind count number out d p in
-    let c = p.count in
-    (record { least = omega arith; most = omega arith }, p.all_digits, rw same e)
 
 -- spelled characters
 
@@ -157,13 +150,6 @@ num_none bits greatest number w h high i =
 pub numpad_writes : (item : Item) (bits n : ℕ) (w : List ℕ) → item ≡ NumPad bits n → IsWord item w → (number : ℕ) × WritesNumber bits number w
 numpad_writes item bits n w i h = let k : IsWord (NumPad bits n) w = rw i at h in (decimal_value k.0, k.1.2)
 
-pub numpad_fits : (item : Item) (bits n number : ℕ) (w : List ℕ) → item ≡ NumPad bits n → IsWord item w → WritesNumber bits number w → number < 10 ^ n
-numpad_fits item bits n number w i h e =
-    let k : IsWord (NumPad bits n) w = rw i at h in
-    let d = (language_is (NumPad bits n) w).0 k in
-    let same = writes_one bits number d.number w e d.written in
-    rw same d.small
-
 pub numpad_value : (item : Item) (bits n number : ℕ) (w out : List ℕ) → item ≡ NumPad bits n → WritesNumber bits number w → IsPadded n number out → Word item out w
 numpad_value item bits n number w out i e p =
     let written : WritesNumber bits (decimal_value out) w = rw p.value e in
@@ -172,14 +158,6 @@ numpad_value item bits n number w out i e p =
 
 pub num_writes : (item : Item) (bits greatest : ℕ) (w : List ℕ) → item ≡ Num bits greatest → IsWord item w → (number : ℕ) × WritesNumber bits number w
 num_writes item bits greatest w i h = let k : IsWord (Num bits greatest) w = rw i at h in (k.1.0, k.1.1.1)
-
-pub num_value : (item : Item) (bits greatest number : ℕ) (w out : List ℕ) → item ≡ Num bits greatest → IsWord item w → WritesNumber bits number w → out ≡ decimal number → Word item out w
-num_value item bits greatest number w out i h e t =
-    let k : IsWord (Num bits greatest) w = rw i at h in
-    let same = writes_one bits number k.1.0 w e k.1.1.1 in
-    let s = k.1.1.0.small in
-    let whole : Word (Num bits greatest) out w = (number, (record { small = omega arith; text = t }, e)) in
-    rw i whole
 
 -- an item that is a number in bits, of either kind
 abbrev pub IsBits : Item → ℕ → Type 0

@@ -1,10 +1,10 @@
 -- Numbers whose digits are a 1 and others after it.
-use Rattle.std.proofs.Common.{◌≡◌, ℕ, ◌<◌, ◌≤◌, ◌+◌, ◌-◌, ◌*◌, ◌^◌, ◌⊎◌, IsTrue, List, ◌∷◌, length, inl, inr, refl, sym, ◌∙◌, ap, suc, add-one, arith, decimal}
+use Rattle.std.proofs.Common.{◌≡◌, ℕ, ◌<◌, ◌≤◌, ◌+◌, ◌-◌, ◌*◌, ◌^◌, ◌⊎◌, IsTrue, List, ◌∷◌, length, inl, inr, refl, ◌∙◌, ap, suc, arith, decimal}
 use Rattle.std.proofs.Math.Nat.{pow-le-pow_right, pow-succ', one-le-pow}
 use Rattle.std.proofs.lemmas.Bool.{cases_lt, cases_eq}
 use Rattle.gs_chars.specs.Characters.{are_digits}
-use Rattle.gs_grammar.specs.Words.{decimal_value, HasLength, WritesNumber}
-use Rattle.gs_grammar.specs.Languages.{IsOneBehind, IsOneAndDigits}
+use Rattle.gs_grammar.specs.Words.{decimal_value}
+use Rattle.gs_grammar.specs.Languages.{IsOneBehind}
 use Rattle.gs_grammar.specs.NumeralsSupport.{IsPadded, number_behind}
 use Rattle.gs_grammar.proofs.Numbers.{count_of_zero, same_digits, value_below, some_padded}
 

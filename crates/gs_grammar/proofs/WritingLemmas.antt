@@ -10,7 +10,7 @@ use Rattle.gs_chars.proofs.TruthsAndLists.{and_parts, read_at}
 use Rattle.gs_bits.specs.Bits.{AreBits, bits_of, number_of}
 use Rattle.gs_bits.specs.BitLaws.{bits_of-number_of}
 use Rattle.gs_grammar.specs.declared.item.Item.{Item}
-use Rattle.gs_grammar.specs.declared.item.Item.TheVariants.{Lit, NumPad, Num, NumStr, Ascii7}
+use Rattle.gs_grammar.specs.declared.item.Item.TheVariants.{Lit, NumPad, Num, Ascii7}
 use Rattle.gs_grammar.specs.declared.error.Why.{Why}
 use Rattle.gs_grammar.specs.Items.{is_bad, is_between, is_in_bounds, is_symbol, IsItem, size_of, size_of_all}
 use Rattle.gs_grammar.specs.Words.{decimal_value, written_word}
@@ -20,7 +20,7 @@ use Rattle.gs_grammar.specs.WrittenWords.{why_not, written, written_words, AreHe
 use Rattle.gs_grammar.proofs.OneReading.{only_derivation}
 use Rattle.gs_grammar.proofs.HoldLemmas.{held_word, packed_length}
 use Rattle.gs_grammar.proofs.Packs.{set82_bounds}
-use Rattle.gs_grammar.proofs.WordLaws.{none_bad, of_level, word_length, greatest_small, numpad_bounds, num_bounds, numstr_bounds}
+use Rattle.gs_grammar.proofs.WordLaws.{none_bad, of_level, word_length, greatest_small, numpad_bounds, num_bounds}
 use Rattle.gs_grammar.proofs.ItemTests.{IsBits}
 use Rattle.gs_grammar.proofs.Numbers.{value_decimal}
 
@@ -163,12 +163,6 @@ num_held bits greatest value b h =
     let fits = w.1.1.fits in
     let value_is : decimal_value value ≡ w.0 = ap decimal_value w.1.0.text ∙ value_decimal w.0 (omega arith) in
     (m.1, omega arith)
-
-pub numstr_held : (item : Item) (bits hi : ℕ) (value : List ℕ) → item ≡ NumStr bits hi → is_in_bounds true item ≡ true → why_not item value ≡ None → (bits ≤ 64) × (decimal_value (49 ∷ value) < 2 ^ bits)
-numstr_held item bits hi value i b h =
-    let g = of_level true (NumStr bits hi) (rw i at b) in
-    let w = held_word (NumStr bits hi) value (greatest_small (NumStr bits hi) g) (rw i at h) in
-    ((numstr_bounds bits hi g).2, w.2.fits)
 
 -- a number in bits that an item holds has room in them
 pub bits_held : (item : Item) (bits : ℕ) (value : List ℕ) → IsBits item bits → is_in_bounds true item ≡ true → why_not item value ≡ None → (bits ≤ 64) × (decimal_value value < 2 ^ bits)

@@ -1,5 +1,5 @@
 -- Definitions for proofs and private functions, in addition to Numerals.antt.
-use Rattle.std.specs.Prelude.{◌≡◌, ℕ, ◌+◌, ◌*◌, ◌^◌, ◌<◌, List, ◌++◌, decimal, drop, length, IsTrue}
+use Rattle.std.specs.Prelude.{◌≡◌, ℕ, ◌+◌, ◌*◌, ◌^◌, ◌<◌, List, ◌++◌, drop, length, IsTrue}
 use Rattle.gs_chars.specs.Characters.{are_digits}
 use Rattle.gs_bits.specs.Bits.{bits_of}
 use Rattle.gs_grammar.specs.Words.{decimal_value}

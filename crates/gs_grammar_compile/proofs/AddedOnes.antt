@@ -5,8 +5,8 @@ use Rattle.std.proofs.lemmas.List.{append_assoc, append-nil}
 use Rattle.gs_grammar_machine.specs.declared.edge.Edge.{Edge}
 use Rattle.gs_grammar_compile.specs.Tables.{run_table}
 use Rattle.gs_grammar_compile.specs.NumeralTables.{free_table, digits_table}
-use Rattle.gs_grammar_compile.specs.OnesTables.{layer_states, lead_edges, leads_edges, zeros_edges, free_bits_edges, count_rows, counts_rows, layer_rows, ones_table}
-use Rattle.gs_grammar_compile.proofs.AddedRows.{next_row, run_count}
+use Rattle.gs_grammar_compile.specs.OnesTables.{layer_states, lead_edges, leads_edges, count_rows, counts_rows, layer_rows, ones_table}
+use Rattle.gs_grammar_compile.proofs.AddedRows.{run_count}
 use Rattle.gs_grammar_compile.proofs.ReadsOnes.{layer_count}
 
 pub small_power : (power n : ℕ) → n ≤ 12 → power ≡ 10 ^ n → (1 ≤ power) × (power ≤ 1000000000000)
@@ -40,14 +40,6 @@ counts_end n next count hi whole all l h =
     let none : hi + 1 - count ≡ 0 = omega arith in
     let here : whole ++ counts_rows n next count 0 ≡ all = ap (λ (k : ℕ). whole ++ counts_rows n next count k) (sym none) ∙ h in
     sym (append-nil whole) ∙ here
-
-pub layer_added : (n next hi : ℕ) (zeros free : List Edge) (table first second new : List (List Edge)) → zeros ≡ zeros_edges n next hi → free ≡ free_bits_edges n next → first ≡ table ++ zeros ∷ [] → second ≡ first ++ free ∷ [] → new ≡ second ++ counts_rows n next 1 hi → new ≡ table ++ layer_rows n next hi
-layer_added n next hi zeros free table first second new z f a b c =
-    c
-    ∙ next_row first second (counts_rows n next 1 hi) free b
-    ∙ next_row table first (free ∷ counts_rows n next 1 hi) zeros a
-    ∙ ap (λ (row : List Edge). table ++ row ∷ free ∷ counts_rows n next 1 hi) z
-    ∙ ap (λ (row : List Edge). table ++ zeros_edges n next hi ∷ row ∷ counts_rows n next 1 hi) f
 
 ones_next : (n hi next : ℕ) (whole new all : List (List Edge)) → whole ++ ones_table (suc n) hi (length whole) ≡ all → next ≡ length whole + layer_states hi → new ≡ whole ++ layer_rows n next hi → new ++ ones_table n hi (length new) ≡ all
 ones_next n hi next whole new all h s e =

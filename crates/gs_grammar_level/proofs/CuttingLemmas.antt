@@ -1,11 +1,11 @@
 -- The cuttings of options: places where items begin, and items whose words have one length.
-use Rattle.std.proofs.Common.{◌≡◌, ℕ, ◌+◌, All, List, [], ◌∷◌, ◌++◌, length, Some, refl, sym, ◌∙◌, ap, subst, arith}
+use Rattle.std.proofs.Common.{◌≡◌, ℕ, ◌+◌, All, List, [], ◌∷◌, ◌++◌, length, Some, sym, ◌∙◌, ap, subst, arith}
 use Rattle.std.specs.List.{slice_get}
 use Rattle.std.proofs.lemmas.List.{append_assoc, append-nil}
 use Rattle.std.proofs.lemmas.List.Elements.{All-head, All-tail}
 use Rattle.gs_chars.proofs.TruthsAndLists.{same_at}
 use Rattle.gs_grammar.specs.declared.item.Item.{Item}
-use Rattle.gs_grammar.specs.Items.{IsItem, size_of, shortest_of}
+use Rattle.gs_grammar.specs.Items.{IsItem, size_of}
 use Rattle.gs_grammar.specs.Derivations.{Derives}
 use Rattle.gs_grammar.specs.Levels.{OptionForm, item_lists}
 use Rattle.gs_grammar.proofs.Cuts.{derives_uncons, derives_nil}
@@ -36,24 +36,6 @@ starts_end starts list all place (item ∷ left) l h e = absurd (omega arith)
 
 pub record FixedFrom (left items : List Item) : Type 0 where
   pub all : CutsAreFixed left → CutsAreFixed items
-
-pub fixed_start : (items : List Item) → FixedFrom items items
-fixed_start items = record { all = λ h. h }
-
-fixed_cons : (item : Item) (others : List Item) → shortest_of item ≡ size_of item → CutsAreFixed others → CutsAreFixed (item ∷ others)
-fixed_cons item [] s h = tt
-fixed_cons item (next ∷ others) s h = (s, h)
-
-pub fixed_step : (items left : List Item) (item : Item) (others : List Item) (size : ℕ) → FixedFrom left items → left ≡ item ∷ others → size ≡ size_of item → shortest_of item ≡ size → FixedFrom others items
-fixed_step items left item others size h e is s = record { all = λ k. h.all (rw e (fixed_cons item others (s ∙ is) k)) }
-
-pub fixed_last : (items left : List Item) (item : Item) (others : List Item) → FixedFrom left items → left ≡ item ∷ others → length others ≡ 0 → CutsAreFixed items
-fixed_last items left item [] h e l = h.all (rw e tt)
-fixed_last items left item (next ∷ others) h e l = absurd (omega arith)
-
-pub fixed_none : (items left : List Item) → FixedFrom left items → length left ≡ 0 → CutsAreFixed items
-fixed_none items [] h l = h.all tt
-fixed_none items (item ∷ left) h l = absurd (omega arith)
 
 -- one derivation
 

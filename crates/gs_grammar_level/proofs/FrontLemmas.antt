@@ -3,9 +3,9 @@ use Rattle.std.proofs.Common.{◌≡◌, ℕ, ◌<◌, ◌≤◌, ◌+◌, ◌*�
 use Rattle.std.specs.List.{slice_get}
 use Rattle.std.proofs.lemmas.Bool.Decides.{nat_tests}
 use Rattle.std.proofs.lemmas.Option.{slice_get-map}
-use Rattle.std.proofs.lemmas.List.{append_assoc, append-nil}
+use Rattle.std.proofs.lemmas.List.{append_assoc}
 use Rattle.std.proofs.lemmas.List.Elements.{All-head, All-tail}
-use Rattle.gs_chars.proofs.TruthsAndLists.{and_first, and_second, read_at, mapped_some}
+use Rattle.gs_chars.proofs.TruthsAndLists.{and_first, and_second, mapped_some}
 use Rattle.gs_chars.specs.Characters.{are_digits, is_digit}
 use Rattle.gs_bits.specs.Bits.{AreBits}
 use Rattle.gs_grammar.specs.declared.item.Item.{Item}
@@ -165,10 +165,6 @@ have_places items left places list h e = rw e (record {
       let b = h.begins w d in
       rw b.whole (within_each places b.front b.rest b.stand);
 })
-
--- at a place
-pub apart_at : (places others : List Place) (number : ℕ) (place other : Place) → number < length places → number < length others → place ≡ get_or places number place → other ≡ get_or others number other → (place.most < other.least) ⊎ (other.most < place.least) → AreApart places others
-apart_at places others number place other l k e f a = record { number = number; place = place; other = other; place_at = read_at places number place l e; other_at = read_at others number other k f; apart = a }
 
 -- options that share no list
 

@@ -1,14 +1,13 @@
 -- What the reading of one option, of a group and of a level says.
-use Rattle.std.proofs.Common.{◌≡◌, ℕ, ◌<◌, ◌≤◌, ◌+◌, Bool, true, false, IsTrue, List, [], ◌∷◌, length, get_or, drop, suc, Some, sym, ◌∙◌, ap, subst, inl, inr, arith, add-one}
+use Rattle.std.proofs.Common.{◌≡◌, ℕ, ◌<◌, ◌≤◌, ◌+◌, Bool, true, false, IsTrue, List, [], ◌∷◌, length, get_or, drop, suc, Some, sym, ◌∙◌, ap, inl, inr, arith, add-one}
 use Rattle.std.specs.List.{slice_get}
 use Rattle.std.specs.Option.{option_map}
 use Rattle.std.proofs.lemmas.Bool.{cases_lt}
 use Rattle.std.proofs.lemmas.Option.{slice_get-map}
 use Rattle.std.proofs.Math.Seq.{drop-cons}
-use Rattle.gs_chars.proofs.TruthsAndLists.{same_at, read_at, within, mapped_some}
+use Rattle.gs_chars.proofs.TruthsAndLists.{within, mapped_some}
 use Rattle.gs_grammar.specs.declared.item.Item.{Item}
 use Rattle.gs_grammar.specs.Derivations.{IsDerived, Derivation, OneDerivation}
-use Rattle.gs_grammar.specs.DerivationsSupport.{HasValues}
 use Rattle.gs_grammar.specs.Ambiguity.{IsUnambiguous}
 use Rattle.gs_grammar.specs.Levels.{OptionForm, item_lists}
 use Rattle.gs_grammar.proofs.OneReading.{only_derivation}
@@ -37,12 +36,6 @@ cuts_derived form items symbols cuts list m r c e =
 
 -- one option
 
-pub none_by_one : (options : List OptionForm) (w : List ℕ) (n : ℕ) (option : OptionForm) → n < length options → option ≡ get_or options n option → (IsDerived option.items w → ⊥) → NoneReads options n (n + 1) w
-none_by_one options w n option l e none = record {
-  none = λ k other low high g d.
-      let same : k ≡ n = omega arith in
-      let is : option ≡ other = same_at options n k option other (read_at options n option l e) g (sym same) in
-      none (subst (λ (o : OptionForm). IsDerived o.items w) (sym is) d);
 }
 
 pub none_by_probe : (options : List OptionForm) (w : List ℕ) (n place : ℕ) (literal : List ℕ) (b : Bool) → ((option : OptionForm) → slice_get options n ≡ Some option → HasLiteral option.items place literal) → (StandsAt place literal w → IsTrue b) → b ≡ false → NoneReads options n (n + 1) w
@@ -54,9 +47,6 @@ none_by_probe options w n place literal b has test f = record {
       let u : false ≡ true = sym f ∙ t in
       cc;
 }
-
-pub read_by : (options : List OptionForm) (w : List ℕ) (n : ℕ) (option : OptionForm) (items : List Item) (values : List (List ℕ)) → n < length options → option ≡ get_or options n option → items ≡ option.items → HasValues items w values → ReadBy options w n values
-read_by options w n option items values l e i v = record { option = option; at = read_at options n option l e; values_are = rw i at v }
 
 -- a group
 

@@ -1,12 +1,11 @@
 -- What is appended token by token: the tokens of the tree of what is written.
-use Rattle.std.proofs.Common.{◌≡◌, ◌≤◌, ℕ, zero, suc, ◌+◌, Bool, true, false, if◌then◌else◌, List, [], ◌∷◌, ◌++◌, length, map, take, drop, codes, Some, slice_get, refl, sym, ap, ◌∙◌, Ordering, Less, Equal, Greater, arith, append_assoc, append-nil}
+use Rattle.std.proofs.Common.{◌≡◌, ◌≤◌, ℕ, zero, suc, ◌+◌, Bool, true, false, if◌then◌else◌, List, [], ◌∷◌, ◌++◌, length, map, take, drop, codes, refl, sym, ap, ◌∙◌, Ordering, Less, Equal, Greater, arith, append_assoc, append-nil}
 use Rattle.std.specs.Prelude.{not}
 use Rattle.std.specs.Cmp.Lexicographic.{slice_cmp}
-use Rattle.std.specs.List.{flat_map, list_all}
+use Rattle.std.specs.List.{list_all}
 use Rattle.std.specs.Ordering.{is_eq, is_lt, match_ordering, nat_cmp, ordering_reverse}
 use Rattle.std.specs.Str.{bytes_eq}
 use Rattle.std.proofs.lemmas.Cmp.{nat_list_cmp_total}
-use Rattle.std.proofs.lemmas.Grind.{flat_map-append}
 use Rattle.std.proofs.lemmas.Map.Text.{is_eq-slice_cmp}
 use Rattle.gs_chars.proofs.TruthsAndLists.{and_first, and_second, and_true, equal_bytes, same_bytes}
 use Rattle.json.specs.Token.{Token, begin_array, begin_object, end_array, end_object}
@@ -20,9 +19,8 @@ use Rattle.serde_json.proofs.Texts.{print-outline}
 use Rattle.gs_linkset.specs.declared.link_types.Attr.{Attr}
 use Rattle.gs_linkset.specs.declared.link_types.Relation.{Relation}
 use Rattle.gs_linkset.specs.LinkShapes.{is_attr, is_below, is_relation}
-use Rattle.gs_linkset.specs.WrittenTrees.{array_by, members_by, tagged_tree}
-use Rattle.gs_linkset.specs.WrittenTokens.{Adds, count_below, is_other, item_tokens, language_tokens, member_tokens, members_tokens, text_tokens, tokens_of}
-use Rattle.gs_linkset.proofs.ReadLemmas.{take_next}
+use Rattle.gs_linkset.specs.WrittenTrees.{array_by, members_by}
+use Rattle.gs_linkset.specs.WrittenTokens.{Adds, count_below, is_other, item_tokens, member_tokens, members_tokens, text_tokens, tokens_of}
 use Rattle.gs_linkset.proofs.WrittenLemmas.{attr_parts, relation_parts}
 
 -- ---- one after another
@@ -44,10 +42,6 @@ adds_four first second third last same = adds first (adds_three second third las
 
 pub adds_five : {a b c d e f : Written} {s t u v w x : List Token} → Adds a b s → Adds b c t → Adds c d u → Adds d e v → Adds e f w → x ≡ s ++ (t ++ (u ++ (v ++ w))) → Adds a f x
 adds_five first second third fourth last same = adds first (adds_four second third fourth last refl) same
-
--- one thing more
-pub adds_next : {X : Type 0} (f : X → List Token) (xs : List X) (i : ℕ) (x : X) {start old new : Written} → slice_get xs i ≡ Some x → Adds start old (flat_map f (take i xs)) → Adds old new (f x) → Adds start new (flat_map f (take (i + 1) xs))
-adds_next f xs i x at so_far own = adds so_far own (rw (take_next xs i x at, flat_map-append f (take i xs) (x ∷ []), append-nil (f x)) refl)
 
 -- ---- arrays
 
@@ -112,10 +106,6 @@ module _ {X : Type 0} (name : X → List ℕ) (see : X → Data) where
   count_here k xs i x all at above so_far =
       let step : count_below k (map name (drop i xs)) ≡ 0 = rw (at, above) refl in
       omega (arith, step, so_far)
-
-pub tagged_tokens : (text language : List ℕ) → tokens_of (tagged_tree (text, language)) ≡ begin_object ∷ (language_tokens language ++ (text_tokens (codes "value") text ++ end_object ∷ []))
-tagged_tokens text [] = refl
-tagged_tokens text (c ∷ language) = refl
 
 -- ---- the shape of what is written
 

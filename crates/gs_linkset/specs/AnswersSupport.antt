@@ -1,6 +1,5 @@
 -- Definitions that proofs and private functions use with those of Answers.antt.
-use Rattle.std.specs.Prelude.{◌≡◌, ◌⊎◌, ℕ, List, [], map, Option, Some, option_map, Result, Err}
-use Rattle.std.specs.List.{filter_map, flat_map}
+use Rattle.std.specs.Prelude.{◌≡◌, ◌⊎◌, ℕ, List, [], Option, Some, option_map, Result, Err}
 use Rattle.std.specs.Option.{option_map_or}
 use Rattle.serde_json.specs.Data.{Data}
 use Rattle.serde_json.specs.Find.{at}
@@ -10,11 +9,10 @@ use Rattle.gs_json.specs.declared.plan.Sort.TheVariants.{Text, Array}
 use Rattle.gs_json.specs.Places.{item_place}
 use Rattle.gs_chars.specs.Answers.{first_or}
 use Rattle.gs_json.specs.Answers.{OrMemory}
-use Rattle.gs_json.specs.Members.{array_in, items_of, text_in}
-use Rattle.gs_linkset.specs.Documents.{context_errors, context_of, item_errors}
+use Rattle.gs_json.specs.Members.{array_in, text_in}
+use Rattle.gs_linkset.specs.Documents.{item_errors}
 use Rattle.gs_linkset.specs.DocumentsSupport.{count_in}
-use Rattle.gs_linkset.specs.Documents.{member_errors, names_in, relation_errors, relation_of, relation_with, target_errors, target_of}
-use Rattle.gs_linkset.specs.declared.link_types.Context.{Context}
+use Rattle.gs_linkset.specs.Documents.{member_errors, relation_with, target_errors, target_of}
 use Rattle.gs_linkset.specs.declared.link_types.Relation.{Relation}
 use Rattle.gs_linkset.specs.declared.link_types.Target.{Target}
 
@@ -35,28 +33,7 @@ ItemAnswer answer place i whole result =
 abbrev pub target_answer : List ℕ → Data → Result Target JsonFault
 target_answer place d = first_or (target_errors place d) (target_of d)
 
--- the targets of the array `d`, or the first error
-abbrev pub targets_answer : List ℕ → Data → Result (List Target) JsonFault
-targets_answer place d = first_or (item_errors target_errors place (items_of d)) (map target_of (items_of d))
-
--- the relation at the member `name` of `d`, if it is one, or its first error
-abbrev pub relation_answer : List ℕ → Data → List ℕ → Result (Option Relation) JsonFault
-relation_answer place d name = first_or (relation_errors place d name) (relation_of d name)
-
 -- the relation of the member `d`, if it is an array, or its first error
 abbrev pub member_answer : List ℕ → List ℕ → Data → Result (Option Relation) JsonFault
 member_answer name place d =
     first_or (option_map_or (item_errors target_errors place) (array_in d) []) (option_map (relation_with name) (array_in d))
-
--- the relations of the context `d`, or the first error
-abbrev pub relations_answer : List ℕ → Data → Result (List Relation) JsonFault
-relations_answer place d =
-    first_or (flat_map (relation_errors place d) (names_in d)) (filter_map (relation_of d) (names_in d))
-
--- the context `d` at `place`, or its first error
-abbrev pub context_answer : List ℕ → Data → Result Context JsonFault
-context_answer place d = first_or (context_errors place d) (context_of d)
-
--- the contexts of the array `d`, or the first error
-abbrev pub contexts_answer : List ℕ → Data → Result (List Context) JsonFault
-contexts_answer place d = first_or (item_errors context_errors place (items_of d)) (map context_of (items_of d))

@@ -1,5 +1,5 @@
 -- The attributes of the entries of a map are those of the parameters.
-use Rattle.std.proofs.Common.{◌≡◌, ℕ, zero, suc, ◌+◌, ◌<◌, Bool, true, false, List, [], ◌∷◌, ◌++◌, Option, Some, None, length, map, take, get_or, slice_get, bytes_eq, unwrap_or, refl, ap, sym, ◌∙◌, inl, inr, Less, append-nil, append_assoc, cond}
+use Rattle.std.proofs.Common.{◌≡◌, ℕ, zero, suc, ◌+◌, ◌<◌, Bool, true, false, List, [], ◌∷◌, ◌++◌, Option, Some, None, map, slice_get, bytes_eq, unwrap_or, refl, ap, sym, ◌∙◌, inl, inr, Less, append-nil, append_assoc, cond}
 use Rattle.std.specs.BTreeMap as tree
 use Rattle.std.specs.BTreeMap.{BTreeMap, is_at, IsOrdered, Updates}
 use Rattle.std.specs.Cmp.Lexicographic.{nat_list_cmp_total, slice_cmp}
@@ -9,7 +9,6 @@ use Rattle.std.specs.Option.{option_map}
 use Rattle.std.specs.Ordering.{nat_cmp}
 use Rattle.std.proofs.lemmas.Map.Entries.{btree_map_get_place, place_from_lookup}
 use Rattle.std.proofs.lemmas.Map.Text.{is_eq-slice_cmp}
-use Rattle.std.proofs.lemmas.List.{take_more}
 use Rattle.gs_linkset.specs.Attributes.{is_single, is_tagged}
 use Rattle.gs_linkset.specs.LinkShapes.{ascend, is_below_first}
 use Rattle.gs_linkset.specs.declared.link_types.Attr.{Attr}
@@ -31,11 +30,6 @@ values_by q p (x ∷ params) = elim (true_or_false (bytes_eq x.name q)) [
   | inl t ↦ rw t (ap (λ (vs : List (List ℕ)). x.value ∷ vs) (values_by q p params))
   | inr f ↦ rw f (values_by q p params)
 ]
-
-pub values_more : (q : List ℕ) (params : List Param) (i : ℕ) (p : Param) (old new : List (List ℕ)) → i < length params → p ≡ get_or params i p → old ≡ values_of q (take i params) → new ≡ old ++ value_at q p.name p.value → new ≡ values_of q (take (i + 1) params)
-values_more q params i p old new h is so_far e =
-    let more : take (i + 1) params ≡ take i params ++ p ∷ [] = take_more params i p h ∙ ap (λ (x : Param). take i params ++ x ∷ []) (sym is) in
-    rw more (e ∙ ap (λ (vs : List (List ℕ)). vs ++ value_at q p.name p.value) so_far ∙ sym (values_by q p (take i params)))
 
 -- ---- what entries give
 

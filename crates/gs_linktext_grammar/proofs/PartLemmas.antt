@@ -97,9 +97,6 @@ split_at test (x ∷ p) sign ys h own =
 
 -- ---- the links of a text, piece by piece
 
-pub so_far_begins : (text : List ℕ) → IsSoFar text text []
-so_far_begins text = ([], refl, λ others. sym (prepended_nothing written_link (written_links others)))
-
 pub so_far_more : (text rest behind : List ℕ) (links new : List WrittenLink) (piece : List Lexeme) → IsSoFar text rest links → IsPiece rest piece (Some behind) → with_part written_link piece links ≡ Some new → IsSoFar text behind new
 so_far_more text rest behind links new piece (done, chain, all) (none, own) h =
     (done ++ (piece ++ Comma ∷ []), chain_append done (piece ++ Comma ∷ []) text rest behind chain own, by)

@@ -148,9 +148,6 @@ groups_more by links i link text old new at own so_far put q =
     at_text true e = let same = equal_bytes text q e in rw (same, so_far q) refl
     at_text false e = so_far q
 
-pub no_groups : (by : Grouping) → AreGroups by [] (λ q. None)
-no_groups by q = refl
-
 -- ---- the targets of a group
 
 pub no_texts : AreTextsOf [] []

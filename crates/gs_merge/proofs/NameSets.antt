@@ -86,9 +86,6 @@ pub below_is_none : (a : List ℕ) (names : List (List ℕ)) → IsBelow a names
 below_is_none a [] h = refl
 below_is_none a (b ∷ names) h = rw (not_below_itself a b h.0) (below_is_none a names h.1)
 
-below_not : (a b : List ℕ) → slice_cmp nat_cmp a b ≡ Less → bytes_eq b a ≡ false
-below_not a b less = same_bytes_sym b a ∙ not_below_itself a b less
-
 -- the first of two lists with the same names
 first_same : (a b : List ℕ) (xs ys : List (List ℕ)) → IsBelow a xs → IsBelow b ys → has a (b ∷ ys) ≡ true → has b (a ∷ xs) ≡ true → (o : Ordering) → slice_cmp nat_cmp a b ≡ o → a ≡ b
 first_same a b xs ys below above ha hb Equal is = exact_bytes a b is

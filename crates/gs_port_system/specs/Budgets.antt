@@ -1,5 +1,5 @@
 -- The time that a connection is given: ten seconds for a head from its first byte, and for each MiB of a reply that is begun.
-use Rattle.std.specs.Prelude.{ℕ, suc, ◌+◌, ◌*◌, ◌-◌, ◌/◌, ◌^◌, min, Result, Ok, Err}
+use Rattle.std.specs.Prelude.{ℕ, suc, ◌+◌, ◌*◌, ◌-◌, ◌/◌, ◌^◌, min, Result, Ok}
 use Rattle.gs_port_system.specs.declared.budget.Budget.{Budget}
 use Rattle.gs_port_system.specs.declared.budget.Budget.TheVariants as budget
 

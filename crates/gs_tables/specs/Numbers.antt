@@ -1,5 +1,5 @@
 -- The options of a level by their kind and the length of their company prefix: TDT 2.0, section 3 (selection of an option).
-use Rattle.std.specs.Prelude.{ℕ, ◌==◌, ◌&&◌, Bool, List, length, map, filter}
+use Rattle.std.specs.Prelude.{ℕ, ◌==◌, ◌&&◌, Bool, List, map, filter}
 use Rattle.std.specs.List.{enumerate_from}
 use Rattle.gs_tables_document.specs.declared.opt_info.OptInfo.{OptInfo}
 

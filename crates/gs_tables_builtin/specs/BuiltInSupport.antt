@@ -21,7 +21,7 @@ use Rattle.gs_tables_builtin.specs.declared.encoding_line.SerialLine.{SerialLine
 use Rattle.gs_tables_builtin.specs.declared.encoding_line.SerialLine.TheVariants as serial_line
 use Rattle.gs_tables_document.specs.declared.field.Field.TheVariants.{Filter, Gcp, Serial}
 use Rattle.gs_tables_document.specs.Items.{FieldItem}
-use Rattle.gs_tables_builtin.specs.BuiltIn.{kind, builtin_kinds, partition, partitions, encoding, zeros, encodings, there, of_field, rest_in_bits, pieces_in_bits, pieces_in_text, in_text, behind_prefix, in_text_too, identity, identities, encoded_rows, pure_rows}
+use Rattle.gs_tables_builtin.specs.BuiltIn.{kind, builtin_kinds, partitions, encoding, zeros, of_field, rest_in_bits, pieces_in_bits, pieces_in_text, in_text, behind_prefix, in_text_too, identity, encoded_rows, pure_rows}
 
 -- the list, given by the old and the new one, has gained this row at its end
 abbrev pub Gains : {X : Type 0} → List X → List X → X → Type 0

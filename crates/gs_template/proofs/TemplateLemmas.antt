@@ -1,12 +1,12 @@
 -- The parts of a template, their errors, and their expansions.
 use Rattle.std.proofs.Common.{◌≡◌, ◌≤◌, ◌<◌, ℕ, zero, suc, ◌+◌, ◌-◌, ◌==◌, ◌&&◌, ◌||◌, Bool, true, false, All, if◌then◌else◌, List, [], ◌∷◌, ◌++◌, length, take, drop, filter, find, get_or, codes, Some, None, slice_get, refl, sym, ap, ◌∙◌, subst, arith}
-use Rattle.std.specs.Prelude.{Ok, Err}
+use Rattle.std.specs.Prelude.{Err}
 use Rattle.std.specs.List.{flat_map, list_all, list_any}
 use Rattle.std.specs.Option.{option_map_or}
 use Rattle.std.specs.Str.{IsUtf8, IsAscii, is_utf8}
 use Rattle.std.proofs.lemmas.Bool.{agree_below, agree_below_at, eqb-true}
 use Rattle.std.proofs.lemmas.Bool.Decides.{nat_tests}
-use Rattle.std.proofs.lemmas.List.{append-nil, append_assoc, length-append, length-drop, take_all}
+use Rattle.std.proofs.lemmas.List.{append_assoc, length-append, length-drop, take_all}
 use Rattle.std.proofs.lemmas.List.Elements.{All-head, All-tail, filter-append}
 use Rattle.std.proofs.lemmas.List.Folds.{find-append, list_all-append}
 use Rattle.std.proofs.lemmas.Str.{IsCharBoundary-after_ascii, IsCharBoundary-before_ascii, IsUtf8-append, IsUtf8-drop, IsUtf8-from_ascii, IsUtf8-from_is_utf8, IsUtf8-take, is_utf8-from_IsUtf8}
@@ -69,10 +69,6 @@ drop_all (x ∷ xs) (suc i) h = drop_all xs i (omega arith)
 pub drop_zero : {X : Type 0} (xs : List X) → drop 0 xs ≡ xs
 drop_zero [] = refl
 drop_zero (x ∷ xs) = refl
-
-drop_nil : {X : Type 0} (n : ℕ) → drop {A = X} n [] ≡ []
-drop_nil zero = refl
-drop_nil (suc n) = refl
 
 -- ---- parts
 
@@ -148,9 +144,6 @@ module _ (beside : List (List ℕ)) (href : List ℕ) (i c : ℕ) (within : i < 
 
   pub errors_stop : (n : ℕ) (error : PlaceFault) → place_size c (drop (i + 1) href) ≡ n → part_errors beside i (part_of c (drop (i + 1) href) n) ≡ error ∷ [] → AreErrorsFrom beside href i 0 → first_error (errors_from beside 0 (parts href)) ≡ Err error
   errors_stop n error is bad so_far = rw (here so_far n is, bad) refl
-
-pub errors_end : (beside : List (List ℕ)) (href : List ℕ) (i further : ℕ) → length href ≤ i → AreErrorsFrom beside href i further → first_error (errors_from beside 0 (parts href)) ≡ Ok tt
-errors_end beside href i further all so_far = rw (so_far, drop_all href i all) refl
 
 -- ---- bytes of places
 
@@ -288,12 +281,6 @@ module _ (identity : Elements) (href out new : List ℕ) (i c : ℕ) (within : i
         delimiters ∙ all.0,
         λ h. is_utf8-from_IsUtf8 ((out ++ own) ++ rest) (part_utf8 identity out text c n is inert (IsUtf8-from_is_utf8 (out ++ (raw (part_of c text n) ++ rest)) (all.1 h))),
       )
-
-pub filled_end : (identity : Elements) (href out : List ℕ) (i further : ℕ) → length href ≤ i → IsFilledTo identity href out i further → out ≡ filled href identity
-filled_end identity href out i further all so_far = sym (so_far ∙ rw (drop_all href i all) (append-nil out))
-
-pub keeps_end : (href out : List ℕ) (i further : ℕ) → length href ≤ i → KeepsTo href out i further → (filter is_delimiter out ≡ filter is_delimiter href) × (is_utf8 href ≡ true → is_utf8 out ≡ true)
-keeps_end href out i further all so_far = rw (drop_all href i all, drop_nil {X = ℕ} further, append-nil out) at so_far
 
 -- ---- the law of the whole reference
 

@@ -16,7 +16,7 @@ use Rattle.tdl_arguments.specs.declared.command.Command.TheVariants.{Migrate}
 use Rattle.tdl_arguments.specs.Commands.{names_of}
 use Rattle.tdl_arguments.specs.Names.{AreTaken, has_required, in_range, is_given, look_up, name_takes, name_word, none_taken, one_taken, row_takes, takes}
 use Rattle.tdl_arguments.specs.Ranges.{filter_of, is_numeral, is_vocabulary}
-use Rattle.tdl_arguments.specs.Requests.{Asked, WordsInOrder, default_voc, no_options, options_of}
+use Rattle.tdl_arguments.specs.Requests.{Asked, WordsInOrder, default_voc, options_of}
 
 -- ---- names by their words
 
@@ -111,10 +111,6 @@ options_fit words asked o =
       filter = filter_fits (look_up (name_word Filter) a.pairs);
       stem = stem_fits stem (λ s e. named_in_range _ a.pairs Stem s a.of_rows.taken e);
     })
-
--- the default options are valid
-pub no_options_fit : AreInOrder no_options
-no_options_fit = record { filter = filter_fits None; stem = stem_fits None (λ stem e. absurd (let f : None ≡ Some stem = e in cc)) }
 
 -- ---- the vocabulary
 

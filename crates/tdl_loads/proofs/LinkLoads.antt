@@ -150,13 +150,6 @@ other_unjudged kind verdict (unloaded.Refused rejection) j =
 pub store_merged : (ais : List AiRow) (verdict : Result (List Link) FileFault) (store links : List Link) (result : Result (List Context) Unloaded) → verdict ≡ Ok store → JudgedAs kind.Merge (merged_store (Ok store) links) result → JudgedAs kind.Merge (merged_store verdict links) result
 store_merged ais verdict store links result e j = rw e j
 
-pub store_unmerged : (verdict : Result (List Link) FileFault) (links : List Link) (u : Unloaded) → JudgedAs kind.Merge verdict (Err u) → JudgedAs kind.Merge (merged_store verdict links) (Err u)
-store_unmerged verdict links unloaded.Memory j = tt
-store_unmerged verdict links unloaded.ReadFault j = absurd j
-store_unmerged verdict links (unloaded.Refused rejection) j =
-    let told = judged_error kind.Merge verdict rejection j in
-    rw told.1 (ap (λ (k : FileKind). Err (rejected (record { kind = k; error = rejection.error }))) (sym told.0))
-
 merged_error : (ais : List AiRow) (voc : List ℕ) (error : FileFault) (third : Option (List Link)) → merged_with ais voc (Err error) third ≡ Err error
 merged_error ais voc error None = refl
 merged_error ais voc error (Some links) = refl

@@ -1,6 +1,6 @@
 -- The names of files that were opened.
-use Rattle.std.proofs.Common.{◌≡◌, ℕ, List, Option, Some, None, option_to_list, length, [], refl, sym, ◌∙◌, ap, inl, inr, append-nil, append_assoc, ◌++◌, ◌+◌, take}
-use Rattle.std.proofs.Math.Seq.{take-append-add, take-append_seam, take-length}
+use Rattle.std.proofs.Common.{◌≡◌, ℕ, List, Option, Some, None, length, [], refl, sym, ◌∙◌, ap, inl, inr, append-nil, append_assoc, ◌++◌, ◌+◌, take}
+use Rattle.std.proofs.Math.Seq.{take-append-add, take-length}
 use Rattle.std.specs.Prelude.{IfOk, Result, Ok, Err}
 use Rattle.gs_port.specs.Files.{AddsNames, with_names}
 use Rattle.tdl_loads.specs.Loads.{OpensFirst}
@@ -40,11 +40,3 @@ opens_both before between now one other first more =
 pub adds_given : {A E : Type 0} (result : Result A E) (before between now : Option (List (List ℕ))) (one other : List (List ℕ)) → AddsNames before one between → IfOk result (λ _. AddsNames between other now) → IfOk result (λ _. AddsNames before (one ++ other) now)
 adds_given (Ok a) before between now one other first more = adds_both before between now one other first more
 adds_given (Err e) before between now one other first more = tt
-
-pub opens_front : (one other : List (List ℕ)) (before now : Option (List (List ℕ))) → AddsNames before one now → OpensFirst (one ++ other) before now
-opens_front one other before now adds = (length one, rw (take-append_seam one other) adds)
-
--- nothing is named by two lists only where neither names anything
-pub none_named : (one : Option (List ℕ)) (other : List (List ℕ)) → option_to_list one ++ other ≡ [] → (one ≡ None) × (other ≡ [])
-none_named None other none = (refl, none)
-none_named (Some name) other none = cc

@@ -1,7 +1,6 @@
 use Rattle.gs_grammar_level.specs.Cuttings.{AreWidthsOf, IsCuttingOf}
 use Rattle.gs_grammar_level.specs.OptionMachines.{IsMachineOf}
 use Rattle.gs_grammar_level.proofs.FitLemmas.{fits_at}
-use Rattle.gs_grammar_level.proofs.Readers.{none_by_one, read_by}
 use Rattle.gs_grammar_level.proofs.finder.read_option.Goals as goal
 
 pub read_by_widths-requires-clause-fixed : goal.read_by_widths-requires-clause-fixed

@@ -5,13 +5,13 @@ use Rattle.json.specs.Token.{Token}
 use Rattle.json.specs.Json.{parse_map, after_end_array, read_key, items, members, value}
 use Rattle.json.specs.Reads.{token_of}
 use Rattle.json.proofs.Grammar.{value_is, read_key-shorter}
-use Rattle.serde_json.specs.Data.{null, boolean, array, object, no_members}
+use Rattle.serde_json.specs.Data.{null, boolean, array, object}
 use Rattle.serde_json.specs.Read.{of_json, of_items, of_members, converted}
 use Rattle.serde_json.specs.View.{view, members_view}
 use Rattle.serde_json.specs.declared.value.Value.{Value, Bool, Null, the_lemmas}
 use Rattle.gs_json.specs.declared.error.JsonFault.{JsonFault}
 use Rattle.serde_json.proofs.Views.{view-Array, view-Object}
-use Rattle.gs_json.proofs.ValueLoops.{array_opened, object_opened, item_read, item_refused, items_over, member_read, member_refused, key_refused, members_over, items_before, items_before-no_items, one_more_item, none_before}
+use Rattle.gs_json.proofs.ValueLoops.{array_opened, object_opened, item_read, item_refused, items_over, member_read, member_refused, key_refused, members_over, items_before, items_before-no_items, one_more_item}
 use Rattle.gs_json.proofs.values.+read.Goals as goal
 
 pub read_items-returns-in_err-item-clause-syntax : goal.read_items-returns-in_err-item-clause-syntax
