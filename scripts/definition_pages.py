@@ -7,7 +7,9 @@ from repository import TOP, crates
 DOCS = TOP / "docs"
 THEOREM = DOCS / "THEOREM.md"
 MOST_NAMED = 12
-BLOCK = re.compile(r"^```\n-- (\w+): (\w+)(?:, (\w+))?\n(.*?)^```$", re.MULTILINE | re.DOTALL)
+BLOCK = re.compile(r"^```\n(-- \w+: .*?)^```$", re.MULTILINE | re.DOTALL)
+HEAD = re.compile(r"^-- (\w+): (\w+)(?:, (\w+))?$", re.MULTILINE)
+ENTRY = re.compile(r"\[`(\w+)`\]\(definitions/[^)]*\)")
 
 INDEX = """# Definitions
 
@@ -155,37 +157,58 @@ def fields_of(node):
     return [line for line in node.formula if line.strip()]
 
 
+def equations(node):
+    """The formula of a definition, and of a function only its equations: the entry of its page has the type."""
+    lines = shown(node)
+    found = [number for number, line in enumerate(lines) if re.match(rf"{node.name}\b.*=", line)]
+    return lines[found[0]:] if lines and found and re.match(r"(abbrev|unfoldable) ", lines[0]) else lines
+
+
 def formula(specs, crate, name, clause):
     """The lines of a definition, or of a clause of a public item, as they stand in the file."""
     if clause:
         return next((clause_of(it, clause).splitlines() for it in specs.item(crate, name)), None) or None
-    return next((shown(it) for it in specs.all() if (it.crate, it.name) == (crate, name)), None)
+    return next((equations(it) for it in specs.all() if (it.crate, it.name) == (crate, name)), None)
 
 
-def theorem(specs):
-    """The text of docs/THEOREM.md with the formulas of today."""
-    def filled(found):
-        lines = formula(specs, found[1], found[2], found[3])
-        if lines is None:
-            return found[0]
-        head = f"-- {found[1]}: {found[2]}" + (f", {found[3]}" if found[3] else "")
-        return f"```\n{head}\n" + "".join(f"{line}\n" for line in lines) + "```"
+def heads():
+    """The crate, the name and the clause, or nothing, of each formula of docs/THEOREM.md."""
+    return [head for block in BLOCK.findall(THEOREM.read_text("utf-8")) for head in HEAD.findall(block)]
 
-    return BLOCK.sub(filled, THEOREM.read_text("utf-8"))
+
+def theorem(specs, entries):
+    """The text of docs/THEOREM.md with the formulas of today, and with links to the entries of today."""
+    def filled(block):
+        texts = []
+        for head in HEAD.finditer(block[1]):
+            lines = formula(specs, *head.groups())
+            if lines is None:
+                return block[0]
+            texts.append("".join(f"{line}\n" for line in [head[0], *lines]))
+        return "```\n" + "\n".join(texts) + "```"
+
+    def linked(found):
+        node = next((it for it in entries.order if it.name == found[1]), None)
+        return f"[`{found[1]}`]({entries.link(node, '').partition('](')[2]}" if node else found[0]
+
+    return ENTRY.sub(linked, BLOCK.sub(filled, THEOREM.read_text("utf-8")))
 
 
 def lost_formulas(specs):
-    """Each formula of docs/THEOREM.md that no crate has, or that no public clause reaches."""
+    """Each formula of docs/THEOREM.md that no crate has or no public clause reaches, and each name that links to no entry."""
     reached = {(it.crate, it.name) for it in specs.reached(specs.items)}
-    for crate, name, clause, _ in BLOCK.findall(THEOREM.read_text("utf-8")):
+    for crate, name, clause in heads():
         if formula(specs, crate, name, clause) is None:
             yield f"docs/THEOREM.md: {crate} has no {name}" + (f" with a clause {clause}" if clause else "")
         elif not clause and (crate, name) not in reached:
             yield f"docs/THEOREM.md: no public clause reaches {name} of {crate}"
+    for name in ENTRY.findall(THEOREM.read_text("utf-8")):
+        if name not in {it for _, it in reached}:
+            yield f"docs/THEOREM.md: no page of definitions has an entry {name}"
 
 
 def pages(specs):
     """The path and the text of each page."""
     pages = Pages(specs)
     found = {DOCS / "DEFINITIONS.md": pages.index(), **{DOCS / "definitions" / f"{name}.md": pages.text(name) for name in PAGES}}
-    return {**found, THEOREM: theorem(specs)}
+    return {**found, THEOREM: theorem(specs, pages)}
