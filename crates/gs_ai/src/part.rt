@@ -37,7 +37,7 @@ pub enum Role {
     Qualifier,
     /// It says something about the thing.
     Attribute,
-    /// A text that is none of these.
+    /// Any other text.
     Other,
 }
 

@@ -141,7 +141,8 @@ impl AiTable {
     }
 
     /// Returns the length of AI and value together, if the first two digits of the row's code are in the list of predefined
-    /// lengths (GS1 General Specifications, figure 7.8.5-2), and `None` if and only if they are not. The row is one of the table.
+    /// lengths. Returns `None` if and only if they are not (GS1 General Specifications, figure 7.8.5-2). The row is one of the
+    /// table.
     pub fn predefined(&self, row: usize) -> Option<usize>
         requires { row < length self.now }
         ensures { result ≡ option_and_then (λ r. predefined_length r.code) (slice_get self.now row) }
