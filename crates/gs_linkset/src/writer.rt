@@ -40,7 +40,7 @@ trait Member: ToJson {
     /// The name of the member.
     ghost key_of: { Self → List ℕ };
 
-    /// The name of the member.
+    /// Returns the name of the member.
     fn key(&self) -> &str
         requires { Self.shape self.now ≡ true }
         ensures { result.now ≡ key_of self.now };
@@ -273,8 +273,8 @@ fn put_document(out: &mut Writer, contexts: &[Context]) -> Result<(), Memory>
     put(out, Token::EndObject)
 }
 
-/// Writes a linkset in JSON (RFC 9264, section 4.2), with no space, the members of each object in ascending order of name, and no
-/// empty language. Fails only with `Memory`.
+/// Writes a linkset in JSON (RFC 9264, section 4.2), with no space and no empty language. The members of each object are in
+/// ascending order of name. Fails only with `Memory`.
 pub fn write(alloc: Global, doc: &LinkDoc) -> Result<Text, Memory>
     ensures { IfOk result (λ text. text ≡ written doc.now) }
 {

@@ -23,8 +23,8 @@ pub enum AcceptAnswer {
 /// and writes at its last `accept`.
 pub trait Door: Conn {
     /// Begins to listen at the address. Returns `Failed` only if an error was counted; `Failed` and `Memory` begin nothing. An
-    /// opened door stays open, and the connections are unchanged. After any result the address is the last of the door's
-    /// addresses, if these are still known.
+    /// opened listener stays open, and the connections are unchanged. After any result the address is the last of the
+    /// listener's addresses, if these are still known.
     fn open(&mut self, address: &str) -> OpenAnswer
         ensures opened { OnOpened result ((Self.aside self.new).opened ≡ true) }
         ensures not_opened { OnNotOpened result (SameOpened (Self.aside self.old) (Self.aside self.new)) }

@@ -19,8 +19,8 @@ pub trait Source {
     /// The count of errors: of the calls that failed. It saturates at 2^64 - 1.
     ghost errors: { Self → ℕ };
 
-    /// Moves the next bytes of those left to the start of `buf`, at most its length, and 0 if and only if nothing is left.
-    /// Returns `Failed` only if an error was counted; it then moves nothing.
+    /// Moves the next of the bytes left to the start of `buf`, at most its length. It moves 0 if and only if nothing is left.
+    /// Returns `Failed` only if a failed read was counted; it then moves nothing.
     fn read(&mut self, buf: &mut [u8]) -> ReadAnswer
         requires room { 0 < length buf.old }
         ensures within { IfGot result (λ n. n ≤ length buf.new) }

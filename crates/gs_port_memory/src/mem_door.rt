@@ -37,8 +37,8 @@ impl Model for Ended {
     ghost view = { λ a. ended_with a.stream a.reads a.writes };
 }
 
-/// A door in memory with one connection for each input. It moves at most a given number of bytes at a time, and fails at the
-/// calls that the plan names.
+/// A listener in memory with one connection for each input. It moves at most a given number of bytes at a time, and fails at
+/// the calls that the plan names.
 #[derive(Drop)]
 pub struct MemDoor {
     alloc: Global,

@@ -18,7 +18,7 @@ pub enum Budget {
     Begun,
     /// A head is to be whole at a time.
     Head { until: u64 },
-    /// A reply began at a time, and so many bytes of it were taken.
+    /// A reply began at a time, and this number of its bytes was taken.
     Reply { began: u64, taken: u64 },
 }
 

@@ -10,10 +10,10 @@ use std::time::{Clock, Duration};
 
 /// What gives bytes by one call of the system.
 pub trait ReadCall {
-    /// What one call may do: the object before it, the buffer behind it, what it answers, and the object behind it.
+    /// The relation of one call: the object before it, the buffer after it, its result, and the object after it.
     ghost reads: { Self → List ℕ → Result ℕ SystemError → Self → Type 0 };
 
-    /// Makes the one call: moves bytes into the start of `buf`, and answers how many.
+    /// Makes the one call: moves bytes into the start of `buf`, and returns their number.
     fn read_once(&mut self, buf: &mut [u8]) -> Result<usize>
         ensures within { ReadsAtMost result buf.new }
         ensures called { reads self.old buf.new result self.new };
@@ -21,10 +21,10 @@ pub trait ReadCall {
 
 /// What takes bytes by one call of the system.
 pub trait WriteCall {
-    /// What one call may do: the object before it, the piece, what it answers, and the object behind it.
+    /// The relation of one call: the object before it, the piece, its result, and the object after it.
     ghost writes: { Self → List ℕ → Result ℕ SystemError → Self → Type 0 };
 
-    /// Makes the one call: takes bytes from the start of the piece, and answers how many.
+    /// Makes the one call: takes bytes from the start of the piece, and returns their number.
     fn write_once(&mut self, piece: &[u8]) -> Result<usize>
         ensures within { WritesAtMost result piece.now }
         ensures called { writes self.old piece.now result self.new };
@@ -35,7 +35,7 @@ pub trait FileCalls {
     /// A file that is open.
     type File: ReadCall + Drop;
 
-    /// What one call may do: the object before it, the name, what it answers, and the object behind it.
+    /// The relation of one call: the object before it, the name, its result, and the object after it.
     ghost opens: { Self → List ℕ → Result Self.File SystemError → Self → Type 0 };
 
     /// Makes the one call: opens the file of the name.
@@ -43,7 +43,7 @@ pub trait FileCalls {
         ensures called { opens self.old name.now result self.new };
 }
 
-/// A connection, whose reads and writes wait for the peer until a time: so many milliseconds of the clock of `DoorCalls`.
+/// A connection, whose reads and writes wait for the peer until a time in milliseconds of the clock of `DoorCalls`.
 pub trait StreamCalls {
     /// What one read may do: the connection before it, the buffer after it, the time until which it may wait, what it
     /// says, and the connection after it.
@@ -66,7 +66,7 @@ pub trait StreamCalls {
         ensures within { WritesAtMost result piece.now }
         ensures called { writes self.old piece.now until result self.new };
 
-    /// Tells the peer that no more bytes come.
+    /// Signals to the peer that no more bytes will follow.
     fn shut_write(&mut self) -> Result<()>
         ensures called { shuts self.old result self.new };
 }
@@ -78,10 +78,10 @@ pub trait DoorCalls {
     /// A connection.
     type Stream: StreamCalls + Drop;
 
-    /// What one call to listen may do: the object before it, the address, what it answers, and the object behind it.
+    /// The relation of one call to listen: the object before it, the address, its result, and the object after it.
     ghost binds: { Self → List ℕ → Result Self.Listener SystemError → Self → Type 0 };
 
-    /// What one call to accept may do: the listener before it, what it answers, and the listener behind it.
+    /// The relation of one call to accept: the listener before it, its result, and the listener after it.
     ghost accepts: { Self.Listener → Result Self.Stream SystemError → Self.Listener → Type 0 };
 
     /// What the setting up of a connection may answer.
@@ -106,10 +106,10 @@ pub trait DoorCalls {
     fn now(&mut self) -> u64
         ensures called { times self.old result self.new };
 
-    /// Waits a moment, in which what the system lacks may come back.
+    /// Waits a moment, in which the missing descriptors or memory may come back.
     fn pause(&mut self);
 
-    /// The port that it listens at, where the system names one.
+    /// Returns the port that it listens at, if the system names one.
     fn port(listener: &Self::Listener) -> Option<u16>;
 }
 
@@ -147,7 +147,7 @@ impl FileCalls for HostRuntime {
     }
 }
 
-/// The milliseconds that a new connection waits in a read or a write, until another wait is asked for.
+/// The milliseconds that a new connection waits in a read or a write, until another wait is set.
 const PATIENCE: u64 = 10_000;
 
 /// The milliseconds of a pause.

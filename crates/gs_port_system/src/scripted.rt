@@ -6,7 +6,7 @@ use std::io::{Error, ErrorKind, Result};
 /// What a scripted call answers.
 #[derive(Clone, Copy)]
 pub enum ScriptedAnswer {
-    /// So many bytes, or as many as there is room for. What opens, listens or accepts gives what it is asked for.
+    /// This number of bytes, or as many as there is room for. A call that opens, listens or accepts succeeds.
     Gives(usize),
     /// An error of this kind.
     Fails(ErrorKind),
@@ -14,8 +14,8 @@ pub enum ScriptedAnswer {
     FailsBy(i32),
 }
 
-/// Calls that answer by a script of eight answers, each call by the next one, and behind the last as by the last. A file, a
-/// listener or a connection that one gives goes on with the answers behind it.
+/// Calls that answer by a script of eight answers, each call by the next one; calls after the eighth get the last. A file, a
+/// listener or a connection that one gives goes on with the answers after it.
 #[derive(Clone, Copy)]
 pub struct ScriptedCalls {
     answers: [ScriptedAnswer; 8],
@@ -25,7 +25,7 @@ pub struct ScriptedCalls {
 }
 
 impl ScriptedCalls {
-    /// The script before its first call.
+    /// Returns the script before its first call.
     pub fn new(answers: [ScriptedAnswer; 8]) -> ScriptedCalls {
         ScriptedCalls {
             answers,
@@ -35,7 +35,7 @@ impl ScriptedCalls {
         }
     }
 
-    /// The script with a clock that shows so many milliseconds more after each call and each reading.
+    /// Returns the script with a clock that advances by `step` milliseconds at each call and each reading.
     pub fn with_step(self, step: u64) -> ScriptedCalls {
         ScriptedCalls { step, ..self }
     }
@@ -46,7 +46,7 @@ impl ScriptedCalls {
         self.time
     }
 
-    /// What the next call answers that waits until a time, which has room for so many bytes.
+    /// Returns the answer of the next call, which waits until a time and has room for `room` bytes.
     fn answer_until(&mut self, room: usize, until: u64) -> Result<usize>
         ensures { IfOk result (λ n. n ≤ room) }
     {
@@ -56,7 +56,7 @@ impl ScriptedCalls {
         self.answer(room)
     }
 
-    /// What the next call answers, which has room for so many bytes.
+    /// Returns the answer of the next call, which has room for `room` bytes.
     fn answer(&mut self, room: usize) -> Result<usize>
         ensures { IfOk result (λ n. n ≤ room) }
     {
@@ -69,7 +69,7 @@ impl ScriptedCalls {
         }
     }
 
-    /// What the next call gives, which goes on with the script.
+    /// Returns the object that the next call gives, which goes on with the script.
     fn give(&mut self) -> Result<ScriptedCalls> {
         self.answer(0)?;
         Ok(*self)

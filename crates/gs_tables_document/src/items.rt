@@ -13,8 +13,8 @@ use serde_json::Value;
 use std::alloc::Global;
 
 /// Returns an item of an option with the field of its value; a literal and a fill have none. Returns `Bad` if and only if the
-/// part is not an array, has an unknown name or one of the other kind of level, a wrong number or kind of arguments, an unknown
-/// field, or a number that its place in the item cannot hold.
+/// part is not an array or is bad otherwise. It then has an unknown name or one of the other kind of level, or a wrong number
+/// or kind of arguments. Or it has an unknown field, or a number that its place in the item cannot hold.
 pub fn read_item(alloc: Global, item: &Node<'_>, bit_level: bool) -> Result<FieldItem, ItemFault>
     ensures { Reads result (item_of bit_level (view item.now.tree)) }
 {

@@ -5,7 +5,7 @@ use gs_chars::{List, Text};
 pub enum SerialAt {
     /// The kind has none.
     Nowhere,
-    /// At the end of the key's own value.
+    /// At the end of the key's value.
     Tail,
     /// In a separate element with this AI.
     Ai(Text),
