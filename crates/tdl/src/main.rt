@@ -1,5 +1,5 @@
-//! The process: its arguments, the standard streams, the files and the door of the system, handed to `run`, and the status as its
-//! number. It answers `--help` and `--version`, and writes a line to standard error if something failed.
+//! The process: its arguments, the standard streams, the files and the listener of the system, handed to `run`, and the status
+//! as its number. It answers `--help` and `--version`, and writes a line to standard error if something failed.
 #![tactic(auto)]
 
 mod messages;

@@ -4,7 +4,7 @@ use tdl_arguments::Request;
 use tdl_help::Wrong;
 use tdl_run::Status;
 
-/// Writes what cannot be done, and the system's words for the reason, as a line to standard error.
+/// Writes one line to standard error: the action that failed, and the system's words for the reason.
 pub fn say_reason(rt: HostRuntime, what: &str, error: Error) {
     let _ = eprintln!(rt; "tdl: {what}: {error}");
 }

@@ -14,7 +14,7 @@
 //!
 //! # Differences from the standards
 //!
-//! - No standard defines lines of texts and answers: their form is this project's own (docs/CLI.md, 'Lines').
+//! - No standard defines lines of texts with their answers: the form is this project's own (docs/CLI.md, 'Lines').
 #![tactic(auto)]
 
 mod class_lines;

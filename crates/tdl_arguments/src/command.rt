@@ -14,7 +14,7 @@ pub enum Command {
     Translate(Form, Target),
     /// Loads the files, and counts what they have.
     Check,
-    /// Answers the requests of the input, as those of one connection.
+    /// Answers the requests of the input like those of one connection.
     Resolve,
     /// Answers the requests of the connections that a listener accepts.
     Serve,

@@ -1,4 +1,4 @@
-//! The lines of an input and their answers: where lines begin and end, the answer to each, and the status of a run over them.
+//! The lines of an input and their answers: the bounds of lines, the answer to each, and the status of a run over them.
 //!
 //! - `answer_lines` answers each line of a source, which it reads in pieces, and writes the answers to a sink.
 //! - `Answerer` is a trait of what answers a text; `print_line` writes one line. `Status` says how a run ended.

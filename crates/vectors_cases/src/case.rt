@@ -72,7 +72,7 @@ fn push_run(bytes: &mut Vec<u8>, byte: u8, count: u32) -> Result<(), Memory> {
     Ok(())
 }
 
-/// Returns the state after a byte of a word, and the byte that is there, with its count; 0 within an escape.
+/// Returns the state after a byte of a word, and the byte that it ends, with its count; 0 within an escape.
 fn next_of(escape: Escape, c: u8) -> (Escape, u8, u32) {
     match (escape, c) {
         (Escape::Outside, b'\\') => (Escape::Begun, c, 0),

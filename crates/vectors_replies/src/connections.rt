@@ -15,7 +15,7 @@ use gs_port::{MemSink, MemSource, Pair};
 use std::alloc::Global;
 use vectors_cases::{Answer, Done, Line, Rejection, bytes_at, number, section, sink_of, source_of};
 
-/// Serves the input. A function of its own, since its contract is large.
+/// Serves the input. A separate function, since its contract is large.
 fn served(
     alloc: Global,
     table: &AiTable,

@@ -1,9 +1,9 @@
-//! Calls of gs_port and gs_port_memory over connections in memory. A turn reads at most 4 bytes, and writes what was read; its answer is what the
-//! read moved, or that it failed, and then how many bytes the write took, or that it failed.
+//! Calls of gs_port and gs_port_memory over connections in memory. A turn reads at most 4 bytes, and writes the bytes read. Its
+//! answer is the bytes that the read moved, or that it failed, and then how many bytes the write took, or that it failed.
 //!
 //! - `pair CUT FAILS BYTES / CUT FAILS`: what three turns over a source and a sink answer, then the bytes that the sink holds.
-//! - `door CUT FAILS INPUT..`: what an open answers and, where it is opened, what each of three accepts answers, or the three
-//!   turns of the connection, which is then finished; then the number of finished connections, and the bytes written to each.
+//! - `door CUT FAILS INPUT..`: the answer of an open and, if it is opened, of each of three accepts, or the three turns of the
+//!   connection. The connection is then finished. Last the number of finished connections, and the bytes written to each.
 
 ghost use Rattle.std.specs.Prelude.{◌≡◌, false, true, is_some};
 

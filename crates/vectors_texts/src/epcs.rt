@@ -2,8 +2,8 @@
 //!
 //! - `read_hex TEXT`, `read_tag TEXT`, `read_pure TEXT`: the kind, encoding, filter value, prefix length, prefix, rest, piece and
 //!   total if the kind has them, and serial, or the error.
-//! - `identity_of FORM TEXT`, with FORM `hex`, `tag` or `pure`: the canonical link of the identity of what is read, or the
-//!   error.
+//! - `identity_of FORM TEXT`, with FORM `hex`, `tag` or `pure`: the canonical link of the identity of the EPC that is read, or
+//!   the error.
 //! - `by DOC FORM TEXT`: the same by the tables of a document.
 //!
 //! The calls that write and that take apart are in epc_writing.

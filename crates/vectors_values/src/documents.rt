@@ -1,6 +1,5 @@
-//! Calls of gs_json. The part of a document DOC that is asked is found by STEPs from the whole: `.NAME` is the member of this
-//! name, `?NAME` the same if it may be missing, `~NAME` if the value may also be another than an object, and `#I` the item of
-//! this number.
+//! Calls of gs_json. STEPs from the whole find the part of a document DOC: `.NAME` is the member of this name, `?NAME` the same
+//! if it may be missing, and `#I` the item of this number. `~NAME` is `?NAME` if the value may also be another than an object.
 //!
 //! - `parse DOC`: `Ok`, or the error.
 //! - `text DOC STEP..`, `number`, `truth`, `count`, `names`: the value of the part, or the error; `None` if a step finds none.

@@ -1,5 +1,5 @@
-//! Calls of gs_linkset. A linkset is answered as `Context ANCHOR` for each context, after it `Relation NAME` for each of its
-//! relations, after that `Target HREF` for each target, and after that the attributes: `One NAME TEXT`, `Many NAME` and the
+//! Calls of gs_linkset. The answer for a linkset has `Context ANCHOR` for each context, after it `Relation NAME` for each of
+//! its relations. `Target HREF` follows for each target, and after that the attributes: `One NAME TEXT`, `Many NAME` and the
 //! texts, or `Tagged NAME` and each text with its language.
 //!
 //! - `read DOC`: the linkset, or the error.
