@@ -32,7 +32,7 @@ abbrev pub are_distinct : List (List ℕ) → Bool
 are_distinct [] = true
 are_distinct (code ∷ codes) = not (list_any (bytes_eq code) codes) && are_distinct codes
 
--- trusted, own: holds if the parts are only `n14c`: 14 digits, of which the last is the check digit
+-- trusted, own: holds if the parts are only `n14c`: 13 digits and their check digit
 abbrev pub is_gtin : List Part → Bool
 is_gtin (NumCheck k ∷ []) = k == 14
 is_gtin _ = false

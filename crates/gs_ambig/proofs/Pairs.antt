@@ -27,7 +27,7 @@ marks_more m n p q pair marks new h l e w d number c =
           rw (first, second) d
     ]
 
--- the edges of the first state, as far as they were gone by
+-- those edges of the first state that have been handled
 abbrev pub DeadBy : AutoForm → AutoForm → List Edge → List Edge → Type 0
 DeadBy m n edges others = (symbol next other : ℕ) → Fits edges symbol next → Fits others symbol other → IsDead m n next other
 

@@ -215,7 +215,7 @@ are_placed ais identity row made found =
       other = λ j pair at. found_kept (is_other row.qualifiers identity.key) (λ (p : Pair). bytes_eq pair.code p.code) pairs pair (own_ascending (filter (is_other row.qualifiers identity.key) pairs) j pair (rw attributes at at));
     }
 
--- a code that passes the test is not in a list of which none passes
+-- a code that passes the test is not in a list without passing codes
 unlisted : (p : List ℕ → Bool) (code : List ℕ) (codes : List (List ℕ)) → p code ≡ true → list_any p codes ≡ false → list_any (bytes_eq code) codes ≡ false
 unlisted p code [] passes none = refl
 unlisted p code (other ∷ codes) passes none =

@@ -37,8 +37,8 @@ pub record IsClass (set : ClassRows) (text : List ℕ) (identity : Elements) : T
   pub named : slice_get set.classes derivation.option ≡ Some class
   pub is : identity ≡ class_identity class (said_by class derivation.values)
 
--- trusted, TDS 2.0, 'EPC Class URIs': The result of `read_class`: the identity of which the text is a class URI, or that there is
--- none. `Memory` may come instead.
+-- trusted, TDS 2.0, 'EPC Class URIs': The result of `read_class`: the identity that the text is a class URI of, or that there
+-- is none. `Memory` may be returned instead.
 abbrev pub ReadsAs : ClassRows → List ℕ → Result Elements ClassFault → Type 0
 ReadsAs set text (Ok identity) = IsClass set text identity
 ReadsAs set text (Err NoReading) = (identity : Elements) → IsClass set text identity → ⊥

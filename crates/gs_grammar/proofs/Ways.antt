@@ -38,7 +38,7 @@ pub record TwoCuts (item : Item) (items : List Item) (w : List ℕ) : Type 0 whe
   pub split' : AtCut item items w place'
   pub differ : place ≡ place' → split.words ≡ split'.words → ⊥
 
--- the number of ways in which the item and then the items derive the list, with a word of the item shorter than the cut
+-- the number of ways in which the item and then the items derive the list, if the item's word is shorter than the cut
 abbrev pub FindsBefore : Item → List Item → List ℕ → ℕ → Found → Type 0
 FindsBefore item items w cut Never = (k : ℕ) → k < cut → AtCut item items w k → ⊥
 FindsBefore item items w cut Once = OneCut item items w cut

@@ -91,7 +91,7 @@ From n number y = number % 2 ^ n ≤ y
 abbrev pub UpTo : ℕ → ℕ → ℕ → Type 0
 UpTo n number y = y ≤ number % 2 ^ n
 
--- what is left of a number after its bit
+-- the rest of a number after its bit
 rest_with : (n number : ℕ) → has_bit n number ≡ true → number % 2 ^ suc n ≡ 2 ^ n + number % 2 ^ n
 rest_with n number t =
     let split : number % 2 ^ (1 + n) ≡ number / 2 ^ n % 2 ^ 1 * 2 ^ n + number % 2 ^ n = mod-pow-add number 1 n in

@@ -112,7 +112,7 @@ low_back n greatest next g (suc s ∷ w) h = absurd (
     omega arith
     )
 
--- both states, where n bits are left
+-- both states, with n bits left
 pub record ReadsBound (table : List (List Edge)) (n greatest base q : ℕ) : Type 0 where
   pub first : Reads table base q (IsBounded n greatest)
   pub second : Reads table (lower_state n base) q (IsRun 0 1 n)

@@ -119,7 +119,7 @@ some_code : (lo n bits : ℕ) (value w : List ℕ) → IsPacked value w → 1 �
 some_code lo n bits [] w p some least most count = absurd (omega arith)
 some_code lo n bits (c ∷ value) w p some least most count = packed_coded lo n bits c value w (fronted c value w p) (omega arith) (omega arith) count
 
--- where more characters must come
+-- if more characters must follow
 must_there : (lo n bits a b : ℕ) → 7 ≤ bits → (w : List ℕ) → Begins (Root (suc lo) n bits a b) w → PacksIn (suc lo) (suc n) bits w
 must_there lo n bits a b few [] h = absurd h
 must_there lo n bits a b few (s ∷ w) h = root_packed (suc lo) n bits a b few s w h
@@ -130,7 +130,7 @@ must_back lo n bits a b few (s ∷ w) p =
     let least = p.least in
     code_root (suc lo) n bits a b s w (some_code (suc lo) n bits p.value (s ∷ w) p.packed (omega arith) p.least p.most p.count)
 
--- where the zeros may begin
+-- if the zeros may begin
 abbrev Zeros : ℕ → ℕ → ℕ → List ℕ → Type 0
 Zeros bits next = ByEdge (edge 0 0 next) (IsRun 0 0 (bits - 1))
 

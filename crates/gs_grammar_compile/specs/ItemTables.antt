@@ -27,7 +27,7 @@ item_states (NumStr bits hi) = layer_states hi * bits
 item_states (Ascii7 lo hi bits) = 127 * hi + (bits - 7 * lo)
 item_states (Fill a b) = b
 
--- the edges of the states of an item, the first of which has this number; the state after them is its end
+-- the edges of the states of an item, numbered from this number on; the state after them is its end
 abbrev pub item_table : Item → ℕ → List (List Edge)
 item_table (Lit literal) base = lit_table literal base
 item_table (Pad n) base = run_table 48 57 n base

@@ -1,4 +1,4 @@
--- The cuttings of options: places where items begin, and items whose words have one length.
+-- The cuttings of options: start places of items, and items whose words have one length.
 use Rattle.std.proofs.Common.{◌≡◌, ℕ, ◌+◌, All, List, [], ◌∷◌, ◌++◌, length, Some, refl, sym, ◌∙◌, ap, subst, arith}
 use Rattle.std.specs.List.{slice_get}
 use Rattle.std.proofs.lemmas.List.{append_assoc, append-nil}

@@ -31,7 +31,7 @@ all_over edges symbol back i base trail h high =
     let none : drop i edges ≡ [] = none_left edges i high in
     sym (append-nil trail) ∙ ap (λ (es : List Edge). trail ++ successors es symbol back) (sym none) ∙ h
 
--- the entries so far, where those before a number of the first ones were gone over
+-- the entries so far, after those before a number of the first ones were handled
 pub record SoMany (table : List (List Edge)) (symbol from : ℕ) (first trail : List Entry) (number : ℕ) : Type 0 where
   pub more : List Entry
   pub are : trail ≡ first ++ more

@@ -52,7 +52,7 @@ CutsAreFixed (item ∷ next ∷ others) = (shortest_of item ≡ size_of item) ×
 pub record ReadAlone (items : List Item) : Type 0 where
   pub only : (w : List ℕ) (values words others others' : List (List ℕ)) → Derives items w values words → Derives items w others others' → words ≡ others'
 
--- the front is that of the option: its places are at the start of each of its texts
+-- the `Front` is that of the option: its places are at the start of each of its texts
 abbrev pub IsFrontOf : Front → OptionForm → Type 0
 IsFrontOf front option = HavePlaces option.items front.places
 
