@@ -1,5 +1,5 @@
--- The head of a request: RFC 9112, sections 2 to 5, in the grammar of the crate `httparse`. That it has at most 64 fields, that
--- its lines end in CR LF, and that it has no message body is this project's own rule.
+-- The head of a request: RFC 9112, sections 2 to 5, in the grammar of the crate `httparse`. Three rules are this project's own:
+-- it has at most 64 fields, its lines end in CR LF, and it has no message body.
 use Rattle.std.specs.Prelude.{◌≡◌, ◌≤◌, ℕ, ◌==◌, ◌&&◌, ◌||◌, not, Bool, false, List, [], ◌∷◌, map, length, Option, Some, None}
 use Rattle.std.specs.List.{list_any, zip}
 use Rattle.httparse.specs.Grammar.{ReadsRequest, RequestHead}
@@ -36,7 +36,7 @@ is_bare_line_feed pair = pair.1 == 10 && not (pair.0 == 13)
 abbrev pub has_bare_line_feed : List ℕ → Bool
 has_bare_line_feed head = list_any is_bare_line_feed (zip (0 ∷ head) head)
 
--- trusted, own: what makes a whole head one that is not answered: a bare line feed, or a body
+-- trusted, own: the reasons not to answer a whole head: a bare line feed, or a message body
 unfoldable pub is_rejected : List ℕ → List (List ℕ × List ℕ) → Bool
 is_rejected head fields = has_bare_line_feed head || (is_shown Encoded fields || is_shown Sized fields)
 

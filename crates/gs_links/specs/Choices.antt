@@ -57,7 +57,7 @@ chosen_depth links identity want = deepest (candidates links identity want)
 abbrev pub is_chosen : Elements → Want → ℕ → Link → Bool
 is_chosen identity want depth link = is_candidate identity want link && (depth_of link == depth)
 
--- trusted, own: the numbers of the links that pass a test, where the first link has the number n
+-- trusted, own: the numbers of the links that pass a test, if the first link has the number n
 abbrev pub numbers_from : ℕ → (Link → Bool) → List Link → List ℕ
 numbers_from n test links = map (λ row. row.0) (filter (λ row. test row.1) (enumerate_from n links))
 

@@ -58,7 +58,7 @@ anchor_answer table text = by_pairs table (pairs_answer table text)
 unfoldable pub is_reference : List ℕ → Bool
 is_reference text = nat_le 1 (length text) && (nat_le (length text) 2048 && list_all is_visible text)
 
--- trusted, own: the number of the first target whose `href` is none
+-- trusted, own: the number of the first target whose `href` is invalid
 abbrev pub bad_target : Relation → Option ℕ
 bad_target relation = position (λ target. not (is_reference target.href)) relation.targets
 
@@ -70,7 +70,7 @@ relation_errors i r relation = option_map_or (λ t. BadHref i r t ∷ []) (bad_t
 abbrev pub relations_errors : ℕ → List Relation → List StoreFault
 relations_errors i relations = flat_map (λ row. relation_errors i row.0 row.1) (enumerate_from 0 relations)
 
--- trusted, own: the error of an anchor, where it is none
+-- trusted, own: the error of an anchor, if it is invalid
 abbrev pub anchor_errors : ℕ → Result Elements AnchorWhy → List StoreFault
 anchor_errors i (Ok _) = []
 anchor_errors i (Err why) = BadAnchor i why ∷ []
@@ -94,11 +94,11 @@ store_errors table contexts =
 
 -- ---- links
 
--- trusted, own: a relation that begins with `gs1:` stands for the vocabulary and what comes after
+-- trusted, own: a relation that begins with `gs1:` stands for the vocabulary and the rest after this prefix
 unfoldable pub expanded : List ℕ → List ℕ → List ℕ
 expanded voc name = if starts_with (λ a b. a == b) name (codes "gs1:") then voc ++ drop 4 name else name
 
--- trusted, own: neither `gs1:` nor the vocabulary begins with the other, so what is expanded does not begin with `gs1:`
+-- trusted, own: neither `gs1:` nor the vocabulary begins with the other, so an expanded relation does not begin with `gs1:`
 unfoldable pub keeps_names : List ℕ → Bool
 keeps_names voc =
     not (starts_with (λ a b. a == b) voc (codes "gs1:")) && not (starts_with (λ a b. a == b) (codes "gs1:") voc)

@@ -1,4 +1,4 @@
--- What is read item by item, and name by name.
+-- Readings item by item, and name by name.
 use Rattle.std.proofs.Common.{◌≡◌, Bool, true, false, codes, ℕ, zero, suc, ◌+◌, ◌≤◌, List, [], ◌∷◌, ◌++◌, length, take, map, Option, Some, None, slice_get, refl, sym, ap, ◌∙◌, inl, inr, arith}
 use Rattle.std.specs.Prelude.{IfSome, Result, Ok, Err, option_map, option_and_then, unwrap_or}
 use Rattle.std.specs.List.{cons_option, enumerate_from, filter_map, flat_map, list_all}
@@ -186,13 +186,13 @@ pub relation_shaped : (name : List ℕ) (targets : List Target) → bytes_eq nam
 unfolding is_relation
 relation_shaped name targets a b c = rw (a, b, c) refl
 
--- ---- items of an array, each with its errors and what it is read as
+-- ---- items of an array, each with its errors and its reading
 
 module _ {Y : Type 0} (errors : List ℕ → Data → List JsonFault) (made : Data → Y) (place : List ℕ) (items : List Data) where
   abbrev row_errors : ℕ × Data → List JsonFault
   row_errors row = errors (item_place place row.0) row.1
 
-  -- what is known of the items before a place
+  -- the known facts about the items before a place
   pub record SoFar (read : List Y) (i : ℕ) : Type 0 where
     pub none : flat_map row_errors (take i (enumerate_from 0 items)) ≡ []
     pub read_as : read ≡ map made (take i items)
@@ -210,7 +210,7 @@ module _ {Y : Type 0} (errors : List ℕ → Data → List JsonFault) (made : Da
       let few : length (enumerate_from 0 items) ≤ i = rw (rows_from 0 items) all in
       all_read (item_errors errors place items) (map made items) read (none_all row_errors (enumerate_from 0 items) i few so_far.none) (rw (take_all items i all) at so_far.read_as)
 
--- the same for the items of what is an array
+-- the same for the items of an array
 module _ {Y : Type 0} (errors : List ℕ → Data → List JsonFault) (made : Data → Y) (place : List ℕ) (whole : Data) where
   abbrev answer_at : List ℕ → Data → Result Y JsonFault
   answer_at at d = first_or (errors at d) (made d)
@@ -223,7 +223,7 @@ module _ {Y : Type 0} (errors : List ℕ → Data → List JsonFault) (made : Da
   array_read read i y more so_far (inl h) e = absurd (let g : Ok y ≡ Err Memory = h in cc)
   array_read read i y more so_far (inr p) e = item_read errors made place (items_of whole) read i p.0 y more so_far (items_at whole i ∙ sym p.1) p.2 e
 
--- ---- members of an object, each with its errors and what it is read as
+-- ---- members of an object, each with its errors and its reading
 
 module _ {X : Type 0} (errors : List ℕ → List JsonFault) (made : List ℕ → Option X) (shape : X → Bool) (names : List (List ℕ)) where
   pub record Found (read : List X) (i : ℕ) : Type 0 where

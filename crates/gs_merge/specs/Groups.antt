@@ -1,4 +1,4 @@
--- The steps by which links are grouped, and by which a map of texts tells targets apart.
+-- The steps by which links are grouped, and by which a map of texts distinguishes targets.
 use Rattle.std.specs.Prelude.{◌≡◌, ℕ, if◌then◌else◌, List, [], ◌∷◌, ◌++◌, filter, map, Option, Some, None}
 use Rattle.std.specs.BTreeMap.{is_at}
 use Rattle.std.specs.Cmp.Lexicographic.{slice_cmp}

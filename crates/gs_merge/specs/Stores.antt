@@ -1,5 +1,5 @@
--- The targets of merged stores at an anchor and a relation (RFC 9264, section 4.2), and those that are chosen for an identity
--- (GS1-Conformant Resolver). The laws are this project's own.
+-- The targets of merged stores at an anchor and a relation (RFC 9264, section 4.2). Those that are chosen for an identity
+-- follow (GS1-Conformant Resolver). The laws are this project's own.
 use Rattle.std.specs.Prelude.{◌≡◌, ℕ, Bool, false, max, List, codes, filter, Ok}
 use Rattle.std.specs.List.{flat_map, list_any}
 use Rattle.std.specs.Str.{bytes_eq}

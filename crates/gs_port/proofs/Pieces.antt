@@ -4,7 +4,7 @@ use Rattle.std.proofs.Math.Seq.{take-add}
 use Rattle.std.proofs.lemmas.List.{take_rest, take-append-drop, drop-drop}
 use Rattle.gs_port.specs.Contents.{append_known, append_twice}
 
--- the items moved from the start of the rest of a list to the start of a room, and the items after them in the list
+-- the items moved from the start of the rest of a list to the start of a room, and the list's items after them
 pub front_moved : (items room : List ℕ) (at n : ℕ) → take n room ≡ take n (take (length items - at) (drop at items)) → drop at items ≡ take n room ++ drop (at + n) items
 front_moved items room at n e =
     let whole : take n room ≡ take n (drop at items) = e ∙ ap (take n) (take_rest items at) in

@@ -1,4 +1,4 @@
--- Connections, and the doors (listeners) that accept them.
+-- Connections, and the listeners that accept them.
 use Rattle.std.specs.Prelude.{◌≡◌, ℕ, ◌-◌, Bool, true, false, List, [], ◌∷◌, ◌++◌, Option, Some, None, option_map}
 use Rattle.gs_port.specs.Counts.{Rises, counted}
 use Rattle.gs_port.specs.declared.files.OpenAnswer.{OpenAnswer}
@@ -14,8 +14,8 @@ pub record Finished : Type 0 where
   pub reads : ℕ
   pub writes : ℕ
 
--- trusted, own: the state that the reads and writes of a connection preserve. For a door it is: its own count of errors, of opens
--- and accepts; whether it was opened; the addresses of its opens, the inputs of the waiting connections and the finished
+-- trusted, own: the state that the reads and writes of a connection preserve. For a listener it has its own count of errors, of
+-- opens and accepts; whether it was opened; the addresses of its opens, the inputs of the waiting connections and the finished
 -- connections, in order, if they are known; and the counts of reads and writes at its last accept
 pub record Aside : Type 0 where
   pub errors : ℕ
@@ -26,15 +26,15 @@ pub record Aside : Type 0 where
   pub reads_then : ℕ
   pub writes_then : ℕ
 
--- trusted, own: holds if an error of the door itself was counted from before to after
+-- trusted, own: holds if an error of the listener itself was counted from before to after
 abbrev pub ErrorRises : Aside → Aside → Type 0
 ErrorRises before now = Rises before.errors now.errors
 
--- trusted, own: holds if the door is opened after exactly if it was opened before
+-- trusted, own: holds if the listener is opened after exactly if it was opened before
 abbrev pub SameOpened : Aside → Aside → Type 0
 SameOpened before now = now.opened ≡ before.opened
 
--- trusted, own: the state of an object that is not a door
+-- trusted, own: the state of an object that is not a listener
 abbrev pub no_aside : Aside
 no_aside = record { errors = 0; opened = false; addresses = None; waiting = None; finished = None; reads_then = 0; writes_then = 0 }
 
@@ -48,7 +48,7 @@ first_input (Some (input ∷ rest)) = Some input
 abbrev pub first_begun : Option (List (List ℕ)) → Option (List ℕ)
 first_begun waiting = option_map (λ _. []) (first_input waiting)
 
--- trusted, own: the empty contents of the next waiting connection, of which nothing was read or written
+-- trusted, own: the empty contents of the next waiting connection: nothing was read or written
 abbrev pub begun_next : Aside → Option (List ℕ)
 begun_next aside = first_begun aside.waiting
 
@@ -58,7 +58,7 @@ behind_first None = None
 behind_first (Some []) = Some []
 behind_first (Some (input ∷ rest)) = Some rest
 
--- trusted, own: the state after an open with these addresses: the door was opened, or an error was counted
+-- trusted, own: the state after an open with these addresses: the listener was opened, or an error was counted
 abbrev pub after_open : OpenAnswer → Option (List (List ℕ)) → Aside → Aside
 after_open opening.Opened addresses aside = record aside { opened = true; addresses = addresses }
 after_open opening.Failed addresses aside = record aside { errors = counted aside.errors; addresses = addresses }

@@ -7,11 +7,12 @@ use Rattle.gs_port_system.specs.declared.budget.Budget.TheVariants as budget
 abbrev pub ten_seconds : ℕ
 ten_seconds = 10_000
 
--- trusted, own: the time that is so many milliseconds after another; it saturates at 2^64 - 1
+-- trusted, own: the time that is this number of milliseconds after another; it saturates at 2^64 - 1
 abbrev pub later : ℕ → ℕ → ℕ
 later time delay = min (time + delay) (2 ^ 64 - 1)
 
--- trusted, own: the budget of a connection as it is read at this time: ten seconds begin with the first read after a head's first byte
+-- trusted, own: the budget of a connection after a read at this time: ten seconds begin with the first read after a head's
+-- first byte
 abbrev pub read_at : Budget → ℕ → Budget
 read_at budget.Begun time = budget.Head (later time ten_seconds)
 read_at (budget.Head until) time = budget.Head until
@@ -30,15 +31,15 @@ abbrev pub after_read : {E : Type 0} → Result ℕ E → Budget → Budget
 after_read (Ok (suc n)) budget.Idle = budget.Begun
 after_read said before = before
 
--- trusted, own: the budget of a connection as it is written at this time: a reply begins with its first write
+-- trusted, own: the budget of a connection after a write at this time: a reply begins with its first write
 abbrev pub write_at : Budget → ℕ → Budget
 write_at (budget.Reply began taken) time = budget.Reply began taken
 write_at budget.Begun time = budget.Reply time 0
 write_at (budget.Head until) time = budget.Reply time 0
 write_at budget.Idle time = budget.Reply time 0
 
--- trusted, own: the time until which a write of a reply may wait that began at a time, of which so many bytes were taken: ten
--- seconds for each MiB that is begun, and ten seconds from now at most
+-- trusted, own: the time until which a write of a reply may wait, by the time at which the reply began and its bytes that were
+-- taken: ten seconds for each MiB that is begun, and ten seconds from now at most
 abbrev pub reply_until : ℕ → ℕ → ℕ → ℕ
 reply_until began taken time = min (later began (ten_seconds * (taken / 1_048_576 + 1))) (later time ten_seconds)
 

@@ -1,4 +1,4 @@
--- What the calls of the outside do, by the one call of the system that each makes.
+-- The effects of the input and output calls, by the one system call that each makes.
 use Rattle.std.specs.Prelude.{◌≡◌, ◌≢◌, ◌↔◌, ℕ, zero, suc, ◌-◌, ◌^◌, ◌<◌, ◌≤◌, ◌⊎◌, List, [], ◌∷◌, Option, Some, None, Result, Ok, Err, length, replicate}
 use Rattle.std.specs.IoError.{error_kind, raw_os_error}
 use Rattle.std.specs.declared.io.ErrorKind.TheVariants as kinds
@@ -26,8 +26,8 @@ pub record WritesOnce {R : Type 0} (writes : R → List ℕ → Result ℕ Syste
   pub called : writes before piece said now
   pub answered : answer ≡ write_answer_of (length piece) said
 
--- trusted, own: the answer to an open that said this: an error that the system names as out of memory is `Memory`, every other
--- `Failed`
+-- trusted, own: the answer to an open with this result: `Memory` if the system names the error out of memory, and `Failed` for
+-- every other error
 abbrev pub AnswersOpen : {F : Type 0} → Result F SystemError → OpenAnswer → Type 0
 AnswersOpen (Ok file) answer = answer ≡ opening.Opened
 AnswersOpen (Err error) answer =
@@ -38,26 +38,27 @@ abbrev pub given : {F E : Type 0} → Result F E → Option F
 given (Ok file) = Some file
 given (Err error) = None
 
--- trusted, own: One call was made to open what is named, this is the answer to what it said, and what it gave is current.
+-- trusted, own: One call was made to open the named object; this is the answer to its result, and the object that it gave is
+-- current.
 pub record OpensOnce {S F : Type 0} (opens : S → List ℕ → Result F SystemError → S → Type 0) (before : S) (name : List ℕ) (answer : OpenAnswer) (current : Option F) (now : S) : Type 0 where
   pub said : Result F SystemError
   pub called : opens before name said now
   pub answered : AnswersOpen said answer
   pub current_is : current ≡ given said
 
--- trusted, own: No call was made, for lack of memory.
+-- trusted, own: No call was made, because memory ran out.
 pub record LacksMemory {S F : Type 0} (before : S) (answer : OpenAnswer) (current : Option F) (now : S) : Type 0 where
   pub same : now ≡ before
   pub answered : answer ≡ opening.Memory
   pub none : current ≡ None
 
 -- trusted, own: One call was made to open the named file, and its name is the last of those that were opened; or no call was
--- made, for lack of memory for the name.
+-- made, because memory ran out for the name.
 abbrev pub OpensNamed : {S F : Type 0} → (S → List ℕ → Result F SystemError → S → Type 0) → S → List ℕ → Option (List (List ℕ)) → OpenAnswer → Option F → Option (List (List ℕ)) → S → Type 0
 OpensNamed opens before name names answer current names_now now =
     LacksMemory before answer current now ⊎ (OpensOnce opens before name answer current now × (names_now ≡ with_names names (name ∷ [])))
 
--- trusted, own: One call was made to read what is current, which stays so.
+-- trusted, own: One call was made to read the current object, which stays current.
 pub record ReadsCurrent {R : Type 0} (reads : R → List ℕ → Result ℕ SystemError → R → Type 0) (current : Option R) (buffer : List ℕ) (answer : ReadAnswer) (current_now : Option R) : Type 0 where
   pub before : R
   pub now : R
@@ -65,13 +66,14 @@ pub record ReadsCurrent {R : Type 0} (reads : R → List ℕ → Result ℕ Syst
   pub is : current_now ≡ Some now
   pub once : ReadsOnce reads before buffer answer now
 
--- trusted, own: holds if so many calls were made one at a time, and what each said is to be tried again after so many
+-- trusted, own: holds if this number of calls was made one at a time, and each result is to be tried again after the calls
+-- before it
 abbrev pub TriesAgain : {L T : Type 0} → (L → Result T SystemError → L → Type 0) → (ℕ → Result T SystemError → Type 0) → ℕ → L → L → Type 0
 TriesAgain calls IsAgain zero before now = before ≡ now
 TriesAgain {L} {T} calls IsAgain (suc n) before now =
     (between : L) × (said : Result T SystemError) × TriesAgain calls IsAgain n before between × calls between said now × IsAgain n said
 
--- trusted, own: Calls were made until one said what is not to be tried again, or until the last of 2^64.
+-- trusted, own: Calls were made until one had a result that is not to be tried again, or until the last of 2^64.
 pub record CallsLast {L T : Type 0} (calls : L → Result T SystemError → L → Type 0) (IsAgain : ℕ → Result T SystemError → Type 0) (before : L) (said : Result T SystemError) (now : L) : Type 0 where
   pub tries : ℕ
   pub between : L
@@ -79,12 +81,12 @@ pub record CallsLast {L T : Type 0} (calls : L → Result T SystemError → L �
   pub last : calls between said now
   pub ended : (¬ IsAgain tries said) ⊎ (tries ≡ 2 ^ 64 - 1)
 
--- trusted, own: how often an accept is tried again while the system lacks descriptors or memory
+-- trusted, own: how often an accept is tried again while the system is short of descriptors or memory
 abbrev pub most_lacks : ℕ
 most_lacks = 600
 
--- trusted, own: holds if an accept that said this after so many tries is tried again: it was interrupted, the peer gave up, or
--- the system lacks descriptors or memory and was not asked too often
+-- trusted, own: holds if an accept with this result, after this number of tries, is tried again: it was interrupted, the peer
+-- gave up, or the system is short of descriptors or memory and the tries are not used up
 abbrev pub IsAcceptAgain : {T : Type 0} → ℕ → Result T SystemError → Type 0
 IsAcceptAgain tries (Ok stream) = ⊥
 IsAcceptAgain tries (Err error) = IsTriedAgain (error_kind error) ⊎ (IsLack (raw_os_error error) × (tries < most_lacks))
@@ -94,7 +96,7 @@ abbrev pub IsInterrupted : {T : Type 0} → Result T SystemError → Type 0
 IsInterrupted (Ok moved) = ⊥
 IsInterrupted (Err error) = error_kind error ≡ kinds.Interrupted
 
--- trusted, own: holds if more may come after a read that said this: it moved bytes, or was interrupted
+-- trusted, own: holds if more may arrive after a read with this result: it moved bytes, or was interrupted
 abbrev pub IsMore : Result ℕ SystemError → Type 0
 IsMore (Ok moved) = 0 < moved
 IsMore (Err error) = error_kind error ≡ kinds.Interrupted
@@ -167,13 +169,13 @@ abbrev pub IsSetUp : {T : Type 0} → (T → Result T SystemError → Type 0) �
 IsSetUp sets_up (Ok stream) done = sets_up stream done
 IsSetUp sets_up (Err error) done = done ≡ Err error
 
--- trusted, own: The listener was asked for the next connection, and this is what the setting up of it said, or the error.
+-- trusted, own: The next connection was requested from the listener, and this is the result of its setup, or the error.
 pub record AcceptsSetUp {L T : Type 0} (accepts : L → Result T SystemError → L → Type 0) (sets_up : T → Result T SystemError → Type 0) (before : L) (done : Result T SystemError) (now : L) : Type 0 where
   pub said : Result T SystemError
   pub accepted : CallsLast accepts IsAcceptAgain before said now
   pub set : IsSetUp sets_up said done
 
--- trusted, own: The listener was asked for the next connection, which is current now; this is the answer to what that said.
+-- trusted, own: The next connection was requested from the listener, and it is current now; this is the answer to the result.
 pub record AcceptsOnce {L T : Type 0} (accepts : L → Result T SystemError → L → Type 0) (sets_up : T → Result T SystemError → Type 0) (listener : Option L) (current : Option T) (answer : AcceptAnswer) (listener_now : Option L) (current_now : Option T) : Type 0 where
   pub before : L
   pub now : L
@@ -184,7 +186,7 @@ pub record AcceptsOnce {L T : Type 0} (accepts : L → Result T SystemError → 
   pub answered : answer ≡ accept_answer_of done
   pub current_is : current_now ≡ accepted_now done current
 
--- trusted, own: what a call to listen gave, or the listener that was there before
+-- trusted, own: the listener that a call to listen gave, or the one before it
 abbrev pub listener_of : {L E : Type 0} → Result L E → Option L → Option L
 listener_of (Ok listener) before = Some listener
 listener_of (Err error) before = before

@@ -38,7 +38,7 @@ write_reason write.NoOption = NoOption
 write_reason (write.CannotHold field why) = CannotHold field why
 write_reason write.Memory = Memory
 
--- trusted, own: the text of a level of what a text means, by the first option that holds the EPC, or the first reason why there
+-- trusted, own: the text of a level for a text's meaning, by the first option that holds the EPC, or the first reason why there
 -- is none
 abbrev pub IsOfLevel : TableRows → List PrefixEntry → Options → LevelName → Meaning → Result (List ℕ) Reason → Type 0
 IsOfLevel set prefixes options level meaning answer =
