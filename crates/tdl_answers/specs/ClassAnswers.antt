@@ -31,7 +31,7 @@ abbrev pub reading_by : List AiRow → ClassRows → ClassReading
 reading_by ais classes = record { ais = ais; classes = classes }
 
 -- trusted, own: the answer to a text that is not long: the canonical link of the identity that it is a class URI of, or why it
--- is none
+-- is not one
 abbrev pub LinksClass : ClassRows → List ℕ → Result (List ℕ) ClassReason → Type 0
 LinksClass set text answer =
     Then (Reworded Memory of_class (ReadsAs set text)) (λ identity link. link ≡ Ok (canonical_link identity)) answer

@@ -94,8 +94,8 @@ names_of DumpRead = optional Tables ∷ []
 names_of DumpWrite = optional Tables ∷ []
 names_of Merge = needed Links ∷ needed Second ∷ optional Third ∷ optional Tables ∷ optional Voc ∷ []
 
--- trusted, own: the work of a command: on the lines of the input, on its request heads as those of one connection, on the door,
--- or on none of these
+-- trusted, own: the work of a command: on the lines of the input, on its request heads like those of one connection, on the
+-- listener, or on none of these
 pub data Work : Type 0 where
   on_lines : Work
   on_heads : Work
@@ -127,7 +127,7 @@ abbrev pub is_on_heads : Work → Bool
 is_on_heads on_heads = true
 is_on_heads work = false
 
--- trusted, own: holds if the work is on the door
+-- trusted, own: holds if the work is on the listener
 abbrev pub is_on_door : Work → Bool
 is_on_door on_door = true
 is_on_door work = false
@@ -144,6 +144,6 @@ answers_heads command = is_on_heads (work_of command)
 abbrev pub reads_input : Command → Bool
 reads_input command = answers_lines command || answers_heads command
 
--- trusted, own: holds if the command uses the door
+-- trusted, own: holds if the command uses the listener
 abbrev pub uses_door : Command → Bool
 uses_door command = is_on_door (work_of command)

@@ -95,8 +95,9 @@ number_named number_of name pairs = option_and_then number_of (look_up (name_wor
 abbrev pub count_named : NamedPairs → ℕ
 count_named pairs = unwrap_or (number_named count_of Count pairs) 0
 
--- trusted, own: The values of the names in the pairs, with their defaults. Those are references that are not templates, no
--- connection, no filter value, no company prefix length, no encoding, all elements kept, and the stem of canonical links.
+-- trusted, own: The values of the names in the pairs, with their defaults. The defaults are references that are not templates,
+-- no connection, no filter value and no company prefix length. They are also no encoding, all elements kept, and the stem of
+-- canonical links.
 abbrev pub named_values : NamedPairs → Values
 named_values pairs = record {
   voc = value_or default_voc Voc pairs;

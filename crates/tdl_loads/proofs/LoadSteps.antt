@@ -70,7 +70,7 @@ module _ {A : Type 0} (files : Option FilesInMemory) (kind : FileKind) (Judges :
   bytes_unloaded name before now unloaded.ReadFault (inr gives) = inr (gives.0, bytes_stop name (missing gives.0) gives.1)
   bytes_unloaded name before now (unloaded.Refused rejection) gives = bytes_stop name (rejected rejection) gives
 
--- ---- a load whose last step is about what was read
+-- ---- a load whose last step uses the earlier results
 
 pub loads_given : {A B : Type 0} (Give : Option FilesInMemory → Result A Stop → Type 0) (Made : Option FilesInMemory → Result B Stop → Type 0) (names : List (List ℕ)) (As : Type 0) (before now : FilesKnown) (a : A) (result : Result B Unloaded) → Loads Give names As before now (Ok a) → LoadedBy (Made before.files) before.errors now.errors result → Loads Made names As before now result
 loads_given Give Made names As before now a result l g =
@@ -112,7 +112,7 @@ loads_stop First Next one other As before now u l = record {
   counts = l.counts;
 }
 
--- a first step that gives something, and another behind it
+-- a first step that gives something, and another after it
 pub loads_then : {A B : Type 0} (First : Option FilesInMemory → Result A Stop → Type 0) (Next : Option FilesInMemory → A → Result B Stop → Type 0) (one other : List (List ℕ)) (AsOne AsOther As : Type 0) (before between now : FilesKnown) (a : A) (result : Result B Unloaded) → (AsOne → AsOther → As) → Loads First one AsOne before between (Ok a) → Loads (λ files. Next files a) other AsOther between now result → Loads (Steps First Next) (one ++ other) As before now result
 loads_then First Next one other AsOne AsOther As before between now a result both l m =
     let next : LoadedBy (Next before.files a) between.errors now.errors result = subst (λ files. LoadedBy (Next files a) between.errors now.errors result) l.known m.loaded in

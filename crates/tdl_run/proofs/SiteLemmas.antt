@@ -50,7 +50,7 @@ one_resolved site input one other a b =
 
 -- ---- the command
 
--- the whole replies, of which what was written is a prefix
+-- the whole replies; the output is a prefix of them
 replies_begin : (site : SiteData) (input : Option (List ℕ)) (output : List ℕ) (s : Status) → Resolved site input output s → BeginsOne (LeavesOutput (Resolves site input)) output
 replies_begin site input output s r =
     let replied = r.replied in
