@@ -54,7 +54,7 @@ fn reads_files_of_the_system(rt: HostRuntime) -> Result<(), Fail> {
     Ok(())
 }
 
-/// Accepts a connection, answers what one read of it gives by the same bytes, and finishes it.
+/// Accepts a connection, replies with the bytes of one read, and finishes it.
 fn echo_once<D: Door>(door: &mut D) -> AcceptAnswer
     requires none_open { D.is_open door.old ≡ false }
     requires listening { (D.aside door.old).opened ≡ true }

@@ -47,8 +47,8 @@ fn are_accepting(m: &Auto, n: &Auto, p: usize, q: usize) -> bool
     p == m.accept() && q == n.accept()
 }
 
-/// Returns a list of symbols that leads both machines from these states to their accepting states. `None` is returned if and only
-/// if there is none. Pairs of states from which none leads are marked, and are not gone to again.
+/// Returns a list of symbols that leads both machines from these states to their accepting states. `None` is returned if and
+/// only if there is none. Pairs of states from which none leads are marked, and are not visited again.
 #[cycle(search)]
 pub fn search(
     alloc: Global,

@@ -17,7 +17,7 @@ use gs_prefix::PrefixList;
 use gs_tables::Field;
 use std::alloc::Global;
 
-/// What an identity says by a class.
+/// The fields of an identity by a class.
 #[derive(Drop)]
 struct Said {
     /// The company prefix.
@@ -93,7 +93,7 @@ fn lot_of<'a>(class: &Class, identity: &'a Identity) -> &'a [u8]
     }
 }
 
-/// Returns the bytes after that many, as far as there are any.
+/// Returns the bytes after the first `count`, if there are any.
 fn behind(text: &[u8], count: usize) -> &[u8]
     ensures { result.now ≡ drop count text.now }
 {

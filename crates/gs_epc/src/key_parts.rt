@@ -27,7 +27,7 @@ fn behind(value: &[u8], count: usize) -> &[u8]
     &value[count.min(value.len())..]
 }
 
-/// Returns the value after the leading zero, where the parts begin with one.
+/// Returns the value after the leading zero, if the parts begin with one.
 fn behind_zero<'a>(parts: &[Part], value: &'a [u8]) -> &'a [u8]
     ensures { result.now ≡ behind_zero parts.now value.now }
 {

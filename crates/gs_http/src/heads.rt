@@ -32,7 +32,7 @@ pub(crate) fn whole_head(head: &[u8], spans: &mut [HeaderSpan]) -> Option<Reques
     }
 }
 
-/// Returns the request whose parts lie there.
+/// Returns the request whose parts are at these spans.
 pub(crate) fn request_at<'a>(
     head: &'a [u8],
     spans: &'a [HeaderSpan],

@@ -3,7 +3,7 @@
 //! - `reply` answers one head: with a redirect, several links to choose from, a linkset, the resolver description file, or only a
 //!   status.
 //! - `serve_one` answers the heads of one connection in order, however their bytes come, and says how that ended.
-//! - `Resolver` has what both make of a `Site` once for many requests; `reply_with` and `serve_with` are lent it.
+//! - `Resolver` has the data that both make of a `Site` once for many requests; `reply_with` and `serve_with` borrow it.
 //!
 //! # Example
 //!

@@ -1,4 +1,4 @@
-/// What a field shows that matters to the reply.
+/// A fact that a field shows and that matters to the reply.
 #[derive(Clone, Copy)]
 pub(crate) enum Sign {
     /// That the message body has a transfer coding.

@@ -5,7 +5,7 @@ use gs_ident::IdentFault;
 /// Why an anchor is invalid.
 #[derive(Drop)]
 pub enum AnchorWhy {
-    /// It is not a link, or no target of a link where it begins with a slash.
+    /// It is not a link or, if it begins with a slash, not a link's request target.
     Link(LinkFault),
     /// Its pairs have no identity.
     Ident(IdentFault),

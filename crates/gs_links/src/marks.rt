@@ -69,7 +69,7 @@ fn least_before(marks: &[u16], least: usize, hash: u64, byte: u8) -> usize
     }
 }
 
-/// Returns no more than the number of a range that a tag is in.
+/// Returns at most the number of a range that a tag is in.
 fn least_of_tag(marks: &[u16], tag: &[u8]) -> usize
     requires { length marks.now ≡ 65536 }
     ensures { IsLeast marks.now tag.now result }
@@ -83,7 +83,7 @@ fn least_of_tag(marks: &[u16], tag: &[u8]) -> usize
     least.min(mark_at(marks, hash))
 }
 
-/// Returns no more than the number of a range that one of the tags is in.
+/// Returns at most the number of a range that one of the tags is in.
 pub(crate) fn least_of_tags(marks: &[u16], tags: &[Text]) -> usize
     requires { length marks.now ≡ 65536 }
     ensures { (t : ℕ) (tag : List ℕ) → slice_get tags.now t ≡ Some tag → IsLeast marks.now tag result }

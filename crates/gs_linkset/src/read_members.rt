@@ -24,7 +24,7 @@ pub(crate) trait ReadMember: Named + Drop {
     /// The thing that the member of a name is, if it is one.
     ghost made: { Data → List ℕ → Option Self };
 
-    /// Reads the member of a name. Returns `None` if it is not such a thing.
+    /// Reads the member of a name. Returns `None` if it is not such a member.
     fn read(alloc: Global, object: &Node<'_>, name: &str) -> Result<Option<Self>, JsonFault>
         ensures answer { OrMemory result (first_or
             (errors object.now.place (view object.now.tree) name.now)

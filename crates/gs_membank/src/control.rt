@@ -10,7 +10,7 @@ use gs_bits::{BitBuf, Cursor, Short};
 use gs_chars::{Memory, Text};
 use std::alloc::Global;
 
-/// What a protocol control word says (TDS 2.0, section 9).
+/// The contents of a protocol control word (TDS 2.0, section 9).
 #[derive(Clone, Copy)]
 pub(crate) struct ControlWord {
     /// How many words of 16 bits the encoding after it has, at most 31.

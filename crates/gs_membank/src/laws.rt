@@ -34,8 +34,8 @@ pub fn dump_written_is_read()
         → ReadsDump set text (Ok dump) }
 {}
 
-/// States that by loaded tables a dump that is read is written as its text in upper case. The items of its option have as many
-/// bits as its control word says.
+/// States that by loaded tables a dump that is read is written as its text in upper case. This needs an option whose items have
+/// as many bits as the control word says.
 pub fn dump_read_is_written()
     ensures { (set : TableRows) (text : List ℕ) (dump : Dump) → IsLoaded set → IsHex text
         → (bank : IsBank set (bits_of_hex text) dump)

@@ -7,12 +7,12 @@ ghost use Rattle.gs_port.specs.Answers.{OnAcceptFailed, OnAccepted, OnClosed, On
 use crate::conn::Conn;
 use crate::files::OpenAnswer;
 
-/// What accepting a connection answers.
+/// The result of accepting a connection.
 #[derive(Clone, Copy)]
 pub enum AcceptAnswer {
     /// The next connection is the open one.
     Accepted,
-    /// No connection comes any more.
+    /// No more connections will arrive.
     Closed,
     /// An error, which was counted.
     Failed,

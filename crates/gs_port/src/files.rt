@@ -6,7 +6,7 @@ ghost use Rattle.gs_port.specs.Answers.{count_after_read};
 
 use crate::source::ReadAnswer;
 
-/// What opening a file answers.
+/// The result of opening a file.
 #[derive(Clone, Copy)]
 pub enum OpenAnswer {
     /// The file is the current one, with all its bytes left.

@@ -2,7 +2,7 @@ ghost use Rattle.std.specs.Prelude.{◌≡◌, ℕ, ◌<◌, ◌≤◌, List, Op
 ghost use Rattle.gs_port.specs.Counts.{Rises};
 ghost use Rattle.gs_port.specs.Answers.{IfGot, IsZeroAtEnd, MovesFront, OnReadFailed, count_after_read};
 
-/// What a read answers.
+/// The result of a read.
 #[derive(Clone, Copy, PartialEq, Eq)]
 pub enum ReadAnswer {
     /// This many bytes were moved. It is 0 at the end.
@@ -11,7 +11,7 @@ pub enum ReadAnswer {
     Failed,
 }
 
-/// What bytes are read from.
+/// An object that bytes are read from.
 pub trait Source {
     /// The bytes left, if they are known.
     ghost left: { Self → Option (List ℕ) };

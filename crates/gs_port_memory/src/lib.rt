@@ -16,7 +16,7 @@
 //! # Differences from the system
 //!
 //! - A name is its bytes and nothing else. Addresses are kept but not used.
-//! - Connections come in the order of their inputs, and after the last one none comes any more.
+//! - Connections arrive in the order of their inputs, and no more follow the last one.
 #![tactic(auto)]
 
 mod mem_door;

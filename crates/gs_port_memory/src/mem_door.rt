@@ -113,8 +113,7 @@ impl MemDoor {
         })
     }
 
-    /// Returns the addresses at which it was to be opened, in order. `None` is returned if and only if they are not known any
-    /// more.
+    /// Returns the addresses at which it was to be opened, in order, or `None` if and only if they are unknown by now.
     pub fn addresses(&self) -> Option<&[Text]>
         ensures { option_map (λ addresses. addresses.now) result ≡ self.now.addresses }
     {

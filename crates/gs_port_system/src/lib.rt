@@ -14,8 +14,8 @@
 //! - A read or write of a connection that is interrupted is made again, within the same budget.
 //! - An accept that is interrupted, or that the peer gives up, is made again. While the system is short of descriptors or
 //!   memory, each new try follows a pause of a tenth of a second, at most 600 times.
-//! - A connection is ended in stages (RFC 9112, section 9.6): its write half is shut down, then what still comes is read and dropped,
-//!   for a second and 1 MiB at most. Only then it is closed, so that the peer gets the whole reply.
+//! - A connection is ended in stages (RFC 9112, section 9.6): its write half is shut down, then arriving bytes are read and
+//!   dropped, for a second and 1 MiB at most. Only then it is closed, so that the peer gets the whole reply.
 #![tactic(auto)]
 
 mod again;

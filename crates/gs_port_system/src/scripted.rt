@@ -3,7 +3,7 @@ ghost use Rattle.std.specs.Prelude.{◌≤◌, IfOk};
 use crate::calls::{DoorCalls, FileCalls, ReadCall, StreamCalls, WriteCall};
 use std::io::{Error, ErrorKind, Result};
 
-/// What a scripted call answers.
+/// The answer of a scripted call.
 #[derive(Clone, Copy)]
 pub enum ScriptedAnswer {
     /// This number of bytes, or as many as there is room for. A call that opens, listens or accepts succeeds.
@@ -40,7 +40,7 @@ impl ScriptedCalls {
         ScriptedCalls { step, ..self }
     }
 
-    /// Moves the clock on, and returns what it shows.
+    /// Advances the clock, and returns its time.
     fn tick(&mut self) -> u64 {
         self.time = self.time.saturating_add(self.step);
         self.time

@@ -3,7 +3,7 @@ use gs_ai::AiFault;
 use gs_chars::{Memory, Text};
 use gs_json::JsonFault;
 
-/// What there may be only that many of.
+/// A quantity that is limited.
 #[derive(Clone, Copy, Debug)]
 pub enum LimitName {
     /// Rows of application identifiers, at most `MOST_ROWS`.

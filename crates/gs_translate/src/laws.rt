@@ -26,7 +26,7 @@ pub fn each_text_has_one_answer()
         → HasSome (IsAnswer set form text) }
 {}
 
-/// Tables that are loaded keep what each form asks for.
+/// States that loaded tables satisfy the conditions of each form.
 pub fn loaded_tables_suit_each_form()
     ensures one { (set : TableRows) (form : Form) → IsLoaded set → AsksForOne form set }
     ensures some { (set : TableRows) (form : Form) → IsLoaded set → AsksForSome form set }

@@ -7,7 +7,7 @@ use gs_chars::Text;
 use gs_ident::Identity;
 use gs_tables::TableSet;
 
-/// What a text means.
+/// The meaning of a text.
 pub struct Meaning {
     /// The identity that it names.
     pub identity: Identity,

@@ -39,7 +39,7 @@ pub fn say_place(rt: HostRuntime, request: Option<Request<'_>>, error: Error) {
     }
 }
 
-/// Writes what a status says that names no argument, file or address. Nothing if nothing failed.
+/// Writes the message of a status without an argument, file or address. Writes nothing if nothing failed.
 pub fn say_kind(rt: HostRuntime, status: Status, error: Option<Error>) {
     let what = match status {
         Status::ReadFault => "cannot read standard input",

@@ -1,4 +1,4 @@
-//! What answers the lines of an input: the translations of their texts.
+//! The answers to the lines of an input: the translations of their texts.
 //!
 //! - `TranslatedLines` answers each text by its translation, for the line loop of tdl_lines; `answer_lines` runs that loop.
 //!

@@ -20,7 +20,7 @@ use tdl_messages::append_rejected;
 /// An answerer of texts by their translations.
 #[derive(Drop)]
 pub struct TranslatedLines<'a> {
-    /// What translates the texts.
+    /// The data by which the texts are translated.
     pub translator: Translator<'a>,
 }
 

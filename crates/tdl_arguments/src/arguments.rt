@@ -149,7 +149,7 @@ fn gen_of(words: &[String]) -> Option<Split<'_>>
     gen_by(words[0].as_str(), &words[1..])
 }
 
-/// Returns whether the words are in front of the arguments.
+/// Returns whether the arguments begin with these words.
 fn stands_before(front: &[&str], words: &[String]) -> bool
     ensures { result ≡ stands_before (known_front front.now) (map string_bytes words.now) }
 {

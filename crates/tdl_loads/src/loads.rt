@@ -50,7 +50,7 @@ pub struct Linked {
     pub merged: LinkDoc,
 }
 
-/// What a run has loaded.
+/// The loaded contents of a run.
 pub struct Loaded {
     /// The tables.
     pub tables: TableSet,
@@ -154,9 +154,9 @@ fn load_settings<F: Files>(
 }
 
 /// Loads the files in their order: tables, company prefix lengths, links, second and third ones, the description, classes. It
-/// stops at the first that is missing, cannot be read or is rejected, and opens no later one. Without names it uses the
-/// built-in tables, and no prefixes, links or description. A command on class URIs then has the built-in classes, and any other
-/// command none.
+/// stops at the first that is missing, cannot be read or is rejected, and opens no later one. If they are not named, the tables
+/// are the built-in ones, and there are no prefixes, links or description. Without a file of classes, a command on class URIs
+/// has the built-in ones, and any other command none.
 pub fn load_files<F: Files>(
     alloc: Global,
     request: Request<'_>,

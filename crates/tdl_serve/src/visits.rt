@@ -12,7 +12,7 @@ use std::alloc::Global;
 pub enum Turn {
     /// A connection was served and finished, and whether serving it ended by an error.
     Finished { errored: bool },
-    /// No connection comes any more.
+    /// No more connections will arrive.
     Closed,
     /// No connection could be accepted, for an error that was counted.
     Failed,

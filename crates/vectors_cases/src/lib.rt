@@ -1,5 +1,5 @@
-//! Cases of vectors: what the libraries share by which the program `vectors` runs public calls over data. Its standard input has
-//! one case a line, and its standard output the answer of each. The cases and their answers come from the standards and from
+//! Cases of vectors: the shared code by which the program `vectors` runs public calls over data. Its standard input has one
+//! case a line, and its standard output the answer of each. The cases and their answers come from the standards and from
 //! published examples, never from the program.
 //!
 //! A case is the path of a call, such as `gs_chars::check_digit`, and its arguments, with one space between. An argument is its

@@ -22,7 +22,7 @@ use gs_linkset::LinkDoc;
 use std::alloc::{AllocError, Global};
 use vectors_cases::{Done, Line, Rejection, behind, bytes_at, named};
 
-/// What `gs1:` stands for.
+/// The vocabulary that `gs1:` stands for.
 pub const VOC: &[u8] = b"https://ref.gs1.org/voc/";
 
 #[derive(Clone, Copy)]

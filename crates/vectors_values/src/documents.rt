@@ -70,7 +70,7 @@ fn answer_over(alloc: Global, line: &mut Line, doc: &Doc, call: &[u8], others: &
     }
 }
 
-/// Writes what the part to which the steps lead answers.
+/// Writes the answer for the part at the end of the steps.
 fn asked_behind(alloc: Global, line: &mut Line, doc: &Doc, asked: Asked, steps: &[Text]) -> Done {
     match followed(alloc, doc, steps) {
         Ok(Walked::At(node)) => add_asked(alloc, line, asked, &node),
