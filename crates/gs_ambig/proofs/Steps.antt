@@ -20,7 +20,7 @@ fits_push (first ∷ edges) edge symbol state (inr f) = elim (fits_push edges ed
   | inr e ↦ inr e
 ]
 
--- what fits the first edges and one more
+-- edges that fit among the first ones and one more
 pub fits_more : (edges : List Edge) (i : ℕ) (edge : Edge) (symbol state : ℕ) → i < length edges → edge ≡ get_or edges i edge → Fits (take (i + 1) edges) symbol state → Fits (take i edges) symbol state ⊎ FitsEdge edge symbol state
 fits_more edges i edge symbol state l e f =
     let front : take (i + 1) edges ≡ take i edges ++ edge ∷ [] = take_more edges i edge l ∙ ap (λ (x : Edge). take i edges ++ x ∷ []) (sym e) in

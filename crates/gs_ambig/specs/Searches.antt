@@ -1,4 +1,4 @@
--- What the search over pairs of states finds. These definitions are the search's own.
+-- The findings of the search over pairs of states. These definitions are the search's own.
 use Rattle.std.specs.Prelude.{◌≡◌, ℕ, ◌<◌, ◌≤◌, ◌/◌, ◌%◌, List, ◌∷◌, Option, Result, IfOk, IfSome, IfNone}
 use Rattle.std.specs.List.{Contains}
 use Rattle.gs_grammar_machine.specs.declared.edge.Edge.{Edge}
@@ -6,11 +6,11 @@ use Rattle.gs_grammar_machine.specs.Walks.{Fits, edges_at, Walk}
 use Rattle.gs_grammar_machine.specs.Machines.{AutoForm, states_of, accept_of}
 use Rattle.gs_grammar_machine.specs.MachinesSupport.{start_of}
 
--- trusted, own: the search has found something, and it is so of that
+-- trusted, own: holds if the search has found something with this property
 abbrev pub IfFound : {X E : Type 0} → Result (Option X) E → (X → Type 0) → Type 0
 IfFound answer is_so = IfOk answer (λ found. IfSome found is_so)
 
--- trusted, own: the search has found nothing, and this is so
+-- trusted, own: holds if the search has found nothing, and this fact holds
 abbrev pub IfNotFound : {X E : Type 0} → Result (Option X) E → Type 0 → Type 0
 IfNotFound answer is_so = IfOk answer (λ found. IfNone found is_so)
 

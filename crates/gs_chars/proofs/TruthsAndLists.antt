@@ -72,7 +72,7 @@ pub no_value : {X : Type 0} (o : Option X) → is_some o ≡ false → o ≡ Non
 no_value (Some x) h = absurd (let e : true ≡ false = h in cc)
 no_value None h = refl
 
--- what there is passes the test
+-- a value that exists passes the test
 pub some_passes : {X : Type 0} (test : X → Bool) (o : Option X) → option_map_or test o false ≡ true → (x : X) × (o ≡ Some x) × (test x ≡ true)
 some_passes test None h = absurd (let e : false ≡ true = h in cc)
 some_passes test (Some x) h = (x, refl, h)

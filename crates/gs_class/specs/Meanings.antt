@@ -1,4 +1,5 @@
--- What a class URI names: TDS 2.0, 'EPC Class URIs', by the derivations of TDT 2.0, section 3, and the key layout of TDS 2.0, section 7.
+-- The meaning of a class URI: TDS 2.0, 'EPC Class URIs', by the derivations of TDT 2.0, section 3, and the key layout of TDS
+-- 2.0, section 7.
 use Rattle.std.specs.Prelude.{◌≡◌, ℕ, List, [], ◌∷◌, Some, slice_get, Result, Ok, Err}
 use Rattle.gs_ident.specs.Elements.{Elements}
 use Rattle.gs_grammar.specs.Derivations.{Derivation}
@@ -19,7 +20,8 @@ class_identity class said = record {
   attributes = [];
 }
 
--- trusted, TDS 2.0, 'EPC Class URIs': what the values of the items of a class say: the company prefix, the rest and the lot
+-- trusted, TDS 2.0, 'EPC Class URIs': the fields in the values of the items of a class: the company prefix, the rest and the
+-- lot
 abbrev pub said_by : Class → List (List ℕ) → KeyFields
 said_by class values = record {
   prefix = value_of Gcp class.fields values;

@@ -19,7 +19,7 @@ use Rattle.gs_epc.specs.Layout.{KeyFields, parts_at}
 
 -- ---- the parts of a key's value
 
--- trusted, own: the value after the leading zero, where the parts begin with one
+-- trusted, own: the value after the leading zero, if the parts begin with one
 abbrev pub behind_zero : List Part → List ℕ → List ℕ
 behind_zero (Zero ∷ _) value = drop 1 value
 behind_zero _ value = value
@@ -125,7 +125,7 @@ epc_of_key kind n fields =
       serial = fields.serial;
     }
 
--- trusted, own: what an identity says by the kind of this index and a prefix of n, unless its serial is missing
+-- trusted, own: the fields of an identity by the kind of this index and a prefix of n, unless its serial is missing
 abbrev pub epc_at : TableRows → ℕ → Elements → ℕ → Option Epc
 epc_at set kind identity n =
     option_and_then (λ (row : Kind). option_map (epc_of_key kind n) (take_apart set.ais row identity n))

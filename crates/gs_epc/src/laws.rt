@@ -22,8 +22,8 @@ pub fn taking_apart_undoes_laying_out()
         → epc_at set epc.kind identity epc.gcp ≡ Some (record epc { encoding = []; filter = None }) }
 {}
 
-/// States that laying out undoes taking apart for an identity with only the key of a kind and its serial, both AIs of the set.
-/// Its fields, taken apart by any company prefix length, are laid out to that identity.
+/// States that laying out undoes taking apart for an identity of the set's application identifiers. The identity has only the
+/// key of a kind and its serial. Its fields, taken apart by any company prefix length, are laid out to that identity.
 pub fn laying_out_undoes_taking_apart(set: &TableSet)
     ensures { (kind n : ℕ) (row : Kind) (identity : Elements) (epc : Epc)
         → slice_get set.now.kinds kind ≡ Some row → IsOfKind row identity

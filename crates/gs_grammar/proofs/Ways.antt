@@ -52,13 +52,13 @@ joined_found Once Once = Twice
 joined_found Once Twice = Twice
 joined_found Twice more = Twice
 
--- what the options of the level read: nothing, the one derivation by this option, or two derivations
+-- the readings of the options of the level: nothing, the one derivation by this option, or two derivations
 abbrev pub FindsInLevel : List (List Item) → List ℕ → FoundOption → Type 0
 FindsInLevel level w NoOption = Derivation level w → ⊥
 FindsInLevel level w (OneOption option) = (values : List (List ℕ)) × OneDerivation level w option values
 FindsInLevel level w TwoReadings = TwoDerivations level w
 
--- what the options before this one read, and this option, together
+-- the readings of the options before this one, and of this option, together
 abbrev pub joined_option : FoundOption → ℕ → Found → FoundOption
 joined_option NoOption option Never = NoOption
 joined_option NoOption option Once = OneOption option

@@ -1,4 +1,4 @@
--- The table of packed characters reads what packs that many.
+-- The table of packed characters reads the lists that pack that many.
 use Rattle.std.proofs.Common.{◌≡◌, ℕ, ◌<◌, ◌≤◌, ◌+◌, ◌-◌, ◌*◌, ◌^◌, true, List, [], ◌∷◌, ◌++◌, length, replicate, zero, suc, refl, sym, ◌∙◌, ap, subst, inl, inr, arith, length-append}
 use Rattle.std.specs.List.{flat_map}
 use Rattle.std.proofs.lemmas.Bool.{cases_eq}
@@ -70,7 +70,7 @@ coded_packed lo n bits w few c =
     let most = r.most in
     record { value = number_of c.bits ∷ r.value; packed = subst (λ (x : List ℕ). IsPacked (number_of c.bits ∷ r.value) x) (sym joined) front; least = omega arith; most = omega arith; count = omega arith }
 
--- what a packed value that is not empty begins with
+-- the start of a packed value that is not empty
 pub record Fronted (c : ℕ) (value w : List ℕ) : Type 0 where
   pub rest : List ℕ
   pub whole : w ≡ bits_of 7 c ++ rest

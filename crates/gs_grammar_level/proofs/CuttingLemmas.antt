@@ -18,7 +18,7 @@ use Rattle.gs_grammar_level.specs.ShareSearches.{ShareNoList}
 use Rattle.gs_grammar_level.proofs.FrontLemmas.{option_by}
 use Rattle.gs_grammar_level.proofs.SharedLists.{same_front}
 
--- the places where the items begin, one item more
+-- the start places of the items, one item more
 
 pub starts_step : (starts new all : List ℕ) (place next : ℕ) (item : Item) (others left : List Item) → left ≡ item ∷ others → starts ++ starts_of place left ≡ all → new ≡ starts ++ place ∷ [] → next ≡ place + size_of item → new ++ starts_of next others ≡ all
 starts_step starts new all place next item others left e h n p =

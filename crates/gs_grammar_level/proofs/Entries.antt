@@ -1,4 +1,4 @@
--- What the loops of the trail keep.
+-- The invariants of the loops of the trail.
 use Rattle.std.proofs.Common.{◌≡◌, ℕ, ◌<◌, ◌≤◌, ◌+◌, true, false, List, [], ◌∷◌, ◌++◌, length, get_or, drop, suc, refl, sym, ◌∙◌, ap, arith, length-append, add-one}
 use Rattle.std.proofs.lemmas.List.{get_or_append_left, append-nil, append_assoc, get_or_default}
 use Rattle.std.proofs.Math.Seq.{drop-cons}

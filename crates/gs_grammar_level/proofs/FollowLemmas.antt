@@ -21,7 +21,7 @@ left_entry trail more number l = get_or_append_left trail more none_entry number
 pub right_entry : (trail more : List Entry) (number : ℕ) → length trail ≤ number → entry_at (trail ++ more) number ≡ entry_at more (number - length trail)
 right_entry trail more number l = get_or-append_right trail more (length trail) number none_entry refl l
 
--- what came stays when entries follow
+-- the earlier entries stay if others follow
 
 pub came_within : (form : AutoForm) (trail : List Entry) (symbols : List ℕ) (n number : ℕ) → Came form trail symbols n number → number < length trail
 came_within form trail symbols zero number c = c.0

@@ -1,4 +1,4 @@
--- What the reading of one option, of a group and of a level says.
+-- The answers of reading by one option, by a group and by a level.
 use Rattle.std.proofs.Common.{◌≡◌, ℕ, ◌<◌, ◌≤◌, ◌+◌, Bool, true, false, IsTrue, List, [], ◌∷◌, length, get_or, drop, suc, Some, sym, ◌∙◌, ap, subst, inl, inr, arith, add-one}
 use Rattle.std.specs.List.{slice_get}
 use Rattle.std.specs.Option.{option_map}

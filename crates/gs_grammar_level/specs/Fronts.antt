@@ -18,7 +18,7 @@ pub record MayStand (place : Place) (symbol : ℕ) : Type 0 where
   pub least : place.least ≤ symbol
   pub most : symbol ≤ place.most
 
--- each symbol may be at its place, as far as there are places, and there is a symbol for each place
+-- each symbol that has a place may be at it, and there is a symbol for each place
 abbrev pub StandWithin : List Place → List ℕ → Type 0
 StandWithin [] w = Unit {0}
 StandWithin (place ∷ places) [] = ⊥

@@ -4,7 +4,7 @@ use Rattle.std.specs.List.{AllPass, list_all}
 use Rattle.gs_grammar_machine.specs.declared.edge.Edge.{Edge}
 use Rattle.gs_grammar_machine.specs.Walks.{edges_at}
 
--- trusted, own: what contracts see of a machine: the edges that leave each state, and the borders, which are states
+-- trusted, own: the view that contracts have of a machine: the edges that leave each state, and the borders, which are states
 pub record AutoForm : Type 0 where
   pub table : List (List Edge)
   pub borders : List ℕ
@@ -25,7 +25,7 @@ is_onward states borders state edge = nat_lt state edge.to && nat_lt edge.to sta
 abbrev pub AreOnward : List ℕ → List (List Edge) → Type 0
 AreOnward borders table = (state : ℕ) → AllPass (is_onward (length table) borders state) (edges_at table state)
 
--- trusted, own: the numbers ascend strictly, as far as the first n
+-- trusted, own: the first n numbers ascend strictly
 abbrev pub AscendBefore : List ℕ → ℕ → Type 0
 AscendBefore numbers n = (k : ℕ) → k + 1 < n → slice_index numbers k < slice_index numbers (k + 1)
 

@@ -7,15 +7,15 @@ use Rattle.httparse.specs.Spans.{name_and_value}
 use Rattle.gs_http.specs.declared.sign.Sign.TheVariants.{Encoded, Sized}
 use Rattle.gs_http.specs.Fields.{is_shown}
 
--- trusted, RFC 9112, section 3: what a request says: its method, its target, the minor version of HTTP/1, and the names and
--- values of its fields.
+-- trusted, RFC 9112, section 3: the contents of a request: its method, its target, the minor version of HTTP/1, and the names
+-- and values of its fields.
 pub record Asked : Type 0 where
   pub method : List ℕ
   pub target : List ℕ
   pub minor : ℕ
   pub fields : List (List ℕ × List ℕ)
 
--- trusted, RFC 9112, section 3: what a head of the grammar says
+-- trusted, RFC 9112, section 3: the contents of a head of the grammar
 abbrev pub asked_of : RequestHead → Asked
 asked_of h = record { method = h.method; target = h.target; minor = h.minor; fields = map name_and_value h.fields }
 
@@ -47,7 +47,7 @@ pub record IsAskedBy (head : List ℕ) (asked : Asked) : Type 0 where
   pub says : asked ≡ asked_of h
   pub taken : is_rejected head asked.fields ≡ false
 
--- trusted, own: what the head says, and nothing if and only if it is not that of a request that is answered
+-- trusted, own: the contents of the head, or nothing if and only if it is not that of a request that is answered
 abbrev pub IsAsked : List ℕ → Option Asked → Type 0
 IsAsked head (Some asked) = IsAskedBy head asked
 IsAsked head None = (asked : Asked) → ¬ (IsAskedBy head asked)

@@ -150,7 +150,7 @@ good_relation i r relation h = rw (← h) refl
 pub first_is : {X : Type 0} (errors : List StoreFault) (f : StoreFault) (rest : List StoreFault) (x : X) → errors ≡ f ∷ rest → Err f ≡ first_or errors x
 first_is errors f rest x e = rw e refl
 
--- what a judgement without error says
+-- the facts that a judgement without error gives
 pub no_error : {X : Type 0} (errors : List StoreFault) (x y : X) → Ok y ≡ first_or errors x → errors ≡ []
 no_error [] x y h = refl
 no_error (f ∷ errors) x y h = absurd (let g : Ok y ≡ Err f = h in cc)

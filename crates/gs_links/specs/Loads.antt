@@ -29,7 +29,8 @@ use Rattle.gs_links.specs.declared.link.Link.{Link}
 abbrev pub is_path : List ℕ → Bool
 is_path text = starts_with (λ a b. a == b) text (codes "/")
 
--- trusted, own: the pairs that an anchor names: as the target of a request where it begins with a slash, otherwise as a link
+-- trusted, own: the pairs that an anchor names: by the rule for request targets if it begins with a slash, otherwise by that
+-- for links
 unfoldable pub pairs_answer : List AiRow → List ℕ → Result (List Pair) LinkFault
 pairs_answer table text = if is_path text then target_answer table 0 text else link_answer table text
 
@@ -42,7 +43,7 @@ abbrev pub by_identity : Result Elements IdentFault → Result Elements AnchorWh
 by_identity (Ok identity) = without_attributes identity
 by_identity (Err error) = Err (Ident error)
 
--- trusted, own: the identity of the pairs of a link, or why they are not anchor
+-- trusted, own: the identity of the pairs of a link, or why they are not an anchor
 abbrev pub by_pairs : List AiRow → Result (List Pair) LinkFault → Result Elements AnchorWhy
 by_pairs table (Ok pairs) = by_identity (identity_of_pairs table pairs)
 by_pairs table (Err error) = Err (NoLink error)

@@ -1,4 +1,4 @@
--- If among ranges one is at the earliest: a table by the hash of its letters. It is not a part of what a choice means.
+-- The earliest place of one among ranges: a table by the hash of its letters. It is not a part of the meaning of a choice.
 use Rattle.std.specs.Prelude.{◌≡◌, ℕ, ◌≤◌, ◌%◌, true, List, take, drop, slice_get, slice_index, Some}
 use Rattle.gs_links.specs.Index.{hash_with}
 use Rattle.gs_links.specs.Languages.{is_cut, lowered}

@@ -33,7 +33,7 @@ error_in_front a b x y e (inl h) = inl (let same : e ≡ Memory = cc in ap Err s
 error_in_front [] b x y e (inr h) = absurd (let g : Err e ≡ Ok x = h in cc)
 error_in_front (f ∷ a) b x y e (inr h) = inr (let same : e ≡ f = cc in ap Err same)
 
--- what a reading without error says
+-- the facts that a reading without error gives
 pub none_first : {X : Type 0} (a : List JsonFault) (x z : X) → OrMemory (Ok z) (first_or a x) → (a ≡ []) × (z ≡ x)
 none_first a x z (inl h) = absurd (let g : Ok z ≡ Err Memory = h in cc)
 none_first [] x z (inr h) = (refl, let g : Ok z ≡ Ok x = h in cc)
@@ -64,7 +64,7 @@ take_one (y ∷ ys) (suc i) x at = ap (λ zs. y ∷ zs) (take_one ys i x at)
 pub take_next : {X : Type 0} (xs : List X) (i : ℕ) (x : X) → slice_get xs i ≡ Some x → take (i + 1) xs ≡ take i xs ++ x ∷ []
 take_next xs i x at = let next : i + 1 ≡ suc i = omega arith in rw next (take_one xs i x at)
 
--- ---- what each item gives
+-- ---- the reading of each item
 
 pub mapped_more : {X Y : Type 0} (f : X → Y) (xs : List X) (i : ℕ) (x : X) (ys : List Y) (y : Y) (zs : List Y) → slice_get xs i ≡ Some x → ys ≡ map f (take i xs) → y ≡ f x → zs ≡ ys ++ y ∷ [] → zs ≡ map f (take (i + 1) xs)
 mapped_more f xs i x ys y zs at so_far own e = rw (e, so_far, own, take_next xs i x at, map-append) refl
@@ -153,7 +153,7 @@ rows_from : {X : Type 0} (n : ℕ) (xs : List X) → length (enumerate_from n xs
 rows_from n [] = refl
 rows_from n (x ∷ xs) = ap suc (rows_from (n + 1) xs)
 
--- ---- what each name gives
+-- ---- the reading of each name
 
 map_length : {N A : Type 0} (f : N → A) (ns : List N) → length (map f ns) ≡ length ns
 map_length f [] = refl

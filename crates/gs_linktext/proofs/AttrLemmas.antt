@@ -37,7 +37,7 @@ values_more q params i p old new h is so_far e =
     let more : take (i + 1) params ≡ take i params ++ p ∷ [] = take_more params i p h ∙ ap (λ (x : Param). take i params ++ x ∷ []) (sym is) in
     rw more (e ∙ ap (λ (vs : List (List ℕ)). vs ++ value_at q p.name p.value) so_far ∙ sym (values_by q p (take i params)))
 
--- ---- what entries give
+-- ---- the values of entries
 
 module _ {E X : Type 0} (h : E → Option X) where
   pub given_from : (es : List E) (i : ℕ) (x : X) → slice_get (filter_map h es) i ≡ Some x → (j : ℕ) × (e : E) × (slice_get es j ≡ Some e) × (h e ≡ Some x)

@@ -39,7 +39,7 @@ has_target targets target = list_any (is_same_target target) targets
 abbrev pub chosen_targets : List Link → Elements → Want → ℕ → List Target
 chosen_targets links identity want depth = targets_of (linked links (chosen_at links identity want depth))
 
--- trusted, own: one relation is wanted, and it is not `anchor`
+-- trusted, own: the request wants one relation, and it is not `anchor`
 abbrev pub IsOfRelation : Want → Type 0
 IsOfRelation All = ⊥
 IsOfRelation (Relation wanted) = bytes_eq wanted.now (codes "anchor") ≡ false

@@ -135,13 +135,13 @@ OnAccepted accepting.Accepted fact = fact
 OnAccepted accepting.Closed fact = Unit {0}
 OnAccepted accepting.Failed fact = Unit {0}
 
--- trusted, own: a fact for an accept that found no connection, be it that none comes any more or for an error
+-- trusted, own: a fact for an accept that found no connection, because no more will arrive or because of an error
 abbrev pub OnNotAccepted : AcceptAnswer → Type 0 → Type 0
 OnNotAccepted accepting.Accepted fact = Unit {0}
 OnNotAccepted accepting.Closed fact = fact
 OnNotAccepted accepting.Failed fact = fact
 
--- trusted, own: a fact for an accept after which no connection comes any more
+-- trusted, own: a fact for an accept after which no more connections will arrive
 abbrev pub OnClosed : AcceptAnswer → Type 0 → Type 0
 OnClosed accepting.Accepted fact = Unit {0}
 OnClosed accepting.Closed fact = fact

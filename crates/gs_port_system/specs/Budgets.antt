@@ -26,7 +26,7 @@ read_until budget.Begun time = later time ten_seconds
 read_until budget.Idle time = later time ten_seconds
 read_until (budget.Reply began taken) time = later time ten_seconds
 
--- trusted, own: the budget after a read that said this: a head begins with its first bytes
+-- trusted, own: the budget after a read with this result: a head begins with its first bytes
 abbrev pub after_read : {E : Type 0} → Result ℕ E → Budget → Budget
 after_read (Ok (suc n)) budget.Idle = budget.Begun
 after_read said before = before
@@ -50,7 +50,7 @@ write_until budget.Begun time = reply_until time 0 time
 write_until (budget.Head until) time = reply_until time 0 time
 write_until budget.Idle time = reply_until time 0 time
 
--- trusted, own: the budget after a write that said this: the bytes of a reply are counted
+-- trusted, own: the budget after a write with this result: the bytes of a reply are counted
 abbrev pub after_write : {E : Type 0} → Result ℕ E → Budget → Budget
 after_write (Ok n) (budget.Reply began taken) = budget.Reply began (later taken n)
 after_write said before = before

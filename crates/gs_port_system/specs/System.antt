@@ -1,4 +1,4 @@
--- What the calls of the system answer.
+-- The answers of the calls of the system.
 use Rattle.std.specs.Prelude.{◌≡◌, ◌⊎◌, ℕ, ℤ, pos, ◌==◌, ◌&&◌, not, if◌then◌else◌, Option, Some, None, Result, Ok, Err}
 use Rattle.std.specs.declared.io.ErrorKind.{ErrorKind}
 use Rattle.std.specs.declared.io.ErrorKind.TheVariants as kinds
@@ -39,7 +39,7 @@ abbrev pub accepted_now : {T E : Type 0} → Result T E → Option T → Option 
 accepted_now (Ok stream) before = Some stream
 accepted_now (Err error) before = before
 
--- the first error, after a call that said this
+-- the first error, after a call with this result
 abbrev pub first_error : {T E : Type 0} → Option E → Result T E → Option E
 first_error (Some error) said = Some error
 first_error None (Ok done) = None

@@ -244,7 +244,7 @@ some_canonical meaning = (Ok (canonical_link meaning.identity), refl)
 pub some_answer : (set : TableRows) (form : Form) (text : List ℕ) → AsksForSome form set → HasSome (IsAnswer set form text)
 some_answer set form text asks = then_some (IsRead set form text) IsCanonical (some_read set form text asks) (λ meaning read. some_canonical meaning)
 
--- ---- tables that are loaded keep what each form asks for
+-- ---- loaded tables satisfy the conditions of each form
 
 pub suits_one : (set : TableRows) (form : Form) → IsLoaded set → AsksForOne form set
 suits_one set form.Hex loaded = tt

@@ -102,7 +102,7 @@ appends_map : {Done : Type 0} (Answer Other : Result (List ℕ) Reason → Type 
 appends_map Answer Other before now (Ok done) f a = (a.0, a.1, f (Ok a.0) a.2)
 appends_map Answer Other before now (Err reason) f a = (a.0, f (Err reason) a.1)
 
--- what a later step appends is appended by the steps together
+-- the text that a later step appends is appended by the steps together
 pub then_appended : {A Done : Type 0} (First : Result A Reason → Type 0) (Next : A → Result (List ℕ) Reason → Type 0) (a : A) (before now : List ℕ) (result : Result Done Reason) → First (Ok a) → UnlessMemory result (AppendsText (Next a) before now result) → UnlessMemory result (AppendsText (Then First Next) before now result)
 then_appended First Next a before now result first next =
     unless_map result (appends_map (Next a) (Then First Next) before now result (λ answer is. goes_on a first is)) next

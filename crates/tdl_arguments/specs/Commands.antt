@@ -1,4 +1,4 @@
--- The commands: for each the arguments of it and its operands, the names that it takes, and what it uses.
+-- The commands: for each the arguments of it and its operands, the names that it takes, and the files and streams that it uses.
 use Rattle.std.specs.Prelude.{ℕ, nat_le, ◌||◌, Bool, true, false, List, [], ◌∷◌, ◌++◌, Some, None, codes, decimal}
 use Rattle.gs_translate.specs.declared.form.Form.{Form}
 use Rattle.gs_translate.specs.declared.form.Form.TheVariants.{Hex, Tag, Pure, Raw, Bracketed, Link}
@@ -102,7 +102,7 @@ pub data Work : Type 0 where
   on_door : Work
   on_none : Work
 
--- trusted, own: what a command works on
+-- trusted, own: the work of a command
 abbrev pub work_of : Command → Work
 work_of (Canon form) = on_lines
 work_of (Translate from to) = on_lines

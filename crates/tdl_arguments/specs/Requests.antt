@@ -141,13 +141,13 @@ pub record WordsInOrder (words : List (List ℕ)) (asked : Asked) : Type 0 where
 abbrev pub NotInOrder : List (List ℕ) → Type 0
 NotInOrder words = (asked : Asked) → WordsInOrder words asked → ⊥
 
--- trusted, own: holds if the words are valid, and the fact holds of what they ask for
+-- trusted, own: holds if the words are valid, and their request has this property
 pub record Asking (words : List (List ℕ)) (Fact : Asked → Type 0) : Type 0 where
   pub asked : Asked
   pub order : WordsInOrder words asked
   pub fact : Fact asked
 
--- trusted, own: holds if the words are valid and the fact holds of what they ask for, or if they are invalid and the other fact
+-- trusted, own: holds if the words are valid and their request has this property, or if they are invalid and the other fact
 -- holds
 abbrev pub AskingOr : List (List ℕ) → (Asked → Type 0) → Type 0 → Type 0
 AskingOr words Fact Other = Asking words Fact ⊎ (NotInOrder words × Other)

@@ -73,14 +73,14 @@ progress_start whole held buffer none = record {
   held_is = none;
 }
 
--- the held bytes are no more than may be held
+-- the number of held bytes is within its limit
 pub progress_held : {Is : List ℕ → LineAnswer → Type 0} (whole left before now : Option (List ℕ)) (held : List ℕ) (many : ℕ) (rejected : Bool) → Progress Is whole left before now held many rejected → length held ≤ most_held
 progress_held whole left before now held many rejected p = omega (arith, ap length p.held_is, length-take most_held (begun_line p.bytes))
 
 taken_is : {Is : List ℕ → LineAnswer → Type 0} (whole mid left before now : Option (List ℕ)) (held buffer : List ℕ) (many more : ℕ) (rejected : Bool) (p : Progress Is whole mid before now held many rejected) (r : ReadsMore held buffer mid left more) → whole ≡ prepend_known (p.bytes ++ r.piece) left
 taken_is whole mid left before now held buffer many more rejected p r = p.taken ∙ ap (prepend_known p.bytes) r.taken ∙ prepend_twice p.bytes r.piece left
 
--- the lines of the taken bytes, whose answers were written as far as the answering came
+-- the lines of the taken bytes, whose answers were written up to the end of the answering
 record Written (Is : List ℕ → LineAnswer → Type 0) (bytes : List ℕ) (before now : Option (List ℕ)) (ans : Answering) : Type 0 where
   output : List ℕ
   appended : now ≡ append_known before output

@@ -171,7 +171,7 @@ with_unmerged ais voc verdict third (unloaded.Refused rejection) j =
     let told = judged_error kind.Merge verdict rejection j in
     rw (told.1, merged_error ais voc rejection.error third) (ap (λ (k : FileKind). Err (rejected (record { kind = k; error = rejection.error }))) (sym told.0))
 
--- a merge that gives none, and links with the document that they were merged to
+-- a merge without a result, and links with their merged document
 pub merging_not : (ais : List AiRow) (voc : List ℕ) (links : List Link) (second third : Option (List Link)) (some : List Link) (u : Unloaded) → second ≡ Some some → JudgedAs kind.Merge (merge_verdict (merge_answer links some)) (Err u) → JudgedAs kind.Merge (merging ais voc links second third) (Err u)
 merging_not ais voc links second third some u e j =
     subst (λ (s : Option (List Link)). JudgedAs kind.Merge (merging ais voc links s third) (Err u)) (sym e) (with_unmerged ais voc (merge_verdict (merge_answer links some)) third u j)

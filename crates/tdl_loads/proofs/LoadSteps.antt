@@ -1,4 +1,4 @@
--- What a load did of the files, by what its steps did.
+-- The effect of a load on the files, by that of its steps.
 use Rattle.std.proofs.Common.{ℕ, ◌≤◌, List, Option, Some, None, [], ◌++◌, ◌∷◌, ◌≡◌, suc, zero, take, length, refl, sym, ap, subst, ◌∙◌, inl, inr, arith}
 use Rattle.std.specs.Prelude.{Result, Ok, Err}
 use Rattle.gs_port.specs.Files.{AddsNames, IsFile}
@@ -97,7 +97,7 @@ no_name : (one other : List (List ℕ)) → one ++ other ≡ [] → (one ≡ [])
 no_name [] other e = (refl, e)
 no_name (x ∷ one) other e = cc
 
--- the files that a load with two steps goes by
+-- the results of a load with two steps
 abbrev pub Steps : {A B : Type 0} → (Option FilesInMemory → Result A Stop → Type 0) → (Option FilesInMemory → A → Result B Stop → Type 0) → Option FilesInMemory → Result B Stop → Type 0
 Steps First Next files answer = Then (First files) (Next files) answer
 

@@ -62,8 +62,8 @@ abbrev pub of_verdict : {A : Type 0} → FileKind → Result A FileFault → Res
 of_verdict kind (Ok a) = Ok a
 of_verdict kind (Err error) = Err (rejected (record { kind = kind; error = error }))
 
--- trusted, own: holds if this is what the named file of a kind gives: it is missing, it has more bytes than its kind may have, or
--- its bytes have this verdict
+-- trusted, own: holds if this is the result of the named file of a kind: it is missing, it has more bytes than its kind may
+-- have, or its bytes have this verdict
 pub data FileGives {A : Type 0} (files : Option FilesInMemory) (kind : FileKind) (Judges : List ℕ → Result A FileFault → Type 0) (name : List ℕ) (answer : Result A Stop) : Type 0 where
   absent : IsAbsent files name → answer ≡ Err (missing kind) → FileGives files kind Judges name answer
   too_large : (bytes : List ℕ) → IsFile files name bytes → file_limit kind < length bytes → answer ≡ of_verdict kind (Err Over) → FileGives files kind Judges name answer
@@ -80,7 +80,8 @@ abbrev pub Gives : {A : Type 0} → Option FilesInMemory → FileKind → (List 
 Gives files kind Judges Unnamed None answer = StandsFor kind Unnamed answer
 Gives files kind Judges Unnamed (Some name) answer = FileGives files kind Judges name answer
 
--- trusted, own: holds if this is what the file of a kind gives: `judge` is the verdict on its bytes, `unnamed` that if none is named
+-- trusted, own: holds if this is the result of the file of a kind: `judge` is the verdict on its bytes, `unnamed` that if none
+-- is named
 abbrev pub GivesBy : {A : Type 0} → Option FilesInMemory → FileKind → (List ℕ → Result A FileFault) → Result A FileFault → Option (List ℕ) → Result A Stop → Type 0
 GivesBy files kind judge unnamed name answer = Gives files kind (λ bytes verdict. verdict ≡ judge bytes) (λ verdict. verdict ≡ unnamed) name answer
 
@@ -216,7 +217,7 @@ abbrev pub ClassesGive : Option FilesInMemory → List AiRow → Command → Opt
 ClassesGive files ais command name answer =
     Gives files kind.Classes (λ bytes. JudgesClasses (ClassesAnswer ais bytes)) (UnnamedClasses ais (is_of_classes command)) name answer
 
--- trusted, own: holds if this is what the files give, one after another, or the reason of the first that is missing or rejected
+-- trusted, own: holds if this is the result of the files, one at a time, or the reason of the first that is missing or rejected
 abbrev pub FilesGive : Option FilesInMemory → Asked → Result Loaded Stop → Type 0
 FilesGive files asked answer =
     let names = asked.files in

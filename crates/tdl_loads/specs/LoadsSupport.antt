@@ -25,7 +25,7 @@ use Rattle.tdl_loads.specs.declared.loads.Unloaded.{Unloaded}
 use Rattle.tdl_loads.specs.declared.loads.Unloaded.TheVariants.{Refused, ReadFault, Memory}
 use Rattle.tdl_loads.specs.Loads.{BytesGive, ClassesGive, FilesInMemory, LinksGive, Opens, OpensFirst, OtherGives, PrefixesGive, StandsFor, Stop, TablesGive, UnnamedClasses, is_of_classes, kind_of, links_verdict, merging, missing, of_verdict, other_verdict, prefixes_verdict, rejected}
 
--- ---- what the files give, part by part: tables and prefixes, links, settings, classes
+-- ---- the results of the files, part by part: tables and prefixes, links, settings, classes
 
 -- the verdict is that on a list of company prefix lengths
 abbrev pub JudgesPrefixes : List ℕ → Result (List PrefixEntry) FileFault → Type 0
@@ -63,7 +63,7 @@ AreTabled given list answer = answer ≡ Ok (record { tables = given.tables; sou
 abbrev pub GivesPrefixes : Option FilesInMemory → FileNames → TablesWithSource → Result Tabled Stop → Type 0
 GivesPrefixes files names given answer = Then (PrefixesGive files names.prefixes) (AreTabled given) answer
 
--- what the files of tables and of company prefix lengths give
+-- the result of the files of tables and of company prefix lengths
 abbrev pub TabledGive : Option FilesInMemory → FileNames → Result Tabled Stop → Type 0
 TabledGive files names answer = Then (TablesGive files names.tables) (GivesPrefixes files names) answer
 
@@ -84,7 +84,7 @@ GivesThird files names ais voc links second answer = Then (OtherGives files kind
 abbrev pub GivesOthers : Option FilesInMemory → FileNames → List AiRow → List ℕ → List Link → Result Linked Stop → Type 0
 GivesOthers files names ais voc links answer = Then (OtherGives files kind.Second ais voc names.second) (GivesThird files names ais voc links) answer
 
--- what the files of links give, by the application identifiers and the values of a request
+-- the result of the files of links, by the application identifiers and the values of a request
 abbrev pub LinkedGive : Option FilesInMemory → FileNames → Values → List AiRow → Result Linked Stop → Type 0
 LinkedGive files names values ais answer =
     Then (LinksGive files values.templates ais values.voc names.links) (GivesOthers files names ais values.voc) answer
@@ -97,7 +97,7 @@ DescriptionGives files name answer = BytesGive files kind.Describe name answer
 abbrev pub AreSettings : Values → Option (List ℕ) → Result Settings Stop → Type 0
 AreSettings values describe answer = answer ≡ Ok (record { voc = values.voc; describe = describe; templates = values.templates })
 
--- how requests are answered, by the values of a request and by what the file of the description gives
+-- the settings of replies, by the values of a request and by the result of the file of the description
 abbrev pub SettingsGive : Option FilesInMemory → FileNames → Values → Result Settings Stop → Type 0
 SettingsGive files names values answer = Then (DescriptionGives files names.describe) (AreSettings values) answer
 
@@ -120,7 +120,7 @@ abbrev pub GivesLinks : Option FilesInMemory → Asked → Tabled → Result Loa
 GivesLinks files asked tabled answer =
     Then (LinkedGive files asked.files asked.values tabled.tables.ais) (GivesSettings files asked tabled) answer
 
--- what the files give, part by part
+-- the result of the files, part by part
 abbrev pub PartsGive : Option FilesInMemory → Asked → Result Loaded Stop → Type 0
 PartsGive files asked answer = Then (TabledGive files asked.files) (GivesLinks files asked) answer
 

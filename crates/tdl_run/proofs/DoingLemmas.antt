@@ -29,7 +29,7 @@ use Rattle.tdl_run.proofs.RanLemmas.{lines_some}
 use Rattle.tdl_run.proofs.ServeLemmas.{serves_alike, serves_some}
 use Rattle.tdl_run.proofs.SiteLemmas.{one_resolved, some_resolved}
 
--- ---- what each command does
+-- ---- the work of each command
 
 -- each line has one answer, and one output is written
 abbrev pub IsDefined : {work : Work} → Doing work → Type 0
@@ -81,7 +81,7 @@ leaves_one : (IsOutput : List ℕ → Type 0) → HasOne IsOutput → HasOne (Le
 leaves_one IsOutput unique one other a b =
     same_outcome one other (unique one.output other.output a.is_output b.is_output) (a.none_finished ∙ sym b.none_finished) (a.done ∙ sym b.done)
 
--- the same outcome, or, of what serves connections, outcomes that differ in errors of these
+-- the same outcome, or, for serving connections, outcomes that differ in errors of these
 abbrev pub AlikeBy : {work : Work} → Doing work → SiteData → Doorway → Outcome → Outcome → Type 0
 AlikeBy (answers Is) site door one other = one ≡ other
 AlikeBy resolves site door one other = one ≡ other

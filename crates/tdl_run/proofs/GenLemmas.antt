@@ -1,4 +1,4 @@
--- What generating lines did.
+-- The effect of generating lines.
 use Rattle.std.proofs.Common.{◌≡◌, ℕ, ◌≤◌, List, refl}
 use Rattle.std.specs.Bool.{OnTrue}
 use Rattle.tdl_gen.specs.Counters.{PrintsGenerated}

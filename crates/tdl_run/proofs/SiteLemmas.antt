@@ -1,4 +1,4 @@
--- The replies to a stream, and what resolving it did.
+-- The replies to a stream, and the effect of resolving it.
 use Rattle.std.proofs.Common.{◌≡◌, ℕ, ◌≤◌, true, false, List, [], Option, None, Some, refl, sym, ◌∙◌, ap}
 use Rattle.std.specs.Bool.{OnTrue}
 use Rattle.gs_http.specs.Streams.{heads_of, replies_of}

@@ -88,8 +88,8 @@ HasOneOutcome words =
     → DefinedRun words (known_world files input waiting reads writes) one → DefinedRun words (known_world files input waiting reads writes) other
     → AreAlike words (known_world files input waiting reads writes) one other
 
--- trusted, own: holds if a run that may be cut short has finished these connections: none, or those that the command finished over
--- what loads
+-- trusted, own: holds if a run that may be cut short has finished these connections: none, or those that the command finished
+-- over the loaded files
 abbrev pub FinishedRun : List (List ℕ) → World → Outcome → Type 0
 FinishedRun words world outcome = AskingOr words (λ asked.
     (outcome.finished ≡ [])

@@ -34,7 +34,7 @@ goes_on site a b c finished errors errored x y = record {
   within = let few = at_most_one errored in let less = x.within in omega arith;
 }
 
--- no connection came any more
+-- no more connections arrived
 pub none_came : (site : SiteData) (a b c : DoorState) (finished errors count : ℕ) → SoFar site a b finished errors → Visited site b c [] × NoneWaits c → finished ≤ count → c.aside.opened ≡ true
     → SessionDid (session.Over (record { finished = finished; errors = errors })) site count a c
 none_came site a b c finished errors count x y low opened = record {

@@ -46,7 +46,7 @@ pub record OneVisit (site : SiteData) (before now : DoorState) (errored want : B
   pub is_errored : is_error visit.served ≡ errored
   pub is_cut : is_want visit.served ≡ want
 
--- what a turn did
+-- the effect of a turn
 abbrev pub TurnDid : Turn → SiteData → DoorState → DoorState → Type 0
 TurnDid (Finished errored) site before now = OneVisit site before now errored false
 TurnDid Closed site before now = Visited site before now [] × NoneWaits now
@@ -65,7 +65,7 @@ pub record SomeVisits (site : SiteData) (count : ℕ) (before now : DoorState) (
   pub few : length visits ≤ count
   pub are : fact visits
 
--- what the turns did, by how they ended
+-- the effect of the turns, by how they ended
 abbrev pub SessionDid : Session → SiteData → ℕ → DoorState → DoorState → Type 0
 SessionDid (session.Over tally) site count before now =
     SomeVisits site count before now (λ visits. IsOver count now visits × (tally.finished ≡ length visits) × (tally.errors ≡ errors_of visits))

@@ -1,4 +1,4 @@
--- What an answerer says that gives each text back.
+-- The answers of an answerer that gives each text back.
 use Rattle.std.specs.Prelude.{◌≡◌, ◌⊎◌, ℕ, ◌<◌, ◌≤◌, List, codes, length}
 use Rattle.tdl_lines.specs.Outputs.{LineAnswer}
 use Rattle.tdl_lines.specs.Outputs.LineAnswer.{accepted, rejected}
