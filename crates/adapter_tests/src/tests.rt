@@ -133,7 +133,7 @@ fn first_accept(calls: ScriptedCalls) -> AcceptAnswer {
     }
 }
 
-/// Reads so often, until a read gives nothing, and returns how often one gave bytes.
+/// Reads until a read gives nothing, at most `most` times. Returns how often one gave bytes.
 fn reads_given<C: Conn>(conn: &mut C, most: usize) -> usize
     requires { C.is_open conn.old ≡ true }
     ensures { C.is_open conn.new ≡ true }
@@ -148,7 +148,7 @@ fn reads_given<C: Conn>(conn: &mut C, most: usize) -> usize
     }
 }
 
-/// Writes so often, until a write fails, and returns how often one took bytes.
+/// Writes until a write fails, at most `most` times. Returns how often one took bytes.
 fn writes_taken<C: Conn>(conn: &mut C, most: usize) -> usize
     requires { C.is_open conn.old ≡ true }
     ensures { C.is_open conn.new ≡ true }
@@ -162,7 +162,7 @@ fn writes_taken<C: Conn>(conn: &mut C, most: usize) -> usize
     }
 }
 
-/// Accepts a connection, reads and writes it so often, and finishes it: how often that moved bytes.
+/// Accepts a connection, reads and writes it that often, and finishes it. Returns how often a read and a write moved bytes.
 fn moves_of<D: Door>(door: &mut D, reads: usize, writes: usize) -> (usize, usize)
     requires none_open { D.is_open door.old ≡ false }
     requires listening { (D.aside door.old).opened ≡ true }

@@ -19,7 +19,7 @@ fn bits_of_byte(byte: u8) -> [u8; 8]
     ]
 }
 
-/// Writes the bits of some bytes to the start of the symbols, one after the other.
+/// Writes the bits of some bytes to the start of the symbols, byte by byte.
 pub(crate) fn spread(bytes: &[u8], symbols: &mut [u8])
     requires small { length bytes.now ≤ 64 }
     requires room { 8 * length bytes.now ≤ length symbols.old }

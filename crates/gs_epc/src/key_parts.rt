@@ -20,7 +20,7 @@ fn front(value: &[u8], count: usize) -> &[u8]
     &value[..count.min(value.len())]
 }
 
-/// Returns the bytes of a value after that many.
+/// Returns the bytes of a value after the first `count`.
 fn behind(value: &[u8], count: usize) -> &[u8]
     ensures { result.now ≡ drop count value.now }
 {

@@ -14,8 +14,8 @@ ghost use Rattle.gs_epc.specs.Writes.{ReadsText, Writes, same_fields};
 
 use gs_tables::TableSet;
 
-/// Taking apart undoes laying out: the identity of an EPC of the set, taken apart by its kind and prefix length, gives
-/// back its prefix, rest, piece, total and serial.
+/// States that taking apart undoes laying out. The identity of an EPC of the set, taken apart by its kind and prefix length,
+/// gives back its prefix, rest, piece, total and serial.
 pub fn taking_apart_undoes_laying_out()
     ensures { (set : TableRows) (epc : Epc) (identity : Elements) → IsShaped set → IsOfSet set epc
         → IsLaidOut set epc identity

@@ -58,8 +58,8 @@ pub fn unambiguous_levels_read_alone()
     ensures { UnambiguousLevelsReadAlone }
 {}
 
-/// It is decidable of each level of items in their bounds whether it is ambiguous: it is not, or some pair of its options is
-/// the first that shares a list.
+/// States that each level of items in their bounds is decided: it is not ambiguous, or some pair of its options is the first
+/// that shares a list.
 pub fn each_level_is_judged()
     ensures { (level : List (List Item)) → AreItems level → IsUnambiguous level ⊎ HasFirstShare level }
 {}

@@ -1,4 +1,4 @@
--- Rows that were added to a table, one after the other.
+-- Rows that were added to a table one at a time.
 use Rattle.std.proofs.Common.{◌≡◌, ℕ, ◌<◌, ◌+◌, ◌-◌, List, [], ◌∷◌, ◌++◌, length, zero, suc, Result, Ok, Err, IfOk, refl, sym, ◌∙◌, ap, arith, length-append, ◌≤◌, drop, get_or}
 use Rattle.std.proofs.lemmas.List.{append_assoc, append-nil, drop_more, drop_all}
 use Rattle.gs_grammar_machine.specs.declared.edge.Edge.{Edge}

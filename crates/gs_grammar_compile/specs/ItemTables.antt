@@ -1,4 +1,4 @@
--- The states of each item, and of a list of items one after the other.
+-- The states of each item, and of a list of items in sequence.
 use Rattle.std.specs.Prelude.{ℕ, ◌+◌, ◌-◌, ◌*◌, List, [], ◌∷◌, ◌++◌, length, decimal}
 use Rattle.gs_grammar.specs.declared.item.Item.{Item}
 use Rattle.gs_grammar.specs.declared.item.Item.TheVariants.{Lit, Pad, Digits, Int, Esc, NumPad, Num, NumStr, Ascii7, Fill}
@@ -40,7 +40,7 @@ item_table (NumStr bits hi) base = ones_table bits hi base
 item_table (Ascii7 lo hi bits) base = ascii_table lo hi bits base
 item_table (Fill a b) base = fill_table a (b - a) base
 
--- the states of the items one after the other, and the accepting state after them
+-- the states of the items in sequence, and the accepting state after them
 abbrev pub items_table : List Item → ℕ → List (List Edge)
 items_table [] base = [] ∷ []
 items_table (item ∷ items) base = item_table item base ++ items_table items (base + item_states item)

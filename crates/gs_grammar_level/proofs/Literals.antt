@@ -126,6 +126,6 @@ stands_test w literal rest place r e is =
           s.1 (drop (length literal) (drop place w)) (back ∙ ap (λ (x : List ℕ). x ++ drop (length literal) (drop place w)) h),
     )
 
--- two literals that are not told apart
+-- two literals that are not distinguished
 pub equal_literals : (a b : List ℕ) (r : Bool) → r ≡ not (bytes_eq a b) → r ≡ false → a ≡ b
 equal_literals a b r e f = equal_bytes a b (true_from_not (bytes_eq a b) (sym e ∙ f))

@@ -24,7 +24,7 @@ pub(crate) enum RelationName<'a> {
 }
 
 impl RelationName<'_> {
-    /// Its bytes.
+    /// Returns its bytes.
     pub(crate) fn as_bytes(&self) -> &[u8]
         ensures { result.now ≡ name_of self.now }
     {

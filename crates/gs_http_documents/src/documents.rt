@@ -25,7 +25,7 @@ trait Template: Drop {
         ensures shape { IfOk result (λ made. shape self ≡ true → shape made ≡ true) };
 }
 
-/// Returns a list of things with their references filled.
+/// Returns a list with the references of its items filled.
 fn fill_all<T: Template>(
     alloc: Global,
     identity: &Identity,

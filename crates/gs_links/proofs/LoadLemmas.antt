@@ -77,7 +77,7 @@ mapped_more f first xs x old new y h own e = rw (e, h, own, map-append) (append_
 pub flat_more : {X Y : Type 0} (f : X → List Y) (first : List Y) (xs : List X) (x : X) (old new : List Y) → old ≡ first ++ flat_map f xs → new ≡ old ++ f x → new ≡ first ++ flat_map f (xs ++ x ∷ [])
 flat_more f first xs x old new h e = rw (e, h, flat_map-append f xs (x ∷ []), append-nil (f x)) (append_assoc first (flat_map f xs) (f x))
 
--- ---- errors one after the other
+-- ---- concatenated errors
 
 -- the items before a place have no error
 module _ {A : Type 0} (errors : ℕ → A → List StoreFault) where

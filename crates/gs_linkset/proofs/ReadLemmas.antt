@@ -105,7 +105,7 @@ module _ {X Y : Type 0} (f : X → Option Y) where
   pub every_all : (xs : List X) (i : ℕ) (ys : List Y) → length xs ≤ i → every f (take i xs) ≡ Some ys → every f xs ≡ Some ys
   every_all xs i ys all h = rw (take_all xs i all) at h
 
--- ---- errors, one after the other
+-- ---- concatenated errors
 
 module _ {A : Type 0} (errors : A → List JsonFault) where
   split : (list : List A) (i : ℕ) (a : A) → slice_get list i ≡ Some a → flat_map errors (take i list) ≡ [] → (rest : List JsonFault) × (flat_map errors list ≡ errors a ++ rest)

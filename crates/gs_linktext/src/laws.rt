@@ -27,7 +27,7 @@ pub fn written_is_read()
         → IsReadError (spelled doc) error → error ≡ Memory }
 {}
 
-/// Links have one cut into contexts.
+/// States that links have at most one cut into contexts.
 pub fn one_cut()
     ensures { (links : List (List ℕ × List ℕ × Target)) (c d : List Context) → IsCut links c
         → IsCut links d → c ≡ d }

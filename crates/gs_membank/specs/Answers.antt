@@ -37,7 +37,8 @@ pub record IsBank (set : TableRows) (bits : List ℕ) (dump : Dump) : Type 0 whe
   pub size : length encoding ≡ 16 * words
   pub says : Says set Binary encoding dump.epc
 
--- trusted, TDS 2.0, section 9; the order is own: why a control word and the bits after it are not dump: the first that fits
+-- trusted, TDS 2.0, section 9; the order is own: why a control word and the bits after it are not a dump: the first reason that
+-- applies
 abbrev pub IsWordError : TableRows → ControlWord → List ℕ → DumpFault → Type 0
 IsWordError set word behind Extended = word.extended ≡ true
 IsWordError set word behind Toggle = (word.extended ≡ false) × (word.toggle ≡ true)
@@ -47,7 +48,7 @@ IsWordError set word behind NoReading =
     IsPlain word × (length behind ≡ 16 * word.words) × (Derivation (options_of Binary set) behind → ⊥)
 IsWordError set word behind error = ⊥
 
--- trusted, own: the bits begin with a control word, and this is why they are not dump
+-- trusted, own: the bits begin with a control word, and this is why they are not a dump
 pub record IsBankError (set : TableRows) (bits : List ℕ) (error : DumpFault) : Type 0 where
   pub word : ControlWord
   pub behind : List ℕ

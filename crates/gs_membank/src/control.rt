@@ -52,7 +52,8 @@ pub(crate) fn take_word(cursor: &mut Cursor<'_, 64>) -> Result<ControlWord, Shor
     })
 }
 
-/// That a control word is that of an EPC without an extended word, and says as many words as bits are after it.
+/// Checks that a control word is that of an EPC without an extended word. Its number of words must be that of the bits after
+/// it.
 pub(crate) fn check_word(word: &ControlWord, bits: usize) -> Result<(), DumpFault>
     requires { bits < 2 ^ 16 }
     ensures plain { OnOk result (IsPlain word.now) }

@@ -13,7 +13,7 @@ ghost use Rattle.gs_membank.specs.declared.error.DumpFault.TheVariants.{Memory};
 ghost use Rattle.gs_membank.specs.Answers.{IsBank, ReadsDump, ReadsShown, ShowsDump, WritesDump};
 ghost use Rattle.gs_membank.specs.ShownLines.{IsShownStart};
 
-/// Bits are one dump at most, whatever the tables.
+/// States that bits are at most one dump by all tables.
 pub fn bits_are_one_dump()
     ensures { (set : TableRows) (bits : List ℕ) (one other : Dump) → IsBank set bits one
         → IsBank set bits other → one ≡ other }

@@ -24,7 +24,7 @@ pub fn merged_with_itself()
     ensures { (a : List Link) → merged a a ≡ merged a [] }
 {}
 
-/// Merged the other way round, two stores have the same targets at each anchor and relation.
+/// States that two stores, merged in either order, have the same targets at each anchor and relation.
 pub fn either_way_round()
     ensures { (a b : List Link) (text name : List ℕ) (target : Target)
         → has_target (targets_in (merged a b) text name) target

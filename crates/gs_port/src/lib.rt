@@ -1,5 +1,5 @@
-//! The objects of the system that the program uses: sources, sinks, files, connections and doors (listeners), with the known
-//! facts of their contents and their counts of errors.
+//! The objects of the system that the program uses: sources, sinks, files, connections and listeners, with the known facts of
+//! their contents and their counts of errors.
 //!
 //! - `Source`, `Sink`, `Files`, `Conn` and `Door` are the traits that every other crate reads and writes through. Each has a
 //!   count of errors, which rises by one at each call that fails and at nothing else.

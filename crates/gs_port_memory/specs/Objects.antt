@@ -1,4 +1,4 @@
--- Files and doors in memory.
+-- Files and listeners in memory.
 use Rattle.std.specs.Prelude.{ℕ, Bool, List, [], Option, Some, None}
 use Rattle.gs_port.specs.Connections.{Finished}
 use Rattle.gs_port.specs.Files.{FilesHeld}

@@ -83,9 +83,9 @@ impl Model for MemDoor {
 }
 
 impl MemDoor {
-    /// Returns an unopened door with the inputs of its connections, in order. A read or a write moves at most `cut` bytes. The
-    /// calls except `finish` whose numbers, from 0, are in `fails` fail. Allocates the list of finished connections. `cut` is not
-    /// 0.
+    /// Returns an unopened listener with the inputs of its connections, in order. A read or a write moves at most `cut` bytes.
+    /// The calls except `finish` whose numbers, from 0, are in `fails` fail. Allocates the list of finished connections. `cut`
+    /// is not 0.
     pub fn new(
         alloc: Global,
         inputs: Vec<Vec<u8>>,

@@ -55,7 +55,7 @@ partitions = partition 12 0 40 ∷ partition 11 1 37 ∷ partition 10 2 34 ∷ p
 abbrev pub encoding : List ℕ → List ℕ → ℕ → ℕ → RestForm → Option Item → Option Item → Encoding
 encoding name kind header width rest serial after = record { name = name; kind = kind; header = header; width = width; rest = rest; serial = serial; after = after }
 
--- trusted, own: a literal of zeros, that many
+-- trusted, own: a literal of that many zeros
 abbrev pub zeros : ℕ → Item
 zeros n = Lit (replicate n 0)
 

@@ -26,7 +26,7 @@ pub(crate) trait Row: Drop {
     /// The last argument is the row that the part is read as.
     ghost reads: { Reading → Data → Self → Type 0 };
 
-    /// Reads a part of a document, whatever it is.
+    /// Reads any part of a document.
     fn read(alloc: Global, value: &Value, reading: Reading) -> Result<Self, Memory>
         ensures { IfOk result (λ row. reads reading (view value.now) row) };
 }

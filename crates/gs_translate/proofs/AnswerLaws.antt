@@ -150,7 +150,7 @@ one_answer set form text asks = then_one (IsRead set form text) IsCanonical (one
 
 -- ---- an answer to the symbols of a level
 
--- a text says an EPC of the set, or there is an error that is not out of memory
+-- a text spells an EPC of the set, or there is an error that is not out of memory
 data Known (set : TableRows) (Reads : Result Epc EpcFault → Type 0) : Type 0 where
   says_epc : (epc : Epc) → Reads (Ok epc) → IsOfSet set epc → Known set Reads
   has_error : (error : EpcFault) → error ≢ Memory → Reads (Err error) → Known set Reads

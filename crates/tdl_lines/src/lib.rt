@@ -17,7 +17,7 @@
 //! # Differences from the standards
 //!
 //! - No standard has such an input. One carriage return before a line feed, or at the end of the input, is not part of a line.
-//! - A text of more than 2,048 bytes is too long, whatever its bytes are.
+//! - Any text of more than 2,048 bytes is too long.
 #![tactic(auto)]
 
 mod answerer;

@@ -67,7 +67,7 @@ pub data AlikeVisits : List Visit → List Visit → Type 0 where
   no_visits : AlikeVisits [] []
   more_visits : (one other : Visit) (ones others : List Visit) → one.input ≡ other.input → (is_done one.served ≡ true → is_done other.served ≡ true → one.entry.written ≡ other.entry.written) → AlikeVisits ones others → AlikeVisits (one ∷ ones) (other ∷ others)
 
--- trusted, own: Holds if both outcomes are of the same connections, served by this site at this door. The bytes read, the
+-- trusted, own: Holds if both outcomes are of the same connections, served by this site at this listener. The bytes read, the
 -- errors, and the bytes written to a connection with an error may differ.
 pub record AlikeServed (site : SiteData) (count : ℕ) (door : Doorway) (one other : Outcome) : Type 0 where
   pub served : Serves site count door one

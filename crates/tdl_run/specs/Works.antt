@@ -182,7 +182,7 @@ doing_of DumpRead values loaded = answers (IsDumpReadLine loaded.tables)
 doing_of DumpWrite values loaded = answers (IsDumpWriteLine loaded.tables)
 doing_of Merge values loaded = prints (λ output. output ≡ merged_line loaded)
 
--- trusted, own: holds if the work may leave this outcome, with this site, input and door
+-- trusted, own: holds if the work may leave this outcome, with this site, input and listener
 abbrev pub DoingRun : {work : Work} → Doing work → SiteData → Option (List ℕ) → Doorway → Outcome → Type 0
 DoingRun (answers Is) site input door outcome = LinesAnswered Is input outcome
 DoingRun resolves site input door outcome = LeavesOutput (Resolves site input) outcome

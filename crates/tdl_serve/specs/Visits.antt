@@ -1,4 +1,4 @@
--- The connections that a site served, one after the other.
+-- The connections that a site served, one at a time.
 use Rattle.std.specs.Prelude.{◌≡◌, ◌⊎◌, ◌≤◌, ℕ, ◌+◌, ◌-◌, ◌==◌, not, Bool, true, false, List, [], ◌∷◌, ◌++◌, Option, Some, None, is_some, option_map, if◌then◌else◌, length, map, take}
 use Rattle.std.specs.List.{filter, list_any}
 use Rattle.gs_http.specs.declared.outcomes.Served.{Served}
@@ -84,8 +84,8 @@ pub record IsVisit (site : SiteData) (known : Bool) (reads writes : ℕ) (visit 
   pub read_count : visit.entry.reads ≡ reads_when visit.served reads - reads
   pub write_count : visit.entry.writes ≡ writes_when visit.served writes - writes
 
--- trusted, own: Connections were served one after the other, between these counts of reads and of writes: each from the
--- counts at which the one before it ended.
+-- trusted, own: Connections were served one at a time, between these counts of reads and of writes: each from the counts at
+-- which the one before it ended.
 pub data AreVisits (site : SiteData) (known : Bool) : ℕ → ℕ → List Visit → ℕ → ℕ → Type 0 where
   no_visit : (reads writes : ℕ) → AreVisits site known reads writes [] reads writes
   one_visit : (reads writes : ℕ) (visit : Visit) (visits : List Visit) (reads' writes' : ℕ) → IsVisit site known reads writes visit

@@ -64,7 +64,7 @@ fn longer(number: u32, digit: u8) -> u32 {
         .wrapping_add(u32::from(digit_value(digit)))
 }
 
-/// Appends that many of one byte.
+/// Appends one byte `count` times.
 fn push_run(bytes: &mut Vec<u8>, byte: u8, count: u32) -> Result<(), Memory> {
     for _ in 0..count {
         bytes.push(byte)?;

@@ -109,7 +109,7 @@ pub fn over_cuts(
     add_alike(alloc, line, table, site, bytes, whole.as_str())
 }
 
-/// That many copies of a head.
+/// Makes `count` copies of a head.
 fn repeated(alloc: Global, count: u64, head: &[u8]) -> Result<Vec<u8>, Rejection> {
     let mut bytes = Vec::new(alloc);
     for _ in 0..count {

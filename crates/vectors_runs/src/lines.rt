@@ -1,4 +1,4 @@
-//! Calls of tdl_lines over objects in memory, with each text that is not long as its own answer.
+//! Calls of tdl_lines over objects in memory; the answer to a text that is not long is the text itself.
 //!
 //! - `answer_lines LIMIT / CUT FAILS BYTES / CUT FAILS`: the status, the output, and the rest of the input.
 //! - `print_line LINE / CUT FAILS`: the status, and the output.

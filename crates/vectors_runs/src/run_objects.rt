@@ -74,7 +74,7 @@ fn output_at(alloc: Global, args: &[Text]) -> Result<MemSink, Rejection> {
     sink_of(alloc, section(args, 3)?)
 }
 
-/// Returns the objects of a run over this input and at this door.
+/// Returns the objects of a run over this input and at this listener.
 pub fn objects_over(
     alloc: Global,
     args: &[Text],

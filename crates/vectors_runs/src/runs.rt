@@ -150,7 +150,7 @@ fn push_line(bytes: &mut Vec<u8>, line: &[u8]) -> Result<(), Rejection> {
     Ok(bytes.push(b'\n')?)
 }
 
-/// That many copies of a line, each with a line feed.
+/// Makes `count` copies of a line, each with a line feed.
 fn copies(alloc: Global, line: &[u8], count: u64) -> Result<Vec<u8>, Rejection> {
     let mut bytes = Vec::new(alloc);
     for _ in 0..count {

@@ -89,7 +89,7 @@ enum Walked<'a> {
     Refused(JsonFault),
 }
 
-/// If a step leads, which finds a part or rejects.
+/// Returns the end of a step that finds a part or rejects.
 fn walk_to<'a>(found: Result<Node<'a>, JsonFault>) -> Walked<'a> {
     match found {
         Ok(part) => Walked::At(part),
@@ -97,7 +97,7 @@ fn walk_to<'a>(found: Result<Node<'a>, JsonFault>) -> Walked<'a> {
     }
 }
 
-/// If a step leads, which may find nothing.
+/// Returns the end of a step that may find nothing.
 fn walk_maybe<'a>(found: Result<Option<Node<'a>>, JsonFault>) -> Walked<'a> {
     match found {
         Ok(Some(part)) => Walked::At(part),
@@ -106,7 +106,7 @@ fn walk_maybe<'a>(found: Result<Option<Node<'a>>, JsonFault>) -> Walked<'a> {
     }
 }
 
-/// If a step leads, which may find nothing and never rejects.
+/// Returns the end of a step that may find nothing and never rejects.
 fn walk_found(found: Result<Option<Node<'_>>, Memory>) -> Result<Walked<'_>, Rejection> {
     match found? {
         Some(part) => Ok(Walked::At(part)),

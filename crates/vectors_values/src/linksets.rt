@@ -114,7 +114,7 @@ fn target_of(alloc: Global, reference: &Text) -> Result<Target, Rejection> {
     })
 }
 
-/// Targets without attributes.
+/// Makes targets without attributes.
 fn targets_of(alloc: Global, references: &[Text]) -> Result<List<Target>, Rejection> {
     let mut targets = Vec::new(alloc);
     for reference in references {
@@ -135,7 +135,7 @@ fn relation_of(alloc: Global, words: &[Text]) -> Result<Relation, Rejection> {
     })
 }
 
-/// Relations, each a name and its references, with `/` between them.
+/// Makes relations, each of a name and its references, with `/` between them.
 fn relations_of(alloc: Global, words: &[Text]) -> Result<List<Relation>, Rejection> {
     let mut relations = Vec::new(alloc);
     for part in words.split(|word| word.as_bytes() == b"/".as_slice()) {
