@@ -9,7 +9,7 @@ use std::alloc::{AllocError, AllocFailed};
 pub enum AiFault {
     /// The row is invalid regardless of the others, or lists a code that is not that of a qualifier.
     BadAi(usize),
-    /// The code of the first row begins that of the second, a later one, or the other way round.
+    /// The code of the first row begins that of the second, a later one, or the reverse.
     CodePrefix(usize, usize),
     /// The row lists the code of a key as a qualifier.
     KeyIsQualifier(usize),

@@ -48,8 +48,8 @@ impl Model for AiTable {
 
 impl AiTable {
     /// Returns the table of the rows, in their order. A rejection is the first of the errors of the rows: row by row `BadAi`,
-    /// `CodePrefix`, `PredefinedLength`, then row by row `KeyIsQualifier` and `BadAi` of the qualifiers that it lists. `Memory`
-    /// is out of memory, and may come instead of any answer.
+    /// `CodePrefix`, `PredefinedLength`, then row by row `KeyIsQualifier` and `BadAi` of the qualifiers that it lists. May
+    /// return `Memory` instead of any answer.
     pub fn new(alloc: Global, rows: Vec<AiRow>) -> Result<AiTable, AiFault>
         ensures made { IfOk result (λ table. (table ≡ rows.items) × (table_errors rows.items ≡ [])) }
         ensures rejected { IfErr result (λ error. error ≢ AiFault.Memory

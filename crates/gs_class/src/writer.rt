@@ -100,7 +100,7 @@ fn behind(text: &[u8], count: usize) -> &[u8]
     &text[count.min(text.len())..]
 }
 
-/// Returns the first bytes, as many as there are.
+/// Returns the first `count` bytes, or all if there are fewer.
 fn front(text: &[u8], count: usize) -> &[u8]
     ensures { result.now ≡ take count text.now }
 {

@@ -138,7 +138,7 @@ pub record IsOfKind (kind : Kind) (identity : Elements) : Type 0 where
   pub attributes : identity.attributes ≡ []
 
 -- trusted, TDS 2.0, section 7: Holds if the result is that of `fields_of`: the fields of the identity, or that its serial is
--- missing. `Memory` may come instead.
+-- missing. `Memory` may be returned instead.
 abbrev pub IsTakenApart : TableRows → ℕ → Elements → ℕ → Result Epc FieldsFault → Type 0
 IsTakenApart set kind identity n (Ok epc) = epc_at set kind identity n ≡ Some epc
 IsTakenApart set kind identity n (Err MissingSerial) = epc_at set kind identity n ≡ None

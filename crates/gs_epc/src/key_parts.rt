@@ -13,7 +13,7 @@ use gs_ident::Identity;
 use gs_tables::{SerialAt, TableSet, are_characters};
 use std::alloc::Global;
 
-/// Returns the first bytes of a value, as many as there are.
+/// Returns the first `count` bytes of a value, or all if there are fewer.
 fn front(value: &[u8], count: usize) -> &[u8]
     ensures { result.now ≡ take count value.now }
 {

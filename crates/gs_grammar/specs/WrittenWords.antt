@@ -24,7 +24,7 @@ first_reason char size zero large =
 abbrev pub GivesReason : Result (Unit {0}) Why → Option Why → Type 0
 GivesReason answer reason = MatchResult answer (λ _. reason ≡ None) (λ why. reason ≡ Some why)
 
--- trusted, own: digits begin with a zero that is not the whole of them
+-- trusted, own: there is a leading zero before other digits
 abbrev pub has_leading_zero : List ℕ → Bool
 has_leading_zero value = nat_lt 1 (length value) && (slice_index value 0 == 48)
 

@@ -50,7 +50,7 @@ there [] k l = absurd (omega arith)
 there (x ∷ xs) zero l = (x, refl)
 there (x ∷ xs) (suc k) l = there xs k (omega arith)
 
--- equal words, equal runs, and the other way round
+-- equal words, equal runs, and the reverse
 
 same_runs : (form other : AutoForm) (items : List Item) (w run other_run : List ℕ) (words others : List (List ℕ)) → CutsAreThoseOfDerivations form items → form ≡ other → Accepts form run w → Accepts other other_run w → run_cuts form run ≡ word_cuts words → run_cuts other other_run ≡ word_cuts others → words ≡ others → run ≡ other_run
 same_runs form other items w run other_run words others law e a b c d f =

@@ -44,7 +44,7 @@ impl<'a> Node<'a> {
     ghost use Rattle.gs_json.specs.Shapes.{IsFirst, shape_errors};
     ghost use Rattle.std.specs.Prelude.{[]};
 
-    /// Returns the whole of a tree as a part.
+    /// Returns a whole tree as a part.
     pub(crate) fn of_root(alloc: Global, value: &'a Value) -> Node<'a>
         ensures tree { result.tree ≡ value.now }
         ensures place { result.place ≡ [] }

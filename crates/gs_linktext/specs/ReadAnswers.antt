@@ -36,7 +36,7 @@ pub record IsTextOf (bytes : List ℕ) (links : List (List ℕ × List ℕ × Ta
   pub error_free : first_error 0 written ≡ None
   pub given : IsLinksOf written links
 
--- trusted, own: two errors are the same, or one of them says that memory ran out
+-- trusted, own: two errors are the same, or one of them is `Memory`
 abbrev pub IsSameOrMemory : LinkTextFault → LinkTextFault → Type 0
 IsSameOrMemory f g = (f ≡ g) ⊎ ((f ≡ Memory) ⊎ (g ≡ Memory))
 

@@ -55,9 +55,9 @@ pub record IsBankError (set : TableRows) (bits : List ℕ) (error : DumpFault) :
   pub begins : BeginsWith bits word behind
   pub reason : IsWordError set word behind error
 
--- trusted, TDS 2.0, sections 9, 14 and 15; the order of errors is own: The result of reading a text: why it is not a hexadecimal
--- text of at most 128 digits; that it is shorter than a control word; why its bits are not a dump; or their dump. `Memory` may
--- come instead.
+-- trusted, TDS 2.0, sections 9, 14 and 15; the order of errors is own: The result of reading a text: why it is not a
+-- hexadecimal text of at most 128 digits; that it is shorter than a control word; why its bits are not a dump; or their dump.
+-- `Memory` may be returned instead.
 abbrev pub ReadsDump : TableRows → List ℕ → Result Dump DumpFault → Type 0
 ReadsDump set text (Ok dump) = IsHex text × IsBank set (bits_of_hex text) dump
 ReadsDump set text (Err (Hex error)) = IsHexFault text error
@@ -91,8 +91,8 @@ pub record IsTooLong (set : TableRows) (dump : Dump) : Type 0 where
   pub size : length encoding ≡ 4 * words
   pub many : 31 < words
 
--- trusted, TDS 2.0, sections 9, 14 and 15: The result of writing a dump: its text, that its encoding is too long, or why its EPC
--- is not written in bits. `Memory` may come instead.
+-- trusted, TDS 2.0, sections 9, 14 and 15: The result of writing a dump: its text, that its encoding is too long, or why its
+-- EPC is not written in bits. `Memory` may be returned instead.
 abbrev pub WritesDump : TableRows → Dump → Result (List ℕ) DumpWriteFault → Type 0
 WritesDump set dump (Ok text) = WrittenDump set dump text
 WritesDump set dump (Err TooLong) = IsTooLong set dump
@@ -109,7 +109,7 @@ pub record ShownDump (set : TableRows) (dump : Dump) (text : List ℕ) : Type 0 
   pub text_is : text ≡ shown_line dump.user dump.attributes tag
 
 -- trusted, TDS 2.0, section 12; the form is own: The result of showing a dump: its line, or why its EPC is not written as a tag
--- URI. `Memory` may come instead.
+-- URI. `Memory` may be returned instead.
 abbrev pub ShowsDump : TableRows → Dump → Result (List ℕ) DumpWriteFault → Type 0
 ShowsDump set dump (Ok text) = ShownDump set dump text
 ShowsDump set dump (Err TooLong) = ⊥
@@ -133,7 +133,7 @@ pub record ShowsNoTag (set : TableRows) (text : List ℕ) : Type 0 where
   pub none : Derivation (options_of Tag set) rest → ⊥
 
 -- trusted, TDS 2.0, section 12; the form is own: The result of reading a line: that it does not begin as a line of a dump, that
--- it has no tag URI, or its dump. `Memory` may come instead.
+-- it has no tag URI, or its dump. `Memory` may be returned instead.
 abbrev pub ReadsShown : TableRows → List ℕ → Result Dump DumpLineFault → Type 0
 ReadsShown set text (Ok dump) = IsShown set text dump
 ReadsShown set text (Err Line) = (user : Bool) (attributes : ℕ) (rest : List ℕ) → IsShownStart text user attributes rest → ⊥

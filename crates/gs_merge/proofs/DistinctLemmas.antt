@@ -45,7 +45,7 @@ module _ {X : Type 0} where
 -- ---- each thing once
 
 module _ {X : Type 0} (same : X → X → Bool) (itself : (x : X) → same x x ≡ true) (one : (x y : X) → same x y ≡ true → x ≡ y) where
-  -- the things that are not the same as one of others
+  -- the items that differ from each of the others
   abbrev without_all : List X → List X → List X
   without_all [] ys = ys
   without_all (x ∷ xs) ys = without same x (without_all xs ys)

@@ -13,7 +13,7 @@ pub enum SerialAt {
 
 /// A kind of EPC: a key of the application identifiers, and how its value is taken apart.
 pub struct Kind {
-    /// The name, as EPC URIs have it.
+    /// The name, as written in EPC URIs.
     pub name: Text,
     /// The code of the key.
     pub key: Text,

@@ -20,7 +20,7 @@ fn pair_with<'a>(pairs: &'a [Pair], code: &[u8]) -> Option<&'a Pair>
     pairs.iter().find(|pair| is_coded(code, pair))
 }
 
-/// Returns the value of the first pair with a code, and nothing if none has it.
+/// Returns the value of the first pair with a code, or nothing if there is no such pair.
 fn value_among<'a>(pairs: &'a [Pair], code: &[u8]) -> &'a [u8]
     ensures { result.now ≡ value_of (find (is_coded code.now) pairs.now) }
 {

@@ -5,7 +5,7 @@ use tdl_arguments::{Command, read_arguments};
 /// The error in arguments.
 #[derive(Clone, Copy)]
 pub struct Wrong {
-    /// The index of the wrong argument. None has it if an argument is missing.
+    /// The index of the wrong argument, or `usize::MAX` if an argument is missing.
     pub place: usize,
     /// The reason.
     pub why: &'static str,

@@ -43,7 +43,7 @@ pub fn source_of(alloc: Global, words: &[Text]) -> Result<MemSource, Rejection> 
     Ok(MemSource::new(alloc, copied(alloc, bytes.as_bytes())?, cut, fails))
 }
 
-/// Returns the empty sink of a most number of bytes and of the calls that fail.
+/// Returns the empty sink, by the most bytes of a write and the calls that fail.
 pub fn sink_of(alloc: Global, args: &[Text]) -> Result<MemSink, Rejection> {
     let cut = cut_of(args, 0)?;
     Ok(MemSink::new(alloc, cut, fails_at(alloc, args, 1)?))
