@@ -275,7 +275,7 @@ fn add_company(alloc: Global, rows: &mut Vec<AiRow>) -> Result<(), Memory>
     )
 }
 
-/// Appends the application identifiers of goods: contents and count, dates and weights.
+/// Appends the application identifiers of goods: identification and count, dates and weights.
 fn add_goods(alloc: Global, rows: &mut Vec<AiRow>) -> Result<(), Memory>
     ensures { OnOk result (rows.new.items ≡ rows.old.items ++ goods_ais) }
 {

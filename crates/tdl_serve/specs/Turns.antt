@@ -79,8 +79,7 @@ is_failed (session.Over tally) = false
 is_failed session.Failed = true
 is_failed session.Memory = false
 
--- the state that turns at a listener leave aside: one more error of the listener itself if the last of them failed, and the
--- same addresses
+-- the effect of turns on the listener itself: one more error if the last of them failed, and the same addresses
 pub record LeavesDoor (failed : Bool) (before now : Aside) : Type 0 where
   pub own_count : now.errors ≡ count_if failed before.errors
   pub own_counts : before.errors ≤ now.errors
