@@ -19,7 +19,7 @@
 //!
 //! - The cases of a reply, their order and the choice of the links are a profile of this project (docs/REPLIES.md).
 //! - A head has at most 8,192 bytes and 64 fields, and a connection at most 1,000 replies.
-//! - A request with a message body is rejected, and so is one whose head has a line feed without a carriage return before it.
+//! - A request with a message body is rejected. So is one whose head has a line feed without a carriage return before it.
 //! - The methods are GET and HEAD. The query is not passed on, weights of `Accept` are ignored, and no field is sent for caches
 //!   or for other origins.
 #![tactic(auto)]
